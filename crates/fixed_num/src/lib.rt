@@ -1,0 +1,9 @@
+//! Numbers with six decimals, kept exactly as whole micro-units, and the one answer for want of memory.
+//! Everything that measures, commands or reports a quantity of the robot speaks in `Fx`.
+#![tactic(auto)]
+
+pub use fx::Fx;
+pub use memory::Memory;
+
+mod fx;
+mod memory;
