@@ -1,0 +1,38 @@
+-- Worked rows, computed from the definitions alone.
+use Rattle.std.proofs.Common.{◌≡◌, ℕ, List, [], ◌∷◌, ◌++◌, Some, None, Ok, Err, refl}
+use Rattle.std.specs.Prelude.{codes, Result}
+use Rattle.std.specs.Fmt.{digits}
+use Rattle.std.specs.Str.{is_utf8, chars}
+use Rattle.toml.proofs.OnLiterals.{toml_on_literals}
+use Rattle.cm_model.specs.Reading.{told_as}
+use Rattle.cm_model.specs.Walk.{tree_of, described, description_of, controller_of}
+use Rattle.cm_model.specs.Checks.{checked}
+use Rattle.cm_model.specs.Lines.{parts_of}
+use Rattle.cm_model.specs.Script.{with_line, script_of}
+use Rattle.cm_model.specs.Document.{accepted_description, document_of, document}
+use Rattle.cm_model.specs.Machine.{step}
+use Rattle.cm_model.specs.Scheduled.{settle_all, looped, cycle, finish, start, scheduled}
+use Rattle.cm_model.specs.Trace.{output}
+use Rattle.cm_model.specs.declared.document.Document.{Document}
+use Rattle.cm_model.specs.declared.faults.DocumentFault.{DocumentFault}
+use Rattle.cm_model.specs.declared.state.Blanks.{Blanks}
+use Rattle.cm_model.specs.Reading.{◌>>=◌}
+
+-- the program's stock: 32 mocks
+abbrev stock : Blanks
+stock = record { forward = 0; passthrough = 0; pid = 0; trajectory = 0; broadcaster = 0; mock = 32 }
+
+-- what `run` prints of these bytes, or the fault
+abbrev printed : List ℕ → Result (List ℕ) DocumentFault
+printed bytes = document bytes >>= λ d. Ok (output d stock)
+
+-- one controller, loaded once, listed, and refused twice
+one_mock : printed (codes "version = 1\nupdate_rate = 100\ncycles = 2\n[[controller]]\nname = \"mk\"\ntype = \"mock\"\n--- script ---\nsession a\nload mk\nlist controllers\nload nosuch\nload mk\n")
+  ≡ Ok (codes "a load mk: ok 0\na list controllers: mk mock unconfigured 0\na load nosuch: not_described\na load mk: loaded\nloop begin 0: none\nloop end 0: none\nloop begin 1: none\nloop end 1: none\nloop close: none\n")
+unfolding tree_of is_utf8 chars toml_on_literals digits description_of controller_of checked parts_of with_line script_of accepted_description document_of step settle_all looped cycle finish start scheduled output
+one_mock = refl
+
+-- no cycle and no session: the close alone
+nothing_but_the_close : printed (codes "version = 1\nupdate_rate = 100\ncycles = 0\n--- script ---\n") ≡ Ok (codes "loop close: none\n")
+unfolding tree_of is_utf8 chars toml_on_literals digits description_of controller_of checked parts_of with_line script_of accepted_description document_of step settle_all looped cycle finish start scheduled output
+nothing_but_the_close = refl

@@ -1,0 +1,95 @@
+-- The trace: one line for each entry of a history.
+use Rattle.std.specs.Prelude.{ℕ, ◌+◌, ◌==◌, if◌then◌else◌, List, [], ◌∷◌, ◌++◌, map, flat_map, length, codes, decimal, slice_get, Option, Some, None, option_map, unwrap_or}
+use Rattle.cm_model.specs.Scheduled.{scheduled}
+use Rattle.cm_model.specs.declared.call.Call.{Call}
+use Rattle.cm_model.specs.declared.call.Call.TheVariants as call
+use Rattle.cm_model.specs.declared.call.Entry.{Entry}
+use Rattle.cm_model.specs.declared.description.CtlKind.{CtlKind}
+use Rattle.cm_model.specs.declared.description.CtlKind.TheVariants as kind
+use Rattle.cm_model.specs.declared.document.Document.{Document}
+use Rattle.cm_model.specs.declared.reply.CtlLine.{CtlLine}
+use Rattle.cm_model.specs.declared.reply.Decision.{Decision}
+use Rattle.cm_model.specs.declared.reply.Life.{Life}
+use Rattle.cm_model.specs.declared.reply.Life.TheVariants as life
+use Rattle.cm_model.specs.declared.reply.Outcome.{Outcome}
+use Rattle.cm_model.specs.declared.reply.Outcome.TheVariants as outcome
+use Rattle.cm_model.specs.declared.reply.Reply.{Reply}
+use Rattle.cm_model.specs.declared.reply.Reply.TheVariants as reply
+use Rattle.cm_model.specs.declared.reply.Why.{Why}
+use Rattle.cm_model.specs.declared.reply.Why.TheVariants as why
+use Rattle.cm_model.specs.declared.script.SessionText.{SessionText}
+use Rattle.cm_model.specs.declared.state.Blanks.{Blanks}
+
+-- ---- Words
+
+abbrev pub kind_word : CtlKind → List ℕ
+kind_word kind.Forward = codes "forward"
+kind_word kind.Passthrough = codes "passthrough"
+kind_word kind.Pid = codes "pid"
+kind_word kind.Trajectory = codes "trajectory"
+kind_word kind.Broadcaster = codes "broadcaster"
+kind_word kind.Mock = codes "mock"
+
+abbrev pub life_word : Life → List ℕ
+life_word life.Unconfigured = codes "unconfigured"
+life_word life.Inactive = codes "inactive"
+life_word life.Active = codes "active"
+life_word life.Finalized = codes "finalized"
+
+abbrev pub why_word : Why → List ℕ
+why_word why.NotDescribed = codes "not_described"
+why_word why.Loaded = codes "loaded"
+why_word why.StockEmpty = codes "stock_empty"
+
+abbrev pub outcome_text : Outcome → List ℕ
+outcome_text outcome.Done = codes "done"
+outcome_text outcome.LoopEnded = codes "loop_ended"
+
+-- ---- Items
+
+-- items joined by `; `, or `none` where there is none
+abbrev pub items_text : {A : Type 0} → (A → List ℕ) → List A → List ℕ
+items_text text [] = codes "none"
+items_text text (x ∷ xs) = text x ++ flat_map (λ y. codes "; " ++ text y) xs
+
+-- a line of the list of controllers, as `mk mock unconfigured 0`
+abbrev pub controller_text : CtlLine → List ℕ
+controller_text c = c.name ++ codes " " ++ kind_word c.kind ++ codes " " ++ life_word c.life ++ codes " " ++ decimal c.serial
+
+-- a decided request, as `0 done`
+abbrev pub decision_text : Decision → List ℕ
+decision_text d = decimal d.ticket ++ codes " " ++ outcome_text d.outcome
+
+-- ---- Lines
+
+-- the call as a script's line prints it, and the loop's calls with the number of the cycle
+abbrev pub call_text : Call → List ℕ
+call_text (call.Load name) = codes "load " ++ name
+call_text call.ListControllers = codes "list controllers"
+call_text (call.Begin n) = codes "begin " ++ decimal n
+call_text (call.End n) = codes "end " ++ decimal n
+call_text call.Close = codes "close"
+
+-- the reply; the record of a cycle has no items yet
+abbrev pub reply_text : Reply → List ℕ
+reply_text (reply.Serial n) = codes "ok " ++ decimal n
+reply_text (reply.Not reason) = why_word reason
+reply_text (reply.Controllers lines) = items_text controller_text lines
+reply_text (reply.Decisions decisions) = items_text decision_text decisions
+reply_text (reply.Cycle _) = codes "none"
+
+-- a session's name, or `loop` for the number after the sessions
+abbrev pub caller_text : List SessionText → ℕ → List ℕ
+caller_text sessions who = unwrap_or (option_map (λ s. s.name) (slice_get sessions who)) (codes "loop")
+
+-- caller, call and reply: `a load mk: ok 0`
+abbrev pub line_text : List SessionText → Entry → List ℕ
+line_text sessions e = caller_text sessions e.who ++ codes " " ++ call_text e.call ++ codes ": " ++ reply_text e.reply ++ codes "\n"
+
+-- the trace of a history
+abbrev pub trace : List SessionText → List Entry → List ℕ
+trace sessions history = flat_map (line_text sessions) history
+
+-- what the job `run` prints of a document
+unfoldable pub output : Document → Blanks → List ℕ
+output d blanks = trace d.script.sessions (scheduled d blanks)

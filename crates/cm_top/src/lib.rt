@@ -1,0 +1,2 @@
+//! From bytes to bytes: a document is read, its run is made, and the trace is written.
+#![tactic(auto)]
