@@ -1,2 +1,4 @@
+pub mod LegalLemmas
 pub mod NameLemmas
+pub mod WholeLemmas
 mod Rows

@@ -90,3 +90,8 @@ LegalFrom s (e ∷ es) = IsSomeAnd (step s e.who e.call) (λ made. (made.1 ≡ e
 -- A history is legal where it is one from boot.
 abbrev pub IsLegal : Description → Blanks → ℕ → List Entry → Type 0
 IsLegal description blanks sessions history = LegalFrom (boot description blanks sessions) history
+
+-- the state after a history that begins in this state
+abbrev pub state_after : State → List Entry → State
+state_after s [] = s
+state_after s (e ∷ es) = elim (step s e.who e.call) [ None ↦ s | Some made ↦ state_after made.0 es ]

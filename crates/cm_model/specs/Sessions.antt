@@ -2,15 +2,34 @@
 use Rattle.std.specs.Prelude.{◌≡◌, ℕ, zero, suc, ◌<◌, ◌≤◌, ◌==◌, List, [], ◌∷◌, ◌++◌, length, map, filter, slice_get, Option, Some, None, IfSome}
 use Rattle.std.specs.List.{AllByRecursion}
 use Rattle.cm_model.specs.declared.call.Call.{Call}
-use Rattle.cm_model.specs.declared.call.Call.TheVariants.{Begin, End, Close}
+use Rattle.cm_model.specs.declared.call.Call.TheVariants.{Load, ListControllers, Begin, End, Close}
 use Rattle.cm_model.specs.declared.call.Entry.{Entry}
 use Rattle.cm_model.specs.declared.reply.Reply.{Reply}
 use Rattle.cm_model.specs.declared.reply.Reply.TheVariants as reply
 use Rattle.cm_model.specs.declared.document.Document.{Document}
+use Rattle.cm_model.specs.declared.script.SessionText.{SessionText}
 
--- the calls that this caller made, in order
-abbrev pub calls_by : ℕ → List Entry → List Call
-calls_by who history = map (λ e. e.call) (filter (λ e. e.who == who) history)
+-- a call that a line of a session can make
+abbrev pub IsConsole : Call → Type 0
+IsConsole (Load _) = Unit {0}
+IsConsole ListControllers = Unit {0}
+IsConsole _ = ⊥
+
+-- each line of each session is a console call
+abbrev pub IsAsked : List SessionText → Type 0
+IsAsked sessions = AllByRecursion (λ s. AllByRecursion IsConsole s.lines) sessions
+
+-- the entries of this caller, in order
+abbrev pub entries_by : ℕ → List Entry → List Entry
+entries_by who history = filter (λ e. e.who == who) history
+
+-- the calls of some entries
+abbrev pub calls_of : List Entry → List Call
+calls_of entries = map (λ e. e.call) entries
+
+-- A session's entries follow its lines where they have these calls, each once and in order.
+abbrev pub Follows : List Call → List Entry → Type 0
+Follows lines entries = calls_of entries ≡ lines
 
 -- the loop's calls for the first n cycles
 abbrev pub cycle_calls : ℕ → List Call
@@ -24,8 +43,8 @@ loop_calls n = cycle_calls n ++ Close ∷ []
 -- A history is whole for a document where it has each session's lines, each once and in order, the begin and the end of
 -- each cycle and then the close, and nobody else's calls.
 pub record IsWhole (d : Document) (history : List Entry) : Type 0 where
-  pub sessions : (k : ℕ) → IfSome (slice_get d.script.sessions k) (λ s. calls_by k history ≡ s.lines)
-  pub cycles : calls_by (length d.script.sessions) history ≡ loop_calls d.description.cycles
+  pub sessions : (k : ℕ) → IfSome (slice_get d.script.sessions k) (λ s. Follows s.lines (entries_by k history))
+  pub cycles : Follows (loop_calls d.description.cycles) (entries_by (length d.script.sessions) history)
   pub nobody_else : AllByRecursion (λ e. e.who ≤ length d.script.sessions) history
 
 -- the reply to a call of the loop reports nothing: no request is decided, and the record has its cycle's number alone

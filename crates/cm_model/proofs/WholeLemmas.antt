@@ -1,0 +1,400 @@
+-- A history that is scheduled for console calls is whole.
+use Rattle.std.proofs.Common.{◌≡◌, ℕ, zero, suc, ◌+◌, ◌<◌, ◌≤◌, List, [], ◌∷◌, ◌++◌, length, map, Option, Some, None, Bool, true, false, nat_lt, refl, sym, ap, ◌∙◌, subst, append_assoc, append-nil, ◌⊎◌, inl, inr, arith, rules}
+use Rattle.std.specs.Prelude.{cond, IfSome, slice_get, filter, not, ◌==◌, ◌&&◌, if◌then◌else◌}
+use Rattle.std.specs.List.{AllByRecursion}
+use Rattle.std.proofs.lemmas.List.{map-append, length-map}
+use Rattle.std.proofs.lemmas.List.Elements.{filter-append}
+use Rattle.std.proofs.lemmas.Bool.Decides.{nat_tests}
+use Rattle.std.proofs.lemmas.Option.{same_Some, slice_get-map, slice_get_within}
+use Rattle.cm_model.proofs.LegalLemmas.{cases_Option}
+use Rattle.cm_model.specs.State.{boot, controller_lines}
+use Rattle.cm_model.specs.Machine.{step, where_allowed, load, load_from, load_at, loaded_from_stock, place_of, is_loaded_at, can_begin, can_end, can_close}
+use Rattle.cm_model.specs.Scheduled.{Progress, Settled, with_entry, settle, settle_from, settle_all, looped, cycle, cycles, finish, start, scheduled}
+use Rattle.cm_model.specs.Sessions.{IsConsole, IsAsked, entries_by, calls_of, Follows, cycle_calls, loop_calls, IsWhole}
+use Rattle.cm_model.specs.declared.call.Call.{Call}
+use Rattle.cm_model.specs.declared.call.Call.TheVariants.{Load, ListControllers, Begin, End, Close}
+use Rattle.cm_model.specs.declared.call.Entry.{Entry}
+use Rattle.cm_model.specs.declared.reply.Reply.{Reply}
+use Rattle.cm_model.specs.declared.reply.Reply.TheVariants as reply
+use Rattle.cm_model.specs.declared.description.CtlDesc.{CtlDesc}
+use Rattle.cm_model.specs.declared.description.Description.{Description}
+use Rattle.cm_model.specs.declared.document.Document.{Document}
+use Rattle.cm_model.specs.declared.script.SessionText.{SessionText}
+use Rattle.cm_model.specs.declared.state.Blanks.{Blanks}
+use Rattle.cm_model.specs.declared.state.State.{State}
+
+-- ---- What console calls leave as it is
+
+-- the loop's part of the two states is the same
+record SameLoop (s t : State) : Type 0 where
+  sessions : t.sessions ≡ s.sessions
+  description : t.description ≡ s.description
+  ended : t.ended ≡ s.ended
+  aloft : t.aloft ≡ s.aloft
+  closed : t.closed ≡ s.closed
+
+same : (s : State) → SameLoop s s
+same s = record { sessions = refl; description = refl; ended = refl; aloft = refl; closed = refl }
+
+same-trans : (s t u : State) → SameLoop s t → SameLoop t u → SameLoop s u
+same-trans s t u p q = record {
+  sessions = q.sessions ∙ p.sessions;
+  description = q.description ∙ p.description;
+  ended = q.ended ∙ p.ended;
+  aloft = q.aloft ∙ p.aloft;
+  closed = q.closed ∙ p.closed }
+
+-- what holds of both choices holds of the one taken
+chosen : {A : Type 0} (P : A → Type 0) (b : Bool) (x y : A) → P x → P y → P (cond b x y)
+chosen P true x y p q = p
+chosen P false x y p q = q
+
+load_at-SameLoop : (s : State) (place : ℕ) (c : Option CtlDesc) → SameLoop s (load_at s place c).0
+load_at-SameLoop s place None = same s
+load_at-SameLoop s place (Some c) =
+    chosen (λ (made : State × Reply). SameLoop s made.0) (is_loaded_at place s) _ _ (same s) (chosen (λ (made : State × Reply). SameLoop s made.0) _ _ _ (same s)
+    (record { sessions = refl; description = refl; ended = refl; aloft = refl; closed = refl }))
+
+load_from-SameLoop : (s : State) (place : Option ℕ) → SameLoop s (load_from s place).0
+load_from-SameLoop s None = same s
+load_from-SameLoop s (Some place) = load_at-SameLoop s place (slice_get s.description.controllers place)
+
+-- a console call of a session is enabled and leaves the loop as it is
+console-step : (s : State) (who : ℕ) (call : Call) → IsConsole call → nat_lt who s.sessions ≡ true
+    → (q : State × Reply) × (step s who call ≡ Some q) × SameLoop s q.0
+unfolding step
+console-step s who (Load name) asked known = (load s name, rw known refl, load_from-SameLoop s (place_of s name))
+console-step s who ListControllers asked known = ((s, reply.Controllers (controller_lines s)), rw known refl, same s)
+console-step s who (Begin n) asked known = absurd asked
+console-step s who (End n) asked known = absurd asked
+console-step s who Close asked known = absurd asked
+
+-- ---- Who called what
+
+-- each entry's caller with its call
+abbrev callers : List Entry → List (ℕ × Call)
+callers history = map (λ e. (e.who, e.call)) history
+
+-- these calls by one caller
+abbrev by : ℕ → List Call → List (ℕ × Call)
+by who calls = map (λ c. (who, c)) calls
+
+-- the lines of the sessions from this number on, session by session
+abbrev by_sessions : ℕ → List (List Call) → List (ℕ × Call)
+by_sessions who [] = []
+by_sessions who (lines ∷ others) = by who lines ++ by_sessions (who + 1) others
+
+-- each session has no line left
+abbrev AllMade : List (List Call) → Type 0
+AllMade rests = AllByRecursion (λ r. r ≡ []) rests
+
+-- ---- Settling
+
+-- what settling one session did
+record Settles (who : ℕ) (lines : List Call) (s : State) (made : List Entry) (q : Settled) : Type 0 where
+  rest : q.rest ≡ []
+  calls : callers q.made ≡ callers made ++ by who lines
+  loop : SameLoop s q.state
+
+callers-with_entry : (made : List Entry) (who : ℕ) (call : Call) (r : Reply) → callers (with_entry made who call r) ≡ callers made ++ (who, call) ∷ []
+callers-with_entry made who call r = map-append (λ (e : Entry). (e.who, e.call)) made (record { who = who; call = call; reply = r } ∷ [])
+
+settle-Settles : (who : ℕ) (lines : List Call) (s : State) (made : List Entry) → AllByRecursion IsConsole lines → nat_lt who s.sessions ≡ true
+    → Settles who lines s made (settle who lines s made)
+settle-Settles who [] s made asked known = record { rest = refl; calls = sym (append-nil (callers made)); loop = same s }
+settle-Settles who (call ∷ lines) s made asked known =
+    let first = console-step s who call asked.0 known in
+    let q = first.0 in
+    let still : nat_lt who q.0.sessions ≡ true = rw first.2.sessions known in
+    let others = settle-Settles who lines q.0 (with_entry made who call q.1) asked.1 still in
+    rw (first.1, settle) (record {
+      rest = others.rest;
+      calls = others.calls ∙ ap (λ l. l ++ by who lines) (callers-with_entry made who call q.1) ∙ append_assoc (callers made) ((who, call) ∷ []) (by who lines);
+      loop = same-trans s q.0 _ first.2 others.loop })
+
+-- what settling the sessions from this number on did
+record SettlesFrom (who : ℕ) (sessions : List (List Call)) (s : State) (made : List Entry) (p : Progress) : Type 0 where
+  rests : AllMade p.rests
+  calls : callers p.made ≡ callers made ++ by_sessions who sessions
+  loop : SameLoop s p.state
+
+AllMade-push : (rests : List (List Call)) (r : List Call) → AllMade rests → r ≡ [] → AllMade (rests ++ r ∷ [])
+AllMade-push [] r made none = (none, tt)
+AllMade-push (x ∷ rests) r made none = (made.0, AllMade-push rests r made.1 none)
+
+settle_from-Settles : (who : ℕ) (sessions : List (List Call)) (s : State) (made : List Entry) (rests : List (List Call))
+    → AllByRecursion (λ lines. AllByRecursion IsConsole lines) sessions → who + length sessions ≤ s.sessions → AllMade rests
+    → SettlesFrom who sessions s made (settle_from who sessions s made rests)
+settle_from-Settles who [] s made rests asked fits done = record { rests = done; calls = sym (append-nil (callers made)); loop = same s }
+settle_from-Settles who (lines ∷ others) s made rests asked fits done =
+    let known : nat_lt who s.sessions ≡ true = grind (arith, nat_tests) in
+    let one = settle who lines s made in
+    let first : Settles who lines s made one = settle-Settles who lines s made asked.0 known in
+    let fits' : who + 1 + length others ≤ one.state.sessions = rw first.loop.sessions (omega arith) in
+    let rest = settle_from-Settles (who + 1) others one.state one.made (rests ++ one.rest ∷ []) asked.1 fits' (AllMade-push rests one.rest done first.rest) in
+    record {
+      rests = rest.rests;
+      calls = rest.calls ∙ ap (λ l. l ++ by_sessions (who + 1) others) first.calls ∙ append_assoc (callers made) (by who lines) (by_sessions (who + 1) others);
+      loop = same-trans s one.state _ first.loop rest.loop }
+
+-- sessions without a line left settle at once
+by_sessions-AllMade : (who : ℕ) (rests : List (List Call)) → AllMade rests → by_sessions who rests ≡ []
+by_sessions-AllMade who [] done = refl
+by_sessions-AllMade who (r ∷ rests) done = rw done.0 (by_sessions-AllMade (who + 1) rests done.1)
+
+IsConsole-AllMade : (rests : List (List Call)) → AllMade rests → AllByRecursion (λ lines. AllByRecursion IsConsole lines) rests
+IsConsole-AllMade [] done = tt
+IsConsole-AllMade (r ∷ rests) done = (rw done.0 tt, IsConsole-AllMade rests done.1)
+
+-- ---- The loop
+
+-- a settled progress after n cycles of a document
+record Ran (n total who : ℕ) (sessions : List (List Call)) (p : Progress) : Type 0 where
+  rests : AllMade p.rests
+  calls : callers p.made ≡ by_sessions 0 sessions ++ by who (cycle_calls n)
+  known : p.state.sessions ≡ who
+  total_is : p.state.description.cycles ≡ total
+  ended : p.state.ended ≡ n
+  aloft : p.state.aloft ≡ false
+  closed : p.state.closed ≡ false
+
+-- what the loop makes where its call is enabled
+looped-calls : (call : Call) (p : Progress) (q : State × Reply) → step p.state p.state.sessions call ≡ Some q
+    → looped call p ≡ record p { state = q.0; made = with_entry p.made p.state.sessions call q.1 }
+unfolding looped
+looped-calls call p q enabled = rw (enabled, looped) refl
+
+-- sessions that have no line left settle at once
+record Stays (s : State) (made : List Entry) (p : Progress) : Type 0 where
+  state_is : p.state ≡ s
+  made_is : p.made ≡ made
+  rests : AllMade p.rests
+
+settle_from-Stays : (who : ℕ) (sessions : List (List Call)) (s : State) (made : List Entry) (rests : List (List Call)) → AllMade sessions → AllMade rests
+    → Stays s made (settle_from who sessions s made rests)
+settle_from-Stays who [] s made rests none done = record { state_is = refl; made_is = refl; rests = done }
+settle_from-Stays who (r ∷ others) s made rests none done =
+    rw none.0 (settle_from-Stays (who + 1) others s made (rests ++ [] ∷ []) none.1 (AllMade-push rests [] done refl))
+
+settle_all-Stays : (p : Progress) → AllMade p.rests → Stays p.state p.made (settle_all p)
+unfolding settle_all
+settle_all-Stays p done = settle_from-Stays 0 p.rests p.state p.made [] done tt
+
+-- when the loop's calls are enabled
+begin-enabled : (s : State) (n : ℕ) → s.aloft ≡ false → s.closed ≡ false → s.ended ≡ n → n < s.description.cycles → (s.sessions == s.sessions && can_begin s n) ≡ true
+begin-enabled s n aloft closed ended more = rw (aloft, closed, ended) (grind (arith, nat_tests))
+
+end-enabled : (s : State) (n : ℕ) → s.aloft ≡ true → s.ended ≡ n → (s.sessions == s.sessions && can_end s n) ≡ true
+end-enabled s n aloft ended = rw (aloft, ended) (grind (arith, nat_tests))
+
+close-enabled : (s : State) → s.aloft ≡ false → s.closed ≡ false → (s.sessions == s.sessions && can_close s) ≡ true
+close-enabled s aloft closed = rw (aloft, closed) (grind (arith, nat_tests))
+
+-- the progress after each call of the loop
+abbrev begun : ℕ → Progress → Progress
+begun n p = record p { state = record p.state { aloft = true }; made = with_entry p.made p.state.sessions (Begin n) (reply.Decisions []) }
+
+abbrev ended_at : ℕ → Progress → Progress
+ended_at n p = record p { state = record p.state { aloft = false; ended = p.state.ended + 1 }; made = with_entry p.made p.state.sessions (End n) (reply.Cycle (record { cycle = n })) }
+
+abbrev closed_at : Progress → Progress
+closed_at p = record p { state = record p.state { closed = true }; made = with_entry p.made p.state.sessions Close (reply.Decisions []) }
+
+looped-begun : (n : ℕ) (p : Progress) → p.state.aloft ≡ false → p.state.closed ≡ false → p.state.ended ≡ n → n < p.state.description.cycles → looped (Begin n) p ≡ begun n p
+unfolding step
+looped-begun n p aloft closed ended more =
+    looped-calls (Begin n) p (record p.state { aloft = true }, reply.Decisions []) (rw (begin-enabled p.state n aloft closed ended more) refl)
+
+looped-ended : (n : ℕ) (p : Progress) → p.state.aloft ≡ true → p.state.ended ≡ n → looped (End n) p ≡ ended_at n p
+unfolding step
+looped-ended n p aloft ended =
+    looped-calls (End n) p (record p.state { aloft = false; ended = p.state.ended + 1 }, reply.Cycle (record { cycle = n })) (rw (end-enabled p.state n aloft ended) refl)
+
+looped-closed : (p : Progress) → p.state.aloft ≡ false → p.state.closed ≡ false → looped Close p ≡ closed_at p
+unfolding step
+looped-closed p aloft closed =
+    looped-calls Close p (record p.state { closed = true }, reply.Decisions []) (rw (close-enabled p.state aloft closed) refl)
+
+-- one call more by the loop
+one_call : (made : List Entry) (who by_whom : ℕ) (c : Call) (r : Reply) (front : List (ℕ × Call)) (calls : List Call)
+    → by_whom ≡ who → callers made ≡ front ++ by who calls → callers (with_entry made by_whom c r) ≡ front ++ by who (calls ++ c ∷ [])
+one_call made who by_whom c r front calls known so_far =
+    callers-with_entry made by_whom c r ∙ rw (known, so_far) (append_assoc front (by who calls) ((who, c) ∷ []) ∙ ap (λ l. front ++ l) (sym (map-append (λ (x : Call). (who, x)) calls (c ∷ []))))
+
+-- two calls more
+two_calls : (made : List Entry) (who by_whom : ℕ) (c d : Call) (r q : Reply) (front : List (ℕ × Call)) (calls : List Call)
+    → by_whom ≡ who → callers made ≡ front ++ by who calls
+    → callers (with_entry (with_entry made by_whom c r) by_whom d q) ≡ front ++ by who (calls ++ c ∷ d ∷ [])
+two_calls made who by_whom c d r q front calls known so_far =
+    one_call (with_entry made by_whom c r) who by_whom d q front (calls ++ c ∷ []) known (one_call made who by_whom c r front calls known so_far)
+    ∙ ap (λ l. front ++ by who l) (append_assoc calls (c ∷ []) (d ∷ []))
+
+-- one cycle more
+cycle-Ran : (n total who : ℕ) (sessions : List (List Call)) (p : Progress) → Ran n total who sessions p → n < total
+    → Ran (suc n) total who sessions (settle_all (looped (End n) (looped (Begin n) p)))
+cycle-Ran n total who sessions p ran more =
+    let more' : n < p.state.description.cycles = rw ran.total_is more in
+    let first = looped-begun n p ran.aloft ran.closed ran.ended more' in
+    let second = looped-ended n (begun n p) refl ran.ended in
+    let last = settle_all-Stays (ended_at n (begun n p)) ran.rests in
+    rw (first, second) (record {
+      rests = last.rests;
+      calls = ap callers last.made_is ∙ two_calls p.made who p.state.sessions (Begin n) (End n) _ _ (by_sessions 0 sessions) (cycle_calls n) ran.known ran.calls;
+      known = ap (λ (s : State). s.sessions) last.state_is ∙ ran.known;
+      total_is = ap (λ (s : State). s.description.cycles) last.state_is ∙ ran.total_is;
+      ended = ap (λ (s : State). s.ended) last.state_is ∙ rw ran.ended (omega arith);
+      aloft = ap (λ (s : State). s.aloft) last.state_is;
+      closed = ap (λ (s : State). s.closed) last.state_is ∙ ran.closed })
+
+-- the first n cycles
+cycles-Ran : (n total who : ℕ) (sessions : List (List Call)) (p : Progress) → Ran 0 total who sessions (settle_all p) → n ≤ total
+    → Ran n total who sessions (settle_all (cycles n p))
+unfolding cycle
+cycles-Ran zero total who sessions p ran fits = ran
+cycles-Ran (suc n) total who sessions p ran fits =
+    cycle-Ran n total who sessions (settle_all (cycles n p)) (cycles-Ran n total who sessions p ran (omega arith)) (omega arith)
+
+-- all of it: every session's lines, then the loop's calls
+finish-calls : (total who : ℕ) (sessions : List (List Call)) (p : Progress) → Ran total total who sessions (settle_all p)
+    → callers (finish p).made ≡ by_sessions 0 sessions ++ by who (loop_calls total)
+unfolding finish
+finish-calls total who sessions p ran =
+    let q = settle_all p in
+    let closing = looped-closed q ran.aloft ran.closed in
+    let last = settle_all-Stays (closed_at q) ran.rests in
+    rw closing (ap callers last.made_is ∙ one_call q.made who q.state.sessions Close (reply.Decisions []) (by_sessions 0 sessions) (cycle_calls total) ran.known ran.calls)
+
+abbrev lines_of : List SessionText → List (List Call)
+lines_of sessions = map (λ s. s.lines) sessions
+
+asked_lines : (sessions : List SessionText) → IsAsked sessions → AllByRecursion (λ lines. AllByRecursion IsConsole lines) (lines_of sessions)
+asked_lines [] asked = tt
+asked_lines (s ∷ sessions) asked = (asked.0, asked_lines sessions asked.1)
+
+start-Ran : (d : Document) (blanks : Blanks) → IsAsked d.script.sessions
+    → Ran 0 d.description.cycles (length d.script.sessions) (lines_of d.script.sessions) (settle_all (start d blanks))
+unfolding start settle_all
+start-Ran d blanks asked =
+    let lines = lines_of d.script.sessions in
+    let s = boot d.description blanks (length d.script.sessions) in
+    let fits : 0 + length lines ≤ length d.script.sessions = omega (arith, length-map d.script.sessions (λ (t : SessionText). t.lines)) in
+    let settled = settle_from-Settles 0 lines s [] [] (asked_lines d.script.sessions asked) fits tt in
+    record {
+      rests = settled.rests;
+      calls = settled.calls ∙ sym (append-nil (by_sessions 0 lines));
+      known = settled.loop.sessions;
+      total_is = ap (λ (t : Description). t.cycles) settled.loop.description;
+      ended = settled.loop.ended;
+      aloft = settled.loop.aloft;
+      closed = settled.loop.closed }
+
+-- who called what in a scheduled history
+scheduled-callers : (d : Document) (blanks : Blanks) → IsAsked d.script.sessions
+    → callers (scheduled d blanks) ≡ by_sessions 0 (lines_of d.script.sessions) ++ by (length d.script.sessions) (loop_calls d.description.cycles)
+unfolding scheduled
+scheduled-callers d blanks asked =
+    finish-calls d.description.cycles _ _ _ (cycles-Ran d.description.cycles d.description.cycles _ _ (start d blanks) (start-Ran d blanks asked) (omega arith))
+
+-- ---- One caller's calls
+
+-- the calls of one caller
+abbrev picked : ℕ → List (ℕ × Call) → List Call
+picked who calls = map (λ (p : ℕ × Call). p.1) (filter (λ (p : ℕ × Call). p.0 == who) calls)
+
+picked-test : (b : Bool) (e : Entry) (es : List Entry) (ps : List (ℕ × Call)) → calls_of es ≡ map (λ (p : ℕ × Call). p.1) ps
+    → calls_of (cond b (e ∷ es) es) ≡ map (λ (p : ℕ × Call). p.1) (cond b ((e.who, e.call) ∷ ps) ps)
+picked-test true e es ps h = ap (λ l. e.call ∷ l) h
+picked-test false e es ps h = h
+
+picked-callers : (who : ℕ) (history : List Entry) → calls_of (entries_by who history) ≡ picked who (callers history)
+picked-callers who [] = refl
+picked-callers who (e ∷ history) = picked-test (e.who == who) e (entries_by who history) _ (picked-callers who history)
+
+picked-append : (who : ℕ) (xs ys : List (ℕ × Call)) → picked who (xs ++ ys) ≡ picked who xs ++ picked who ys
+picked-append who xs ys = ap (λ l. map (λ (p : ℕ × Call). p.1) l) (filter-append (λ (p : ℕ × Call). p.0 == who) xs ys) ∙ map-append (λ (p : ℕ × Call). p.1) (filter (λ (p : ℕ × Call). p.0 == who) xs) _
+
+-- a caller's own calls
+picked-same : (who : ℕ) (calls : List Call) → picked who (by who calls) ≡ calls
+picked-same who [] = refl
+picked-same who (c ∷ calls) = let yes : (who == who) ≡ true = grind (arith, nat_tests) in rw yes (ap (λ l. c ∷ l) (picked-same who calls))
+
+-- another caller's calls
+picked-other : (who other : ℕ) (calls : List Call) → (other == who) ≡ false → picked who (by other calls) ≡ []
+picked-other who other [] differs = refl
+picked-other who other (c ∷ calls) differs = rw differs (picked-other who other calls differs)
+
+-- sessions after this one, and the sessions before this number, have none
+picked-after : (who first : ℕ) (sessions : List (List Call)) → who < first → picked who (by_sessions first sessions) ≡ []
+picked-after who first [] less = refl
+picked-after who first (lines ∷ others) less =
+    let differs : (first == who) ≡ false = grind (arith, nat_tests) in
+    picked-append who (by first lines) (by_sessions (first + 1) others) ∙ rw (picked-other who first lines differs) (picked-after who (first + 1) others (omega arith))
+
+picked-beyond : (who first : ℕ) (sessions : List (List Call)) → first + length sessions ≤ who → picked who (by_sessions first sessions) ≡ []
+picked-beyond who first [] more = refl
+picked-beyond who first (lines ∷ others) more =
+    let differs : (first == who) ≡ false = grind (arith, nat_tests) in
+    picked-append who (by first lines) (by_sessions (first + 1) others) ∙ rw (picked-other who first lines differs) (picked-beyond who (first + 1) others (omega arith))
+
+-- the k-th of the sessions has its lines
+picked-at : (k first : ℕ) (sessions : List (List Call)) (lines : List Call) → slice_get sessions k ≡ Some lines → picked (first + k) (by_sessions first sessions) ≡ lines
+picked-at k first [] lines found = cc
+picked-at zero first (x ∷ others) lines found =
+    let none = picked-after (first + 0) (first + 1) others (omega arith) in
+    let here : first + 0 ≡ first = omega arith in
+    picked-append (first + 0) (by first x) (by_sessions (first + 1) others) ∙ rw (none, here) (append-nil _ ∙ picked-same first x ∙ same_Some x lines found)
+picked-at (suc k) first (x ∷ others) lines found =
+    let differs : (first == first + suc k) ≡ false = grind (arith, nat_tests) in
+    let next : first + suc k ≡ (first + 1) + k = omega arith in
+    picked-append (first + suc k) (by first x) (by_sessions (first + 1) others) ∙ rw (picked-other (first + suc k) first x differs, next) (picked-at k (first + 1) others lines found)
+
+-- ---- Whole
+
+-- nobody beyond this number calls
+abbrev Within : ℕ → List (ℕ × Call) → Type 0
+Within most calls = AllByRecursion (λ (p : ℕ × Call). p.0 ≤ most) calls
+
+Within-append : (most : ℕ) (xs ys : List (ℕ × Call)) → Within most xs → Within most ys → Within most (xs ++ ys)
+Within-append most [] ys p q = q
+Within-append most (x ∷ xs) ys p q = (p.0, Within-append most xs ys p.1 q)
+
+Within-by : (most who : ℕ) (calls : List Call) → who ≤ most → Within most (by who calls)
+Within-by most who [] less = tt
+Within-by most who (c ∷ calls) less = (less, Within-by most who calls less)
+
+Within-by_sessions : (most first : ℕ) (sessions : List (List Call)) → first + length sessions ≤ most → Within most (by_sessions first sessions)
+Within-by_sessions most first [] less = tt
+Within-by_sessions most first (lines ∷ others) less =
+    Within-append most (by first lines) _ (Within-by most first lines (omega arith)) (Within-by_sessions most (first + 1) others (omega arith))
+
+Within-callers : (most : ℕ) (history : List Entry) → Within most (callers history) → AllByRecursion (λ e. e.who ≤ most) history
+Within-callers most [] p = tt
+Within-callers most (e ∷ history) p = (p.0, Within-callers most history p.1)
+
+-- the k-th session's entries are its lines
+session_follows : (sessions : List SessionText) (history : List Entry) (loop : List Call) (k : ℕ) (s : SessionText)
+    → callers history ≡ by_sessions 0 (lines_of sessions) ++ by (length sessions) loop → slice_get sessions k ≡ Some s → Follows s.lines (entries_by k history)
+session_follows sessions history loop k s who_called found =
+    let inside = slice_get_within sessions k s found in
+    let lines : slice_get (lines_of sessions) k ≡ Some s.lines = slice_get-map (λ (t : SessionText). t.lines) sessions k ∙ rw found refl in
+    let from_zero : 0 + k ≡ k = omega arith in
+    let own : picked k (by_sessions 0 (lines_of sessions)) ≡ s.lines = rw from_zero at (picked-at k 0 (lines_of sessions) s.lines lines) in
+    let differs : (length sessions == k) ≡ false = grind (arith, nat_tests) in
+    picked-callers k history ∙ rw who_called (picked-append k (by_sessions 0 (lines_of sessions)) (by (length sessions) loop)
+    ∙ rw (own, picked-other k (length sessions) loop differs) (append-nil s.lines))
+
+-- a history that is scheduled for console calls is whole
+pub scheduled-IsWhole : (d : Document) (blanks : Blanks) → IsAsked d.script.sessions → IsWhole d (scheduled d blanks)
+scheduled-IsWhole d blanks asked =
+    let sessions = d.script.sessions in
+    let lines = lines_of sessions in
+    let count = length sessions in
+    let history = scheduled d blanks in
+    let who_called : callers history ≡ by_sessions 0 lines ++ by count (loop_calls d.description.cycles) = scheduled-callers d blanks asked in
+    let fits : 0 + length lines ≤ count = omega (arith, length-map sessions (λ (t : SessionText). t.lines)) in
+    record {
+      sessions = λ k. elim (cases_Option (slice_get sessions k)) [
+        inl none ↦ rw none tt
+      | inr (s, found) ↦ rw found (session_follows sessions history (loop_calls d.description.cycles) k s who_called found) ];
+      cycles = picked-callers count history ∙ rw who_called (picked-append count (by_sessions 0 lines) _ ∙ rw (picked-beyond count 0 lines fits) (picked-same count (loop_calls d.description.cycles)));
+      nobody_else = Within-callers count history (rw who_called (Within-append count (by_sessions 0 lines) _ (Within-by_sessions count 0 lines fits) (Within-by count count _ (omega arith)))) }
