@@ -10,6 +10,7 @@ use Rattle.cm_model.specs.declared.reply.Reply.{Reply}
 use Rattle.cm_model.specs.declared.reply.Reply.TheVariants as reply
 use Rattle.cm_model.specs.declared.reply.Why.{Why}
 use Rattle.cm_model.specs.declared.reply.Why.TheVariants as why
+use Rattle.cm_model.specs.declared.description.CtlKind.{CtlKind}
 use Rattle.cm_model.specs.declared.description.CtlDesc.{CtlDesc}
 use Rattle.cm_model.specs.declared.description.Description.{Description}
 use Rattle.cm_model.specs.declared.state.Blanks.{Blanks}
@@ -27,12 +28,12 @@ abbrev pub is_loaded_at : ℕ → State → Bool
 is_loaded_at place s = list_any (λ l. l.place == place) s.loaded
 
 -- The controller is taken from the stock and gets the next serial.
-abbrev pub loaded_from_stock : State → ℕ → CtlDesc → State × Reply
-loaded_from_stock s place c =
-    if blanks_of s.blanks c.kind == 0 then (s, reply.Not why.StockEmpty)
+abbrev pub loaded_from_stock : State → ℕ → CtlKind → State × Reply
+loaded_from_stock s place kind =
+    if blanks_of s.blanks kind == 0 then (s, reply.Not why.StockEmpty)
     else (
       record s {
-        blanks = with_one_less s.blanks c.kind;
+        blanks = with_one_less s.blanks kind;
         loads = s.loads + 1;
         loaded = s.loaded ++ record { serial = s.loads; place = place } ∷ [];
       },
@@ -42,7 +43,7 @@ loaded_from_stock s place c =
 -- a load of what stands at this place
 abbrev pub load_at : State → ℕ → Option CtlDesc → State × Reply
 load_at s place None = (s, reply.Not why.NotDescribed)
-load_at s place (Some c) = if is_loaded_at place s then (s, reply.Not why.Loaded) else loaded_from_stock s place c
+load_at s place (Some c) = if is_loaded_at place s then (s, reply.Not why.Loaded) else loaded_from_stock s place c.kind
 
 -- A load: not described, else loaded already, else no blank of the kind left, else done.
 abbrev pub load_from : State → Option ℕ → State × Reply

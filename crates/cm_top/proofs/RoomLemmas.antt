@@ -1,0 +1,120 @@
+-- A step takes room for one entry at most.
+use Rattle.std.proofs.Common.{◌≡◌, ℕ, zero, suc, ◌+◌, ◌<◌, ◌≤◌, List, [], ◌∷◌, ◌++◌, length, Option, Some, None, Bool, true, false, refl, sym, ap, ◌∙◌, ◌⊎◌, inl, inr, arith, sum_by}
+use Rattle.std.specs.Prelude.{cond, slice_get, nat_lt, not, ◌==◌, ◌&&◌}
+use Rattle.std.proofs.lemmas.Option.{cond_some}
+use Rattle.std.proofs.lemmas.Bool.{and_parts}
+use Rattle.std.proofs.lemmas.Bool.Decides.{nat_tests}
+use Rattle.cm_model.proofs.LegalLemmas.{cases_Option}
+use Rattle.cm_model.specs.Machine.{step, where_allowed, load, load_from, load_at, loaded_from_stock, place_of, is_loaded_at, can_begin, can_end, can_close}
+use Rattle.cm_model.specs.Scheduled.{Progress, Settled, with_entry, settle, settle_from, settle_all, looped, cycle, cycles, finish, start}
+use Rattle.cm_model.specs.declared.call.Call.{Call}
+use Rattle.cm_model.specs.declared.call.Call.TheVariants.{Load, ListControllers, Begin, End, Close}
+use Rattle.cm_model.specs.declared.call.Entry.{Entry}
+use Rattle.cm_model.specs.declared.reply.Reply.{Reply}
+use Rattle.cm_model.specs.declared.description.CtlDesc.{CtlDesc}
+use Rattle.cm_model.specs.declared.state.State.{State}
+use Rattle.cm_top.specs.Room.{Room, lines_left, serials_of, IsLoops}
+
+-- one load more at most, and the same loop
+record LoadsOne (s t : State) : Type 0 where
+  loads : t.loads ≤ s.loads + 1
+  aloft : t.aloft ≡ s.aloft
+  ended : t.ended ≡ s.ended
+  description : t.description ≡ s.description
+
+unloaded : (s : State) → LoadsOne s s
+unloaded s = record { loads = omega arith; aloft = refl; ended = refl; description = refl }
+
+chosen : {A : Type 0} (P : A → Type 0) (b : Bool) (x y : A) → P x → P y → P (cond b x y)
+chosen P true x y p q = p
+chosen P false x y p q = q
+
+load_at-LoadsOne : (s : State) (place : ℕ) (c : Option CtlDesc) → LoadsOne s (load_at s place c).0
+load_at-LoadsOne s place None = unloaded s
+load_at-LoadsOne s place (Some c) =
+    chosen (λ (made : State × Reply). LoadsOne s made.0) (is_loaded_at place s) _ _ (unloaded s) (chosen (λ (made : State × Reply). LoadsOne s made.0) _ _ _ (unloaded s)
+    (record { loads = omega arith; aloft = refl; ended = refl; description = refl }))
+
+load_from-LoadsOne : (s : State) (place : Option ℕ) → LoadsOne s (load_from s place).0
+load_from-LoadsOne s None = unloaded s
+load_from-LoadsOne s (Some place) = load_at-LoadsOne s place (slice_get s.description.controllers place)
+
+-- where one load at most was made, room for one entry less is left
+LoadsOne-Room : (s t : State) (k : ℕ) → LoadsOne s t → Room s (suc k) → Room t k
+LoadsOne-Room s t k one room = record {
+  serials = omega (arith, one.loads, room.serials);
+  counted = λ up. rw (one.ended, one.description) (room.counted (sym one.aloft ∙ up));
+}
+
+pub Room-less : (s : State) (k j : ℕ) → Room s k → j ≤ k → Room s j
+Room-less s k j room less = record { serials = omega (arith, room.serials); counted = room.counted }
+
+-- ---- Calls of the loop
+
+-- a call has room where one entry has
+pub room_for_call : (s : State) (call : Call) (k : ℕ) → Room s (suc k) → Room s (serials_of call)
+room_for_call s (Load name) k room = Room-less s _ 1 room (omega arith)
+room_for_call s ListControllers k room = Room-less s _ 0 room (omega arith)
+room_for_call s (Begin n) k room = Room-less s _ 0 room (omega arith)
+room_for_call s (End n) k room = Room-less s _ 0 room (omega arith)
+room_for_call s Close k room = Room-less s _ 0 room (omega arith)
+
+-- a call of the loop takes no serial
+pub room_for_loop : (s : State) (call : Call) (k : ℕ) → IsLoops call → Room s k → Room s (serials_of call)
+room_for_loop s (Load name) k loops room = absurd loops
+room_for_loop s ListControllers k loops room = absurd loops
+room_for_loop s (Begin n) k loops room = Room-less s k 0 room (omega arith)
+room_for_loop s (End n) k loops room = Room-less s k 0 room (omega arith)
+room_for_loop s Close k loops room = Room-less s k 0 room (omega arith)
+
+-- it leaves as much room
+pub loop_step-Room : (s : State) (who : ℕ) (call : Call) (q : State × Reply) (k : ℕ) → IsLoops call → step s who call ≡ Some q → Room s k → Room q.0 k
+unfolding step
+loop_step-Room s who (Load name) q k loops stepped room = absurd loops
+loop_step-Room s who ListControllers q k loops stepped room = absurd loops
+loop_step-Room s who (Begin n) q k loops stepped room =
+    let made = cond_some _ _ _ stepped in
+    let can : can_begin s n ≡ true = (and_parts _ _ made.0).1 in
+    let more : nat_lt n s.description.cycles ≡ true = (and_parts _ _ can).1 in
+    let at_n : (s.ended == n) ≡ true = (and_parts _ _ (and_parts _ _ can).0).1 in
+    rw (← made.1) (record { serials = room.serials; counted = λ up. grind (arith, nat_tests) })
+loop_step-Room s who (End n) q k loops stepped room =
+    let made = cond_some _ _ _ stepped in rw (← made.1) (record { serials = room.serials; counted = λ up. cc })
+loop_step-Room s who Close q k loops stepped room =
+    let made = cond_some _ _ _ stepped in rw (← made.1) (record { serials = room.serials; counted = room.counted })
+
+-- a step takes room for one entry
+pub step-Room : (s : State) (who : ℕ) (call : Call) (q : State × Reply) (k : ℕ) → step s who call ≡ Some q → Room s (suc k) → Room q.0 k
+unfolding step
+step-Room s who (Load name) q k stepped room =
+    let made = (cond_some _ _ _ stepped).1 in rw (← made) (LoadsOne-Room s (load s name).0 k (load_from-LoadsOne s (place_of s name)) room)
+step-Room s who ListControllers q k stepped room =
+    let made = (cond_some _ _ _ stepped).1 in rw (← made) (LoadsOne-Room s s k (unloaded s) room)
+step-Room s who (Begin n) q k stepped room = loop_step-Room s who (Begin n) q k tt stepped (Room-less s (suc k) k room (omega arith))
+step-Room s who (End n) q k stepped room = loop_step-Room s who (End n) q k tt stepped (Room-less s (suc k) k room (omega arith))
+step-Room s who Close q k stepped room = loop_step-Room s who Close q k tt stepped (Room-less s (suc k) k room (omega arith))
+
+-- ---- What a settling session leaves
+
+pub settle-Room : (who : ℕ) (lines : List Call) (s : State) (made : List Entry) (k : ℕ) → Room s (length lines + k)
+    → Room (settle who lines s made).state (length (settle who lines s made).rest + k)
+settle-Room who [] s made k room = room
+settle-Room who (call ∷ lines) s made k room =
+    elim (cases_Option (step s who call)) [
+      | inl none ↦ rw (none, settle) room
+      | inr (q, some) ↦ rw (some, settle) (settle-Room who lines q.0 (with_entry made who call q.1) k
+          (step-Room s who call q (length lines + k) some (Room-less s _ (suc (length lines + k)) room (omega arith))))
+    ]
+
+pub lines_left-append : (xs ys : List (List Call)) → lines_left (xs ++ ys) ≡ lines_left xs + lines_left ys
+lines_left-append [] ys = omega arith
+lines_left-append (x ∷ xs) ys = omega (arith, lines_left-append xs ys)
+
+pub settle_from-Room : (who : ℕ) (sessions : List (List Call)) (s : State) (made : List Entry) (rests : List (List Call)) → Room s (lines_left sessions + lines_left rests)
+    → Room (settle_from who sessions s made rests).state (lines_left (settle_from who sessions s made rests).rests)
+settle_from-Room who [] s made rests room = Room-less s _ (lines_left rests) room (omega arith)
+settle_from-Room who (lines ∷ others) s made rests room =
+    let one = settle who lines s made in
+    let left = settle-Room who lines s made (lines_left others + lines_left rests) (Room-less s _ _ room (omega arith)) in
+    settle_from-Room (who + 1) others one.state one.made (rests ++ one.rest ∷ [])
+    (Room-less one.state _ _ left (omega (arith, lines_left-append rests (one.rest ∷ []))))
