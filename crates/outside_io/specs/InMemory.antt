@@ -1,0 +1,21 @@
+-- A source and a sink in memory, as contracts see them.
+use Rattle.std.specs.Prelude.{ℕ, List}
+
+-- The bytes still to come, the most that one read gives, the numbers of the reads that fail, and how many reads there were and failed.
+pub record Given : Type 0 where
+  pub left : List ℕ
+  pub step : ℕ
+  pub fails : List ℕ
+  pub calls : ℕ
+  pub faults : ℕ
+
+-- The bytes taken, how many of them are flushed, for how many more there is room, the most that one write takes, the numbers of the
+-- writes and flushes that fail, and how many of these there were and failed.
+pub record Kept : Type 0 where
+  pub taken : List ℕ
+  pub flushed : ℕ
+  pub room : ℕ
+  pub step : ℕ
+  pub fails : List ℕ
+  pub calls : ℕ
+  pub faults : ℕ
