@@ -21,4 +21,6 @@ mod pace;
 mod sink;
 mod source;
 mod std_edge;
+#[cfg(test)]
+mod tests;
 mod whole;

@@ -1,20 +1,19 @@
 //! A sink in memory, for tests.
 
-ghost use Rattle.std.specs.Prelude.{◌≡◌, ◌+◌, ◌-◌, ◌<◌, ◌≤◌, ◌==◌, [], ◌++◌, min, length, take, Some, IfOk, OnOk, OnErr, is_err, nat_lt, ◌&&◌, ◌||◌, if◌then◌else◌};
+ghost use Rattle.std.specs.Prelude.{◌≡◌, ◌+◌, ◌<◌, ◌≤◌, [], min, length, Some, IfOk, OnOk, OnErr, is_err, if◌then◌else◌};
 ghost use Rattle.std.specs.Io.KnownBytes.{Keeps, WriteAppends};
 ghost use Rattle.outside_io.specs.Bytes.{AllFlushed};
 ghost use Rattle.outside_io.specs.Faults.{HasCause};
 ghost use Rattle.outside_io.specs.Failing.{is_listed, one_more};
 
-use std::alloc::Global;
-use std::marker::Model;
-
 use crate::failures::Failures;
 use crate::{Failed, Sink};
 use fixed_num::Memory;
+use std::alloc::Global;
+use std::marker::Model;
 
 /// Keeps what it takes in room that it reserved when it was made, a few bytes at a time, and fails where it is told to
-/// or has no room. Contracts see it as a `Kept`.
+/// or has no room. Contracts see it as a `SinkView`.
 #[derive(Debug, Drop)]
 pub struct MemSink {
     bytes: Vec<u8>,
@@ -27,18 +26,18 @@ pub struct MemSink {
 impl Model for MemSink {
     ghost use Rattle.std.specs.Prelude.{◌+◌, ◌<◌, ◌≤◌, length};
     ghost use Rattle.std.specs.Vec.{vec_capacity, vec_len};
-    ghost use Rattle.outside_io.specs.InMemory.{Kept};
+    ghost use Rattle.outside_io.specs.InMemory.{SinkView};
 
-    ghost Value = { Kept };
+    ghost Value = { SinkView };
 
     ghost view = { λ s. record {
-        taken = s.bytes.items;
-        flushed = s.flushed;
-        room = s.room;
-        step = s.step;
-        fails = s.failures.listed.items;
-        calls = s.failures.calls;
-        faults = s.failures.faults
+      taken = s.bytes.items;
+      flushed = s.flushed;
+      room = s.room;
+      step = s.step;
+      fails = s.failures.listed.items;
+      calls = s.failures.calls;
+      faults = s.failures.faults;
     } };
 
     ghost invariant = { λ s. (0 < s.step) × (vec_len s.bytes + s.room ≤ vec_capacity s.bytes) };
@@ -75,6 +74,8 @@ impl MemSink {
 }
 
 impl Sink for MemSink {
+    ghost use Rattle.outside_io.specs.InMemory.{write_fails};
+
     ghost taken = { λ s. Some s.taken };
 
     ghost flushed = { λ s. Some s.flushed };
@@ -89,7 +90,7 @@ impl Sink for MemSink {
         ensures bytes { WriteAppends (Some self.old.taken) (Some self.new.taken) result piece.now }
         ensures flushed { Some self.new.flushed ≡ Some self.old.flushed }
         ensures cause { HasCause self.old.faults self.new.faults result }
-        ensures fails_where { is_err result ≡ (is_listed self.old.fails self.old.calls || (nat_lt 0 (length piece.now) && self.old.room == 0)) }
+        ensures fails_exactly { is_err result ≡ write_fails self.old piece.now }
         ensures count { IfOk result (λ n. n ≡ min (min self.old.step (length piece.now)) self.old.room) }
         ensures room { self.new.room + length self.new.taken ≡ self.old.room + length self.old.taken }
         ensures counted { self.new.faults ≡ (if is_err result then one_more self.old.faults else self.old.faults) }
@@ -114,7 +115,7 @@ impl Sink for MemSink {
         ensures flushed { OnOk result (AllFlushed (Some self.new.taken) (Some self.new.flushed)) }
         ensures unflushed { OnErr result (Some self.new.flushed ≡ Some self.old.flushed) }
         ensures cause { HasCause self.old.faults self.new.faults result }
-        ensures fails_where { is_err result ≡ is_listed self.old.fails self.old.calls }
+        ensures fails_exactly { is_err result ≡ is_listed self.old.fails self.old.calls }
         ensures room { self.new.room ≡ self.old.room }
         ensures counted { self.new.faults ≡ (if is_err result then one_more self.old.faults else self.old.faults) }
         ensures step { self.new.step ≡ self.old.step }

@@ -1,16 +1,15 @@
 //! A source in memory, for tests.
 
-ghost use Rattle.std.specs.Prelude.{◌≡◌, ◌+◌, ◌<◌, ◌≤◌, [], min, length, Some, IfOk, IsOk, is_err, if◌then◌else◌};
+ghost use Rattle.std.specs.Prelude.{◌≡◌, ◌<◌, ◌≤◌, [], min, length, Some, IfOk, IsOk, is_err, if◌then◌else◌};
 ghost use Rattle.std.specs.Io.KnownBytes.{ReadConsumes};
 ghost use Rattle.outside_io.specs.Faults.{HasCause};
 ghost use Rattle.outside_io.specs.Failing.{is_listed, one_more};
 
-use std::marker::Model;
-
 use crate::failures::Failures;
 use crate::{Failed, Source};
+use std::marker::Model;
 
-/// Gives the bytes of a vector, a few at a time, and fails where it is told to. Contracts see it as a `Given`.
+/// Gives the bytes of a vector, a few at a time, and fails where it is told to. Contracts see it as a `SourceView`.
 #[derive(Debug, Drop)]
 pub struct MemSource {
     bytes: Vec<u8>,
@@ -21,16 +20,16 @@ pub struct MemSource {
 
 impl Model for MemSource {
     ghost use Rattle.std.specs.Prelude.{◌<◌, ◌≤◌, length, drop};
-    ghost use Rattle.outside_io.specs.InMemory.{Given};
+    ghost use Rattle.outside_io.specs.InMemory.{SourceView};
 
-    ghost Value = { Given };
+    ghost Value = { SourceView };
 
     ghost view = { λ s. record {
-        left = drop s.at s.bytes.items;
-        step = s.step;
-        fails = s.failures.listed.items;
-        calls = s.failures.calls;
-        faults = s.failures.faults
+      left = drop s.at s.bytes.items;
+      step = s.step;
+      fails = s.failures.listed.items;
+      calls = s.failures.calls;
+      faults = s.failures.faults;
     } };
 
     ghost invariant = { λ s. (0 < s.step) × (s.at ≤ length s.bytes.items) };
@@ -65,7 +64,7 @@ impl Source for MemSource {
         ensures within { IfOk result (λ n. n ≤ length buf.new) }
         ensures bytes { ReadConsumes (Some self.old.left) (Some self.new.left) result buf.new }
         ensures cause { HasCause self.old.faults self.new.faults result }
-        ensures listed { is_err result ≡ is_listed self.old.fails self.old.calls }
+        ensures fails_exactly { is_err result ≡ is_listed self.old.fails self.old.calls }
         ensures count { IfOk result (λ n. n ≡ min (min self.old.step (length buf.new)) (length self.old.left)) }
         ensures counted { self.new.faults ≡ (if is_err result then one_more self.old.faults else self.old.faults) }
         ensures never { self.old.fails ≡ [] → IsOk result × (self.new.faults ≡ self.old.faults) }

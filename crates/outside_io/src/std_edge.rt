@@ -2,9 +2,8 @@
 
 ghost use Rattle.std.specs.Prelude.{◌≡◌, None};
 
-use std::io::{Read, Write};
-
 use crate::{Failed, Sink, Source};
+use std::io::{Read, Write};
 
 /// A source over a reader of std, as standard input. It tells of the bytes what the reader tells.
 #[derive(Drop)]

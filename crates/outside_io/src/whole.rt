@@ -5,12 +5,11 @@ ghost use Rattle.std.specs.Io.KnownBytes.{Appends};
 ghost use Rattle.outside_io.specs.Bytes.{AppendsPrefix, IsLonger, IsWhole, TakesAtMost};
 ghost use Rattle.outside_io.specs.Faults.{HasCause, Rose};
 
-use std::alloc::{AllocError, Global};
-
 use crate::{Failed, Sink, Source};
+use std::alloc::{AllocError, Global};
 use thiserror::Error;
 
-/// How many bytes are asked for at a time: a page or two, as readers give them, and little enough for the stack.
+/// How many bytes are asked for at a time: few calls for a long document, and little on the stack.
 const PIECE: usize = 8192;
 
 /// Why a source was not read to its end.
@@ -31,7 +30,11 @@ pub enum ReadFault {
 ///
 /// `TooLong` comes as soon as it gives byte `limit + 1`, and no byte more is read then; `Failed` only where a read failed,
 /// `Memory` only for want of memory. What was read before a fault is lost.
-pub fn read_whole<S: Source>(alloc: Global, source: &mut S, limit: usize) -> Result<Vec<u8>, ReadFault>
+pub fn read_whole<S: Source>(
+    alloc: Global,
+    source: &mut S,
+    limit: usize,
+) -> Result<Vec<u8>, ReadFault>
     requires { limit + 1 < 2 ^ 64 }
     ensures whole { IfOk result (λ bytes. IsWhole (S.left source.old) (S.left source.new) bytes.items) }
     ensures within { IfOk result (λ bytes. length bytes.items ≤ limit) }

@@ -6,7 +6,7 @@ abbrev pub invariant-loop-buffer : goal.invariant-loop-buffer
 invariant-loop-buffer g l = record {
   within : length l.bytes.items ≤ l.limit + 1;
   so_far : Consumes (g.S.Source.left l.fn.source) (g.S.Source.left l.source) l.bytes.items;
-  later : g.S.Source.faults l.fn.source ≤ g.S.Source.faults l.source
+  later : g.S.Source.faults l.fn.source ≤ g.S.Source.faults l.source;
 }
 
 abbrev pub decreases-loop-buffer : goal.decreases-loop-buffer

@@ -14,5 +14,5 @@ loop-done-preserved g c =
       within = omega (arith, length-drop done bytes, count);
       so_far = taken-more _ _ _ bytes done c.in_ok-done.field-0 before.so_far took;
       flushed = c.in_ok-done.ensures.flushed ∙ before.flushed;
-      later = omega (arith, before.later, c.in_ok-done.ensures.cause.later)
+      later = omega (arith, before.later, c.in_ok-done.ensures.cause.later);
     }
