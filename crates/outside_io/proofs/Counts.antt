@@ -1,5 +1,5 @@
 -- A count of faults over several calls.
-use Rattle.std.proofs.Common.{ℕ, ◌+◌, ◌-◌, ◌^◌, ◌≤◌, min, arith}
+use Rattle.std.proofs.Common.{ℕ, ◌≤◌, arith}
 use Rattle.outside_io.specs.Faults.{Rose}
 
 -- What rose in a later part rose in the whole.

@@ -1,6 +1,6 @@
 //! Reading a source to its end, and writing all of some bytes, so that nobody above loops over a source or a sink.
 
-ghost use Rattle.std.specs.Prelude.{◌≡◌, ◌+◌, ◌^◌, ◌<◌, ◌≤◌, length, IfOk, OnOk, OnErr};
+ghost use Rattle.std.specs.Prelude.{◌≡◌, ◌+◌, ◌^◌, ◌<◌, ◌≤◌, length, IfOk, IfSome, OnOk, OnErr};
 ghost use Rattle.std.specs.Io.KnownBytes.{Appends};
 ghost use Rattle.outside_io.specs.Bytes.{AppendsPrefix, IsLonger, IsWhole, TakesAtMost};
 ghost use Rattle.outside_io.specs.Faults.{HasCause, Rose};
@@ -38,6 +38,7 @@ pub fn read_whole<S: Source>(
     requires { limit + 1 < 2 ^ 64 }
     ensures whole { IfOk result (λ bytes. IsWhole (S.left source.old) (S.left source.new) bytes.items) }
     ensures within { IfOk result (λ bytes. length bytes.items ≤ limit) }
+    ensures fits { OnOk result (IfSome (S.left source.old) (λ left. length left ≤ limit)) }
     ensures long { result ≡ Err ReadFault.TooLong → IsLonger (S.left source.old) limit }
     ensures failed { result ≡ Err ReadFault.Failed → Rose (S.faults source.old) (S.faults source.new) }
     ensures later { S.faults source.old ≤ S.faults source.new }

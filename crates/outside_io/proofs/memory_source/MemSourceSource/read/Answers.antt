@@ -1,5 +1,5 @@
-use Rattle.std.proofs.Common.{◌≡◌, ◌+◌, ◌≤◌, length, take, drop, ap, arith, length-append, length-drop}
-use Rattle.std.proofs.lemmas.List.{take_rest, length-take, drop_all}
+use Rattle.std.proofs.Common.{◌≡◌, ◌+◌, ◌≤◌, length, drop, ap, arith, length-append, length-drop}
+use Rattle.std.proofs.lemmas.List.{take_rest, drop_all}
 use Rattle.outside_io.specs.InMemory.{SourceView}
 use Rattle.outside_io.proofs.Turns.{given-next}
 use Rattle.outside_io.proofs.memory_source.MemSourceSource.read.Goals as goal
