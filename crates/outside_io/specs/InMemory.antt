@@ -1,0 +1,26 @@
+-- A source and a sink in memory, as contracts see them.
+use Rattle.std.specs.Prelude.{ℕ, ◌==◌, ◌&&◌, ◌||◌, nat_lt, Bool, List, length}
+use Rattle.outside_io.specs.Failing.{is_listed}
+
+-- The bytes still to come, the most that one read gives, the numbers of the reads that fail, and how many reads there were and failed.
+pub record SourceView : Type 0 where
+  pub left : List ℕ
+  pub step : ℕ
+  pub fails : List ℕ
+  pub calls : ℕ
+  pub faults : ℕ
+
+-- The bytes taken, how many of them are flushed, for how many more there is room, the most that one write takes, the numbers of the
+-- writes and flushes that fail, and how many of these there were and failed.
+pub record SinkView : Type 0 where
+  pub taken : List ℕ
+  pub flushed : ℕ
+  pub room : ℕ
+  pub step : ℕ
+  pub fails : List ℕ
+  pub calls : ℕ
+  pub faults : ℕ
+
+-- The next write fails if it is of this piece: its number is listed, or the piece has a byte and there is no room.
+abbrev pub write_fails : SinkView → List ℕ → Bool
+write_fails sink piece = is_listed sink.fails sink.calls || (nat_lt 0 (length piece) && sink.room == 0)

@@ -1,0 +1,132 @@
+//! A sink in memory, for tests.
+
+ghost use Rattle.std.specs.Prelude.{◌≡◌, ◌+◌, ◌<◌, ◌≤◌, [], min, length, Some, IfOk, OnOk, OnErr, is_err, if◌then◌else◌};
+ghost use Rattle.std.specs.Io.KnownBytes.{Keeps, WriteAppends};
+ghost use Rattle.outside_io.specs.Bytes.{AllFlushed};
+ghost use Rattle.outside_io.specs.Faults.{HasCause};
+ghost use Rattle.outside_io.specs.Failing.{is_listed, one_more};
+
+use crate::failures::Failures;
+use crate::{Failed, Sink};
+use fixed_num::Memory;
+use std::alloc::Global;
+use std::marker::Model;
+
+/// Keeps what it takes in room that it reserved when it was made, a few bytes at a time, and fails where it is told to
+/// or has no room. Contracts see it as a `SinkView`.
+#[derive(Debug, Drop)]
+pub struct MemSink {
+    bytes: Vec<u8>,
+    flushed: usize,
+    room: usize,
+    step: usize,
+    failures: Failures,
+}
+
+impl Model for MemSink {
+    ghost use Rattle.std.specs.Prelude.{◌+◌, ◌<◌, ◌≤◌, length};
+    ghost use Rattle.std.specs.Vec.{vec_capacity, vec_len};
+    ghost use Rattle.outside_io.specs.InMemory.{SinkView};
+
+    ghost Value = { SinkView };
+
+    ghost view = { λ s. record {
+      taken = s.bytes.items;
+      flushed = s.flushed;
+      room = s.room;
+      step = s.step;
+      fails = s.failures.listed.items;
+      calls = s.failures.calls;
+      faults = s.failures.faults;
+    } };
+
+    ghost invariant = { λ s. (0 < s.step) × (vec_len s.bytes + s.room ≤ vec_capacity s.bytes) };
+}
+
+impl MemSink {
+    /// An empty sink with room for `room` bytes, which takes at most `step` of them a write and fails in the writes and flushes
+    /// whose numbers are listed; both are numbered together, from 0. `Memory` where the room can't be had.
+    pub fn make(alloc: Global, room: usize, step: usize, fails: Vec<u64>) -> Result<MemSink, Memory>
+        requires { 0 < step }
+        ensures taken { IfOk result (λ sink. sink.taken ≡ []) }
+        ensures flushed { IfOk result (λ sink. sink.flushed ≡ 0) }
+        ensures room { IfOk result (λ sink. sink.room ≡ room) }
+        ensures step { IfOk result (λ sink. sink.step ≡ step) }
+        ensures fails { IfOk result (λ sink. sink.fails ≡ fails.items) }
+        ensures calls { IfOk result (λ sink. sink.calls ≡ 0) }
+        ensures faults { IfOk result (λ sink. sink.faults ≡ 0) }
+    {
+        Ok(MemSink {
+            bytes: Vec::with_capacity(alloc, room)?,
+            flushed: 0,
+            room,
+            step,
+            failures: Failures::make(fails),
+        })
+    }
+
+    /// The bytes taken so far. It takes no memory.
+    pub fn bytes(&self) -> &[u8]
+        ensures { result.now ≡ self.now.taken }
+    {
+        self.bytes.as_slice()
+    }
+}
+
+impl Sink for MemSink {
+    ghost use Rattle.outside_io.specs.InMemory.{write_fails};
+
+    ghost taken = { λ s. Some s.taken };
+
+    ghost flushed = { λ s. Some s.flushed };
+
+    ghost faults = { λ s. s.faults };
+
+    /// Takes as many bytes as the step, the piece and the room allow, and no memory. A listed write fails,
+    /// and so does one of a byte or more where no room is left; it takes nothing then and is a fault.
+    fn write(&mut self, piece: &[u8]) -> Result<usize, Failed>
+        ensures within { IfOk result (λ n. n ≤ length piece.now) }
+        ensures some { IfOk result (λ n. 0 < length piece.now → 0 < n) }
+        ensures bytes { WriteAppends (Some self.old.taken) (Some self.new.taken) result piece.now }
+        ensures flushed { Some self.new.flushed ≡ Some self.old.flushed }
+        ensures cause { HasCause self.old.faults self.new.faults result }
+        ensures fails_exactly { is_err result ≡ write_fails self.old piece.now }
+        ensures count { IfOk result (λ n. n ≡ min (min self.old.step (length piece.now)) self.old.room) }
+        ensures room { self.new.room + length self.new.taken ≡ self.old.room + length self.old.taken }
+        ensures counted { self.new.faults ≡ (if is_err result then one_more self.old.faults else self.old.faults) }
+        ensures step { self.new.step ≡ self.old.step }
+        ensures fails { self.new.fails ≡ self.old.fails }
+        ensures calls { self.new.calls ≡ one_more self.old.calls }
+    {
+        let is_listed = self.failures.next_is_listed();
+        let count = self.step.min(piece.len()).min(self.room);
+        if is_listed || (count == 0 && !piece.is_empty()) {
+            self.failures.count();
+            return Err(Failed);
+        }
+        self.bytes.extend_from_slice(&piece[..count]).unwrap();
+        self.room -= count;
+        Ok(count)
+    }
+
+    /// Remembers how many bytes were taken; a listed flush fails, remembers nothing and is a fault.
+    fn flush(&mut self) -> Result<(), Failed>
+        ensures bytes { Keeps (Some self.old.taken) (Some self.new.taken) }
+        ensures flushed { OnOk result (AllFlushed (Some self.new.taken) (Some self.new.flushed)) }
+        ensures unflushed { OnErr result (Some self.new.flushed ≡ Some self.old.flushed) }
+        ensures cause { HasCause self.old.faults self.new.faults result }
+        ensures fails_exactly { is_err result ≡ is_listed self.old.fails self.old.calls }
+        ensures room { self.new.room ≡ self.old.room }
+        ensures counted { self.new.faults ≡ (if is_err result then one_more self.old.faults else self.old.faults) }
+        ensures step { self.new.step ≡ self.old.step }
+        ensures fails { self.new.fails ≡ self.old.fails }
+        ensures calls { self.new.calls ≡ one_more self.old.calls }
+    {
+        if self.failures.next_is_listed() {
+            self.failures.count();
+            return Err(Failed);
+        }
+        self.flushed = self.bytes.len();
+        Ok(())
+    }
+}

@@ -1,0 +1,15 @@
+//! What paces the loop.
+
+/// Paces the loop between two cycles. It answers nothing, so it can't change what the loop does.
+pub trait Pace {
+    /// Waits, as long as it likes, before the cycle of this number.
+    fn pause(&mut self, cycle: u64);
+}
+
+/// The pace that never waits.
+#[derive(Clone, Copy, Debug)]
+pub struct NoPace;
+
+impl Pace for NoPace {
+    fn pause(&mut self, _cycle: u64) {}
+}
