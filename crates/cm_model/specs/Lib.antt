@@ -6,6 +6,7 @@ pub mod Checks
 pub mod Lines
 pub mod Script
 pub mod Document
+pub mod Words
 pub mod State
 pub mod Machine
 pub mod Scheduled

@@ -118,3 +118,7 @@ settle_from-Room who (lines ∷ others) s made rests room =
     let left = settle-Room who lines s made (lines_left others + lines_left rests) (Room-less s _ _ room (omega arith)) in
     settle_from-Room (who + 1) others one.state one.made (rests ++ one.rest ∷ [])
     (Room-less one.state _ _ left (omega (arith, lines_left-append rests (one.rest ∷ []))))
+
+-- a state that stays has the same room
+pub kept-Room : (s t : State) (k : ℕ) → t ≡ s → Room s k → Room t k
+kept-Room s t k same room = rw same room

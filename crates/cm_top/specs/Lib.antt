@@ -1,2 +1,4 @@
 pub mod Room
 pub mod Session
+pub mod Status
+pub mod Calls

@@ -1,5 +1,8 @@
 //! From bytes to bytes: a document is read, its run is made, and the trace is written.
 #![tactic(auto)]
 
+pub use status::Status;
+
 mod desk;
 mod session;
+mod status;

@@ -1,4 +1,4 @@
-use Rattle.cm_top.proofs.RoomLemmas.{room_for_loop, loop_step-Room}
+use Rattle.cm_top.proofs.RoomLemmas.{room_for_loop, loop_step-Room, kept-Room}
 use Rattle.cm_top.proofs.session.Job.looped.Goals as goal
 use Rattle.cm_top.proofs.session.Job.looped.Goals.{in-Some+in_ok-push, in_default}
 
@@ -14,5 +14,6 @@ invariant_of-result c = elim c.match-branch-2.branch [
     few = c.args.self.few;
   }
   | in_default w ↦
-      (let nothing = rw w.in_default.is at c.in_ok-reply.ensures.made in rw nothing.1 (record { room = c.args.self.room; few = c.args.self.few }))
+      let nothing = rw w.in_default.is at c.in_ok-reply.ensures.made in
+      record { room = kept-Room c.args.self.state c.step.new.state _ nothing.1 c.args.self.room; few = c.args.self.few }
 ]

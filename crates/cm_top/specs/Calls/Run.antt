@@ -1,0 +1,41 @@
+-- What a call of `run_alone` promises, and `run` where its words are accepted.
+use Rattle.std.specs.Prelude.{◌≡◌, ℕ, ◌≤◌, List, Option, IfSome, IsOk, ◌⊎◌}
+use Rattle.std.specs.Io.KnownBytes.{IsAtEnd}
+use Rattle.outside_io.specs.Bytes.{TakesAtMost}
+use Rattle.outside_io.specs.Faults.{Rose}
+use Rattle.cm_model.specs.Document.{document}
+use Rattle.cm_model.specs.declared.state.Blanks.{Blanks}
+use Rattle.cm_top.specs.Status.{IsShort, Ran, IsPlain}
+use Rattle.cm_top.specs.declared.status.Status.{Status}
+use Rattle.cm_top.specs.declared.status.Status.TheVariants as status
+
+-- what a source tells: the bytes that are left, and how often it failed
+pub record SourceTold : Type 0 where
+  pub left : Option (List ℕ)
+  pub faults : ℕ
+
+-- what a sink tells: the bytes taken, how many of them are flushed, and how often it failed
+pub record SinkTold : Type 0 where
+  pub taken : Option (List ℕ)
+  pub flushed : Option ℕ
+  pub faults : ℕ
+
+-- A run from this source, before and after, into this sink, before and after, with its status.
+pub record Runs (blanks : Blanks) (source source' : SourceTold) (sink sink' : SinkTold) (ended : Status) : Type 0 where
+  -- by the bytes of the source, where they are told
+  pub ran : IfSome source.left (λ bytes. Ran bytes blanks sink.taken sink'.taken sink'.flushed ended)
+  -- a run that went well has read its source to the end
+  pub read_whole : ended ≡ status.Ok → IsAtEnd source'.left
+  -- never more than one byte past the longest document is taken from the source
+  pub read_at_most : TakesAtMost source.left source'.left 1048577
+  -- a fault of reading comes only where the source's faults rose, one of writing where the sink's did
+  pub read_fault : ended ≡ status.ReadFault → Rose source.faults source'.faults
+  pub write_fault : ended ≡ status.WriteFault → Rose sink.faults sink'.faults
+  -- the counts of faults never fall
+  pub read_later : source.faults ≤ source'.faults
+  pub write_later : sink.faults ≤ sink'.faults
+  -- no refusal carries a want of memory
+  pub plain : IsPlain ended
+  -- An accepted document that is not too long, with no fault of source and sink, goes well, unless memory runs out.
+  pub complete : IfSome source.left (λ bytes. IsShort bytes → IsOk (document bytes) → ¬ (Rose source.faults source'.faults)
+      → ¬ (Rose sink.faults sink'.faults) → (ended ≡ status.Ok) ⊎ (ended ≡ status.Memory))

@@ -1,0 +1,77 @@
+-- The numbers of the statuses, and what each says of the run that ended so.
+use Rattle.std.specs.Prelude.{◌≡◌, ℕ, ◌<◌, ◌≤◌, List, Option, Some, None, Result, Ok, Err, length, IfSome, ◌⊎◌}
+use Rattle.std.specs.Io.KnownBytes.{Keeps, Appends}
+use Rattle.outside_io.specs.Bytes.{AllFlushed, AppendsPrefix}
+use Rattle.cm_model.specs.Document.{document}
+use Rattle.cm_model.specs.Machine.{IsLegal}
+use Rattle.cm_model.specs.Scheduled.{scheduled}
+use Rattle.cm_model.specs.Sessions.{IsWhole}
+use Rattle.cm_model.specs.Trace.{output}
+use Rattle.cm_model.specs.declared.document.Document.{Document}
+use Rattle.cm_model.specs.declared.faults.DescProblem.{DescProblem}
+use Rattle.cm_model.specs.declared.faults.DescProblem.TheVariants as problem
+use Rattle.cm_model.specs.declared.faults.DescFault.TheVariants as desc_fault
+use Rattle.cm_model.specs.declared.faults.CheckFault.TheVariants as check_fault
+use Rattle.cm_model.specs.declared.faults.ScriptFault.TheVariants as script_fault
+use Rattle.cm_model.specs.declared.faults.DocumentFault.TheVariants as fault
+use Rattle.cm_model.specs.declared.state.Blanks.{Blanks}
+use Rattle.cm_top.specs.declared.status.Status.{Status}
+use Rattle.cm_top.specs.declared.status.Status.TheVariants as status
+
+-- the number that the program ends with
+abbrev pub code_of : Status → ℕ
+code_of status.Ok = 0
+code_of status.BadWords = 2
+code_of (status.BadDescription _) = 3
+code_of (status.BadScript _) = 4
+code_of status.ReadFault = 5
+code_of status.TooLong = 6
+code_of status.Memory = 7
+code_of status.WriteFault = 8
+
+-- the longest document has 1,048,576 bytes
+abbrev pub IsShort : List ℕ → Type 0
+IsShort bytes = length bytes ≤ 1048576
+
+-- A run that went well: the bytes are an accepted document; the sink has grown by exactly the trace of the history that is
+-- scheduled for it, all of it flushed; and that history is legal and whole.
+pub record Printed (bytes : List ℕ) (blanks : Blanks) (old new : Option (List ℕ)) (flushed : Option ℕ) : Type 0 where
+  pub document_is : Document
+  pub short : IsShort bytes
+  pub accepted : document bytes ≡ Ok document_is
+  pub taken : Appends old new (output document_is blanks)
+  pub all_flushed : AllFlushed new flushed
+  pub legal : IsLegal document_is.description blanks (length document_is.script.sessions) (scheduled document_is blanks)
+  pub whole : IsWhole document_is (scheduled document_is blanks)
+
+-- A run that was cut short while it wrote: the sink has grown by a front of that trace.
+pub record Cut (bytes : List ℕ) (blanks : Blanks) (old new : Option (List ℕ)) : Type 0 where
+  pub document_is : Document
+  pub short : IsShort bytes
+  pub accepted : document bytes ≡ Ok document_is
+  pub taken : AppendsPrefix old new (output document_is blanks)
+
+-- What a run over these bytes says by its status. Each refusal names the document's first fault, exactly.
+abbrev pub Ran : List ℕ → Blanks → Option (List ℕ) → Option (List ℕ) → Option ℕ → Status → Type 0
+Ran bytes blanks old new flushed status.Ok = Printed bytes blanks old new flushed
+Ran bytes blanks old new flushed status.BadWords = ⊥
+Ran bytes blanks old new flushed (status.BadDescription p) = IsShort bytes × (document bytes ≡ Err (fault.Description p))
+Ran bytes blanks old new flushed (status.BadScript f) = IsShort bytes × (document bytes ≡ Err (fault.Script f))
+Ran bytes blanks old new flushed status.ReadFault = Unit {0}
+Ran bytes blanks old new flushed status.TooLong = 1048576 < length bytes
+Ran bytes blanks old new flushed status.Memory = Keeps old new ⊎ Cut bytes blanks old new
+Ran bytes blanks old new flushed status.WriteFault = Cut bytes blanks old new
+
+-- the statuses that come before anything is written
+abbrev pub ComesBeforeWriting : Status → Type 0
+ComesBeforeWriting status.Ok = ⊥
+ComesBeforeWriting status.Memory = ⊥
+ComesBeforeWriting status.WriteFault = ⊥
+ComesBeforeWriting _ = Unit {0}
+
+-- Want of memory is a status of its own: no refusal carries it.
+abbrev pub IsPlain : Status → Type 0
+IsPlain (status.BadDescription (problem.Text desc_fault.Memory)) = ⊥
+IsPlain (status.BadDescription (problem.Check check_fault.Memory)) = ⊥
+IsPlain (status.BadScript script_fault.Memory) = ⊥
+IsPlain _ = Unit {0}

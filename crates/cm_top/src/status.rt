@@ -1,0 +1,56 @@
+//! How a run ended.
+
+use cm_model::{DescProblem, ScriptFault};
+use thiserror::Error;
+
+/// How a run ended. Statuses 3 and 4 never carry a want of memory.
+#[derive(Debug, PartialEq, Eq, Drop, Error)]
+pub enum Status {
+    /// The job ran, and all of its trace was written and flushed.
+    #[error("ok")]
+    Ok,
+    /// The words are not accepted.
+    #[error("usage: cm run|steps|live [--make N]")]
+    BadWords,
+    /// The description is not accepted; its first fault.
+    #[error("description: {0}")]
+    BadDescription(DescProblem),
+    /// The description is accepted, and a line of the script is bad; the first one.
+    #[error("script: {0}")]
+    BadScript(ScriptFault),
+    /// The source failed.
+    #[error("read fault")]
+    ReadFault,
+    /// The source gave more than 1,048,576 bytes.
+    #[error("document longer than 1048576 bytes")]
+    TooLong,
+    /// Memory ran out.
+    #[error("out of memory")]
+    Memory,
+    /// The sink failed.
+    #[error("write fault")]
+    WriteFault,
+}
+
+impl Status {
+    ghost use Rattle.std.specs.Prelude.{◌≡◌};
+    ghost use Rattle.cm_top.specs.Status.{code_of};
+    ghost use Rattle.std.specs.Prelude.{◌≡◌};
+    ghost use Rattle.cm_top.specs.Status.{code_of};
+
+    /// The number of the status, which the program ends with.
+    pub fn code(&self) -> u8
+        ensures { result ≡ code_of self.now }
+    {
+        match self {
+            Status::Ok => 0,
+            Status::BadWords => 2,
+            Status::BadDescription(_) => 3,
+            Status::BadScript(_) => 4,
+            Status::ReadFault => 5,
+            Status::TooLong => 6,
+            Status::Memory => 7,
+            Status::WriteFault => 8,
+        }
+    }
+}
