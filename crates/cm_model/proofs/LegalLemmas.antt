@@ -58,8 +58,9 @@ settle-Leads : (who : ℕ) (lines : List Call) (from s : State) (made : List Ent
 settle-Leads who [] from s made leads = leads
 settle-Leads who (call ∷ lines) from s made leads =
     elim (cases_Option (step s who call)) [
-      inl none ↦ rw (none, settle) leads
-    | inr (q, some) ↦ rw (some, settle) (settle-Leads who lines from q.0 (with_entry made who call q.1) (Leads-step made from s who call q.0 q.1 leads some)) ]
+      | inl none ↦ rw (none, settle) leads
+      | inr (q, some) ↦ rw (some, settle) (settle-Leads who lines from q.0 (with_entry made who call q.1) (Leads-step made from s who call q.0 q.1 leads some))
+    ]
 
 settle_from-Leads : (who : ℕ) (sessions : List (List Call)) (from s : State) (made : List Entry) (rests : List (List Call)) → Leads from made s
     → LeadsOn from (settle_from who sessions s made rests)
@@ -76,8 +77,9 @@ looped-Leads : (call : Call) (from : State) (p : Progress) → LeadsOn from p �
 unfolding looped
 looped-Leads call from p leads =
     elim (cases_Option (step p.state p.state.sessions call)) [
-      inl none ↦ rw (none, looped) leads
-    | inr (q, some) ↦ rw (some, looped) (Leads-step p.made from p.state p.state.sessions call q.0 q.1 leads some) ]
+      | inl none ↦ rw (none, looped) leads
+      | inr (q, some) ↦ rw (some, looped) (Leads-step p.made from p.state p.state.sessions call q.0 q.1 leads some)
+    ]
 
 cycle-Leads : (n : ℕ) (from : State) (p : Progress) → LeadsOn from p → LeadsOn from (cycle n p)
 unfolding cycle

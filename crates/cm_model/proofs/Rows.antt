@@ -28,7 +28,7 @@ printed bytes = document bytes >>= λ d. Ok (output d stock)
 
 -- one controller, loaded once, listed, and refused twice
 one_mock : printed (codes "version = 1\nupdate_rate = 100\ncycles = 2\n[[controller]]\nname = \"mk\"\ntype = \"mock\"\n--- script ---\nsession a\nload mk\nlist controllers\nload nosuch\nload mk\n")
-  ≡ Ok (codes "a load mk: ok 0\na list controllers: mk mock unconfigured 0\na load nosuch: not_described\na load mk: loaded\nloop begin 0: none\nloop end 0: none\nloop begin 1: none\nloop end 1: none\nloop close: none\n")
+    ≡ Ok (codes "a load mk: ok 0\na list controllers: mk mock unconfigured 0\na load nosuch: not_described\na load mk: loaded\nloop begin 0: none\nloop end 0: none\nloop begin 1: none\nloop end 1: none\nloop close: none\n")
 unfolding tree_of is_utf8 chars toml_on_literals digits description_of controller_of checked parts_of with_line script_of accepted_description document_of step settle_all looped cycle finish start scheduled output
 one_mock = refl
 

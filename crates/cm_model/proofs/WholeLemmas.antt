@@ -42,7 +42,8 @@ same-trans s t u p q = record {
   description = q.description ∙ p.description;
   ended = q.ended ∙ p.ended;
   aloft = q.aloft ∙ p.aloft;
-  closed = q.closed ∙ p.closed }
+  closed = q.closed ∙ p.closed;
+}
 
 -- what holds of both choices holds of the one taken
 chosen : {A : Type 0} (P : A → Type 0) (b : Bool) (x y : A) → P x → P y → P (cond b x y)
@@ -110,7 +111,8 @@ settle-Settles who (call ∷ lines) s made asked known =
     rw (first.1, settle) (record {
       rest = others.rest;
       calls = others.calls ∙ ap (λ l. l ++ by who lines) (callers-with_entry made who call q.1) ∙ append_assoc (callers made) ((who, call) ∷ []) (by who lines);
-      loop = same-trans s q.0 _ first.2 others.loop })
+      loop = same-trans s q.0 _ first.2 others.loop;
+    })
 
 -- what settling the sessions from this number on did
 record SettlesFrom (who : ℕ) (sessions : List (List Call)) (s : State) (made : List Entry) (p : Progress) : Type 0 where
@@ -135,7 +137,8 @@ settle_from-Settles who (lines ∷ others) s made rests asked fits done =
     record {
       rests = rest.rests;
       calls = rest.calls ∙ ap (λ l. l ++ by_sessions (who + 1) others) first.calls ∙ append_assoc (callers made) (by who lines) (by_sessions (who + 1) others);
-      loop = same-trans s one.state _ first.loop rest.loop }
+      loop = same-trans s one.state _ first.loop rest.loop;
+    }
 
 -- sessions without a line left settle at once
 by_sessions-AllMade : (who : ℕ) (rests : List (List Call)) → AllMade rests → by_sessions who rests ≡ []
@@ -244,7 +247,8 @@ cycle-Ran n total who sessions p ran more =
       total_is = ap (λ (s : State). s.description.cycles) last.state_is ∙ ran.total_is;
       ended = ap (λ (s : State). s.ended) last.state_is ∙ rw ran.ended (omega arith);
       aloft = ap (λ (s : State). s.aloft) last.state_is;
-      closed = ap (λ (s : State). s.closed) last.state_is ∙ ran.closed })
+      closed = ap (λ (s : State). s.closed) last.state_is ∙ ran.closed;
+    })
 
 -- the first n cycles
 cycles-Ran : (n total who : ℕ) (sessions : List (List Call)) (p : Progress) → Ran 0 total who sessions (settle_all p) → n ≤ total
@@ -286,7 +290,8 @@ start-Ran d blanks asked =
       total_is = ap (λ (t : Description). t.cycles) settled.loop.description;
       ended = settled.loop.ended;
       aloft = settled.loop.aloft;
-      closed = settled.loop.closed }
+      closed = settled.loop.closed;
+    }
 
 -- who called what in a scheduled history
 scheduled-callers : (d : Document) (blanks : Blanks) → IsAsked d.script.sessions
@@ -394,7 +399,9 @@ scheduled-IsWhole d blanks asked =
     let fits : 0 + length lines ≤ count = omega (arith, length-map sessions (λ (t : SessionText). t.lines)) in
     record {
       sessions = λ k. elim (cases_Option (slice_get sessions k)) [
-        inl none ↦ rw none tt
-      | inr (s, found) ↦ rw found (session_follows sessions history (loop_calls d.description.cycles) k s who_called found) ];
+        | inl none ↦ rw none tt
+        | inr (s, found) ↦ rw found (session_follows sessions history (loop_calls d.description.cycles) k s who_called found)
+      ];
       cycles = picked-callers count history ∙ rw who_called (picked-append count (by_sessions 0 lines) _ ∙ rw (picked-beyond count 0 lines fits) (picked-same count (loop_calls d.description.cycles)));
-      nobody_else = Within-callers count history (rw who_called (Within-append count (by_sessions 0 lines) _ (Within-by_sessions count 0 lines fits) (Within-by count count _ (omega arith)))) }
+      nobody_else = Within-callers count history (rw who_called (Within-append count (by_sessions 0 lines) _ (Within-by_sessions count 0 lines fits) (Within-by count count _ (omega arith))));
+    }

@@ -11,11 +11,9 @@ ghost use Rattle.cm_model.specs.Sessions.{IsWhole, IsUneventful};
 /// Each scheduled history is legal: from boot each of its entries is a step of the written manager.
 pub fn scheduled_histories_are_legal()
     ensures { (d : Document) (blanks : Blanks) → IsLegal d.description blanks (length d.script.sessions) (scheduled d blanks) }
-{
-}
+{}
 
 /// Nothing is decided in a scheduled history, and the record of each cycle is empty.
 pub fn scheduled_histories_are_uneventful()
     ensures { (d : Document) (blanks : Blanks) → IsUneventful (scheduled d blanks) }
-{
-}
+{}

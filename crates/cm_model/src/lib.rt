@@ -16,6 +16,7 @@ pub use text::Text;
 
 mod call;
 mod description;
+mod display;
 mod document;
 mod faults;
 pub mod laws;

@@ -6,7 +6,6 @@ ghost use Rattle.sequence.specs.Answers.{Answers};
 ghost use Rattle.cm_model.specs.Names.{is_name, is_letter, is_name_byte, name_of};
 
 use std::alloc::{AllocError, Global};
-use std::fmt;
 use std::marker::Model;
 use thiserror::Error;
 
@@ -134,10 +133,4 @@ impl Eq for Name {
     ghost use Rattle.std.proofs.Common.{rules};
 
     ghost laws = { Prim.search (comparing, rules) };
-}
-
-impl fmt::Display for Name {
-    fn fmt<W: fmt::Write>(&self, f: &mut fmt::Formatter<W>) -> fmt::Result {
-        write!(f, "{}", self.text)
-    }
 }

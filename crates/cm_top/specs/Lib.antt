@@ -1,4 +1,5 @@
 pub mod Room
 pub mod Session
+pub mod Streams
 pub mod Status
 pub mod Calls

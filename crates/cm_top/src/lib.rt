@@ -6,3 +6,4 @@ pub use status::Status;
 mod desk;
 mod session;
 mod status;
+mod trace;
