@@ -1,3 +1,4 @@
 pub mod ListLemmas
 pub mod RoomLemmas
 pub mod SettleLemmas
+pub mod StreamLemmas

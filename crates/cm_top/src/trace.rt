@@ -118,3 +118,52 @@ fn push_line(text: &mut String, sessions: &[SessionText], entry: &Entry) -> Resu
     text.push_str("\n")?;
     Ok(())
 }
+
+/// Hands the text on to the sink, all of it.
+fn pass_on<K: Sink>(sink: &mut K, text: &mut String) -> Result<(), OutFault>
+    ensures ok { OnOk result (Appends (K.taken sink.old) (K.taken sink.new) (string_bytes text.old) × (string_bytes text.new ≡ [])) }
+    ensures err { OnErr result (AppendsPrefix (K.taken sink.old) (K.taken sink.new) (string_bytes text.old)) }
+    ensures fault { HasFault (K.faults sink.old) (K.faults sink.new) result }
+{
+    if write_whole(sink, text.as_bytes()).is_err() {
+        return Err(OutFault::Failed);
+    }
+    text.clear();
+    Ok(())
+}
+
+/// Adds an entry's line to the text that waits, and hands all of it on once it has a piece's length.
+fn write_line<K: Sink>(
+    sink: &mut K,
+    text: &mut String,
+    sessions: &[SessionText],
+    entry: &Entry,
+) -> Result<(), OutFault>
+    ensures ok { OnOk result (Streams (K.taken sink.old) (K.taken sink.new) (string_bytes text.old) (string_bytes text.new) (line_text sessions.now entry.now)) }
+    ensures err { OnErr result (AppendsPrefix (K.taken sink.old) (K.taken sink.new) (string_bytes text.old ++ line_text sessions.now entry.now)) }
+    ensures fault { HasFault (K.faults sink.old) (K.faults sink.new) result }
+{
+    push_line(text, sessions, entry)?;
+    if text.len() < PIECE {
+        return Ok(());
+    }
+    pass_on(sink, text)
+}
+
+/// Writes the trace of a history. After either fault the sink has taken a front of it.
+pub fn write_trace<K: Sink>(
+    alloc: Global,
+    sink: &mut K,
+    sessions: &[SessionText],
+    history: &[Entry],
+) -> Result<(), OutFault>
+    ensures ok { OnOk result (Appends (K.taken sink.old) (K.taken sink.new) (trace sessions.now history.now)) }
+    ensures err { OnErr result (AppendsPrefix (K.taken sink.old) (K.taken sink.new) (trace sessions.now history.now)) }
+    ensures fault { HasFault (K.faults sink.old) (K.faults sink.new) result }
+{
+    let mut text = String::new(alloc);
+    for entry in history {
+        write_line(sink, &mut text, sessions, entry)?;
+    }
+    pass_on(sink, &mut text)
+}
