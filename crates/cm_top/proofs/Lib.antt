@@ -1,3 +1,5 @@
+pub mod LineLemmas
 pub mod ListLemmas
+pub mod PartsLemmas
 pub mod RoomLemmas
 pub mod SettleLemmas

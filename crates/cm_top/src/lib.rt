@@ -4,5 +4,6 @@
 pub use status::Status;
 
 mod desk;
+mod script;
 mod session;
 mod status;
