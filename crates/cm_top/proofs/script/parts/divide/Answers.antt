@@ -1,22 +1,28 @@
-use Rattle.std.proofs.Common.{◌≡◌, refl, sym, ◌∙◌, List, ℕ, Some, None, true, length, arith, rules}
-use Rattle.cm_model.specs.Lines.{parts_of, Parts}
+use Rattle.std.proofs.Common.{◌≡◌, refl, sym, ◌∙◌, ℕ, length, arith, rules, length-append, ap}
 use Rattle.cm_top.proofs.PartsLemmas.{parts_at_separator, parts_without_separator}
 use Rattle.cm_top.proofs.script.parts.divide.Goals as goal
 
-pub returns-then-separates-clause-description : goal.returns-then-separates-clause-description
-returns-then-separates-clause-description c = rw (parts_at_separator _ _ _ _ _ c.loop-rest.invariant c.first_line.ensures.cut (sym c.separates.ensures ∙ c.if-separates.true)) c.split_at.ensures.front
+-- at the separator
+pub returns-then-separates : goal.returns-then-separates
+returns-then-separates c =
+    let passed = c.loop-rest.invariant in
+    let e = parts_at_separator c.args.bytes.now c.loop-rest.lines c.loop-rest.rest.now c.first_line.result.0.now c.first_line.result.1.now passed c.first_line.ensures.cut (sym c.separates.ensures ∙ c.if-separates.true) in
+    record {
+      description = rw e c.split_at.ensures.front;
+      lines = rw e refl;
+      script = rw e refl;
+      fits = omega (arith, ap length passed.whole, length-append passed.before c.loop-rest.rest.now);
+    }
 
-pub returns-then-separates-clause-lines : goal.returns-then-separates-clause-lines
-returns-then-separates-clause-lines c = rw (parts_at_separator _ _ _ _ _ c.loop-rest.invariant c.first_line.ensures.cut (sym c.separates.ensures ∙ c.if-separates.true)) refl
-
-pub returns-then-separates-clause-script : goal.returns-then-separates-clause-script
-returns-then-separates-clause-script c = rw (parts_at_separator _ _ _ _ _ c.loop-rest.invariant c.first_line.ensures.cut (sym c.separates.ensures ∙ c.if-separates.true)) refl
-
-pub returns-clause-description : goal.returns-clause-description
-returns-clause-description c = let none : length c.loop-rest.rest.now ≡ 0 = search rules in rw (parts_without_separator _ _ _ c.loop-rest.invariant none) refl
-
-pub returns-clause-lines : goal.returns-clause-lines
-returns-clause-lines c = let none : length c.loop-rest.rest.now ≡ 0 = search rules in rw (parts_without_separator _ _ _ c.loop-rest.invariant none) refl
-
-pub returns-clause-script : goal.returns-clause-script
-returns-clause-script c = let none : length c.loop-rest.rest.now ≡ 0 = search rules in rw (parts_without_separator _ _ _ c.loop-rest.invariant none) refl
+-- at the end
+pub returns : goal.returns
+returns c =
+    let passed = c.loop-rest.invariant in
+    let none : length c.loop-rest.rest.now ≡ 0 = search rules in
+    let e = parts_without_separator c.args.bytes.now c.loop-rest.lines c.loop-rest.rest.now passed none in
+    record {
+      description = rw e refl;
+      lines = rw e refl;
+      script = rw e refl;
+      fits = omega (arith, ap length passed.whole, length-append passed.before c.loop-rest.rest.now);
+    }
