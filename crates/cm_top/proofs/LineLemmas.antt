@@ -1,5 +1,5 @@
 -- Lines and words, cut off a text one by one.
-use Rattle.std.proofs.Common.{◌≡◌, ℕ, suc, ◌+◌, ◌<◌, ◌≤◌, Bool, true, false, cond, eqb, ltb, List, [], ◌∷◌, ◌++◌, length, take, drop, Option, Some, None, refl, sym, ap, ◌∙◌, arith, ltb-false, ltb-true, length-drop}
+use Rattle.std.proofs.Common.{◌≡◌, ℕ, suc, ◌+◌, ◌<◌, ◌≤◌, Bool, true, false, cond, List, [], ◌∷◌, ◌++◌, length, take, drop, Some, None, refl, ap, ◌∙◌, arith, ltb-false, ltb-true, length-drop}
 use Rattle.std.specs.Prelude.{position, if◌then◌else◌, not, ◌==◌}
 use Rattle.std.specs.List.{position_or_len}
 use Rattle.std.proofs.lemmas.List.{take_all, drop_all}
@@ -14,7 +14,7 @@ line_end xs = position_or_len (λ b. b == 10) xs
 
 -- one byte more in front of a text whose first line is known
 first_line_more : (v : Bool) (b : ℕ) (bs : List ℕ) (n : ℕ) → raw_lines bs ≡ take (n + 1) bs ∷ raw_lines (drop (n + 1) bs)
-  → (if v then (b ∷ []) ∷ raw_lines bs else onto_first b (raw_lines bs)) ≡ take (cond (not v) (1 + n) 0 + 1) (b ∷ bs) ∷ raw_lines (drop (cond (not v) (1 + n) 0 + 1) (b ∷ bs))
+    → (if v then (b ∷ []) ∷ raw_lines bs else onto_first b (raw_lines bs)) ≡ take (cond (not v) (1 + n) 0 + 1) (b ∷ bs) ∷ raw_lines (drop (cond (not v) (1 + n) 0 + 1) (b ∷ bs))
 first_line_more true b bs n h = refl
 first_line_more false b bs n h = let e : 1 + n + 1 ≡ suc (n + 1) = omega arith in rw (e, h) refl
 
@@ -98,7 +98,7 @@ words_blank b (c ∷ cs) h = rw h refl
 
 -- one byte more in front of a word
 word_more : (v : Bool) (b : ℕ) (cs : List ℕ) (n : ℕ) (rest : List (List ℕ)) → (v ≡ true → n ≡ 0) → (v ≡ false → rest ≡ take n cs ∷ words (drop n cs)) → (v ≡ true → rest ≡ words cs)
-  → (if v then (b ∷ []) ∷ rest else onto_first b rest) ≡ take (1 + n) (b ∷ cs) ∷ words (drop (1 + n) (b ∷ cs))
+    → (if v then (b ∷ []) ∷ rest else onto_first b rest) ≡ take (1 + n) (b ∷ cs) ∷ words (drop (1 + n) (b ∷ cs))
 word_more true b cs n rest z h w = rw (z refl, w refl) refl
 word_more false b cs n rest z h w = let e : 1 + n ≡ suc n = omega arith in rw (e, h refl) refl
 
@@ -116,8 +116,8 @@ abbrev BeginsWithWord : List ℕ → List ℕ → Type 0
 BeginsWithWord xs from = words xs ≡ take (word_end from) from ∷ words (drop (word_end from) from)
 
 next_more : (v : Bool) (b : ℕ) (bs : List ℕ) (n : ℕ) → is_blank b ≡ v
-  → (0 < length (drop n bs) → BeginsWithWord bs (drop n bs)) → 0 < length (drop (cond (not (not v)) (1 + n) 0) (b ∷ bs))
-  → BeginsWithWord (b ∷ bs) (drop (cond (not (not v)) (1 + n) 0) (b ∷ bs))
+    → (0 < length (drop n bs) → BeginsWithWord bs (drop n bs)) → 0 < length (drop (cond (not (not v)) (1 + n) 0) (b ∷ bs))
+    → BeginsWithWord (b ∷ bs) (drop (cond (not (not v)) (1 + n) 0) (b ∷ bs))
 next_more true b bs n e h some = let k : 1 + n ≡ suc n = omega arith in rw k (words_blank b bs e ∙ h (rw k at some))
 next_more false b bs n e h some = words_word b bs e
 
@@ -127,7 +127,7 @@ words_next [] h = absurd (omega arith)
 words_next (b ∷ bs) h = next_more (is_blank b) b bs (blanks bs) refl (words_next bs) h
 
 none_more : (v : Bool) (b : ℕ) (bs : List ℕ) (n : ℕ) → is_blank b ≡ v
-  → (length bs ≤ n → words bs ≡ []) → length bs + 1 ≤ cond (not (not v)) (1 + n) 0 → words (b ∷ bs) ≡ []
+    → (length bs ≤ n → words bs ≡ []) → length bs + 1 ≤ cond (not (not v)) (1 + n) 0 → words (b ∷ bs) ≡ []
 none_more true b bs n e h past = words_blank b bs e ∙ h (omega arith)
 none_more false b bs n e h past = absurd (omega arith)
 
@@ -149,12 +149,12 @@ words_from xs k h =
 
 -- a word ends before a blank
 pub words_to_blank : (xs : List ℕ) (k j : ℕ) → position (λ b. not (is_blank b)) xs ≡ Some k → position is_blank (drop k xs) ≡ Some j
-  → words xs ≡ take j (drop k xs) ∷ words (drop j (drop k xs))
+    → words xs ≡ take j (drop k xs) ∷ words (drop j (drop k xs))
 words_to_blank xs k j h g = let e : word_end (drop k xs) ≡ j = (cond_some _ _ _ g).1 in rw (← e) (words_from xs k h)
 
 -- a word ends at the end of the text
 pub words_to_end : (xs : List ℕ) (k : ℕ) → position (λ b. not (is_blank b)) xs ≡ Some k → position is_blank (drop k xs) ≡ None
-  → words xs ≡ take (length (drop k xs)) (drop k xs) ∷ words (drop (length (drop k xs)) (drop k xs))
+    → words xs ≡ take (length (drop k xs)) (drop k xs) ∷ words (drop (length (drop k xs)) (drop k xs))
 words_to_end xs k h g =
     let from = drop k xs in
     let past : length from ≤ word_end from = ltb-false _ _ (cond_none _ _ g) in

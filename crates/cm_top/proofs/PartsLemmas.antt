@@ -1,8 +1,7 @@
 -- A document divided line by line.
-use Rattle.std.proofs.Common.{◌≡◌, ℕ, suc, ◌+◌, ◌-◌, ◌<◌, ◌≤◌, Bool, true, false, List, [], ◌∷◌, ◌++◌, length, take, drop, Option, Some, None, refl, sym, ap, ◌∙◌, arith, append_assoc, append-nil, add-zero, length-append}
-use Rattle.std.specs.Prelude.{if◌then◌else◌}
+use Rattle.std.proofs.Common.{◌≡◌, ℕ, ◌+◌, ◌-◌, ◌<◌, ◌≤◌, true, false, List, [], ◌∷◌, ◌++◌, length, take, Some, None, refl, sym, ap, ◌∙◌, arith, append_assoc, append-nil, add-zero, length-append}
 use Rattle.std.proofs.lemmas.List.{take_at}
-use Rattle.cm_model.specs.Lines.{raw_lines, is_separator, Parts, joined, parts_of_lines, parts_of}
+use Rattle.cm_model.specs.Lines.{raw_lines, is_separator, Parts, parts_of_lines, parts_of}
 use Rattle.cm_top.proofs.LineLemmas.{joined_raw_lines}
 
 -- what is before a rest, and the rest's own parts
@@ -42,7 +41,7 @@ Passed_more bytes lines rest line more p cut whole shorter other = record {
 
 -- the separator divides the document
 pub parts_at_separator : (bytes : List ℕ) (lines : ℕ) (rest line more : List ℕ) → Passed bytes lines rest → raw_lines rest ≡ line ∷ raw_lines more → is_separator line ≡ true
-  → parts_of bytes ≡ record { description = take (length bytes - length rest) bytes; lines = lines; script = Some more }
+    → parts_of bytes ≡ record { description = take (length bytes - length rest) bytes; lines = lines; script = Some more }
 unfolding parts_of
 parts_at_separator bytes lines rest line more p cut same =
     let size : length p.before ≡ length (p.before ++ rest) - length rest = omega (arith, length-append p.before rest) in

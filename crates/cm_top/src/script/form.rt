@@ -21,11 +21,7 @@ pub fn begins_comment(word: &[u8]) -> bool
 }
 
 /// What a line says whose first word is `verb` and whose other words stand in `rest`; nothing where it has no form.
-pub fn statement(
-    alloc: Global,
-    verb: &[u8],
-    rest: &[u8],
-) -> Result<Option<Statement>, ScriptFault>
+pub fn statement(alloc: Global, verb: &[u8], rest: &[u8]) -> Result<Option<Statement>, ScriptFault>
     ensures { Answers ScriptFault.Memory (Ok (statement_of (verb.now ∷ words rest.now))) result }
 {
     let Some((object, more)) = next_word(rest) else {
@@ -38,11 +34,7 @@ pub fn statement(
 }
 
 /// What a line of these two words says.
-fn two_words(
-    alloc: Global,
-    verb: &[u8],
-    object: &[u8],
-) -> Result<Option<Statement>, ScriptFault>
+fn two_words(alloc: Global, verb: &[u8], object: &[u8]) -> Result<Option<Statement>, ScriptFault>
     ensures { Answers ScriptFault.Memory (Ok (statement_of (verb.now ∷ object.now ∷ []))) result }
 {
     if verb == b"session".as_slice() {

@@ -6,6 +6,7 @@ ghost use Rattle.cm_model.specs.Lines.{is_separator, parts_of};
 use crate::script::lines::{bare_line, first_line};
 
 /// A document divided at its separator, none of it copied.
+#[derive(Clone, Copy, Debug)]
 pub struct Divided<'a> {
     /// The bytes before the separator; all of them where there is none.
     pub description: &'a [u8],

@@ -11,7 +11,8 @@ use crate::script::form::{begins_comment, statement};
 use crate::script::lines::{bare_line, first_line};
 use crate::script::words::next_word;
 use cm_model::{
-    Call, DocumentFault, Form, Name, Script, ScriptFault, Seq, SessionText, Statement, Written, built,
+    Call, DocumentFault, Form, Name, Script, ScriptFault, Seq, SessionText, Statement, Written,
+    built,
 };
 use std::alloc::Global;
 

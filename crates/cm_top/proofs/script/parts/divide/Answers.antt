@@ -1,4 +1,4 @@
-use Rattle.std.proofs.Common.{◌≡◌, refl, sym, ◌∙◌, ℕ, length, arith, rules, length-append, ap}
+use Rattle.std.proofs.Common.{◌≡◌, refl, sym, ◌∙◌, length, arith, rules, length-append, ap}
 use Rattle.cm_top.proofs.PartsLemmas.{parts_at_separator, parts_without_separator}
 use Rattle.cm_top.proofs.script.parts.divide.Goals as goal
 
