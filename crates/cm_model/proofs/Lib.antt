@@ -1,4 +1,5 @@
 pub mod LegalLemmas
 pub mod NameLemmas
+pub mod ScriptLemmas
 pub mod WholeLemmas
 mod Rows

@@ -1,5 +1,5 @@
 -- The script: lines, each with a form, and the first bad line.
-use Rattle.std.specs.Prelude.{ℕ, ◌+◌, Bool, true, false, ◌||◌, not, nat_lt, ◌&&◌, if◌then◌else◌, List, [], ◌∷◌, ◌++◌, length, codes, Option, Some, None, Result, Ok, Err, option_to_list}
+use Rattle.std.specs.Prelude.{ℕ, ◌+◌, ◌≤◌, Bool, true, false, ◌||◌, not, nat_lt, ◌&&◌, if◌then◌else◌, List, [], ◌∷◌, ◌++◌, length, sum_by, codes, Option, Some, None, Result, Ok, Err, option_to_list}
 use Rattle.cm_model.specs.Names.{is_name, same_name}
 use Rattle.cm_model.specs.Reading.{◌>>=◌}
 use Rattle.cm_model.specs.Lines.{raw_lines, bare, words, is_skipped}
@@ -81,3 +81,8 @@ nothing_written = record { session = None; calls = 0 }
 -- the script that a text is, whose first line has this number in the document
 unfoldable pub script_of : ℕ → List ℕ → Result Script ScriptFault
 script_of first_line text = with_lines first_line nothing_written (raw_lines text) >>= λ w. Ok (record { sessions = option_to_list w.session })
+
+-- An accepted script has one session at most, and at most 10,000 calls.
+pub record IsSmall (s : Script) : Type 0 where
+  pub one_session : length s.sessions ≤ 1
+  pub few_calls : sum_by (λ t. length t.lines) s.sessions ≤ 10000

@@ -1,4 +1,6 @@
+pub mod LineLemmas
 pub mod ListLemmas
+pub mod PartsLemmas
 pub mod RoomLemmas
 pub mod SettleLemmas
 pub mod StreamLemmas

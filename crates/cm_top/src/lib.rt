@@ -4,6 +4,7 @@
 pub use status::Status;
 
 mod desk;
+mod script;
 mod session;
 mod status;
 mod trace;
