@@ -1,4 +1,4 @@
 //! From bytes to bytes: a document is read, its run is made, and the trace is written.
 #![tactic(auto)]
 
-pub mod description;
+mod description;

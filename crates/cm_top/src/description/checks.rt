@@ -41,6 +41,7 @@ fn named_apart(alloc: Global, description: &Description) -> Result<(), CheckFaul
 }
 
 /// The first name that stands earlier in the list too.
+#[tactic(auto, using(crate::proofs::DescriptionLemmas::repeated_after_found, crate::proofs::DescriptionLemmas::repeated_after_passed))]
 fn repeated_name(controllers: &[CtlDesc]) -> Option<&Name>
     ensures { option_copied result ≡ repeated_after [] (map (λ c. c.name) controllers.now) }
 {
@@ -54,7 +55,7 @@ fn repeated_name(controllers: &[CtlDesc]) -> Option<&Name>
 
 /// Whether one of the controllers has the name.
 fn stands_in(controllers: &[CtlDesc], name: &Name) -> bool
-    ensures { result ≡ list_any (same_name name.now) (map (λ c. c.name) controllers.now) }
+    ensures { result ≡ list_any (λ c. same_name name.now c.name) controllers.now }
 {
     controllers
         .iter()

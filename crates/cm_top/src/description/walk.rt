@@ -53,7 +53,10 @@ fn controllers(alloc: Global, found: Option<&Value>) -> Result<Seq<CtlDesc>, Des
     match found {
         None => Ok(Seq::new(alloc)),
         Some(Value::Array(items)) => each_controller(alloc, items),
-        Some(_) => Err(DescFault::BadValue(Text::from_string(String::from_str(alloc, "controller")?))),
+        Some(_) => Err(DescFault::BadValue(Text::from_string(String::from_str(
+            alloc,
+            "controller",
+        )?))),
     }
 }
 

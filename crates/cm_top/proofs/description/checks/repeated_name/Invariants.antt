@@ -5,5 +5,5 @@ use Rattle.cm_top.proofs.description.checks.repeated_name.Given as goal
 -- what is left, looked through after what was seen, gives what the whole list gives
 abbrev pub invariant-loop-index : goal.invariant-loop-index
 invariant-loop-index l =
-    repeated_after (map (λ c. c.name) (take l.index-counter l.controllers)) (map (λ c. c.name) (drop l.index-counter l.controllers))
-      ≡ repeated_after [] (map (λ c. c.name) l.controllers)
+    repeated_after (map (λ c. c.name) (take l.index l.controllers)) (map (λ c. c.name) (drop l.index l.controllers))
+    ≡ repeated_after [] (map (λ c. c.name) l.controllers)
