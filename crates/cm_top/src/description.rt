@@ -1,12 +1,12 @@
 //! A description, read from its text and checked.
 
-ghost use Rattle.std.specs.Prelude.{◌≡◌, Err, Result};
 ghost use Rattle.sequence.specs.Answers.{Answers};
 ghost use Rattle.cm_model.specs.Reading.{told_as};
 ghost use Rattle.cm_model.specs.Document.{accepted_description};
 
 mod checks;
 mod keys;
+mod paths;
 #[cfg(test)]
 mod tests;
 mod values;

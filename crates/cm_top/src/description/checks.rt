@@ -1,13 +1,14 @@
 //! The checks of a description that was read, in the order in which a fault counts.
 
-ghost use Rattle.std.specs.Prelude.{◌≡◌, [], map, option_copied, IfOk};
+ghost use Rattle.std.specs.Prelude.{◌≡◌, [], map, option_copied};
 ghost use Rattle.std.specs.List.{list_any};
 ghost use Rattle.sequence.specs.Answers.{Answers};
 ghost use Rattle.cm_model.specs.Names.{same_name};
 ghost use Rattle.cm_model.specs.Checks.{few_enough, repeated_after, named_apart, within, in_range, checked};
 
-use cm_model::{CheckFault, CtlDesc, Description, Name, Text, What};
-use std::alloc::{AllocError, Global};
+use crate::description::paths::text_of;
+use cm_model::{CheckFault, CtlDesc, Description, Name, What};
+use std::alloc::Global;
 
 /// The description as it is, or the first fault: counts, then names, then ranges.
 #[tactic(auto, unfolding(cm_model::specs::Checks::checked))]
@@ -84,11 +85,4 @@ fn within(alloc: Global, fits: bool, path: &str) -> Result<(), CheckFault>
     } else {
         Err(CheckFault::BadRange(text_of(alloc, path)?))
     }
-}
-
-/// A copy of the text.
-fn text_of(alloc: Global, text: &str) -> Result<Text, AllocError>
-    ensures { IfOk result (λ t. t ≡ text.now) }
-{
-    Ok(Text::from_string(String::from_str(alloc, text)?))
 }

@@ -6,7 +6,8 @@ ghost use Rattle.toml.specs.Data.{same_key};
 ghost use Rattle.toml.specs.View.{table_view};
 ghost use Rattle.cm_model.specs.Walk.{is_listed, unlisted_key, only_listed, path_of_top, path_in};
 
-use cm_model::{DescFault, TableKind, Text};
+use crate::description::paths::{path_in, text_of};
+use cm_model::{DescFault, TableKind};
 use std::alloc::Global;
 use toml::Table;
 
@@ -15,7 +16,7 @@ pub fn only_listed_at_top(alloc: Global, table: &Table) -> Result<(), DescFault>
     ensures { Answers DescFault.Memory (only_listed (unlisted_key TableKind.Top (table_view table.now)) path_of_top) result }
 {
     match unlisted_key(TableKind::Top, table) {
-        Some(key) => Err(DescFault::BadKey(Text::from_string(String::from_str(alloc, key)?))),
+        Some(key) => Err(DescFault::BadKey(text_of(alloc, key)?)),
         None => Ok(()),
     }
 }
@@ -25,7 +26,7 @@ pub fn only_listed_in_controller(alloc: Global, table: &Table, path: &str) -> Re
     ensures { Answers DescFault.Memory (only_listed (unlisted_key TableKind.Controller (table_view table.now)) (path_in path.now)) result }
 {
     match unlisted_key(TableKind::Controller, table) {
-        Some(key) => Err(DescFault::BadKey(Text::from_string(format!(in alloc; "{path}.{key}")?))),
+        Some(key) => Err(DescFault::BadKey(path_in(alloc, path, key)?)),
         None => Ok(()),
     }
 }

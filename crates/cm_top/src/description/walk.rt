@@ -6,8 +6,9 @@ ghost use Rattle.toml.specs.View.{view, items_view, table_view};
 ghost use Rattle.cm_model.specs.Walk.{tree_of, controller_of, controllers_from, controllers_of, description_of, described};
 
 use crate::description::keys::{only_listed_at_top, only_listed_in_controller};
+use crate::description::paths::{controller_path, text_of};
 use crate::description::values::{look_up, required_kind, required_name, required_whole};
-use cm_model::{CtlDesc, DescFault, Description, Seq, Text};
+use cm_model::{CtlDesc, DescFault, Description, Seq};
 use std::alloc::Global;
 use toml::{Table, Value};
 
@@ -53,10 +54,7 @@ fn controllers(alloc: Global, found: Option<&Value>) -> Result<Seq<CtlDesc>, Des
     match found {
         None => Ok(Seq::new(alloc)),
         Some(Value::Array(items)) => each_controller(alloc, items),
-        Some(_) => Err(DescFault::BadValue(Text::from_string(String::from_str(
-            alloc,
-            "controller",
-        )?))),
+        Some(_) => Err(DescFault::BadValue(text_of(alloc, "controller")?)),
     }
 }
 
@@ -67,9 +65,9 @@ fn each_controller(alloc: Global, items: &[Value]) -> Result<Seq<CtlDesc>, DescF
 {
     let mut found = Seq::new(alloc);
     for (index, item) in items.iter().enumerate() {
-        let path = format!(in alloc; "controller[{index}]")?;
+        let path = controller_path(alloc, index)?;
         let Some(table) = item.as_table() else {
-            return Err(DescFault::BadValue(Text::from_string(path)));
+            return Err(DescFault::BadValue(path));
         };
         found.push(controller(alloc, table, path.as_str())?)?;
     }

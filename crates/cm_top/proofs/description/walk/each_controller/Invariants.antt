@@ -6,4 +6,4 @@ use Rattle.cm_top.proofs.description.walk.each_controller.Given as goal
 -- what is left, read after those found, gives what the whole array gives
 abbrev pub invariant-loop-index : goal.invariant-loop-index
 invariant-loop-index l =
-    controllers_from l.index-counter (items_view (drop l.index-counter l.items)) l.found ≡ controllers_from 0 (items_view l.items) []
+    controllers_from l.index (items_view (drop l.index l.items)) l.found ≡ controllers_from 0 (items_view l.items) []
