@@ -3,6 +3,7 @@
 
 pub use status::Status;
 
+mod description;
 mod desk;
 mod script;
 mod session;
