@@ -1,3 +1,4 @@
+pub mod DocumentLemmas
 pub mod LegalLemmas
 pub mod NameLemmas
 pub mod ScriptLemmas

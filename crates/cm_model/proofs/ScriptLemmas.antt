@@ -54,7 +54,7 @@ statement_of_Says (verb ∷ object ∷ []) =
 statement_of_Says (verb ∷ object ∷ more ∷ words) = tt
 
 opened_keeps : (v : Bool) (line calls : ℕ) (name : List ℕ) → Kept (record { session = None; calls = calls })
-  → IfOk (if v then Ok (record { session = Some (record { name = name; lines = [] }); calls = calls }) else Err (BadLine line)) Kept
+    → IfOk (if v then Ok (record { session = Some (record { name = name; lines = [] }); calls = calls }) else Err (BadLine line)) Kept
 opened_keeps true line calls name kept = record { counted = (sym kept.counted, tt); few = kept.few }
 opened_keeps false line calls name kept = tt
 

@@ -13,6 +13,12 @@ pub fn scheduled_histories_are_legal()
     ensures { (d : Document) (blanks : Blanks) → IsLegal d.description blanks (length d.script.sessions) (scheduled d blanks) }
 {}
 
+/// Each history that is scheduled for an accepted document is whole for it: it has every session's lines, each once and in
+/// order, the begin and the end of each cycle, the close, and nothing else.
+pub fn scheduled_histories_are_whole()
+    ensures { (bytes : List ℕ) (d : Document) (blanks : Blanks) → document bytes ≡ Ok d → IsWhole d (scheduled d blanks) }
+{}
+
 /// Nothing is decided in a scheduled history, and the record of each cycle is empty.
 pub fn scheduled_histories_are_uneventful()
     ensures { (d : Document) (blanks : Blanks) → IsUneventful (scheduled d blanks) }
