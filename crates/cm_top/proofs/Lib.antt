@@ -5,3 +5,5 @@ pub mod PartsLemmas
 pub mod RoomLemmas
 pub mod SettleLemmas
 pub mod StreamLemmas
+pub mod PlainLemmas
+pub mod TopLemmas

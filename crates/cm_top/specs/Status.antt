@@ -13,6 +13,7 @@ use Rattle.cm_model.specs.declared.faults.DescProblem.TheVariants as problem
 use Rattle.cm_model.specs.declared.faults.DescFault.TheVariants as desc_fault
 use Rattle.cm_model.specs.declared.faults.CheckFault.TheVariants as check_fault
 use Rattle.cm_model.specs.declared.faults.ScriptFault.TheVariants as script_fault
+use Rattle.cm_model.specs.declared.faults.DocumentFault.{DocumentFault}
 use Rattle.cm_model.specs.declared.faults.DocumentFault.TheVariants as fault
 use Rattle.cm_model.specs.declared.state.Blanks.{Blanks}
 use Rattle.cm_top.specs.declared.status.Status.{Status}
@@ -69,9 +70,29 @@ ComesBeforeWriting status.Memory = ⊥
 ComesBeforeWriting status.WriteFault = ⊥
 ComesBeforeWriting _ = Unit {0}
 
--- Want of memory is a status of its own: no refusal carries it.
+-- Want of memory is a fault of its own: no other fault carries it.
+abbrev pub IsPlainFault : DocumentFault → Type 0
+IsPlainFault (fault.Description (problem.Text desc_fault.Memory)) = ⊥
+IsPlainFault (fault.Description (problem.Check check_fault.Memory)) = ⊥
+IsPlainFault (fault.Script script_fault.Memory) = ⊥
+IsPlainFault _ = Unit {0}
+
+-- It is a status of its own too: no refusal carries it.
 abbrev pub IsPlain : Status → Type 0
-IsPlain (status.BadDescription (problem.Text desc_fault.Memory)) = ⊥
-IsPlain (status.BadDescription (problem.Check check_fault.Memory)) = ⊥
-IsPlain (status.BadScript script_fault.Memory) = ⊥
+IsPlain (status.BadDescription p) = IsPlainFault (fault.Description p)
+IsPlain (status.BadScript f) = IsPlainFault (fault.Script f)
 IsPlain _ = Unit {0}
+
+-- What writing a text came to by the status: all of it taken and flushed, or a front of it.
+abbrev pub Wrote : List ℕ → Option (List ℕ) → Option (List ℕ) → Option ℕ → Status → Type 0
+Wrote text old new flushed status.Ok = Appends old new text × AllFlushed new flushed
+Wrote text old new flushed status.Memory = AppendsPrefix old new text
+Wrote text old new flushed status.WriteFault = AppendsPrefix old new text
+Wrote text old new flushed _ = ⊥
+
+-- the statuses that a run can come to once its bytes are read
+abbrev pub ComesOfBytes : Status → Type 0
+ComesOfBytes status.BadWords = ⊥
+ComesOfBytes status.ReadFault = ⊥
+ComesOfBytes status.TooLong = ⊥
+ComesOfBytes _ = Unit {0}

@@ -2,10 +2,12 @@
 #![tactic(auto)]
 
 pub use status::Status;
+pub use top::{run, run_alone};
 
 mod description;
 mod desk;
 mod script;
 mod session;
 mod status;
+mod top;
 mod trace;

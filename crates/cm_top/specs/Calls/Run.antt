@@ -1,5 +1,5 @@
 -- What a call of `run_alone` promises, and `run` where its words are accepted.
-use Rattle.std.specs.Prelude.{◌≡◌, ℕ, ◌≤◌, List, Option, IfSome, IsOk, ◌⊎◌}
+use Rattle.std.specs.Prelude.{◌≡◌, ℕ, ◌≤◌, List, Option, IfSome, IsOk, IsSome, ◌⊎◌}
 use Rattle.std.specs.Io.KnownBytes.{IsAtEnd}
 use Rattle.outside_io.specs.Bytes.{TakesAtMost}
 use Rattle.outside_io.specs.Faults.{Rose}
@@ -24,8 +24,10 @@ pub record SinkTold : Type 0 where
 pub record Runs (blanks : Blanks) (source source' : SourceTold) (sink sink' : SinkTold) (ended : Status) : Type 0 where
   -- by the bytes of the source, where they are told
   pub ran : IfSome source.left (λ bytes. Ran bytes blanks sink.taken sink'.taken sink'.flushed ended)
+  -- the words are none of its business
+  pub never_words : ended ≡ status.BadWords → ⊥
   -- a run that went well has read its source to the end
-  pub read_whole : ended ≡ status.Ok → IsAtEnd source'.left
+  pub read_whole : ended ≡ status.Ok → IsSome source.left → IsAtEnd source'.left
   -- never more than one byte past the longest document is taken from the source
   pub read_at_most : TakesAtMost source.left source'.left 1048577
   -- a fault of reading comes only where the source's faults rose, one of writing where the sink's did

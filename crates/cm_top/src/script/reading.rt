@@ -1,11 +1,12 @@
 //! The rules of a script, line by line.
 
-ghost use Rattle.std.specs.Prelude.{◌≡◌, ◌+◌, ◌<◌, ◌^◌, length, option_map, unwrap_or, IfOk};
+ghost use Rattle.std.specs.Prelude.{◌≡◌, ◌+◌, ◌<◌, ◌^◌, length, option_map, unwrap_or, IfErr};
 ghost use Rattle.sequence.specs.Answers.{Answers};
 ghost use Rattle.cm_model.specs.Reading.{told_as};
 ghost use Rattle.cm_model.specs.Lines.{raw_lines};
-ghost use Rattle.cm_model.specs.Script.{session_form, with_session, with_call_in, with_statement, with_line, with_lines, nothing_written, script_of, IsSmall};
+ghost use Rattle.cm_model.specs.Script.{session_form, with_session, with_call_in, with_statement, with_line, with_lines, nothing_written, script_of};
 ghost use Rattle.cm_model.specs.Document.{accepted_script};
+ghost use Rattle.cm_top.specs.Status.{IsPlainFault};
 
 use crate::script::form::{begins_comment, statement};
 use crate::script::lines::{bare_line, first_line};
@@ -24,11 +25,11 @@ const MOST_CALLS: u32 = 10_000;
 
 /// The script after so many lines of description and a separator, or its first bad line. Lines are counted from 1 over
 /// the whole document; without a separator the line after the last is bad. `Memory` where memory ran out.
-#[tactic(auto, using(cm_model::proofs::ScriptLemmas::accepted_scripts))]
+#[tactic(auto, using(crate::proofs::PlainLemmas::plain_faults))]
 pub fn accepted(alloc: Global, lines: usize, text: Option<&[u8]>) -> Result<Script, DocumentFault>
     requires { lines + unwrap_or (option_map (λ t. length t.now) text) 0 + 2 < 2 ^ 32 }
     ensures reads { Answers DocumentFault.Memory (told_as DocumentFault.Script (accepted_script lines (option_map (λ t. t.now) text.entry))) result }
-    ensures small { IfOk result (λ s. IsSmall s) }
+    ensures plain { IfErr result IsPlainFault }
 {
     let Some(text) = text else {
         return Err(DocumentFault::Script(ScriptFault::BadLine(lines as u32 + 1)));

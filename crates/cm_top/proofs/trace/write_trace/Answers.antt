@@ -12,8 +12,9 @@ loop-entry-preserved g c =
     let line = line_text c.args.sessions.now in
     record {
       so_far = rw (texts_next line c.args.history.now c.loop-entry.entry-index c.entry-item.result c.loop-entry-test.true, ← c.entry-item.is)
-        (Streams-then _ _ _ [] _ _ (trace c.args.sessions.now (take c.loop-entry.entry-index c.args.history.now)) (line c.entry-item.result) c.loop-entry.invariant.so_far c.in_ok-write_line.ensures.ok);
-      later = omega (arith, c.loop-entry.invariant.later, c.in_ok-write_line.ensures.fault.later) }
+          (Streams-then _ _ _ [] _ _ (trace c.args.sessions.now (take c.loop-entry.entry-index c.args.history.now)) (line c.entry-item.result) c.loop-entry.invariant.so_far c.in_ok-write_line.ensures.ok);
+      later = omega (arith, c.loop-entry.invariant.later, c.in_ok-write_line.ensures.fault.later);
+    }
 
 pub returns-in_err-write_line-clause-err : goal.returns-in_err-write_line-clause-err
 returns-in_err-write_line-clause-err g c =

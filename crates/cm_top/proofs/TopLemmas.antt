@@ -1,0 +1,80 @@
+-- From the parts of a run to what it promises.
+use Rattle.std.proofs.Common.{◌≡◌, ℕ, ◌+◌, ◌<◌, ◌≤◌, ◌^◌, List, [], ◌∷◌, length, map, Option, Some, None, Result, Ok, Err, true, false, refl, sym, inl, inr, ◌⊎◌, arith}
+use Rattle.std.specs.Prelude.{sum_by, IfSome, IsOk, IsSome}
+use Rattle.std.specs.Io.KnownBytes.{Keeps, Appends, IsAtEnd}
+use Rattle.std.proofs.KnownBytes.{Appends-kept}
+use Rattle.outside_io.specs.Bytes.{AllFlushed, AppendsPrefix, IsWhole}
+use Rattle.outside_io.proofs.Prefixes.{AppendsPrefix-all}
+use Rattle.outside_io.specs.Faults.{Rose}
+use Rattle.cm_model.specs.Document.{document}
+use Rattle.cm_model.specs.Script.{IsSmall}
+use Rattle.cm_model.specs.Trace.{output}
+use Rattle.cm_model.specs.declared.call.Call.{Call}
+use Rattle.cm_model.specs.declared.document.Document.{Document}
+use Rattle.cm_model.specs.declared.faults.DocumentFault.TheVariants as fault
+use Rattle.cm_model.specs.declared.script.SessionText.{SessionText}
+use Rattle.cm_model.specs.declared.state.Blanks.{Blanks}
+use Rattle.cm_model.proofs.DocumentLemmas.{document-IsSmall, document-IsAsked}
+use Rattle.cm_model.proofs.LegalLemmas.{scheduled-IsLegal}
+use Rattle.cm_model.proofs.WholeLemmas.{scheduled-IsWhole}
+use Rattle.cm_top.specs.Room.{lines_left}
+use Rattle.cm_top.specs.Status.{IsShort, Printed, Cut, Ran, Wrote}
+use Rattle.cm_top.specs.declared.status.Status.{Status}
+use Rattle.cm_top.specs.declared.status.Status.TheVariants as status
+
+-- one session at most has 10,000 lines at most
+pub small_room : (sessions : List SessionText) → length sessions ≤ 1 → sum_by (λ (t : SessionText). length t.lines) sessions ≤ 10000
+    → length sessions + lines_left (map (λ (t : SessionText). t.lines) sessions) < 2 ^ 32
+small_room [] one few = omega arith
+small_room (s ∷ []) one few = omega arith
+small_room (s ∷ t ∷ others) one few = absurd (omega arith)
+
+-- what was written of an accepted document's trace says what its run promises
+pub Wrote-Ran : (bytes : List ℕ) (d : Document) (blanks : Blanks) (old new : Option (List ℕ)) (flushed : Option ℕ) (ended : Status)
+    → length bytes ≤ 1048576 → document bytes ≡ Ok d → Wrote (output d blanks) old new flushed ended → Ran bytes blanks old new flushed ended
+Wrote-Ran bytes d blanks old new flushed status.Ok short accepted wrote = record {
+  document_is = d;
+  short = short;
+  accepted = accepted;
+  taken = wrote.0;
+  all_flushed = wrote.1;
+  legal = scheduled-IsLegal d blanks;
+  whole = scheduled-IsWhole d blanks (document-IsAsked bytes d accepted);
+}
+Wrote-Ran bytes d blanks old new flushed status.BadWords short accepted wrote = wrote
+Wrote-Ran bytes d blanks old new flushed (status.BadDescription p) short accepted wrote = absurd wrote
+Wrote-Ran bytes d blanks old new flushed (status.BadScript f) short accepted wrote = absurd wrote
+Wrote-Ran bytes d blanks old new flushed status.ReadFault short accepted wrote = tt
+Wrote-Ran bytes d blanks old new flushed status.TooLong short accepted wrote = absurd wrote
+Wrote-Ran bytes d blanks old new flushed status.Memory short accepted wrote = inr (record { document_is = d; short = short; accepted = accepted; taken = wrote })
+Wrote-Ran bytes d blanks old new flushed status.WriteFault short accepted wrote = record { document_is = d; short = short; accepted = accepted; taken = wrote }
+
+-- an accepted document that is short goes well, where neither source nor sink had a fault, unless memory runs out
+pub Ran-complete : (bytes : List ℕ) (blanks : Blanks) (old new : Option (List ℕ)) (flushed : Option ℕ) (ended : Status) (read write : Type 0)
+    → Ran bytes blanks old new flushed ended → (ended ≡ status.ReadFault → read) → (ended ≡ status.WriteFault → write)
+    → IsShort bytes → IsOk (document bytes) → ¬ read → ¬ write → (ended ≡ status.Ok) ⊎ (ended ≡ status.Memory)
+Ran-complete bytes blanks old new flushed status.Ok read write ran rose risen short ok still kept = inl refl
+Ran-complete bytes blanks old new flushed status.BadWords read write ran rose risen short ok still kept = absurd ran
+Ran-complete bytes blanks old new flushed (status.BadDescription p) read write ran rose risen short ok still kept = let no : false ≡ true = rw ran.1 at ok in cc
+Ran-complete bytes blanks old new flushed (status.BadScript f) read write ran rose risen short ok still kept = let no : false ≡ true = rw ran.1 at ok in cc
+Ran-complete bytes blanks old new flushed status.ReadFault read write ran rose risen short ok still kept = absurd (still (rose refl))
+Ran-complete bytes blanks old new flushed status.TooLong read write ran rose risen short ok still kept = absurd (omega arith)
+Ran-complete bytes blanks old new flushed status.Memory read write ran rose risen short ok still kept = inr refl
+Ran-complete bytes blanks old new flushed status.WriteFault read write ran rose risen short ok still kept = absurd (kept (risen refl))
+
+-- a text that was taken, and then a flush
+pub flush-Wrote : (text : List ℕ) (old mid new : Option (List ℕ)) (flushed : Option ℕ) (ended : Status) (fault : Type 0)
+    → Appends old mid text → Keeps mid new → ((ended ≡ status.Ok) × AllFlushed new flushed) ⊎ ((ended ≡ status.WriteFault) × fault)
+    → Wrote text old new flushed ended
+flush-Wrote text old mid new flushed ended fault taken kept (inl (went_well, all)) = rw went_well (Appends-kept old mid new text taken kept, all)
+flush-Wrote text old mid new flushed ended fault taken kept (inr (failed, rose)) = rw failed (AppendsPrefix-all old new text (Appends-kept old mid new text taken kept))
+
+-- what was read whole is what the source told
+pub read-Ran : (left left' : Option (List ℕ)) (bytes : List ℕ) (P : List ℕ → Type 0) → IsWhole left left' bytes → P bytes → IfSome left P
+read-Ran None left' bytes P whole p = tt
+read-Ran (Some told) left' bytes P whole p = rw whole.0 p
+
+-- then nothing is left
+pub read-end : (left left' : Option (List ℕ)) (bytes : List ℕ) → IsWhole left left' bytes → IsSome left → IsAtEnd left'
+read-end None left' bytes whole told = cc
+read-end (Some told) left' bytes whole is_told = rw whole.1 refl

@@ -1,0 +1,19 @@
+use Rattle.cm_top.proofs.TopLemmas.{read-Ran, read-end, Ran-complete}
+use Rattle.cm_top.proofs.top.run_alone.Goals as goal
+
+-- what was read is all that the source told, and the rest is what its bytes came to
+pub returns-in-Ok-clause-runs : goal.returns-in-Ok-clause-runs
+returns-in-Ok-clause-runs g c =
+    let ran = rw c.as_slice.ensures.value at c.run_bytes.ensures.ran in
+    record {
+      ran = read-Ran _ _ c.in-Ok.bytes.items _ c.in-Ok.ensures.whole ran;
+      never_words = λ words. rw words at c.run_bytes.ensures.of_bytes;
+      read_whole = λ well told. read-end _ _ c.in-Ok.bytes.items c.in-Ok.ensures.whole told;
+      read_at_most = c.read_whole.ensures.at_most;
+      read_fault = λ failed. absurd (rw failed at c.run_bytes.ensures.of_bytes);
+      write_fault = c.run_bytes.ensures.write_fault;
+      read_later = c.read_whole.ensures.later;
+      write_later = c.run_bytes.ensures.later;
+      plain = c.run_bytes.ensures.plain;
+      complete = read-Ran _ _ c.in-Ok.bytes.items _ c.in-Ok.ensures.whole
+        (Ran-complete c.in-Ok.bytes.items _ _ _ _ _ _ _ ran (λ failed. absurd (rw failed at c.run_bytes.ensures.of_bytes)) c.run_bytes.ensures.write_fault) }

@@ -1,0 +1,14 @@
+use Rattle.cm_model.specs.Trace.{output}
+use Rattle.cm_top.proofs.TopLemmas.{small_room, flush-Wrote}
+use Rattle.cm_top.proofs.top.run_document.Goals as goal
+
+-- a small script leaves room for each of its loads
+pub history-requires : goal.history-requires
+history-requires g c = rw c.as_slice-sessions.ensures (small_room _ c.requires.one_session c.requires.few_calls)
+
+-- the trace of the scheduled history was taken, and then flushed
+pub returns-in-Ok-write_trace-clause-wrote : goal.returns-in-Ok-write_trace-clause-wrote
+unfolding output
+returns-in-Ok-write_trace-clause-wrote g c =
+    let taken = rw (c.as_slice.ensures, c.in-Ok.ensures, c.as_slice-sessions.ensures) at c.in-Ok-write_trace.ensures.ok in
+    flush-Wrote _ _ _ _ _ _ _ taken c.flush.ensures.kept c.flush.ensures.flushed

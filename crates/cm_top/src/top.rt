@@ -1,0 +1,162 @@
+//! The top call: a document in, its trace out.
+
+ghost use Rattle.std.specs.Prelude.{◌≡◌, ◌+◌, ◌<◌, ◌≤◌, ◌^◌, ◌⊎◌, ◌↔◌, length, map, string_bytes, IfErr, true, false};
+ghost use Rattle.std.specs.Io.KnownBytes.{Appends, Keeps};
+ghost use Rattle.sequence.specs.Answers.{Answers};
+ghost use Rattle.outside_io.specs.Bytes.{AllFlushed, AppendsPrefix};
+ghost use Rattle.outside_io.specs.Faults.{Rose};
+ghost use Rattle.cm_model.specs.Document.{document};
+ghost use Rattle.cm_model.specs.Words.{is_asked};
+ghost use Rattle.cm_model.specs.Script.{IsSmall};
+ghost use Rattle.cm_model.specs.Trace.{output};
+ghost use Rattle.cm_top.specs.Status.{Ran, Wrote, IsPlain, IsPlainFault, ComesBeforeWriting, ComesOfBytes};
+ghost use Rattle.cm_top.specs.Calls.Run.{Runs};
+
+use crate::session::history;
+use crate::status::Status;
+use crate::trace::{OutFault, write_trace};
+use crate::{description, script};
+use cm_model::{Blanks, Document, DocumentFault};
+use outside_io::{Gate, Pace, ReadFault, Sink, Source, read_whole};
+use std::alloc::Global;
+use std::sync::Wait;
+use std::thread::Threads;
+
+/// The longest document, in bytes.
+const LONGEST_DOCUMENT: usize = 1_048_576;
+
+/// Runs the job of the words: `run` is the one that is built. The words are those after the program's name.
+///
+/// Reads the source to its end, checks description and script, runs the job over a stock of `stock` blanks, and writes the
+/// trace and flushes it. Nothing is written before the job has run. The pace and the gate are not called yet.
+pub fn run<R, S, K, P, G>(
+    rt: &R,
+    alloc: Global,
+    words: &[String],
+    source: &mut S,
+    sink: &mut K,
+    stock: Blanks,
+    pace: &mut P,
+    gate: &G,
+) -> Status
+where
+    R: Threads + Wait + Sync,
+    S: Source,
+    K: Sink,
+    P: Pace + Send,
+    G: Gate,
+    // BadWords comes exactly where the words are not accepted.
+    ensures words { (result ≡ Status.BadWords) ↔ (is_asked (map string_bytes words.now) ≡ false) }
+    // Then nothing was read and nothing written.
+    ensures refused { result ≡ Status.BadWords → (source.new ≡ source.old) × (sink.new ≡ sink.old) }
+    ensures runs { is_asked (map string_bytes words.now) ≡ true → Runs stock
+        (record { left = S.left source.old; faults = S.faults source.old }) (record { left = S.left source.new; faults = S.faults source.new })
+        (record { taken = K.taken sink.old; flushed = K.flushed sink.old; faults = K.faults sink.old }) (record { taken = K.taken sink.new; flushed = K.flushed sink.new; faults = K.faults sink.new }) result }
+    // Statuses 2 to 6 leave the sink as it was.
+    ensures untouched { ComesBeforeWriting result → sink.new ≡ sink.old }
+{
+    if !asks_for_a_run(words) {
+        return Status::BadWords;
+    }
+    run_alone(alloc, source, sink, stock)
+}
+
+/// Whether the words are the one word `run`.
+fn asks_for_a_run(words: &[String]) -> bool
+    ensures { result ≡ is_asked (map string_bytes words.now) }
+{
+    match words {
+        [word] => word.as_str() == "run",
+        _ => false,
+    }
+}
+
+/// Does what `run` does after its words. It waits for nobody.
+pub fn run_alone<S: Source, K: Sink>(
+    alloc: Global,
+    source: &mut S,
+    sink: &mut K,
+    stock: Blanks,
+) -> Status
+    ensures runs { Runs stock
+        (record { left = S.left source.old; faults = S.faults source.old }) (record { left = S.left source.new; faults = S.faults source.new })
+        (record { taken = K.taken sink.old; flushed = K.flushed sink.old; faults = K.faults sink.old }) (record { taken = K.taken sink.new; flushed = K.flushed sink.new; faults = K.faults sink.new }) result }
+    // Statuses 3 to 6 leave the sink as it was.
+    ensures untouched { ComesBeforeWriting result → sink.new ≡ sink.old }
+{
+    match read_whole(alloc, source, LONGEST_DOCUMENT) {
+        Ok(bytes) => run_bytes(alloc, bytes.as_slice(), sink, stock),
+        Err(ReadFault::Failed) => Status::ReadFault,
+        Err(ReadFault::TooLong) => Status::TooLong,
+        Err(ReadFault::Memory) => Status::Memory,
+    }
+}
+
+/// Runs the document that these bytes are.
+fn run_bytes<K: Sink>(alloc: Global, bytes: &[u8], sink: &mut K, stock: Blanks) -> Status
+    requires { length bytes.now ≤ 1048576 }
+    ensures ran { Ran bytes.now stock (K.taken sink.old) (K.taken sink.new) (K.flushed sink.new) result }
+    ensures of_bytes { ComesOfBytes result }
+    ensures untouched { ComesBeforeWriting result → sink.new ≡ sink.old }
+    ensures plain { IsPlain result }
+    ensures write_fault { result ≡ Status.WriteFault → Rose (K.faults sink.old) (K.faults sink.new) }
+    ensures later { K.faults sink.old ≤ K.faults sink.new }
+{
+    match read_document(alloc, bytes) {
+        Ok(document) => run_document(alloc, document, sink, stock),
+        Err(DocumentFault::Description(problem)) => Status::BadDescription(problem),
+        Err(DocumentFault::Script(fault)) => Status::BadScript(fault),
+        Err(DocumentFault::Memory) => Status::Memory,
+    }
+}
+
+/// The document that these bytes are, or its first fault.
+#[tactic(auto, unfolding(cm_model::specs::Document::document_of))]
+fn read_document(alloc: Global, bytes: &[u8]) -> Result<Document, DocumentFault>
+    requires { length bytes.now ≤ 1048576 }
+    ensures reads { Answers DocumentFault.Memory (document bytes.now) result }
+    ensures plain { IfErr result IsPlainFault }
+{
+    let parts = script::divide(bytes);
+    let description = description::accepted(alloc, parts.description)?;
+    let script = script::accepted(alloc, parts.lines, parts.script)?;
+    Ok(Document {
+        description,
+        script,
+    })
+}
+
+/// Runs an accepted document and writes its trace.
+#[tactic(auto, unfolding(cm_model::specs::Trace::output))]
+fn run_document<K: Sink>(alloc: Global, document: Document, sink: &mut K, stock: Blanks) -> Status
+    requires { IsSmall document.script }
+    ensures wrote { Wrote (output document stock) (K.taken sink.old) (K.taken sink.new) (K.flushed sink.new) result }
+    ensures write_fault { result ≡ Status.WriteFault → Rose (K.faults sink.old) (K.faults sink.new) }
+    ensures later { K.faults sink.old ≤ K.faults sink.new }
+{
+    let Document {
+        description,
+        script,
+    } = document;
+    let sessions = script.sessions.as_slice();
+    let Ok(history) = history(alloc, description, sessions, stock) else {
+        return Status::Memory;
+    };
+    match write_trace(alloc, sink, sessions, history.as_slice()) {
+        Ok(()) => flush(sink),
+        Err(OutFault::Failed) => Status::WriteFault,
+        Err(OutFault::Memory) => Status::Memory,
+    }
+}
+
+/// Flushes the sink: the run went well, or the sink failed.
+fn flush<K: Sink>(sink: &mut K) -> Status
+    ensures kept { Keeps (K.taken sink.old) (K.taken sink.new) }
+    ensures flushed { (result ≡ Status.Ok) × AllFlushed (K.taken sink.new) (K.flushed sink.new) ⊎ (result ≡ Status.WriteFault) × Rose (K.faults sink.old) (K.faults sink.new) }
+    ensures later { K.faults sink.old ≤ K.faults sink.new }
+{
+    match sink.flush() {
+        Ok(()) => Status::Ok,
+        Err(_) => Status::WriteFault,
+    }
+}
