@@ -1,5 +1,5 @@
 -- Lemmas for reading a description.
-use Rattle.std.proofs.Common.{◌≡◌, ℕ, ◌+◌, ◌<◌, Bool, true, false, List, [], ◌∷◌, ◌++◌, length, get_or, take, drop, map, ◌||◌, ap, Option, Result, Some, None, Ok, Err, inl, inr, refl, sym}
+use Rattle.std.proofs.Common.{◌≡◌, ℕ, ◌+◌, ◌<◌, true, false, List, [], ◌∷◌, ◌++◌, length, get_or, take, drop, map, ◌||◌, ap, Option, Result, Some, None, Ok, Err, inl, inr, refl, sym}
 use Rattle.std.specs.Prelude.{IsUtf8}
 use Rattle.std.specs.List.{list_any}
 use Rattle.std.specs.Str.{is_utf8}
@@ -11,7 +11,6 @@ use Rattle.toml.specs.Parse.{parse_document}
 use Rattle.toml.specs.View.{view, items_view}
 use Rattle.toml.specs.declared.value.Value.{Value}
 use Rattle.toml.proofs.Views.{items_view-drop}
-use Rattle.cm_model.specs.Reading.{◌>>=◌}
 use Rattle.cm_model.specs.Names.{same_name}
 use Rattle.cm_model.specs.Checks.{repeated_after}
 use Rattle.cm_model.specs.Walk.{tree_of, controller_of, controller_path, controllers_from}
