@@ -39,12 +39,14 @@ Says None = Unit {0}
 Says (Some (statement.Session name)) = Unit {0}
 Says (Some (statement.Call made)) = IsConsole made
 
+-- each form says a console call or none
 chosen_Says : (a b c : Bool) (object : List ℕ) → Says (if a then Some (statement.Session object) else if b then Some (statement.Call (call.Load object)) else if c then Some (statement.Call call.ListControllers) else None)
 chosen_Says true b c object = tt
 chosen_Says false true c object = tt
 chosen_Says false false true object = tt
 chosen_Says false false false object = tt
 
+-- a line says a console call or none
 statement_of_Says : (said : List (List ℕ)) → Says (statement_of said)
 statement_of_Says [] = tt
 statement_of_Says (verb ∷ []) = tt
@@ -53,19 +55,23 @@ statement_of_Says (verb ∷ object ∷ []) =
     ((same_name verb (codes "list") && same_name object (codes "controllers")) && is_built form.ListControllers) object
 statement_of_Says (verb ∷ object ∷ more ∷ words) = tt
 
+-- a session that opens has no calls yet
 opened_keeps : (v : Bool) (line calls : ℕ) (name : List ℕ) → Kept (record { session = None; calls = calls })
     → IfOk (if v then Ok (record { session = Some (record { name = name; lines = [] }); calls = calls }) else Err (BadLine line)) Kept
 opened_keeps true line calls name kept = record { counted = (sym kept.counted, tt); few = kept.few }
 opened_keeps false line calls name kept = tt
 
+-- a session's line keeps the count
 with_session_keeps : (line : ℕ) (session : Option SessionText) (calls : ℕ) (name : List ℕ) → Kept (record { session = session; calls = calls }) → IfOk (with_session line (record { session = session; calls = calls }) name) Kept
 with_session_keeps line None calls name kept = opened_keeps (is_built (session_form None) && not (same_name name (codes "loop"))) line calls name kept
 with_session_keeps line (Some s) calls name kept = tt
 
+-- one console call more
 console_push : (lines : List Call) (made : Call) → AllByRecursion IsConsole lines → IsConsole made → AllByRecursion IsConsole (lines ++ made ∷ [])
 console_push [] made all one = (one, tt)
 console_push (line ∷ lines) made all one = (all.0, console_push lines made all.1 one)
 
+-- a call's line keeps the count
 with_call_keeps : (line : ℕ) (session : Option SessionText) (calls : ℕ) (made : Call) → Kept (record { session = session; calls = calls }) → IsConsole made → IfOk (with_call_in line (record { session = session; calls = calls }) session made) Kept
 with_call_keeps line None calls made kept one = tt
 with_call_keeps line (Some s) calls made kept one =
@@ -76,16 +82,19 @@ with_call_keeps line (Some s) calls made kept one =
     })
     (λ _. tt)
 
+-- a statement keeps the count
 with_statement_keeps : (line : ℕ) (w : Written) (said : Option Statement) → Kept w → Says said → IfOk (with_statement line w said) Kept
 with_statement_keeps line w None kept says = tt
 with_statement_keeps line w (Some (statement.Session name)) kept says = with_session_keeps line w.session w.calls name kept
 with_statement_keeps line w (Some (statement.Call made)) kept says = with_call_keeps line w.session w.calls made kept says
 
+-- a skipped line keeps the count, and so does one that is read
 read_keeps : (skipped long : Bool) (line : ℕ) (w : Written) (r : Result Written ScriptFault) → Kept w → IfOk r Kept → IfOk (if skipped then Ok w else if long then Err (BadLine line) else r) Kept
 read_keeps true long line w r kept keeps = kept
 read_keeps false true line w r kept keeps = tt
 read_keeps false false line w r kept keeps = keeps
 
+-- a line keeps the count
 with_line_keeps : (line : ℕ) (w : Written) (text : List ℕ) → Kept w → IfOk (with_line line w text) Kept
 unfolding with_line
 with_line_keeps line w text kept =
@@ -93,6 +102,7 @@ with_line_keeps line w text kept =
     read_keeps (is_skipped said) (nat_lt 65536 (length (bare text))) line w (with_statement line w (statement_of said)) kept
     (with_statement_keeps line w (statement_of said) kept (statement_of_Says said))
 
+-- all lines keep the count
 with_lines_keeps : (line : ℕ) (w : Written) (texts : List (List ℕ)) → Kept w → IfOk (with_lines line w texts) Kept
 with_lines_keeps line w [] kept = kept
 with_lines_keeps line w (text ∷ texts) kept =
@@ -103,10 +113,12 @@ record Lawful (s : Script) : Type 0 where
   small : IsSmall s
   asked : IsAsked s.sessions
 
+-- a script of what is kept
 lawful : (session : Option SessionText) (calls : ℕ) → Kept (record { session = session; calls = calls }) → Lawful (record { sessions = option_to_list session })
 lawful None calls kept = record { small = record { one_session = omega arith; few_calls = omega arith }; asked = tt }
 lawful (Some s) calls kept = record { small = record { one_session = omega arith; few_calls = omega (arith, kept.counted.0, kept.few) }; asked = (kept.counted.1, tt) }
 
+-- an accepted script has both
 script_of_Lawful : (n : ℕ) (text : List ℕ) → IfOk (script_of n text) Lawful
 unfolding script_of
 script_of_Lawful n text =
@@ -122,4 +134,5 @@ script_of-IsSmall n text s e = (subst (λ (r : Result Script ScriptFault). IfOk 
 pub script_of-IsAsked : (n : ℕ) (text : List ℕ) (s : Script) → script_of n text ≡ Ok s → IsAsked s.sessions
 script_of-IsAsked n text s e = (subst (λ (r : Result Script ScriptFault). IfOk r Lawful) e (script_of_Lawful n text)).asked
 
+-- what holds of an accepted script
 pub ruleset accepted_scripts = (script_of-IsSmall, script_of-IsAsked)

@@ -18,6 +18,7 @@ first_line_more : (v : Bool) (b : ℕ) (bs : List ℕ) (n : ℕ) → raw_lines b
 first_line_more true b bs n h = refl
 first_line_more false b bs n h = let e : 1 + n + 1 ≡ suc (n + 1) = omega arith in rw (e, h) refl
 
+-- a text of one byte is one line
 first_line_last : (v : Bool) (b : ℕ) → (if v then (b ∷ []) ∷ [] else (b ∷ []) ∷ []) ≡ take (cond (not v) 1 0 + 1) (b ∷ []) ∷ raw_lines (drop (cond (not v) 1 0 + 1) (b ∷ []))
 first_line_last true b = refl
 first_line_last false b = refl
@@ -27,6 +28,7 @@ first_line : (b : ℕ) (bs : List ℕ) → raw_lines (b ∷ bs) ≡ take (line_e
 first_line b [] = first_line_last (b == 10) b
 first_line b (c ∷ cs) = first_line_more (b == 10) b (c ∷ cs) (line_end (c ∷ cs)) (first_line c cs)
 
+-- the same of any text that is not empty
 first_line_of_some : (xs : List ℕ) → 0 < length xs → raw_lines xs ≡ take (line_end xs + 1) xs ∷ raw_lines (drop (line_end xs + 1) xs)
 first_line_of_some [] h = absurd (omega arith)
 first_line_of_some (b ∷ bs) h = first_line b bs
@@ -35,7 +37,7 @@ first_line_of_some (b ∷ bs) h = first_line b bs
 pub raw_lines_at_feed : (xs : List ℕ) (k : ℕ) → 0 < length xs → position (λ b. b == 10) xs ≡ Some k → raw_lines xs ≡ take (k + 1) xs ∷ raw_lines (drop (k + 1) xs)
 raw_lines_at_feed xs k some h = rw (← (cond_some _ _ _ h).1) (first_line_of_some xs some)
 
--- where no line feed stands, the first line is all
+-- nothing found means that the test failed
 cond_none : (v : Bool) (k : ℕ) → cond v (Some k) None ≡ None → v ≡ false
 cond_none true k h = cc
 cond_none false k h = refl
@@ -50,15 +52,17 @@ raw_lines_without_feed xs some h =
 
 pub ruleset cutting_lines = (raw_lines_at_feed, raw_lines_without_feed)
 
--- the lines joined are the text
+-- a byte in front of the first line is a byte in front of all
 joined_onto_first : (b : ℕ) (xs : List (List ℕ)) → joined (onto_first b xs) ≡ b ∷ joined xs
 joined_onto_first b [] = refl
 joined_onto_first b (x ∷ xs) = refl
 
+-- one byte more in front of joined lines
 joined_more : (v : Bool) (b : ℕ) (bs : List ℕ) → joined (raw_lines bs) ≡ bs → joined (if v then (b ∷ []) ∷ raw_lines bs else onto_first b (raw_lines bs)) ≡ b ∷ bs
 joined_more true b bs h = rw h refl
 joined_more false b bs h = joined_onto_first b (raw_lines bs) ∙ ap (λ xs. b ∷ xs) h
 
+-- the lines joined are the text
 pub joined_raw_lines : (xs : List ℕ) → joined (raw_lines xs) ≡ xs
 joined_raw_lines [] = refl
 joined_raw_lines (b ∷ bs) = joined_more (b == 10) b bs (joined_raw_lines bs)
@@ -66,7 +70,7 @@ joined_raw_lines (b ∷ bs) = joined_more (b == 10) b bs (joined_raw_lines bs)
 -- ---- The end of a text
 
 -- a text with this last byte loses it, if it is the one to go
-pub without_last_push : (end : ℕ) (front : List ℕ) (last : ℕ) → without_last end (front ++ last ∷ []) ≡ (if last == end then front else front ++ last ∷ [])
+without_last_push : (end : ℕ) (front : List ℕ) (last : ℕ) → without_last end (front ++ last ∷ []) ≡ (if last == end then front else front ++ last ∷ [])
 without_last_push end [] last = refl
 without_last_push end (b ∷ []) last = elim (last == end) as (λ v. b ∷ (if v then [] else last ∷ []) ≡ (if v then b ∷ [] else b ∷ last ∷ [])) [ true ↦ refl | false ↦ refl ]
 without_last_push end (b ∷ c ∷ cs) last = rw (without_last_push end (c ∷ cs) last) (elim (last == end) as (λ v. b ∷ (if v then c ∷ cs else c ∷ (cs ++ last ∷ [])) ≡ (if v then b ∷ c ∷ cs else b ∷ c ∷ (cs ++ last ∷ []))) [ true ↦ refl | false ↦ refl ])
@@ -102,6 +106,7 @@ word_more : (v : Bool) (b : ℕ) (cs : List ℕ) (n : ℕ) (rest : List (List �
 word_more true b cs n rest z h w = rw (z refl, w refl) refl
 word_more false b cs n rest z h w = let e : 1 + n ≡ suc n = omega arith in rw (e, h refl) refl
 
+-- no byte stands before a blank in front
 no_word_end : (v : Bool) (n : ℕ) → v ≡ true → cond (not v) (1 + n) 0 ≡ 0
 no_word_end true n h = refl
 no_word_end false n h = cc
@@ -115,6 +120,7 @@ words_word b (c ∷ cs) h = rw h (word_more (is_blank c) b (c ∷ cs) (word_end 
 abbrev BeginsWithWord : List ℕ → List ℕ → Type 0
 BeginsWithWord xs from = words xs ≡ take (word_end from) from ∷ words (drop (word_end from) from)
 
+-- one byte more in front of a text whose first word is known
 next_more : (v : Bool) (b : ℕ) (bs : List ℕ) (n : ℕ) → is_blank b ≡ v
     → (0 < length (drop n bs) → BeginsWithWord bs (drop n bs)) → 0 < length (drop (cond (not (not v)) (1 + n) 0) (b ∷ bs))
     → BeginsWithWord (b ∷ bs) (drop (cond (not (not v)) (1 + n) 0) (b ∷ bs))
@@ -126,11 +132,13 @@ words_next : (xs : List ℕ) → 0 < length (drop (blanks xs) xs) → BeginsWith
 words_next [] h = absurd (omega arith)
 words_next (b ∷ bs) h = next_more (is_blank b) b bs (blanks bs) refl (words_next bs) h
 
+-- one byte more in front of a text without a word
 none_more : (v : Bool) (b : ℕ) (bs : List ℕ) (n : ℕ) → is_blank b ≡ v
     → (length bs ≤ n → words bs ≡ []) → length bs + 1 ≤ cond (not (not v)) (1 + n) 0 → words (b ∷ bs) ≡ []
 none_more true b bs n e h past = words_blank b bs e ∙ h (omega arith)
 none_more false b bs n e h past = absurd (omega arith)
 
+-- a text of blanks has no word
 none_past : (xs : List ℕ) → length xs ≤ blanks xs → words xs ≡ []
 none_past [] h = refl
 none_past (b ∷ bs) h = none_more (is_blank b) b bs (blanks bs) refl (none_past bs) (omega arith)

@@ -28,12 +28,12 @@ fn line_feed(text: &[u8]) -> Option<usize>
 pub fn bare_line(line: &[u8]) -> &[u8]
     ensures { result.now ≡ bare line.now }
 {
-    without(b'\r', without(b'\n', line))
+    without_last(b'\r', without_last(b'\n', line))
 }
 
 /// The text without this byte at its end, if it stands there.
 #[tactic(auto, using(crate::proofs::LineLemmas::cutting_ends))]
-fn without(end: u8, text: &[u8]) -> &[u8]
+fn without_last(end: u8, text: &[u8]) -> &[u8]
     ensures { result.now ≡ without_last end text.now }
 {
     match text.split_last() {

@@ -68,7 +68,7 @@ fn read_lines(alloc: Global, first: u32, text: &[u8]) -> Result<Written, ScriptF
     let mut rest = text;
     while !rest.is_empty() {
         let (raw, more) = first_line(rest);
-        written = after_line(alloc, line, written, raw)?;
+        written = with_line(alloc, line, written, raw)?;
         line += 1;
         rest = more;
     }
@@ -77,12 +77,7 @@ fn read_lines(alloc: Global, first: u32, text: &[u8]) -> Result<Written, ScriptF
 
 /// What stands after a line of this number.
 #[tactic(auto, unfolding(cm_model::specs::Script::with_line))]
-fn after_line(
-    alloc: Global,
-    line: u32,
-    written: Written,
-    raw: &[u8],
-) -> Result<Written, ScriptFault>
+fn with_line(alloc: Global, line: u32, written: Written, raw: &[u8]) -> Result<Written, ScriptFault>
     ensures { Answers ScriptFault.Memory (with_line line written raw.now) result }
 {
     let text = bare_line(raw);
@@ -95,11 +90,11 @@ fn after_line(
     if text.len() > LONGEST_LINE {
         return Err(ScriptFault::BadLine(line));
     }
-    after_statement(alloc, line, written, statement(alloc, verb, rest)?)
+    with_statement(alloc, line, written, statement(alloc, verb, rest)?)
 }
 
 /// What stands after a statement; a line without a form is bad.
-fn after_statement(
+fn with_statement(
     alloc: Global,
     line: u32,
     written: Written,
@@ -109,13 +104,13 @@ fn after_statement(
 {
     match said {
         None => Err(ScriptFault::BadLine(line)),
-        Some(Statement::Session(name)) => after_session(alloc, line, written, name),
-        Some(Statement::Call(call)) => after_call(line, written, call),
+        Some(Statement::Session(name)) => with_session(alloc, line, written, name),
+        Some(Statement::Call(call)) => with_call(line, written, call),
     }
 }
 
 /// What stands after a session's line: it is the first, and its name is not `loop`.
-fn after_session(
+fn with_session(
     alloc: Global,
     line: u32,
     written: Written,
@@ -123,7 +118,7 @@ fn after_session(
 ) -> Result<Written, ScriptFault>
     ensures { result ≡ with_session line written name }
 {
-    if built(form_of_session(&written.session)) && name.bytes() != b"loop".as_slice() {
+    if built(session_form(&written.session)) && name.bytes() != b"loop".as_slice() {
         Ok(Written {
             session: Some(SessionText {
                 name,
@@ -137,7 +132,7 @@ fn after_session(
 }
 
 /// A session's line is the first one, or a further one.
-fn form_of_session(session: &Option<SessionText>) -> Form
+fn session_form(session: &Option<SessionText>) -> Form
     ensures { result ≡ session_form session.now }
 {
     match session {
@@ -147,7 +142,7 @@ fn form_of_session(session: &Option<SessionText>) -> Form
 }
 
 /// What stands after a call: it has a session before it, and is one of the first 10,000.
-fn after_call(line: u32, written: Written, call: Call) -> Result<Written, ScriptFault>
+fn with_call(line: u32, written: Written, call: Call) -> Result<Written, ScriptFault>
     ensures { Answers ScriptFault.Memory (with_call_in line written written.session call) result }
 {
     let Written { session, calls } = written;
