@@ -4,7 +4,7 @@ use Rattle.std.specs.Prelude.{IfOk}
 use Rattle.cm_model.specs.Reading.{◌>>=◌, told_as}
 use Rattle.cm_model.specs.Lines.{Parts, parts_of}
 use Rattle.cm_model.specs.Script.{script_of, IsSmall}
-use Rattle.cm_model.specs.Sessions.{IsAsked}
+use Rattle.cm_model.specs.Sessions.{AllConsole}
 use Rattle.cm_model.specs.Document.{accepted_description, accepted_script, document_of, document}
 use Rattle.cm_model.specs.declared.description.Description.{Description}
 use Rattle.cm_model.specs.declared.document.Document.{Document}
@@ -13,16 +13,16 @@ use Rattle.cm_model.specs.declared.faults.ScriptFault.{ScriptFault}
 use Rattle.cm_model.specs.declared.faults.DocumentFault.{DocumentFault}
 use Rattle.cm_model.specs.declared.faults.DocumentFault.TheVariants as fault
 use Rattle.cm_model.specs.declared.script.Script.{Script}
-use Rattle.cm_model.proofs.ScriptLemmas.{script_of-IsSmall, script_of-IsAsked}
+use Rattle.cm_model.proofs.ScriptLemmas.{script_of-IsSmall, script_of-AllConsole}
 
 -- an accepted script is small, and its lines are console calls
 pub record Lawful (s : Script) : Type 0 where
   pub small : IsSmall s
-  pub asked : IsAsked s.sessions
+  pub asked : AllConsole s.sessions
 
 accepted_script-Lawful : (lines : ℕ) (text : Option (List ℕ)) (s : Script) → accepted_script lines text ≡ Ok s → Lawful s
 accepted_script-Lawful lines None s e = cc
-accepted_script-Lawful lines (Some text) s e = record { small = script_of-IsSmall (lines + 2) text s e; asked = script_of-IsAsked (lines + 2) text s e }
+accepted_script-Lawful lines (Some text) s e = record { small = script_of-IsSmall (lines + 2) text s e; asked = script_of-AllConsole (lines + 2) text s e }
 
 -- from a reading that came to a document, its script
 joined : (description : Result Description DescProblem) (script : Result Script ScriptFault) (d : Document)
@@ -41,5 +41,5 @@ pub document-IsSmall : (bytes : List ℕ) (d : Document) → document bytes ≡ 
 document-IsSmall bytes d e = (document_of-Lawful (parts_of bytes) d e).small
 
 -- its lines are console calls
-pub document-IsAsked : (bytes : List ℕ) (d : Document) → document bytes ≡ Ok d → IsAsked d.script.sessions
-document-IsAsked bytes d e = (document_of-Lawful (parts_of bytes) d e).asked
+pub document-AllConsole : (bytes : List ℕ) (d : Document) → document bytes ≡ Ok d → AllConsole d.script.sessions
+document-AllConsole bytes d e = (document_of-Lawful (parts_of bytes) d e).asked

@@ -19,6 +19,11 @@ pub cases_Option : {A : Type 0} (o : Option A) → (o ≡ None) ⊎ ((x : A) × 
 cases_Option None = inl refl
 cases_Option (Some x) = inr (x, refl)
 
+-- what holds of both choices holds of the one taken
+pub chosen : {A : Type 0} (P : A → Type 0) (b : Bool) (x y : A) → P x → P y → P (cond b x y)
+chosen P true x y p q = p
+chosen P false x y p q = q
+
 -- what a legal entry says of its step
 pub step_of : (o : Option (State × Reply)) (r : Reply) (P : State → Type 0) → IsSomeAnd o (λ m. (m.1 ≡ r) × P m.0)
     → (s : State) × (o ≡ Some (s, r)) × P s

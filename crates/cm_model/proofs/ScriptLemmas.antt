@@ -7,7 +7,7 @@ use Rattle.cm_model.specs.Names.{is_name, same_name}
 use Rattle.cm_model.specs.Reading.{◌>>=◌}
 use Rattle.cm_model.specs.Lines.{raw_lines, bare, words, is_skipped}
 use Rattle.cm_model.specs.Script.{is_built, statement_of, session_form, with_session, with_call_in, with_statement, with_line, with_lines, nothing_written, script_of, IsSmall}
-use Rattle.cm_model.specs.Sessions.{IsConsole, IsAsked}
+use Rattle.cm_model.specs.Sessions.{IsConsole, AllConsole}
 use Rattle.cm_model.specs.declared.call.Call.{Call}
 use Rattle.cm_model.specs.declared.call.Call.TheVariants as call
 use Rattle.cm_model.specs.declared.script.Form.TheVariants as form
@@ -111,7 +111,7 @@ with_lines_keeps line w (text ∷ texts) kept =
 -- what both laws say of a script
 record Lawful (s : Script) : Type 0 where
   small : IsSmall s
-  asked : IsAsked s.sessions
+  asked : AllConsole s.sessions
 
 -- a script of what is kept
 lawful : (session : Option SessionText) (calls : ℕ) → Kept (record { session = session; calls = calls }) → Lawful (record { sessions = option_to_list session })
@@ -131,8 +131,8 @@ pub script_of-IsSmall : (n : ℕ) (text : List ℕ) (s : Script) → script_of n
 script_of-IsSmall n text s e = (subst (λ (r : Result Script ScriptFault). IfOk r Lawful) e (script_of_Lawful n text)).small
 
 -- Each line of each session of an accepted script is a console call.
-pub script_of-IsAsked : (n : ℕ) (text : List ℕ) (s : Script) → script_of n text ≡ Ok s → IsAsked s.sessions
-script_of-IsAsked n text s e = (subst (λ (r : Result Script ScriptFault). IfOk r Lawful) e (script_of_Lawful n text)).asked
+pub script_of-AllConsole : (n : ℕ) (text : List ℕ) (s : Script) → script_of n text ≡ Ok s → AllConsole s.sessions
+script_of-AllConsole n text s e = (subst (λ (r : Result Script ScriptFault). IfOk r Lawful) e (script_of_Lawful n text)).asked
 
 -- what holds of an accepted script
-pub ruleset accepted_scripts = (script_of-IsSmall, script_of-IsAsked)
+pub ruleset accepted_scripts = (script_of-IsSmall, script_of-AllConsole)

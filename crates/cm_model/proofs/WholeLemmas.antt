@@ -6,11 +6,11 @@ use Rattle.std.proofs.lemmas.List.{map-append, length-map}
 use Rattle.std.proofs.lemmas.List.Elements.{filter-append}
 use Rattle.std.proofs.lemmas.Bool.Decides.{nat_tests}
 use Rattle.std.proofs.lemmas.Option.{same_Some, slice_get-map, slice_get_within}
-use Rattle.cm_model.proofs.LegalLemmas.{cases_Option}
+use Rattle.cm_model.proofs.LegalLemmas.{cases_Option, chosen}
 use Rattle.cm_model.specs.State.{boot, controller_lines}
 use Rattle.cm_model.specs.Machine.{step, where_allowed, load, load_from, load_at, loaded_from_stock, place_of, is_loaded_at, can_begin, can_end, can_close}
 use Rattle.cm_model.specs.Scheduled.{Progress, Settled, with_entry, settle, settle_from, settle_all, looped, cycle, cycles, finish, start, scheduled}
-use Rattle.cm_model.specs.Sessions.{IsConsole, IsAsked, entries_by, calls_of, Follows, cycle_calls, loop_calls, IsWhole}
+use Rattle.cm_model.specs.Sessions.{IsConsole, AllConsole, entries_by, calls_of, Follows, cycle_calls, loop_calls, IsWhole}
 use Rattle.cm_model.specs.declared.call.Call.{Call}
 use Rattle.cm_model.specs.declared.call.Call.TheVariants.{Load, ListControllers, Begin, End, Close}
 use Rattle.cm_model.specs.declared.call.Entry.{Entry}
@@ -26,12 +26,12 @@ use Rattle.cm_model.specs.declared.state.State.{State}
 -- ---- What console calls leave as it is
 
 -- the loop's part of the two states is the same
-record SameLoop (s t : State) : Type 0 where
-  sessions : t.sessions ≡ s.sessions
-  description : t.description ≡ s.description
-  ended : t.ended ≡ s.ended
-  aloft : t.aloft ≡ s.aloft
-  closed : t.closed ≡ s.closed
+pub record SameLoop (s t : State) : Type 0 where
+  pub sessions : t.sessions ≡ s.sessions
+  pub description : t.description ≡ s.description
+  pub ended : t.ended ≡ s.ended
+  pub aloft : t.aloft ≡ s.aloft
+  pub closed : t.closed ≡ s.closed
 
 same : (s : State) → SameLoop s s
 same s = record { sessions = refl; description = refl; ended = refl; aloft = refl; closed = refl }
@@ -45,18 +45,14 @@ same-trans s t u p q = record {
   closed = q.closed ∙ p.closed;
 }
 
--- what holds of both choices holds of the one taken
-chosen : {A : Type 0} (P : A → Type 0) (b : Bool) (x y : A) → P x → P y → P (cond b x y)
-chosen P true x y p q = p
-chosen P false x y p q = q
-
 load_at-SameLoop : (s : State) (place : ℕ) (c : Option CtlDesc) → SameLoop s (load_at s place c).0
 load_at-SameLoop s place None = same s
 load_at-SameLoop s place (Some c) =
     chosen (λ (made : State × Reply). SameLoop s made.0) (is_loaded_at place s) _ _ (same s) (chosen (λ (made : State × Reply). SameLoop s made.0) _ _ _ (same s)
     (record { sessions = refl; description = refl; ended = refl; aloft = refl; closed = refl }))
 
-load_from-SameLoop : (s : State) (place : Option ℕ) → SameLoop s (load_from s place).0
+-- a load leaves the loop as it is
+pub load_from-SameLoop : (s : State) (place : Option ℕ) → SameLoop s (load_from s place).0
 load_from-SameLoop s None = same s
 load_from-SameLoop s (Some place) = load_at-SameLoop s place (slice_get s.description.controllers place)
 
@@ -271,11 +267,11 @@ finish-calls total who sessions p ran =
 abbrev lines_of : List SessionText → List (List Call)
 lines_of sessions = map (λ s. s.lines) sessions
 
-asked_lines : (sessions : List SessionText) → IsAsked sessions → AllByRecursion (λ lines. AllByRecursion IsConsole lines) (lines_of sessions)
+asked_lines : (sessions : List SessionText) → AllConsole sessions → AllByRecursion (λ lines. AllByRecursion IsConsole lines) (lines_of sessions)
 asked_lines [] asked = tt
 asked_lines (s ∷ sessions) asked = (asked.0, asked_lines sessions asked.1)
 
-start-Ran : (d : Document) (blanks : Blanks) → IsAsked d.script.sessions
+start-Ran : (d : Document) (blanks : Blanks) → AllConsole d.script.sessions
     → Ran 0 d.description.cycles (length d.script.sessions) (lines_of d.script.sessions) (settle_all (start d blanks))
 unfolding start settle_all
 start-Ran d blanks asked =
@@ -294,7 +290,7 @@ start-Ran d blanks asked =
     }
 
 -- who called what in a scheduled history
-scheduled-callers : (d : Document) (blanks : Blanks) → IsAsked d.script.sessions
+scheduled-callers : (d : Document) (blanks : Blanks) → AllConsole d.script.sessions
     → callers (scheduled d blanks) ≡ by_sessions 0 (lines_of d.script.sessions) ++ by (length d.script.sessions) (loop_calls d.description.cycles)
 unfolding scheduled
 scheduled-callers d blanks asked =
@@ -389,7 +385,7 @@ session_follows sessions history loop k s who_called found =
     ∙ rw (own, picked-other k (length sessions) loop differs) (append-nil s.lines))
 
 -- a history that is scheduled for console calls is whole
-pub scheduled-IsWhole : (d : Document) (blanks : Blanks) → IsAsked d.script.sessions → IsWhole d (scheduled d blanks)
+pub scheduled-IsWhole : (d : Document) (blanks : Blanks) → AllConsole d.script.sessions → IsWhole d (scheduled d blanks)
 scheduled-IsWhole d blanks asked =
     let sessions = d.script.sessions in
     let lines = lines_of sessions in

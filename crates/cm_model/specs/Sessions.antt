@@ -16,8 +16,8 @@ IsConsole ListControllers = Unit {0}
 IsConsole _ = ⊥
 
 -- each line of each session is a console call
-abbrev pub IsAsked : List SessionText → Type 0
-IsAsked sessions = AllByRecursion (λ s. AllByRecursion IsConsole s.lines) sessions
+abbrev pub AllConsole : List SessionText → Type 0
+AllConsole sessions = AllByRecursion (λ s. AllByRecursion IsConsole s.lines) sessions
 
 -- the entries of this caller, in order
 abbrev pub entries_by : ℕ → List Entry → List Entry

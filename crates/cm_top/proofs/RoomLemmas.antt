@@ -4,7 +4,9 @@ use Rattle.std.specs.Prelude.{cond, slice_get, nat_lt, not, ◌==◌, ◌&&◌}
 use Rattle.std.proofs.lemmas.Option.{cond_some}
 use Rattle.std.proofs.lemmas.Bool.{and_parts}
 use Rattle.std.proofs.lemmas.Bool.Decides.{nat_tests}
-use Rattle.cm_model.proofs.LegalLemmas.{cases_Option}
+use Rattle.cm_model.proofs.LegalLemmas.{cases_Option, chosen}
+use Rattle.cm_model.proofs.WholeLemmas.{SameLoop, load_from-SameLoop}
+use Rattle.cm_model.specs.State.{blanks_of}
 use Rattle.cm_model.specs.Machine.{step, where_allowed, load, load_from, load_at, loaded_from_stock, place_of, is_loaded_at, can_begin, can_end, can_close}
 use Rattle.cm_model.specs.Scheduled.{Progress, Settled, with_entry, settle, settle_from, settle_all, looped, cycle, cycles, finish, start}
 use Rattle.cm_model.specs.declared.call.Call.{Call}
@@ -15,37 +17,27 @@ use Rattle.cm_model.specs.declared.description.CtlDesc.{CtlDesc}
 use Rattle.cm_model.specs.declared.state.State.{State}
 use Rattle.cm_top.specs.Room.{Room, lines_left, serials_of, IsLoops}
 
--- one load more at most, and the same loop
-record LoadsOne (s t : State) : Type 0 where
-  loads : t.loads ≤ s.loads + 1
-  aloft : t.aloft ≡ s.aloft
-  ended : t.ended ≡ s.ended
-  description : t.description ≡ s.description
+-- a load counts one serial at most
+load_at-loads : (s : State) (place : ℕ) (c : Option CtlDesc) → (load_at s place c).0.loads ≤ s.loads + 1
+load_at-loads s place None = omega arith
+load_at-loads s place (Some c) =
+    chosen (λ (made : State × Reply). made.0.loads ≤ s.loads + 1) (is_loaded_at place s) _ _ (omega arith)
+    (chosen (λ (made : State × Reply). made.0.loads ≤ s.loads + 1) (blanks_of s.blanks c.kind == 0) _ _ (omega arith) (omega arith))
 
-unloaded : (s : State) → LoadsOne s s
-unloaded s = record { loads = omega arith; aloft = refl; ended = refl; description = refl }
+load_from-loads : (s : State) (place : Option ℕ) → (load_from s place).0.loads ≤ s.loads + 1
+load_from-loads s None = omega arith
+load_from-loads s (Some place) = load_at-loads s place (slice_get s.description.controllers place)
 
-chosen : {A : Type 0} (P : A → Type 0) (b : Bool) (x y : A) → P x → P y → P (cond b x y)
-chosen P true x y p q = p
-chosen P false x y p q = q
+-- a load takes room for one entry
+load-Room : (s : State) (name : List ℕ) (k : ℕ) → Room s (suc k) → Room (load s name).0 k
+load-Room s name k room =
+    let loop = load_from-SameLoop s (place_of s name) in
+    record {
+      serials = omega (arith, load_from-loads s (place_of s name), room.serials);
+      counted = λ up. rw (loop.ended, loop.description) (room.counted (sym loop.aloft ∙ up));
+    }
 
-load_at-LoadsOne : (s : State) (place : ℕ) (c : Option CtlDesc) → LoadsOne s (load_at s place c).0
-load_at-LoadsOne s place None = unloaded s
-load_at-LoadsOne s place (Some c) =
-    chosen (λ (made : State × Reply). LoadsOne s made.0) (is_loaded_at place s) _ _ (unloaded s) (chosen (λ (made : State × Reply). LoadsOne s made.0) _ _ _ (unloaded s)
-    (record { loads = omega arith; aloft = refl; ended = refl; description = refl }))
-
-load_from-LoadsOne : (s : State) (place : Option ℕ) → LoadsOne s (load_from s place).0
-load_from-LoadsOne s None = unloaded s
-load_from-LoadsOne s (Some place) = load_at-LoadsOne s place (slice_get s.description.controllers place)
-
--- where one load at most was made, room for one entry less is left
-LoadsOne-Room : (s t : State) (k : ℕ) → LoadsOne s t → Room s (suc k) → Room t k
-LoadsOne-Room s t k one room = record {
-  serials = omega (arith, one.loads, room.serials);
-  counted = λ up. rw (one.ended, one.description) (room.counted (sym one.aloft ∙ up));
-}
-
+-- room for more is room for less
 pub Room-less : (s : State) (k j : ℕ) → Room s k → j ≤ k → Room s j
 Room-less s k j room less = record { serials = omega (arith, room.serials); counted = room.counted }
 
@@ -67,6 +59,15 @@ room_for_loop s (Begin n) k loops room = Room-less s k 0 room (omega arith)
 room_for_loop s (End n) k loops room = Room-less s k 0 room (omega arith)
 room_for_loop s Close k loops room = Room-less s k 0 room (omega arith)
 
+-- where all tests of a begin passed, its last two say so
+counted_by : (passes : Bool) (ended n cycles : ℕ) → ((passes && ended == n) && nat_lt n cycles) ≡ true → ended < cycles
+counted_by true ended n cycles passed = grind (arith, nat_tests)
+counted_by false ended n cycles passed = cc
+
+-- a cycle that begins is one of the described ones
+begun-counted : (s : State) (n : ℕ) → can_begin s n ≡ true → s.ended < s.description.cycles
+begun-counted s n can = counted_by (not s.aloft && not s.closed) s.ended n s.description.cycles can
+
 -- it leaves as much room
 pub loop_step-Room : (s : State) (who : ℕ) (call : Call) (q : State × Reply) (k : ℕ) → IsLoops call → step s who call ≡ Some q → Room s k → Room q.0 k
 unfolding step
@@ -74,10 +75,7 @@ loop_step-Room s who (Load name) q k loops stepped room = absurd loops
 loop_step-Room s who ListControllers q k loops stepped room = absurd loops
 loop_step-Room s who (Begin n) q k loops stepped room =
     let made = cond_some _ _ _ stepped in
-    let can : can_begin s n ≡ true = (and_parts _ _ made.0).1 in
-    let more : nat_lt n s.description.cycles ≡ true = (and_parts _ _ can).1 in
-    let at_n : (s.ended == n) ≡ true = (and_parts _ _ (and_parts _ _ can).0).1 in
-    rw (← made.1) (record { serials = room.serials; counted = λ up. grind (arith, nat_tests) })
+    rw (← made.1) (record { serials = room.serials; counted = λ up. begun-counted s n (and_parts _ _ made.0).1 })
 loop_step-Room s who (End n) q k loops stepped room =
     let made = cond_some _ _ _ stepped in rw (← made.1) (record { serials = room.serials; counted = λ up. cc })
 loop_step-Room s who Close q k loops stepped room =
@@ -87,9 +85,9 @@ loop_step-Room s who Close q k loops stepped room =
 pub step-Room : (s : State) (who : ℕ) (call : Call) (q : State × Reply) (k : ℕ) → step s who call ≡ Some q → Room s (suc k) → Room q.0 k
 unfolding step
 step-Room s who (Load name) q k stepped room =
-    let made = (cond_some _ _ _ stepped).1 in rw (← made) (LoadsOne-Room s (load s name).0 k (load_from-LoadsOne s (place_of s name)) room)
+    let made = (cond_some _ _ _ stepped).1 in rw (← made) (load-Room s name k room)
 step-Room s who ListControllers q k stepped room =
-    let made = (cond_some _ _ _ stepped).1 in rw (← made) (LoadsOne-Room s s k (unloaded s) room)
+    let made = (cond_some _ _ _ stepped).1 in rw (← made) (Room-less s (suc k) k room (omega arith))
 step-Room s who (Begin n) q k stepped room = loop_step-Room s who (Begin n) q k tt stepped (Room-less s (suc k) k room (omega arith))
 step-Room s who (End n) q k stepped room = loop_step-Room s who (End n) q k tt stepped (Room-less s (suc k) k room (omega arith))
 step-Room s who Close q k stepped room = loop_step-Room s who Close q k tt stepped (Room-less s (suc k) k room (omega arith))

@@ -14,7 +14,7 @@ use Rattle.cm_model.specs.declared.document.Document.{Document}
 use Rattle.cm_model.specs.declared.faults.DocumentFault.TheVariants as fault
 use Rattle.cm_model.specs.declared.script.SessionText.{SessionText}
 use Rattle.cm_model.specs.declared.state.Blanks.{Blanks}
-use Rattle.cm_model.proofs.DocumentLemmas.{document-IsSmall, document-IsAsked}
+use Rattle.cm_model.proofs.DocumentLemmas.{document-IsSmall, document-AllConsole}
 use Rattle.cm_model.proofs.LegalLemmas.{scheduled-IsLegal}
 use Rattle.cm_model.proofs.WholeLemmas.{scheduled-IsWhole}
 use Rattle.cm_top.specs.Room.{lines_left}
@@ -39,7 +39,7 @@ Wrote-Ran bytes d blanks old new flushed status.Ok short accepted wrote = record
   taken = wrote.0;
   all_flushed = wrote.1;
   legal = scheduled-IsLegal d blanks;
-  whole = scheduled-IsWhole d blanks (document-IsAsked bytes d accepted);
+  whole = scheduled-IsWhole d blanks (document-AllConsole bytes d accepted);
 }
 Wrote-Ran bytes d blanks old new flushed status.BadWords short accepted wrote = wrote
 Wrote-Ran bytes d blanks old new flushed (status.BadDescription p) short accepted wrote = absurd wrote

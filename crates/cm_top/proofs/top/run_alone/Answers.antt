@@ -16,4 +16,5 @@ returns-in-Ok-clause-runs g c =
       write_later = c.run_bytes.ensures.later;
       plain = c.run_bytes.ensures.plain;
       complete = read-Ran _ _ c.in-Ok.bytes.items _ c.in-Ok.ensures.whole
-        (Ran-complete c.in-Ok.bytes.items _ _ _ _ _ _ _ ran (λ failed. absurd (rw failed at c.run_bytes.ensures.of_bytes)) c.run_bytes.ensures.write_fault) }
+          (Ran-complete c.in-Ok.bytes.items _ _ _ _ _ _ _ ran (λ failed. absurd (rw failed at c.run_bytes.ensures.of_bytes)) c.run_bytes.ensures.write_fault);
+    }
