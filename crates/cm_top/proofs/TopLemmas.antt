@@ -1,6 +1,7 @@
 -- From the parts of a run to what it promises.
 use Rattle.std.proofs.Common.{◌≡◌, ℕ, ◌+◌, ◌<◌, ◌≤◌, ◌^◌, List, [], ◌∷◌, length, map, Option, Some, None, Result, Ok, Err, true, false, refl, sym, inl, inr, ◌⊎◌, arith}
-use Rattle.std.specs.Prelude.{sum_by, IfSome, IsOk, IsSome}
+use Rattle.std.specs.Prelude.{sum_by, IfSome, IsSome, nat_lt}
+use Rattle.std.proofs.lemmas.Bool.Decides.{nat_tests}
 use Rattle.std.specs.Io.KnownBytes.{Keeps, Appends, IsAtEnd}
 use Rattle.std.proofs.KnownBytes.{Appends-kept}
 use Rattle.outside_io.specs.Bytes.{AllFlushed, AppendsPrefix, IsWhole}
@@ -18,7 +19,7 @@ use Rattle.cm_model.proofs.DocumentLemmas.{document-IsSmall, document-AllConsole
 use Rattle.cm_model.proofs.LegalLemmas.{scheduled-IsLegal}
 use Rattle.cm_model.proofs.WholeLemmas.{scheduled-IsWhole}
 use Rattle.cm_top.specs.Room.{lines_left}
-use Rattle.cm_top.specs.Status.{IsShort, Printed, Cut, Ran, Wrote}
+use Rattle.cm_top.specs.Status.{IsShort, Printed, Cut, Ran, Wrote, status_of, status_of_document}
 use Rattle.cm_top.specs.declared.status.Status.{Status}
 use Rattle.cm_top.specs.declared.status.Status.TheVariants as status
 
@@ -49,18 +50,23 @@ Wrote-Ran bytes d blanks old new flushed status.TooLong short accepted wrote = a
 Wrote-Ran bytes d blanks old new flushed status.Memory short accepted wrote = inr (record { document_is = d; short = short; accepted = accepted; taken = wrote })
 Wrote-Ran bytes d blanks old new flushed status.WriteFault short accepted wrote = record { document_is = d; short = short; accepted = accepted; taken = wrote }
 
--- an accepted document that is short goes well, where neither source nor sink had a fault, unless memory runs out
-pub Ran-complete : (bytes : List ℕ) (blanks : Blanks) (old new : Option (List ℕ)) (flushed : Option ℕ) (ended : Status) (read write : Type 0)
+-- a document that is short has the status that its reading gives
+short-status : (bytes : List ℕ) → length bytes ≤ 1048576 → status_of bytes ≡ status_of_document (document bytes)
+short-status bytes short = let no : nat_lt 1048576 (length bytes) ≡ false = grind (arith, nat_tests) in rw no refl
+
+-- where neither source nor sink had a fault, the bytes decide the status, unless memory runs out
+pub Ran-exact : (bytes : List ℕ) (blanks : Blanks) (old new : Option (List ℕ)) (flushed : Option ℕ) (ended : Status) (read write : Type 0)
     → Ran bytes blanks old new flushed ended → (ended ≡ status.ReadFault → read) → (ended ≡ status.WriteFault → write)
-    → IsShort bytes → IsOk (document bytes) → ¬ read → ¬ write → (ended ≡ status.Ok) ⊎ (ended ≡ status.Memory)
-Ran-complete bytes blanks old new flushed status.Ok read write ran rose risen short ok still kept = inl refl
-Ran-complete bytes blanks old new flushed status.BadWords read write ran rose risen short ok still kept = absurd ran
-Ran-complete bytes blanks old new flushed (status.BadDescription p) read write ran rose risen short ok still kept = let no : false ≡ true = rw ran.1 at ok in cc
-Ran-complete bytes blanks old new flushed (status.BadScript f) read write ran rose risen short ok still kept = let no : false ≡ true = rw ran.1 at ok in cc
-Ran-complete bytes blanks old new flushed status.ReadFault read write ran rose risen short ok still kept = absurd (still (rose refl))
-Ran-complete bytes blanks old new flushed status.TooLong read write ran rose risen short ok still kept = absurd (omega arith)
-Ran-complete bytes blanks old new flushed status.Memory read write ran rose risen short ok still kept = inr refl
-Ran-complete bytes blanks old new flushed status.WriteFault read write ran rose risen short ok still kept = absurd (kept (risen refl))
+    → ¬ read → ¬ write → (ended ≡ status_of bytes) ⊎ (ended ≡ status.Memory)
+Ran-exact bytes blanks old new flushed status.Ok read write ran rose risen still kept = inl (rw (short-status bytes ran.short, ran.accepted) refl)
+Ran-exact bytes blanks old new flushed status.BadWords read write ran rose risen still kept = absurd ran
+Ran-exact bytes blanks old new flushed (status.BadDescription p) read write ran rose risen still kept = inl (rw (short-status bytes ran.0, ran.1) refl)
+Ran-exact bytes blanks old new flushed (status.BadScript f) read write ran rose risen still kept = inl (rw (short-status bytes ran.0, ran.1) refl)
+Ran-exact bytes blanks old new flushed status.ReadFault read write ran rose risen still kept = absurd (still (rose refl))
+Ran-exact bytes blanks old new flushed status.TooLong read write ran rose risen still kept =
+    let long : nat_lt 1048576 (length bytes) ≡ true = grind (arith, nat_tests) in inl (rw long refl)
+Ran-exact bytes blanks old new flushed status.Memory read write ran rose risen still kept = inr refl
+Ran-exact bytes blanks old new flushed status.WriteFault read write ran rose risen still kept = absurd (kept (risen refl))
 
 -- a text that was taken, and then a flush
 pub flush-Wrote : (text : List ℕ) (old mid new : Option (List ℕ)) (flushed : Option ℕ) (ended : Status) (fault : Type 0)

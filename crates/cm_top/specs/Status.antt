@@ -1,5 +1,5 @@
 -- The numbers of the statuses, and what each says of the run that ended so.
-use Rattle.std.specs.Prelude.{◌≡◌, ℕ, ◌<◌, ◌≤◌, List, Option, Some, None, Result, Ok, Err, length, IfSome, ◌⊎◌}
+use Rattle.std.specs.Prelude.{◌≡◌, ℕ, ◌<◌, ◌≤◌, List, Option, Some, None, Result, Ok, Err, length, nat_lt, if◌then◌else◌, ◌⊎◌}
 use Rattle.std.specs.Io.KnownBytes.{Keeps, Appends}
 use Rattle.outside_io.specs.Bytes.{AllFlushed, AppendsPrefix}
 use Rattle.cm_model.specs.Document.{document}
@@ -62,6 +62,17 @@ Ran bytes blanks old new flushed status.ReadFault = Unit {0}
 Ran bytes blanks old new flushed status.TooLong = 1048576 < length bytes
 Ran bytes blanks old new flushed status.Memory = Keeps old new ⊎ Cut bytes blanks old new
 Ran bytes blanks old new flushed status.WriteFault = Cut bytes blanks old new
+
+-- The status that a document asks for, where it can be read and written: its first fault, or all of its trace.
+abbrev pub status_of_document : Result Document DocumentFault → Status
+status_of_document (Ok d) = status.Ok
+status_of_document (Err (fault.Description p)) = status.BadDescription p
+status_of_document (Err (fault.Script f)) = status.BadScript f
+status_of_document (Err fault.Memory) = status.Memory
+
+-- The length comes first, then the description, then the script.
+abbrev pub status_of : List ℕ → Status
+status_of bytes = if nat_lt 1048576 (length bytes) then status.TooLong else status_of_document (document bytes)
 
 -- the statuses that come before anything is written
 abbrev pub ComesBeforeWriting : Status → Type 0

@@ -1,11 +1,10 @@
 -- What a call of `run_alone` promises, and `run` where its words are accepted.
-use Rattle.std.specs.Prelude.{◌≡◌, ℕ, ◌≤◌, List, Option, IfSome, IsOk, IsSome, ◌⊎◌}
+use Rattle.std.specs.Prelude.{◌≡◌, ℕ, ◌≤◌, List, Option, IfSome, IsSome, ◌⊎◌}
 use Rattle.std.specs.Io.KnownBytes.{IsAtEnd}
 use Rattle.outside_io.specs.Bytes.{TakesAtMost}
 use Rattle.outside_io.specs.Faults.{Rose}
-use Rattle.cm_model.specs.Document.{document}
 use Rattle.cm_model.specs.declared.state.Blanks.{Blanks}
-use Rattle.cm_top.specs.Status.{IsShort, Ran, IsPlain}
+use Rattle.cm_top.specs.Status.{Ran, IsPlain, status_of}
 use Rattle.cm_top.specs.declared.status.Status.{Status}
 use Rattle.cm_top.specs.declared.status.Status.TheVariants as status
 
@@ -38,6 +37,7 @@ pub record Runs (blanks : Blanks) (source source' : SourceTold) (sink sink' : Si
   pub write_later : sink.faults ≤ sink'.faults
   -- no refusal carries a want of memory
   pub plain : IsPlain ended
-  -- An accepted document that is not too long, with no fault of source and sink, goes well, unless memory runs out.
-  pub complete : IfSome source.left (λ bytes. IsShort bytes → IsOk (document bytes) → ¬ (Rose source.faults source'.faults)
-      → ¬ (Rose sink.faults sink'.faults) → (ended ≡ status.Ok) ⊎ (ended ≡ status.Memory))
+  -- Where neither source nor sink had a fault, the bytes alone decide the status, unless memory runs out: a document that is
+  -- too long or refused is answered so, and an accepted one goes well.
+  pub exact : IfSome source.left (λ bytes. ¬ (Rose source.faults source'.faults) → ¬ (Rose sink.faults sink'.faults)
+      → (ended ≡ status_of bytes) ⊎ (ended ≡ status.Memory))

@@ -1,4 +1,4 @@
-use Rattle.cm_top.proofs.TopLemmas.{read-Ran, read-end, Ran-complete}
+use Rattle.cm_top.proofs.TopLemmas.{read-Ran, read-end, Ran-exact}
 use Rattle.cm_top.proofs.top.run_alone.Goals as goal
 
 -- what was read is all that the source told, and the rest is what its bytes came to
@@ -15,6 +15,6 @@ returns-in-Ok-clause-runs g c =
       read_later = c.read_whole.ensures.later;
       write_later = c.run_bytes.ensures.later;
       plain = c.run_bytes.ensures.plain;
-      complete = read-Ran _ _ c.in-Ok.bytes.items _ c.in-Ok.ensures.whole
-          (Ran-complete c.in-Ok.bytes.items _ _ _ _ _ _ _ ran (λ failed. absurd (rw failed at c.run_bytes.ensures.of_bytes)) c.run_bytes.ensures.write_fault);
+      exact = read-Ran _ _ c.in-Ok.bytes.items _ c.in-Ok.ensures.whole
+          (Ran-exact c.in-Ok.bytes.items _ _ _ _ _ _ _ ran (λ failed. absurd (rw failed at c.run_bytes.ensures.of_bytes)) c.run_bytes.ensures.write_fault);
     }
