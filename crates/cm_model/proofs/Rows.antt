@@ -14,7 +14,11 @@ use Rattle.cm_model.specs.Machine.{step}
 use Rattle.cm_model.specs.Scheduled.{settle_all, looped, cycle, finish, start, scheduled}
 use Rattle.cm_model.specs.Trace.{output}
 use Rattle.cm_model.specs.declared.document.Document.{Document}
+use Rattle.cm_model.specs.declared.faults.DescFault.TheVariants.{BadKey}
+use Rattle.cm_model.specs.declared.faults.DescProblem.TheVariants.{Text}
+use Rattle.cm_model.specs.declared.faults.ScriptFault.TheVariants.{BadLine}
 use Rattle.cm_model.specs.declared.faults.DocumentFault.{DocumentFault}
+use Rattle.cm_model.specs.declared.faults.DocumentFault.TheVariants as fault
 use Rattle.cm_model.specs.declared.state.Blanks.{Blanks}
 use Rattle.cm_model.specs.Reading.{◌>>=◌}
 
@@ -36,3 +40,15 @@ one_mock = refl
 nothing_but_the_close : printed (codes "version = 1\nupdate_rate = 100\ncycles = 0\n--- script ---\n") ≡ Ok (codes "loop close: none\n")
 unfolding tree_of is_utf8 chars toml_on_literals digits description_of controller_of checked parts_of with_line script_of accepted_description document_of step settle_all looped cycle finish start scheduled output
 nothing_but_the_close = refl
+
+-- a last line without a form
+a_line_without_a_form : printed (codes "version = 1\nupdate_rate = 100\ncycles = 2\n[[controller]]\nname = \"mk\"\ntype = \"mock\"\n--- script ---\nsession a\nload mk\nlist controllers\nload nosuch\njump mk\n")
+    ≡ Err (fault.Script (BadLine 12))
+unfolding tree_of is_utf8 chars toml_on_literals description_of controller_of checked parts_of with_line script_of accepted_description document_of
+a_line_without_a_form = refl
+
+-- a key that a controller may not have
+a_key_that_is_not_listed : printed (codes "version = 1\nupdate_rate = 100\ncycles = 2\n[[controller]]\nname = \"mk\"\ntype = \"mock\"\nrate = 5\n--- script ---\n")
+    ≡ Err (fault.Description (Text (BadKey (codes "controller[0].rate"))))
+unfolding tree_of is_utf8 chars toml_on_literals digits description_of controller_of checked parts_of accepted_description document_of
+a_key_that_is_not_listed = refl

@@ -134,3 +134,33 @@ impl Eq for Name {
 
     ghost laws = { Prim.search (comparing, rules) };
 }
+
+#[cfg(test)]
+mod tests {
+    use super::*;
+    use std::test::Fail;
+
+    #[test]
+    fn the_naming_rule(rt: HostRuntime) -> Result<(), Fail> {
+        let longest = b"abcdefghijklmnopqrstuvwxyzabcdefghijklmnopqrstuvwxyzabcdefghijkl";
+        let too_long = b"abcdefghijklmnopqrstuvwxyzabcdefghijklmnopqrstuvwxyzabcdefghijklm";
+        for (text, named) in [
+            (b"a".as_slice(), true),
+            (b"Z_9".as_slice(), true),
+            (longest.as_slice(), true),
+            (too_long.as_slice(), false),
+            (b"".as_slice(), false),
+            (b"_a".as_slice(), false),
+            (b"9a".as_slice(), false),
+            (b"a-b".as_slice(), false),
+            (b"a b".as_slice(), false),
+            (b"\xc3\xa9".as_slice(), false),
+        ] {
+            match Name::read(rt.alloc(), text) {
+                Ok(name) => assert!(rt; named && name.bytes() == text),
+                Err(fault) => assert!(rt; !named && fault == NameFault::BadName),
+            }
+        }
+        Ok(())
+    }
+}
