@@ -1,16 +1,14 @@
 -- What holds of every accepted document.
-use Rattle.std.proofs.Common.{◌≡◌, ℕ, ◌+◌, List, Option, Some, None, Result, Ok, Err, refl, subst}
-use Rattle.std.specs.Prelude.{IfOk}
+use Rattle.std.proofs.Common.{◌≡◌, ℕ, ◌+◌, List, Option, Some, None, Result, Ok, Err}
 use Rattle.cm_model.specs.Reading.{◌>>=◌, told_as}
 use Rattle.cm_model.specs.Lines.{Parts, parts_of}
-use Rattle.cm_model.specs.Script.{script_of, IsSmall}
+use Rattle.cm_model.specs.Script.{IsSmall}
 use Rattle.cm_model.specs.Sessions.{AllConsole}
 use Rattle.cm_model.specs.Document.{accepted_description, accepted_script, document_of, document}
 use Rattle.cm_model.specs.declared.description.Description.{Description}
 use Rattle.cm_model.specs.declared.document.Document.{Document}
 use Rattle.cm_model.specs.declared.faults.DescProblem.{DescProblem}
 use Rattle.cm_model.specs.declared.faults.ScriptFault.{ScriptFault}
-use Rattle.cm_model.specs.declared.faults.DocumentFault.{DocumentFault}
 use Rattle.cm_model.specs.declared.faults.DocumentFault.TheVariants as fault
 use Rattle.cm_model.specs.declared.script.Script.{Script}
 use Rattle.cm_model.proofs.ScriptLemmas.{script_of-IsSmall, script_of-AllConsole}

@@ -1,10 +1,9 @@
 -- Every scheduled history is legal, and every legal history of this language reports nothing.
-use Rattle.std.proofs.Common.{◌≡◌, ℕ, zero, suc, ◌+◌, List, [], ◌∷◌, ◌++◌, length, map, Option, Some, None, Bool, true, false, refl, sym, ap, ◌∙◌, subst, ◌⊎◌, inl, inr, arith, rules}
+use Rattle.std.proofs.Common.{◌≡◌, ℕ, zero, suc, ◌+◌, List, [], ◌∷◌, ◌++◌, length, Option, Some, None, Bool, true, false, refl, ◌⊎◌, inl, inr}
 use Rattle.std.specs.Prelude.{IsSomeAnd, cond}
-use Rattle.std.specs.List.{AllByRecursion}
 use Rattle.cm_model.specs.State.{boot}
-use Rattle.cm_model.specs.Machine.{step, where_allowed, LegalFrom, IsLegal, state_after, load}
-use Rattle.cm_model.specs.Scheduled.{Progress, Settled, with_entry, settle, settle_from, settle_all, looped, cycle, cycles, finish, start, scheduled}
+use Rattle.cm_model.specs.Machine.{step, where_allowed, LegalFrom, IsLegal, state_after}
+use Rattle.cm_model.specs.Scheduled.{Progress, with_entry, settle, settle_from, settle_all, looped, cycle, cycles, finish, start, scheduled}
 use Rattle.cm_model.specs.Sessions.{ReportsNothing, IsUneventful}
 use Rattle.cm_model.specs.declared.call.Call.{Call}
 use Rattle.cm_model.specs.declared.call.Call.TheVariants.{Load, ListControllers, Begin, End, Close}

@@ -1,11 +1,10 @@
 -- Worked rows, computed from the definitions alone.
-use Rattle.std.proofs.Common.{◌≡◌, ℕ, List, [], ◌∷◌, ◌++◌, Some, None, Ok, Err, refl}
+use Rattle.std.proofs.Common.{◌≡◌, ℕ, List, Ok, Err, refl}
 use Rattle.std.specs.Prelude.{codes, Result}
 use Rattle.std.specs.Fmt.{digits}
 use Rattle.std.specs.Str.{is_utf8, chars}
 use Rattle.toml.proofs.OnLiterals.{toml_on_literals}
-use Rattle.cm_model.specs.Reading.{told_as}
-use Rattle.cm_model.specs.Walk.{tree_of, described, description_of, controller_of}
+use Rattle.cm_model.specs.Walk.{tree_of, description_of, controller_of}
 use Rattle.cm_model.specs.Checks.{checked}
 use Rattle.cm_model.specs.Lines.{parts_of}
 use Rattle.cm_model.specs.Script.{with_line, script_of}
@@ -13,7 +12,6 @@ use Rattle.cm_model.specs.Document.{accepted_description, document_of, document}
 use Rattle.cm_model.specs.Machine.{step}
 use Rattle.cm_model.specs.Scheduled.{settle_all, looped, cycle, finish, start, scheduled}
 use Rattle.cm_model.specs.Trace.{output}
-use Rattle.cm_model.specs.declared.document.Document.{Document}
 use Rattle.cm_model.specs.declared.faults.DescFault.TheVariants.{BadKey}
 use Rattle.cm_model.specs.declared.faults.DescProblem.TheVariants.{Text}
 use Rattle.cm_model.specs.declared.faults.ScriptFault.TheVariants.{BadLine}

@@ -1,6 +1,6 @@
 -- An accepted script is small, and its lines are console calls.
 use Rattle.std.proofs.Common.{◌≡◌, ℕ, ◌+◌, ◌<◌, ◌≤◌, Bool, true, false, List, [], ◌∷◌, ◌++◌, length, Option, Some, None, Result, Ok, Err, refl, sym, arith, subst, length-append, ltb-true}
-use Rattle.std.specs.Prelude.{IfOk, option_to_list, nat_lt, sum_by, if◌then◌else◌, ◌&&◌, not, codes}
+use Rattle.std.specs.Prelude.{IfOk, option_to_list, nat_lt, if◌then◌else◌, ◌&&◌, not, codes}
 use Rattle.std.specs.List.{AllByRecursion}
 use Rattle.std.proofs.lemmas.Bool.{cond_both}
 use Rattle.cm_model.specs.Names.{is_name, same_name}

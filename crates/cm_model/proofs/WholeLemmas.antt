@@ -1,6 +1,6 @@
 -- A history that is scheduled for console calls is whole.
-use Rattle.std.proofs.Common.{◌≡◌, ℕ, zero, suc, ◌+◌, ◌<◌, ◌≤◌, List, [], ◌∷◌, ◌++◌, length, map, Option, Some, None, Bool, true, false, nat_lt, refl, sym, ap, ◌∙◌, subst, append_assoc, append-nil, ◌⊎◌, inl, inr, arith, rules}
-use Rattle.std.specs.Prelude.{cond, IfSome, slice_get, filter, not, ◌==◌, ◌&&◌, if◌then◌else◌}
+use Rattle.std.proofs.Common.{◌≡◌, ℕ, zero, suc, ◌+◌, ◌<◌, ◌≤◌, List, [], ◌∷◌, ◌++◌, length, map, Option, Some, None, Bool, true, false, nat_lt, refl, sym, ap, ◌∙◌, append_assoc, append-nil, inl, inr, arith}
+use Rattle.std.specs.Prelude.{cond, slice_get, filter, ◌==◌, ◌&&◌}
 use Rattle.std.specs.List.{AllByRecursion}
 use Rattle.std.proofs.lemmas.List.{map-append, length-map}
 use Rattle.std.proofs.lemmas.List.Elements.{filter-append}
@@ -8,7 +8,7 @@ use Rattle.std.proofs.lemmas.Bool.Decides.{nat_tests}
 use Rattle.std.proofs.lemmas.Option.{same_Some, slice_get-map, slice_get_within}
 use Rattle.cm_model.proofs.LegalLemmas.{cases_Option, chosen}
 use Rattle.cm_model.specs.State.{boot, controller_lines}
-use Rattle.cm_model.specs.Machine.{step, where_allowed, load, load_from, load_at, loaded_from_stock, place_of, is_loaded_at, can_begin, can_end, can_close}
+use Rattle.cm_model.specs.Machine.{step, load, load_from, load_at, place_of, is_loaded_at, can_begin, can_end, can_close}
 use Rattle.cm_model.specs.Scheduled.{Progress, Settled, with_entry, settle, settle_from, settle_all, looped, cycle, cycles, finish, start, scheduled}
 use Rattle.cm_model.specs.Sessions.{IsConsole, AllConsole, entries_by, calls_of, Follows, cycle_calls, loop_calls, IsWhole}
 use Rattle.cm_model.specs.declared.call.Call.{Call}

@@ -1,12 +1,9 @@
 -- What a description that was read must meet besides, in the order in which a fault counts.
-use Rattle.std.specs.Prelude.{ℕ, Bool, ◌&&◌, nat_lt, nat_le, ◌==◌, if◌then◌else◌, List, [], ◌∷◌, ◌++◌, length, map, codes, Option, Some, None, Result, Ok, Err, nat_eq}
+use Rattle.std.specs.Prelude.{ℕ, Bool, ◌&&◌, nat_lt, nat_le, ◌==◌, if◌then◌else◌, List, [], ◌∷◌, ◌++◌, length, map, codes, Option, Some, None, Result, Ok, Err}
 use Rattle.std.specs.List.{list_any}
-use Rattle.std.specs.Cmp.Lexicographic.{pointwise}
 use Rattle.cm_model.specs.Names.{same_name}
 use Rattle.cm_model.specs.Reading.{◌>>=◌}
-use Rattle.cm_model.specs.declared.description.CtlDesc.{CtlDesc}
 use Rattle.cm_model.specs.declared.description.Description.{Description}
-use Rattle.cm_model.specs.declared.faults.What.{What}
 use Rattle.cm_model.specs.declared.faults.What.TheVariants.{Controllers}
 use Rattle.cm_model.specs.declared.faults.CheckFault.{CheckFault}
 use Rattle.cm_model.specs.declared.faults.CheckFault.TheVariants.{TooMany, NameTwice, BadRange}

@@ -8,13 +8,11 @@ use Rattle.cm_model.specs.declared.call.Call.TheVariants.{Load, ListControllers,
 use Rattle.cm_model.specs.declared.call.Entry.{Entry}
 use Rattle.cm_model.specs.declared.reply.Reply.{Reply}
 use Rattle.cm_model.specs.declared.reply.Reply.TheVariants as reply
-use Rattle.cm_model.specs.declared.reply.Why.{Why}
 use Rattle.cm_model.specs.declared.reply.Why.TheVariants as why
 use Rattle.cm_model.specs.declared.description.CtlKind.{CtlKind}
 use Rattle.cm_model.specs.declared.description.CtlDesc.{CtlDesc}
 use Rattle.cm_model.specs.declared.description.Description.{Description}
 use Rattle.cm_model.specs.declared.state.Blanks.{Blanks}
-use Rattle.cm_model.specs.declared.state.Loaded.{Loaded}
 use Rattle.cm_model.specs.declared.state.State.{State}
 
 -- ---- Load

@@ -1,5 +1,5 @@
 -- The order of the job `run`: sessions settle before each cycle, after the last, and once more after the close.
-use Rattle.std.specs.Prelude.{ℕ, zero, suc, ◌+◌, List, [], ◌∷◌, ◌++◌, length, map, Option, Some, None}
+use Rattle.std.specs.Prelude.{ℕ, zero, suc, ◌+◌, List, [], ◌∷◌, ◌++◌, length, map, Some, None}
 use Rattle.cm_model.specs.State.{boot}
 use Rattle.cm_model.specs.Machine.{step}
 use Rattle.cm_model.specs.declared.call.Call.{Call}

@@ -1,5 +1,5 @@
 -- The script: lines, each with a form, and the first bad line.
-use Rattle.std.specs.Prelude.{ℕ, ◌+◌, ◌≤◌, Bool, true, false, ◌||◌, not, nat_lt, ◌&&◌, if◌then◌else◌, List, [], ◌∷◌, ◌++◌, length, sum_by, codes, Option, Some, None, Result, Ok, Err, option_to_list}
+use Rattle.std.specs.Prelude.{ℕ, ◌+◌, ◌≤◌, Bool, true, false, not, nat_lt, ◌&&◌, if◌then◌else◌, List, [], ◌∷◌, ◌++◌, length, sum_by, codes, Option, Some, None, Result, Ok, Err, option_to_list}
 use Rattle.cm_model.specs.Names.{is_name, same_name}
 use Rattle.cm_model.specs.Reading.{◌>>=◌}
 use Rattle.cm_model.specs.Lines.{raw_lines, bare, words, is_skipped}

@@ -1,5 +1,5 @@
 -- What a history must hold of a document: every session's lines, each once and in order, and the requested cycles.
-use Rattle.std.specs.Prelude.{◌≡◌, ℕ, zero, suc, ◌<◌, ◌≤◌, ◌==◌, List, [], ◌∷◌, ◌++◌, length, map, filter, slice_get, Option, Some, None, IfSome}
+use Rattle.std.specs.Prelude.{◌≡◌, ℕ, zero, suc, ◌≤◌, ◌==◌, List, [], ◌∷◌, ◌++◌, length, map, filter, slice_get, IfSome}
 use Rattle.std.specs.List.{AllByRecursion}
 use Rattle.cm_model.specs.declared.call.Call.{Call}
 use Rattle.cm_model.specs.declared.call.Call.TheVariants.{Load, ListControllers, Begin, End, Close}

@@ -1,11 +1,10 @@
 -- What a state says: its opening, and what is read off it.
-use Rattle.std.specs.Prelude.{ℕ, ◌-◌, Bool, false, List, [], ◌∷◌, map, slice_get, filter_map, Option, Some, None, option_map}
+use Rattle.std.specs.Prelude.{ℕ, ◌-◌, false, List, [], slice_get, filter_map, Option, option_map}
 use Rattle.cm_model.specs.declared.description.CtlKind.{CtlKind}
 use Rattle.cm_model.specs.declared.description.CtlKind.TheVariants.{Forward, Passthrough, Pid, Trajectory, Broadcaster, Mock}
 use Rattle.cm_model.specs.declared.description.CtlDesc.{CtlDesc}
 use Rattle.cm_model.specs.declared.description.Description.{Description}
 use Rattle.cm_model.specs.declared.reply.CtlLine.{CtlLine}
-use Rattle.cm_model.specs.declared.reply.Life.{Life}
 use Rattle.cm_model.specs.declared.reply.Life.TheVariants.{Unconfigured}
 use Rattle.cm_model.specs.declared.state.Blanks.{Blanks}
 use Rattle.cm_model.specs.declared.state.Loaded.{Loaded}

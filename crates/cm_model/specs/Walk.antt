@@ -1,7 +1,7 @@
 -- The description in its text: the tree that TOML's grammar gives, and the walk over it, whose first fault counts.
-use Rattle.std.specs.Prelude.{ℕ, ◌+◌, ◌^◌, Bool, true, false, ◌||◌, nat_lt, not, if◌then◌else◌, List, [], ◌∷◌, ◌++◌, pos, negsuc, codes, decimal, Option, Some, None, Result, Ok, Err}
+use Rattle.std.specs.Prelude.{ℕ, ◌+◌, ◌^◌, Bool, ◌||◌, nat_lt, if◌then◌else◌, List, [], ◌∷◌, ◌++◌, pos, codes, decimal, Option, Some, None, Result, Ok, Err}
 use Rattle.std.specs.Str.{is_utf8}
-use Rattle.toml.specs.Data.{Data, string, integer, float, boolean, datetime, array, table, Items, no_items, item, Members, no_members, member, get_member, same_key}
+use Rattle.toml.specs.Data.{Data, string, integer, float, array, table, Items, no_items, item, Members, no_members, member, get_member, same_key}
 use Rattle.toml.specs.Parse.{parse_document}
 use Rattle.cm_model.specs.Names.{is_name}
 use Rattle.cm_model.specs.Reading.{◌>>=◌}
