@@ -6,7 +6,15 @@ ghost use Rattle.cm_model.specs.declared.state.Blanks.{Blanks};
 ghost use Rattle.cm_model.specs.Document.{document};
 ghost use Rattle.cm_model.specs.Machine.{IsLegal};
 ghost use Rattle.cm_model.specs.Scheduled.{scheduled};
-ghost use Rattle.cm_model.specs.Sessions.{IsWhole, IsUneventful};
+ghost use Rattle.cm_model.specs.Script.{IsSmall};
+ghost use Rattle.cm_model.specs.Sessions.{AllConsole, IsWhole, IsUneventful};
+
+/// The script of an accepted document has one session at most and at most 10,000 calls, each of them a session's: so numbers
+/// of sessions, lines and loads stay far below 2^32.
+pub fn accepted_scripts_are_small()
+    ensures small { (bytes : List ℕ) (d : Document) → document bytes ≡ Ok d → IsSmall d.script }
+    ensures console { (bytes : List ℕ) (d : Document) → document bytes ≡ Ok d → AllConsole d.script.sessions }
+{}
 
 /// Each scheduled history is legal: from boot each of its entries is a step of the written manager.
 pub fn scheduled_histories_are_legal()
