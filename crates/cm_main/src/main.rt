@@ -8,7 +8,10 @@ use std::process::ExitCode;
 use std::rt::Env;
 use std::sync::Wait;
 use std::thread::Threads;
-use std::{env, io};
+use std::{env, fmt, io};
+
+#[cfg(test)]
+mod tests;
 
 /// The program's stock: 32 mocks. Further kinds have blanks once they are built.
 fn stock() -> Blanks {
@@ -28,9 +31,19 @@ fn main(rt: HostRuntime) -> ExitCode {
         Err(status) => status,
     };
     if status != Status::Ok {
-        let _ = eprintln!(rt; "cm: {status}");
+        let _ = eprintln!(rt; "{}", Line(&status));
     }
     ExitCode::from(status.code())
+}
+
+/// The line on standard error for a status other than `Ok`. It prints without a string of its own, as memory may have run out.
+#[derive(Clone, Copy)]
+struct Line<'a>(&'a Status);
+
+impl fmt::Display for Line<'_> {
+    fn fmt<W: fmt::Write>(&self, f: &mut fmt::Formatter<W>) -> fmt::Result {
+        write!(f, "cm: {}", self.0)
+    }
 }
 
 /// The words after the program's name. Words that are not UTF-8 are not accepted.

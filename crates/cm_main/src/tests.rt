@@ -1,0 +1,89 @@
+//! What the program tells of each status but `Ok`: its line on standard error, and the number it ends with.
+
+use crate::Line;
+use cm_model::{CheckFault, DescFault, DescProblem, ScriptFault, Text, What};
+use cm_top::Status;
+use std::alloc::{AllocError, Global};
+use std::test::Fail;
+
+fn path(alloc: Global, path: &str) -> Result<Text, AllocError> {
+    Ok(Text::from_string(String::from_str(alloc, path)?))
+}
+
+#[test]
+fn each_status_has_its_line_and_number(rt: HostRuntime) -> Result<(), Fail> {
+    for (status, number, line) in [
+        (
+            Status::BadWords,
+            2,
+            "cm: usage: cm run|steps|live [--make N]",
+        ),
+        (
+            Status::BadScript(ScriptFault::BadLine(13)),
+            4,
+            "cm: script: bad_line 13",
+        ),
+        (
+            Status::BadScript(ScriptFault::NoSession(8)),
+            4,
+            "cm: script: no_session 8",
+        ),
+        (
+            Status::BadScript(ScriptFault::TooMany(10_009)),
+            4,
+            "cm: script: too_many 10009",
+        ),
+        (Status::ReadFault, 5, "cm: read fault"),
+        (Status::TooLong, 6, "cm: document longer than 1048576 bytes"),
+        (Status::Memory, 7, "cm: out of memory"),
+        (Status::WriteFault, 8, "cm: write fault"),
+    ] {
+        let told = format!(in rt.alloc(); "{}", Line(&status))?;
+        assert_eq!(rt; told.as_str(), line);
+        assert_eq!(rt; status.code(), number, "{line}");
+    }
+    Ok(())
+}
+
+#[test]
+fn a_refused_description_has_its_fault_in_the_line(rt: HostRuntime) -> Result<(), Fail> {
+    let alloc = rt.alloc();
+    let rate = path(alloc, "controller[0].rate")?;
+    let kind = path(alloc, "controller[12].type")?;
+    for (problem, line) in [
+        (
+            DescProblem::Text(DescFault::NotToml),
+            "cm: description: not_toml",
+        ),
+        (
+            DescProblem::Text(DescFault::BadKey(rate)),
+            "cm: description: bad_key controller[0].rate",
+        ),
+        (
+            DescProblem::Text(DescFault::BadValue(kind)),
+            "cm: description: bad_value controller[12].type",
+        ),
+        (
+            DescProblem::Text(DescFault::FloatGiven(path(alloc, "version")?)),
+            "cm: description: float_given version",
+        ),
+        (
+            DescProblem::Check(CheckFault::TooMany(What::Controllers)),
+            "cm: description: too_many controllers",
+        ),
+        (
+            DescProblem::Check(CheckFault::NameTwice(path(alloc, "mk")?)),
+            "cm: description: name_twice mk",
+        ),
+        (
+            DescProblem::Check(CheckFault::BadRange(path(alloc, "cycles")?)),
+            "cm: description: bad_range cycles",
+        ),
+    ] {
+        let status = Status::BadDescription(problem);
+        let told = format!(in alloc; "{}", Line(&status))?;
+        assert_eq!(rt; told.as_str(), line);
+        assert_eq!(rt; status.code(), 3, "{line}");
+    }
+    Ok(())
+}
