@@ -1,14 +1,14 @@
 -- A step takes room for one entry at most.
-use Rattle.std.proofs.Common.{◌≡◌, ℕ, zero, suc, ◌+◌, ◌<◌, ◌≤◌, List, [], ◌∷◌, ◌++◌, length, Option, Some, None, Bool, true, false, refl, sym, ap, ◌∙◌, ◌⊎◌, inl, inr, arith, sum_by}
-use Rattle.std.specs.Prelude.{cond, slice_get, nat_lt, not, ◌==◌, ◌&&◌}
+use Rattle.std.proofs.Common.{◌≡◌, ℕ, suc, ◌+◌, ◌<◌, ◌≤◌, List, [], ◌∷◌, ◌++◌, length, Option, Some, None, Bool, true, false, sym, ◌∙◌, inl, inr, arith}
+use Rattle.std.specs.Prelude.{slice_get, nat_lt, not, ◌==◌, ◌&&◌}
 use Rattle.std.proofs.lemmas.Option.{cond_some}
 use Rattle.std.proofs.lemmas.Bool.{and_parts}
 use Rattle.std.proofs.lemmas.Bool.Decides.{nat_tests}
 use Rattle.cm_model.proofs.LegalLemmas.{cases_Option, chosen}
-use Rattle.cm_model.proofs.WholeLemmas.{SameLoop, load_from-SameLoop}
+use Rattle.cm_model.proofs.WholeLemmas.{load_from-SameLoop}
 use Rattle.cm_model.specs.State.{blanks_of}
-use Rattle.cm_model.specs.Machine.{step, where_allowed, load, load_from, load_at, loaded_from_stock, place_of, is_loaded_at, can_begin, can_end, can_close}
-use Rattle.cm_model.specs.Scheduled.{Progress, Settled, with_entry, settle, settle_from, settle_all, looped, cycle, cycles, finish, start}
+use Rattle.cm_model.specs.Machine.{step, load, load_from, load_at, place_of, is_loaded_at, can_begin}
+use Rattle.cm_model.specs.Scheduled.{with_entry, settle, settle_from, cycles}
 use Rattle.cm_model.specs.declared.call.Call.{Call}
 use Rattle.cm_model.specs.declared.call.Call.TheVariants.{Load, ListControllers, Begin, End, Close}
 use Rattle.cm_model.specs.declared.call.Entry.{Entry}

@@ -1,25 +1,21 @@
 -- From the parts of a run to what it promises.
-use Rattle.std.proofs.Common.{◌≡◌, ℕ, ◌+◌, ◌<◌, ◌≤◌, ◌^◌, List, [], ◌∷◌, length, map, Option, Some, None, Result, Ok, Err, true, false, refl, sym, inl, inr, ◌⊎◌, arith}
+use Rattle.std.proofs.Common.{◌≡◌, ℕ, ◌+◌, ◌<◌, ◌≤◌, ◌^◌, List, [], ◌∷◌, length, map, Option, Some, None, Ok, true, false, refl, inl, inr, ◌⊎◌, arith}
 use Rattle.std.specs.Prelude.{sum_by, IfSome, IsSome, nat_lt}
 use Rattle.std.proofs.lemmas.Bool.Decides.{nat_tests}
 use Rattle.std.specs.Io.KnownBytes.{Keeps, Appends, IsAtEnd}
 use Rattle.std.proofs.KnownBytes.{Appends-kept}
-use Rattle.outside_io.specs.Bytes.{AllFlushed, AppendsPrefix, IsWhole}
+use Rattle.outside_io.specs.Bytes.{AllFlushed, IsWhole}
 use Rattle.outside_io.proofs.Prefixes.{AppendsPrefix-all}
-use Rattle.outside_io.specs.Faults.{Rose}
 use Rattle.cm_model.specs.Document.{document}
-use Rattle.cm_model.specs.Script.{IsSmall}
 use Rattle.cm_model.specs.Trace.{output}
-use Rattle.cm_model.specs.declared.call.Call.{Call}
 use Rattle.cm_model.specs.declared.document.Document.{Document}
-use Rattle.cm_model.specs.declared.faults.DocumentFault.TheVariants as fault
 use Rattle.cm_model.specs.declared.script.SessionText.{SessionText}
 use Rattle.cm_model.specs.declared.state.Blanks.{Blanks}
-use Rattle.cm_model.proofs.DocumentLemmas.{document-IsSmall, document-AllConsole}
+use Rattle.cm_model.proofs.DocumentLemmas.{document-AllConsole}
 use Rattle.cm_model.proofs.LegalLemmas.{scheduled-IsLegal}
 use Rattle.cm_model.proofs.WholeLemmas.{scheduled-IsWhole}
 use Rattle.cm_top.specs.Room.{lines_left}
-use Rattle.cm_top.specs.Status.{IsShort, Printed, Cut, Ran, Wrote, status_of, status_of_document}
+use Rattle.cm_top.specs.Status.{Ran, Wrote, status_of, status_of_document}
 use Rattle.cm_top.specs.declared.status.Status.{Status}
 use Rattle.cm_top.specs.declared.status.Status.TheVariants as status
 

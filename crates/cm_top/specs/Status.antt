@@ -1,5 +1,5 @@
 -- The numbers of the statuses, and what each says of the run that ended so.
-use Rattle.std.specs.Prelude.{◌≡◌, ℕ, ◌<◌, ◌≤◌, List, Option, Some, None, Result, Ok, Err, length, nat_lt, if◌then◌else◌, ◌⊎◌}
+use Rattle.std.specs.Prelude.{◌≡◌, ℕ, ◌<◌, ◌≤◌, List, Option, Result, Ok, Err, length, nat_lt, if◌then◌else◌, ◌⊎◌}
 use Rattle.std.specs.Io.KnownBytes.{Keeps, Appends}
 use Rattle.outside_io.specs.Bytes.{AllFlushed, AppendsPrefix}
 use Rattle.cm_model.specs.Document.{document}
@@ -8,7 +8,6 @@ use Rattle.cm_model.specs.Scheduled.{scheduled}
 use Rattle.cm_model.specs.Sessions.{IsWhole}
 use Rattle.cm_model.specs.Trace.{output}
 use Rattle.cm_model.specs.declared.document.Document.{Document}
-use Rattle.cm_model.specs.declared.faults.DescProblem.{DescProblem}
 use Rattle.cm_model.specs.declared.faults.DescProblem.TheVariants as problem
 use Rattle.cm_model.specs.declared.faults.DescFault.TheVariants as desc_fault
 use Rattle.cm_model.specs.declared.faults.CheckFault.TheVariants as check_fault

@@ -35,8 +35,6 @@ pub enum Status {
 impl Status {
     ghost use Rattle.std.specs.Prelude.{◌≡◌};
     ghost use Rattle.cm_top.specs.Status.{code_of};
-    ghost use Rattle.std.specs.Prelude.{◌≡◌};
-    ghost use Rattle.cm_top.specs.Status.{code_of};
 
     /// The number of the status, which the program ends with.
     pub fn code(&self) -> u8

@@ -1,5 +1,4 @@
-use Rattle.std.proofs.Common.{◌≡◌, ℕ, ◌≤◌, List, [], length, take, OnErr, string_bytes, arith}
-use Rattle.std.specs.Prelude.{Result, Ok, Err, take as taken_front}
+use Rattle.std.proofs.Common.{◌≡◌, [], take, string_bytes, arith}
 use Rattle.std.proofs.lemmas.List.{take_all}
 use Rattle.std.proofs.lemmas.Result.{err_from_is_err_and, on_err_weaker}
 use Rattle.outside_io.specs.Bytes.{AppendsPrefix}

@@ -1,4 +1,4 @@
-use Rattle.std.proofs.Common.{◌≡◌, ◌≤◌, [], take, string_bytes}
+use Rattle.std.proofs.Common.{◌≤◌, [], take, string_bytes}
 use Rattle.cm_model.specs.Trace.{trace}
 use Rattle.cm_top.specs.Streams.{Streams}
 use Rattle.cm_top.proofs.trace.write_trace.Given as goal
