@@ -13,7 +13,7 @@ use std::{env, fmt, io};
 #[cfg(test)]
 mod tests;
 
-/// The program's stock: 32 mocks. Further kinds have blanks once they are built.
+/// The program's stock: 32 mocks, and no blank of another kind.
 fn stock() -> Blanks {
     Blanks {
         forward: 0,

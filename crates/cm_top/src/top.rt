@@ -31,7 +31,7 @@ const LONGEST_DOCUMENT: usize = 1_048_576;
 /// Runs the job of the words: `run` is the one that is built. The words are those after the program's name.
 ///
 /// Reads the source to its end, checks description and script, runs the job over a stock of `stock` blanks, and writes the
-/// trace and flushes it. Nothing is written before the job has run. The pace and the gate are not called yet.
+/// trace and flushes it. Nothing is written before the job has run. The pace and the gate are not called.
 pub fn run<R, S, K, P, G>(
     rt: &R,
     alloc: Global,

@@ -3,12 +3,12 @@
 ghost use Rattle.std.specs.Prelude.{◌≡◌, ℕ, List, ◌++◌, [], OnOk, OnErr, string_bytes};
 ghost use Rattle.std.specs.Io.KnownBytes.{Appends, Keeps};
 ghost use Rattle.outside_io.specs.Bytes.{AppendsPrefix};
-ghost use Rattle.outside_io.specs.Faults.{Rose};
+ghost use Rattle.outside_io.specs.Faults.{HasCause};
 ghost use Rattle.cm_model.specs.Trace.{items_text, reply_text, caller_text, line_text, trace};
 ghost use Rattle.cm_top.specs.Streams.{Streams, HasFault};
 
 use cm_model::{CtlLine, Decision, Entry, Memory, Reply, SessionText};
-use outside_io::{Sink, write_whole};
+use outside_io::{Failed, Sink, write_whole};
 use std::alloc::Global;
 use thiserror::Error;
 
@@ -34,6 +34,17 @@ impl From<Memory> for OutFault {
 
     fn from(_fault: Memory) -> OutFault {
         OutFault::Memory
+    }
+}
+
+impl From<Failed> for OutFault {
+    ghost use Rattle.std.specs.Prelude.{◌≡◌};
+    ghost use Rattle.cm_top.specs.declared.trace.OutFault.TheVariants.{Failed as sink_failed};
+
+    ghost from_gives = { λ _ e. e ≡ sink_failed };
+
+    fn from(_fault: Failed) -> OutFault {
+        OutFault::Failed
     }
 }
 
@@ -119,15 +130,13 @@ fn push_line(text: &mut String, sessions: &[SessionText], entry: &Entry) -> Resu
     Ok(())
 }
 
-/// Hands the text on to the sink, all of it.
-fn pass_on<K: Sink>(sink: &mut K, text: &mut String) -> Result<(), OutFault>
+/// Hands the text on to the sink, all of it. It takes no memory.
+fn pass_on<K: Sink>(sink: &mut K, text: &mut String) -> Result<(), Failed>
     ensures ok { OnOk result (Appends (K.taken sink.old) (K.taken sink.new) (string_bytes text.old) × (string_bytes text.new ≡ [])) }
     ensures err { OnErr result (AppendsPrefix (K.taken sink.old) (K.taken sink.new) (string_bytes text.old)) }
-    ensures fault { HasFault (K.faults sink.old) (K.faults sink.new) result }
+    ensures cause { HasCause (K.faults sink.old) (K.faults sink.new) result }
 {
-    if write_whole(sink, text.as_bytes()).is_err() {
-        return Err(OutFault::Failed);
-    }
+    write_whole(sink, text.as_bytes())?;
     text.clear();
     Ok(())
 }
@@ -147,7 +156,8 @@ fn write_line<K: Sink>(
     if text.len() < PIECE {
         return Ok(());
     }
-    pass_on(sink, text)
+    pass_on(sink, text)?;
+    Ok(())
 }
 
 /// Writes the trace of a history. After either fault the sink has taken a front of it.
@@ -165,5 +175,6 @@ pub fn write_trace<K: Sink>(
     for entry in history {
         write_line(sink, &mut text, sessions, entry)?;
     }
-    pass_on(sink, &mut text)
+    pass_on(sink, &mut text)?;
+    Ok(())
 }

@@ -1,7 +1,6 @@
 use Rattle.std.proofs.Common.{◌≡◌, [], take, string_bytes, arith}
 use Rattle.std.proofs.lemmas.List.{take_all}
-use Rattle.std.proofs.lemmas.Result.{err_from_is_err_and, on_err_weaker}
-use Rattle.outside_io.specs.Bytes.{AppendsPrefix}
+use Rattle.std.proofs.lemmas.Result.{err_from_is_err_and}
 use Rattle.cm_model.specs.Trace.{line_text, trace}
 use Rattle.cm_top.proofs.StreamLemmas.{Streams-then, Streams-cut, Streams-last, texts_next, texts_cut}
 use Rattle.cm_top.proofs.trace.write_trace.Goals as goal
@@ -22,8 +21,9 @@ returns-in_err-write_line-clause-err g c =
     rw p.1 (texts_cut line c.args.history.now c.loop-entry.entry-index c.entry-item.result _ _ c.loop-entry-test.true
     (rw (← c.entry-item.is) (Streams-cut _ _ _ _ (trace c.args.sessions.now (take c.loop-entry.entry-index c.args.history.now)) (line c.entry-item.result) c.loop-entry.invariant.so_far c.in_err-write_line.ensures.err)))
 
-pub returns-clause-err : goal.returns-clause-err
-returns-clause-err g c =
+pub returns-in_err-pass_on-clause-err : goal.returns-in_err-pass_on-clause-err
+returns-in_err-pass_on-clause-err g c =
     let all : take c.loop-entry.entry-index c.args.history.now ≡ c.args.history.now = take_all _ _ (omega arith) in
     let so_far = rw all at c.loop-entry.invariant.so_far in
-    on_err_weaker c.pass_on.result (λ (cut : AppendsPrefix _ _ _). Streams-last _ _ _ (string_bytes c.loop-entry.text) (trace c.args.sessions.now c.args.history.now) so_far cut) c.pass_on.ensures.err
+    let p = err_from_is_err_and c.from_residual-in_err-pass_on.result c.from_residual-in_err-pass_on.ensures.1 in
+    rw p.1 (Streams-last _ _ _ (string_bytes c.loop-entry.text) (trace c.args.sessions.now c.args.history.now) so_far c.in_err-pass_on.ensures.err)
