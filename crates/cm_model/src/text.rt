@@ -2,7 +2,6 @@
 
 ghost use Rattle.std.specs.Prelude.{◌≡◌, string_bytes};
 
-use std::alloc::AllocError;
 use std::fmt;
 use std::marker::Model;
 
@@ -36,18 +35,6 @@ impl Text {
     }
 }
 
-impl Clone for Text {
-    ghost use Rattle.std.specs.Prelude.{◌≡◌};
-
-    ghost is_clone = { λ x y. y ≡ x };
-
-    fn clone(&self) -> Result<Text, AllocError> {
-        Ok(Text {
-            text: self.text.clone()?,
-        })
-    }
-}
-
 impl PartialEq for Text {
     ghost use Rattle.std.specs.Cmp.Rules.{comparing};
     ghost use Rattle.std.specs.Cmp.Lexicographic.{pointwise};
@@ -71,6 +58,10 @@ impl Eq for Text {
 }
 
 impl fmt::Display for Text {
+    ghost use Rattle.std.specs.Prelude.{Some};
+
+    ghost output = { λ text. Some text };
+
     fn fmt<W: fmt::Write>(&self, f: &mut fmt::Formatter<W>) -> fmt::Result {
         write!(f, "{}", self.text)
     }

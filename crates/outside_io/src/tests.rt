@@ -4,6 +4,8 @@ use crate::{
     Failed, Gate, MemSink, MemSource, NoPace, OpenGate, Pace, Point, ReadFault, Sink, Source,
     StdSink, StdSource, read_whole, write_whole,
 };
+use std::io;
+use std::io::{Read, Write};
 use std::test::Fail;
 
 #[test]
@@ -124,6 +126,36 @@ fn a_writer_of_std_is_a_sink(rt: HostRuntime) -> Result<(), Fail> {
     assert_eq!(rt; full.write(b"hello"), Ok(3));
     assert_eq!(rt; full.write(b"lo"), Err(Failed));
     Ok(())
+}
+
+/// A reader and writer of std that always fails.
+#[derive(Drop)]
+struct Broken;
+
+impl Read for Broken {
+    fn read(&mut self, _buffer: &mut [u8]) -> io::Result<usize> {
+        Err(io::Error::from(io::ErrorKind::Other))
+    }
+}
+
+impl Write for Broken {
+    fn write(&mut self, _piece: &[u8]) -> io::Result<usize> {
+        Err(io::Error::from(io::ErrorKind::Other))
+    }
+
+    fn flush(&mut self) -> io::Result<()> {
+        Err(io::Error::from(io::ErrorKind::Other))
+    }
+}
+
+#[test]
+fn faults_of_std_are_told(rt: HostRuntime) {
+    let mut source = StdSource::make(Broken);
+    let mut buffer = [0u8; 4];
+    assert_eq!(rt; source.read(&mut buffer), Err(Failed));
+    let mut sink = StdSink::make(Broken);
+    assert_eq!(rt; sink.write(b"hello"), Err(Failed));
+    assert_eq!(rt; sink.flush(), Err(Failed));
 }
 
 #[test]
