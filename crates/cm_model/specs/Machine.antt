@@ -48,6 +48,7 @@ abbrev pub load_from : State → Option ℕ → State × Reply
 load_from s None = (s, reply.Not why.NotDescribed)
 load_from s (Some place) = load_at s place (slice_get s.description.controllers place)
 
+-- a load of this name
 abbrev pub load : State → List ℕ → State × Reply
 load s name = load_from s (place_of s name)
 

@@ -22,6 +22,7 @@ use Rattle.cm_model.specs.declared.state.Blanks.{Blanks}
 
 -- ---- Words
 
+-- a controller's kind, as a description's `type` says it
 abbrev pub kind_word : CtlKind → List ℕ
 kind_word kind.Forward = codes "forward"
 kind_word kind.Passthrough = codes "passthrough"
@@ -30,17 +31,20 @@ kind_word kind.Trajectory = codes "trajectory"
 kind_word kind.Broadcaster = codes "broadcaster"
 kind_word kind.Mock = codes "mock"
 
+-- a lifecycle state
 abbrev pub life_word : Life → List ℕ
 life_word life.Unconfigured = codes "unconfigured"
 life_word life.Inactive = codes "inactive"
 life_word life.Active = codes "active"
 life_word life.Finalized = codes "finalized"
 
+-- why a call did nothing
 abbrev pub why_word : Why → List ℕ
 why_word why.NotDescribed = codes "not_described"
 why_word why.Loaded = codes "loaded"
 why_word why.StockEmpty = codes "stock_empty"
 
+-- what became of a request
 abbrev pub outcome_text : Outcome → List ℕ
 outcome_text outcome.Done = codes "done"
 outcome_text outcome.LoopEnded = codes "loop_ended"

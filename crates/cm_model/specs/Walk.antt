@@ -34,7 +34,7 @@ abbrev pub unlisted_key : TableKind → Members → Option (List ℕ)
 unlisted_key kind no_members = None
 unlisted_key kind (member key value ms) = if is_listed kind key then unlisted_key kind ms else Some key
 
--- where a key of the top table, or of a table inside, stands
+-- a key of the top table stands at its own name
 abbrev pub path_of_top : List ℕ → List ℕ
 path_of_top key = key
 

@@ -1,6 +1,6 @@
 //! Laws of the definitions: each is the contract of a function that does nothing, and holds of every document.
 
-ghost use Rattle.std.specs.Prelude.{◌≡◌, ℕ, List, length, Result, Ok};
+ghost use Rattle.std.specs.Prelude.{◌≡◌, ℕ, List, length, Ok};
 ghost use Rattle.cm_model.specs.declared.document.Document.{Document};
 ghost use Rattle.cm_model.specs.declared.state.Blanks.{Blanks};
 ghost use Rattle.cm_model.specs.Document.{document};

@@ -4,7 +4,7 @@ use Rattle.std.specs.Prelude.{sum_by, IfSome, IsSome, nat_lt}
 use Rattle.std.proofs.lemmas.Bool.Decides.{nat_tests}
 use Rattle.std.specs.Io.KnownBytes.{Keeps, Appends, IsAtEnd}
 use Rattle.std.proofs.KnownBytes.{Appends-kept}
-use Rattle.outside_io.specs.Bytes.{AllFlushed, IsWhole}
+use Rattle.outside_io.specs.Bytes.{AllFlushed, GivesAll}
 use Rattle.outside_io.proofs.Prefixes.{AppendsPrefix-all}
 use Rattle.cm_model.specs.Document.{document}
 use Rattle.cm_model.specs.Trace.{output}
@@ -72,11 +72,11 @@ flush-Wrote text old mid new flushed ended fault taken kept (inl (went_well, all
 flush-Wrote text old mid new flushed ended fault taken kept (inr (failed, rose)) = rw failed (AppendsPrefix-all old new text (Appends-kept old mid new text taken kept))
 
 -- what was read whole is what the source told
-pub read-Ran : (left left' : Option (List ℕ)) (bytes : List ℕ) (P : List ℕ → Type 0) → IsWhole left left' bytes → P bytes → IfSome left P
+pub read-Ran : (left left' : Option (List ℕ)) (bytes : List ℕ) (P : List ℕ → Type 0) → GivesAll left left' bytes → P bytes → IfSome left P
 read-Ran None left' bytes P whole p = tt
 read-Ran (Some told) left' bytes P whole p = rw whole.0 p
 
 -- then nothing is left
-pub read-end : (left left' : Option (List ℕ)) (bytes : List ℕ) → IsWhole left left' bytes → IsSome left → IsAtEnd left'
+pub read-end : (left left' : Option (List ℕ)) (bytes : List ℕ) → GivesAll left left' bytes → IsSome left → IsAtEnd left'
 read-end None left' bytes whole told = cc
 read-end (Some told) left' bytes whole is_told = rw whole.1 refl

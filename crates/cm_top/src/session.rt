@@ -1,15 +1,11 @@
 //! Sessions over the desk, and the order of the job `run`.
 
-ghost use Rattle.std.specs.Prelude.{◌≡◌, ◌+◌, ◌<◌, ◌^◌, ◌++◌, ◌∷◌, [], length, map, IfOk, OnOk};
-ghost use Rattle.cm_model.specs.declared.call.Call.TheVariants.{Begin, End, Close};
-ghost use Rattle.cm_model.specs.Machine.{step};
-ghost use Rattle.cm_model.specs.Scheduled.{settle, settle_from, settle_all, looped, cycle, cycles, finish, start, scheduled};
+ghost use Rattle.std.specs.Prelude.{◌≡◌, ◌+◌, ◌<◌, ◌^◌, length, map, IfOk};
+ghost use Rattle.cm_model.specs.Scheduled.{settle, settle_all, looped, cycle, cycles, finish, start, scheduled};
 ghost use Rattle.cm_top.specs.Room.{Room, lines_left, IsLoops};
 
 use crate::desk::{boot, step};
-use cm_model::{
-    Blanks, Call, Description, Document, Entry, Memory, Reply, Seq, SessionText, State,
-};
+use cm_model::{Blanks, Call, Description, Entry, Memory, Reply, Seq, SessionText, State};
 use std::alloc::Global;
 
 /// How far a run has come: its state, its history, and for each session the lines that are left.

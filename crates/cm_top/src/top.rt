@@ -1,9 +1,9 @@
 //! The top call: a document in, its trace out.
 
-ghost use Rattle.std.specs.Prelude.{◌≡◌, ◌+◌, ◌<◌, ◌≤◌, ◌^◌, ◌⊎◌, ◌↔◌, length, map, string_bytes, IfErr, true, false};
-ghost use Rattle.std.specs.Io.KnownBytes.{Appends, Keeps};
+ghost use Rattle.std.specs.Prelude.{◌≡◌, ◌+◌, ◌<◌, ◌≤◌, ◌⊎◌, ◌↔◌, length, map, string_bytes, IfErr, true, false};
+ghost use Rattle.std.specs.Io.KnownBytes.{Keeps};
 ghost use Rattle.sequence.specs.Answers.{Answers};
-ghost use Rattle.outside_io.specs.Bytes.{AllFlushed, AppendsPrefix};
+ghost use Rattle.outside_io.specs.Bytes.{AllFlushed};
 ghost use Rattle.outside_io.specs.Faults.{Rose};
 ghost use Rattle.cm_model.specs.Document.{document};
 ghost use Rattle.cm_model.specs.Words.{is_asked};

@@ -1,7 +1,7 @@
 //! The trace of a history, line by line, into a sink.
 
 ghost use Rattle.std.specs.Prelude.{◌≡◌, ℕ, List, ◌++◌, [], OnOk, OnErr, string_bytes};
-ghost use Rattle.std.specs.Io.KnownBytes.{Appends, Keeps};
+ghost use Rattle.std.specs.Io.KnownBytes.{Appends};
 ghost use Rattle.outside_io.specs.Bytes.{AppendsPrefix};
 ghost use Rattle.outside_io.specs.Faults.{HasCause};
 ghost use Rattle.cm_model.specs.Trace.{items_text, reply_text, caller_text, line_text, trace};

@@ -17,9 +17,9 @@ abbrev pub TakesAtMost : Option (List ℕ) → Option (List ℕ) → ℕ → Typ
 TakesAtMost old new n = (front : List ℕ) × (length front ≤ n) × Consumes old new front
 
 -- These bytes are all that was left, and nothing is left.
-abbrev pub IsWhole : Option (List ℕ) → Option (List ℕ) → List ℕ → Type 0
-IsWhole None new bytes = Unit {0}
-IsWhole (Some left) new bytes = (left ≡ bytes) × (new ≡ Some [])
+abbrev pub GivesAll : Option (List ℕ) → Option (List ℕ) → List ℕ → Type 0
+GivesAll None new bytes = Unit {0}
+GivesAll (Some left) new bytes = (left ≡ bytes) × (new ≡ Some [])
 
 -- More than n bytes are left.
 abbrev pub IsLonger : Option (List ℕ) → ℕ → Type 0

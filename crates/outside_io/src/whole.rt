@@ -2,7 +2,7 @@
 
 ghost use Rattle.std.specs.Prelude.{◌≡◌, ◌+◌, ◌^◌, ◌<◌, ◌≤◌, length, IfOk, IfSome, OnOk, OnErr};
 ghost use Rattle.std.specs.Io.KnownBytes.{Appends};
-ghost use Rattle.outside_io.specs.Bytes.{AppendsPrefix, IsLonger, IsWhole, TakesAtMost};
+ghost use Rattle.outside_io.specs.Bytes.{AppendsPrefix, IsLonger, GivesAll, TakesAtMost};
 ghost use Rattle.outside_io.specs.Faults.{HasCause, Rose};
 
 use crate::{Failed, Sink, Source};
@@ -36,7 +36,7 @@ pub fn read_whole<S: Source>(
     limit: usize,
 ) -> Result<Vec<u8>, ReadFault>
     requires { limit + 1 < 2 ^ 64 }
-    ensures whole { IfOk result (λ bytes. IsWhole (S.left source.old) (S.left source.new) bytes.items) }
+    ensures whole { IfOk result (λ bytes. GivesAll (S.left source.old) (S.left source.new) bytes.items) }
     ensures within { IfOk result (λ bytes. length bytes.items ≤ limit) }
     ensures fits { OnOk result (IfSome (S.left source.old) (λ left. length left ≤ limit)) }
     ensures long { result ≡ Err ReadFault.TooLong → IsLonger (S.left source.old) limit }

@@ -1,6 +1,6 @@
 //! A growing list that contracts see as a list.
 
-ghost use Rattle.std.specs.Prelude.{◌≡◌, [], ◌∷◌, ◌++◌, length, OnOk, OnErr};
+ghost use Rattle.std.specs.Prelude.{◌≡◌, [], ◌∷◌, ◌++◌, OnOk, OnErr};
 
 use std::alloc::{AllocError, Global};
 use std::marker::Model;

@@ -1,6 +1,6 @@
 //! The walk over the tree of a description's text: the first fault counts.
 
-ghost use Rattle.std.specs.Prelude.{◌≡◌, [], option_map};
+ghost use Rattle.std.specs.Prelude.{[], option_map};
 ghost use Rattle.sequence.specs.Answers.{Answers};
 ghost use Rattle.toml.specs.View.{view, items_view, table_view};
 ghost use Rattle.cm_model.specs.Walk.{tree_of, controller_of, controllers_from, controllers_of, description_of, described};
