@@ -1,1 +1,2 @@
 pub mod Micro
+pub mod Arithmetic

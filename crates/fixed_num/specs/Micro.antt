@@ -15,5 +15,5 @@ abbrev pub IsInRange : ℤ → Type 0
 IsInRange n = (smallest ≤ℤ n) × (n ≤ℤ largest)
 
 -- the nearest number in the range
-abbrev pub clamped : ℤ → ℤ
+unfoldable pub clamped : ℤ → ℤ
 clamped n = int_min (int_max n smallest) largest

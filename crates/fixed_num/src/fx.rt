@@ -1,7 +1,8 @@
 //! `Fx`: a number with six decimals, from minus to plus a thousand million.
 
-ghost use Rattle.std.specs.Prelude.{◌≡◌};
-ghost use Rattle.fixed_num.specs.Micro.{clamped};
+ghost use Rattle.std.specs.Prelude.{◌≡◌, pos, ◌*ℤ◌, ◌<ℤ◌, ◌≤ℤ◌};
+ghost use Rattle.fixed_num.specs.Micro.{IsInRange, clamped};
+ghost use Rattle.fixed_num.specs.Arithmetic.{added, subtracted, multiplied, ratio, within, floor_div};
 
 use std::marker::Model;
 
@@ -26,6 +27,7 @@ impl Model for Fx {
 
 impl Fx {
     /// The number of `n` micro-units; past either end of the range it is that end.
+    #[tactic(auto, unfolding(crate::specs::Micro::clamped))]
     pub fn from_micro(n: i64) -> Fx
         ensures { result ≡ clamped n }
     {
@@ -36,30 +38,193 @@ impl Fx {
 
     /// How many micro-units it is.
     pub fn micro(self) -> i64
-        ensures { result ≡ self }
+        ensures same { result ≡ self }
+        ensures range { IsInRange result }
     {
         self.micro
     }
+
+    /// The sum; past either end of the range it is that end.
+    pub fn add(self, other: Fx) -> Fx
+        ensures { result ≡ added self other }
+    {
+        Fx::from_micro(self.micro + other.micro)
+    }
+
+    /// The difference; past either end of the range it is that end.
+    pub fn sub(self, other: Fx) -> Fx
+        ensures { result ≡ subtracted self other }
+    {
+        Fx::from_micro(self.micro - other.micro)
+    }
+
+    /// The product, rounded down to whole micro-units; past either end of the range it is that end.
+    pub fn mul(self, other: Fx) -> Fx
+        ensures { result ≡ multiplied self other }
+    {
+        match self.micro.checked_mul(other.micro) {
+            Some(product) => Fx::from_micro(floor(product, MILLION)),
+            None => Fx::from_wide(wide_ratio(self.micro, other.micro, MILLION)),
+        }
+    }
+
+    /// The number times `num` and divided by `den`, rounded down to whole micro-units; past either end of the range it is that end.
+    pub fn over(self, num: i64, den: i64) -> Fx
+        requires positive { pos 0 <ℤ den }
+        ensures { result ≡ ratio self num den }
+    {
+        match self.micro.checked_mul(num) {
+            Some(product) => Fx::from_micro(floor(product, den)),
+            None => Fx::from_wide(wide_ratio(self.micro, num, den)),
+        }
+    }
+
+    /// The nearest number from `-limit` to `limit`.
+    #[tactic(auto, unfolding(crate::specs::Arithmetic::within))]
+    pub fn clamp(self, limit: Fx) -> Fx
+        requires not_negative { pos 0 ≤ℤ limit }
+        ensures { result ≡ within limit self }
+    {
+        Fx {
+            micro: self.micro.clamp(-limit.micro, limit.micro),
+        }
+    }
+}
+
+impl Fx {
+    #[tactic(auto, unfolding(crate::specs::Micro::clamped))]
+    fn from_wide(n: i128) -> Fx
+        ensures { result ≡ clamped n }
+    {
+        Fx {
+            micro: n.max(-LARGEST as i128).min(LARGEST as i128) as i64,
+        }
+    }
+}
+
+#[tactic(auto, unfolding(crate::specs::Arithmetic::floor_div))]
+fn floor(product: i64, den: i64) -> i64
+    requires positive { pos 0 <ℤ den }
+    ensures { result ≡ floor_div product den }
+{
+    product.div_euclid(den)
+}
+
+// A division of 128 bits takes six times as long as one of 64, so it stands apart for products that do not fit 64.
+#[tactic(auto, unfolding(crate::specs::Arithmetic::floor_div))]
+fn wide_floor(product: i128, den: i128) -> i128
+    requires positive { pos 0 <ℤ den }
+    ensures { result ≡ floor_div product den }
+{
+    product.div_euclid(den)
+}
+
+fn wide_ratio(a: i64, num: i64, den: i64) -> i128
+    requires positive { pos 0 <ℤ den }
+    ensures { result ≡ floor_div (a *ℤ num) den }
+{
+    wide_floor(a as i128 * num as i128, den as i128)
 }
 
 /// The largest number, in micro-units: a thousand million units.
 const LARGEST: i64 = 1_000_000_000_000_000;
 
+/// How many micro-units are a unit.
+const MILLION: i64 = 1_000_000;
+
 #[cfg(test)]
 mod tests {
     use super::*;
+
+    const BOTTOM: i64 = -1_000_000_000_000_000;
+    const TOP: i64 = 1_000_000_000_000_000;
 
     #[test]
     fn ends_of_the_range(rt: HostRuntime) {
         for (given, kept) in [
             (0, 0),
             (-500_000, -500_000),
-            (1_000_000_000_000_000, 1_000_000_000_000_000),
-            (1_000_000_000_000_001, 1_000_000_000_000_000),
-            (-1_000_000_000_000_001, -1_000_000_000_000_000),
-            (i64::MIN, -1_000_000_000_000_000),
+            (TOP, TOP),
+            (TOP + 1, TOP),
+            (BOTTOM - 1, BOTTOM),
+            (i64::MAX, TOP),
+            (i64::MIN, BOTTOM),
         ] {
             assert_eq!(rt; Fx::from_micro(given).micro(), kept, "at {given}");
+        }
+    }
+
+    #[test]
+    fn sums_and_differences(rt: HostRuntime) {
+        for (a, b, sum, difference) in [
+            (-500_000, 250_000, -250_000, -750_000),
+            (TOP, 1, TOP, TOP - 1),
+            (TOP, BOTTOM, 0, TOP),
+            (BOTTOM, 1, BOTTOM + 1, BOTTOM),
+            (BOTTOM, TOP, 0, BOTTOM),
+        ] {
+            let (left, right) = (Fx::from_micro(a), Fx::from_micro(b));
+            assert_eq!(rt; left.add(right).micro(), sum, "{a} and {b}");
+            assert_eq!(rt; left.sub(right).micro(), difference, "{a} less {b}");
+        }
+    }
+
+    #[test]
+    fn products(rt: HostRuntime) {
+        for (a, b, product) in [
+            (1_500_000, 2_000_000, 3_000_000),
+            (-1, 1, -1),
+            (1, 1, 0),
+            (-1, -1, 0),
+            (TOP, 1, 1_000_000_000),
+            (TOP, 999_999, 999_999_000_000_000),
+            (TOP, 1_000_001, TOP),
+            (TOP, TOP, TOP),
+            (TOP, BOTTOM, BOTTOM),
+            (BOTTOM, BOTTOM, TOP),
+            // The first square fits 64 bits, the others do not.
+            (3_037_000_499, 3_037_000_499, 9_223_372_030_926),
+            (3_037_000_500, 3_037_000_500, 9_223_372_037_000),
+            (-3_037_000_500, 3_037_000_500, -9_223_372_037_001),
+        ] {
+            let found = Fx::from_micro(a).mul(Fx::from_micro(b)).micro();
+            assert_eq!(rt; found, product, "{a} by {b}");
+        }
+    }
+
+    #[test]
+    fn ratios(rt: HostRuntime) {
+        for (a, num, den, ratio) in [
+            (7, 1, 2, 3),
+            (-7, 1, 2, -4),
+            (7, -1, 2, -4),
+            (-7, -1, 2, 3),
+            (-6, 1, 2, -3),
+            (0, 5, 3, 0),
+            (1, 1, i64::MAX, 0),
+            (-1, 1, i64::MAX, -1),
+            (TOP, i64::MAX, 1, TOP),
+            (TOP, i64::MIN, 1, BOTTOM),
+            (TOP, i64::MAX, i64::MAX, TOP),
+            (TOP, i64::MAX - 1, i64::MAX, TOP - 1),
+        ] {
+            let found = Fx::from_micro(a).over(num, den).micro();
+            assert_eq!(rt; found, ratio, "{a} times {num} over {den}");
+        }
+    }
+
+    #[test]
+    fn limits(rt: HostRuntime) {
+        for (a, limit, kept) in [
+            (2, 3, 2),
+            (5, 3, 3),
+            (-5, 3, -3),
+            (-3, 3, -3),
+            (7, 0, 0),
+            (BOTTOM, TOP, BOTTOM),
+        ] {
+            let found = Fx::from_micro(a).clamp(Fx::from_micro(limit)).micro();
+            assert_eq!(rt; found, kept, "{a} within {limit}");
         }
     }
 }

@@ -4,6 +4,9 @@
 
 pub use fx::Fx;
 pub use memory::Memory;
+pub use value::{JointMode, Value};
 
 mod fx;
+pub mod laws;
 mod memory;
+mod value;
