@@ -1,2 +1,3 @@
 pub mod Micro
 pub mod Arithmetic
+pub mod Text

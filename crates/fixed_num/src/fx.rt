@@ -137,6 +137,7 @@ mod tests {
     use super::*;
 
     const BOTTOM: i64 = -1_000_000_000_000_000;
+
     const TOP: i64 = 1_000_000_000_000_000;
 
     #[test]
@@ -213,18 +214,20 @@ mod tests {
         }
     }
 
+    #[tactic(auto, unfolding(crate::specs::Micro::clamped))]
+    fn kept(a: i64, limit: i64) -> i64
+        requires not_negative { pos 0 ≤ℤ limit }
+    {
+        Fx::from_micro(a).clamp(Fx::from_micro(limit)).micro()
+    }
+
     #[test]
     fn limits(rt: HostRuntime) {
-        for (a, limit, kept) in [
-            (2, 3, 2),
-            (5, 3, 3),
-            (-5, 3, -3),
-            (-3, 3, -3),
-            (7, 0, 0),
-            (BOTTOM, TOP, BOTTOM),
-        ] {
-            let found = Fx::from_micro(a).clamp(Fx::from_micro(limit)).micro();
-            assert_eq!(rt; found, kept, "{a} within {limit}");
-        }
+        assert_eq!(rt; kept(2, 3), 2);
+        assert_eq!(rt; kept(5, 3), 3);
+        assert_eq!(rt; kept(-5, 3), -3);
+        assert_eq!(rt; kept(-3, 3), -3);
+        assert_eq!(rt; kept(7, 0), 0);
+        assert_eq!(rt; kept(BOTTOM, TOP), BOTTOM);
     }
 }

@@ -4,9 +4,13 @@
 
 pub use fx::Fx;
 pub use memory::Memory;
+pub use read::FxFault;
 pub use value::{JointMode, Value};
 
+mod cut;
 mod fx;
 pub mod laws;
 mod memory;
+mod read;
+mod text;
 mod value;

@@ -1,0 +1,197 @@
+//! The one spelling of a number.
+
+ghost use Rattle.std.specs.Prelude.{◌≡◌, ◌+◌, ◌*◌, ◌^◌, ◌<◌, ◌≤◌, List, [], ◌∷◌, ◌++◌, length, nat_abs, OnOk, OnErr, IfOk, IsOk, Some, vec_len, vec_capacity, string_bytes};
+ghost use Rattle.std.specs.Fmt.{decimal, DisplaysOnOk};
+ghost use Rattle.fixed_num.specs.Text.{spelled, six_digits};
+
+use crate::cut::{DECIMALS, MICRO};
+use crate::fx::Fx;
+use crate::memory::Memory;
+use std::alloc::Global;
+use std::fmt;
+use std::fmt::{Display, Formatter, Write};
+use std::marker::Model;
+
+impl Fx {
+    /// No number's text is longer: a sign, ten digits, the point and six decimals.
+    pub const LONGEST_TEXT: usize = 18;
+
+    /// The number's text: `-` where negative, the whole part, a point and six decimals.
+    #[tactic(auto, using(crate::proofs::SpellingLemmas::spelled_IsUtf8))]
+    pub fn text(self, alloc: Global) -> Result<String, Memory>
+        ensures { IfOk result (λ text. string_bytes text ≡ spelled self) }
+    {
+        let mut bytes = Vec::with_capacity(alloc, Fx::LONGEST_TEXT)?;
+        self.push_text(&mut bytes)?;
+        match String::from_utf8(bytes) {
+            Ok(text) => Ok(text),
+            Err(_) => unreachable!(),
+        }
+    }
+
+    /// Appends the number's text. Without memory the bytes stay as they were, and where room is reserved it can't fail.
+    pub fn push_text(self, text: &mut Vec<u8>) -> Result<(), Memory>
+        ensures ok { OnOk result (text.new.items ≡ text.old.items ++ spelled self) }
+        ensures err { OnErr result (text.new.items ≡ text.old.items) }
+        ensures room { vec_len text.old + length (spelled self) ≤ vec_capacity text.old → IsOk result }
+        ensures capacity { vec_capacity text.old ≤ vec_capacity text.new }
+        ensures longest { length (spelled self) ≤ 18 }
+    {
+        let mut spelling = Spelling::new();
+        spelling.put_number(self);
+        text.extend_from_slice(spelling.bytes())?;
+        Ok(())
+    }
+}
+
+impl Display for Fx {
+    ghost use Rattle.std.specs.Prelude.{Some};
+    ghost use Rattle.fixed_num.specs.Text.{spelled};
+
+    ghost output = { λ number. Some (spelled number) };
+
+    fn fmt<W: Write>(&self, f: &mut Formatter<W>) -> fmt::Result {
+        write_number(*self, f)
+    }
+}
+
+fn write_number<W: Write>(number: Fx, f: &mut Formatter<W>) -> fmt::Result
+    ensures { DisplaysOnOk W.write_str_gives f.old result (Some (spelled number)) f.new }
+{
+    let mut spelling = Spelling::new();
+    spelling.put_number(number);
+    match std::str::from_utf8(spelling.bytes()) {
+        Ok(text) => f.write_str(text),
+        Err(_) => unreachable!(),
+    }
+}
+
+/// A text of 18 bytes at most, written from its end. Contracts see the bytes written.
+#[derive(Drop)]
+struct Spelling {
+    bytes: [u8; Fx::LONGEST_TEXT],
+    start: usize,
+}
+
+impl Model for Spelling {
+    ghost use Rattle.std.specs.Prelude.{List, ℕ, drop, ◌≤◌};
+
+    ghost Value = { List ℕ };
+
+    ghost view = { λ s. drop s.start s.bytes };
+
+    ghost invariant = { λ s. s.start ≤ 18 };
+}
+
+impl Spelling {
+    fn new() -> Spelling
+        ensures { result ≡ [] }
+    {
+        Spelling {
+            bytes: [0; Fx::LONGEST_TEXT],
+            start: Fx::LONGEST_TEXT,
+        }
+    }
+
+    #[tactic(auto, unfolding(crate::specs::Text::spelled))]
+    fn put_number(&mut self, number: Fx)
+        requires { self.old ≡ [] }
+        ensures { self.new ≡ spelled number }
+    {
+        let micro = number.micro();
+        let size = micro.unsigned_abs();
+        self.put_decimals(size % MICRO);
+        self.put(b'.');
+        self.put_whole(size / MICRO);
+        if micro < 0 {
+            self.put(b'-');
+        }
+    }
+
+    fn put(&mut self, byte: u8)
+        requires { length self.old < 18 }
+        ensures bytes { self.new ≡ byte ∷ self.old }
+        ensures longer { length self.new ≡ length self.old + 1 }
+    {
+        self.start -= 1;
+        self.bytes[self.start] = byte;
+    }
+
+    #[tactic(auto, using(crate::proofs::SpellingLemmas::low_put, crate::proofs::SpellingLemmas::six_digits_are))]
+    fn put_decimals(&mut self, decimals: u64)
+        requires below_unit { decimals < 1000000 }
+        requires room { length self.old + 6 ≤ 18 }
+        ensures bytes { self.new ≡ six_digits decimals ++ self.old }
+        ensures longer { length self.new ≡ length self.old + 6 }
+    {
+        let mut left = decimals;
+        'places: for _place in 0..DECIMALS {
+            self.put(b'0' + (left % 10) as u8);
+            left /= 10;
+        }
+    }
+
+    #[tactic(auto, using(crate::proofs::SpellingLemmas::decimal_put, crate::proofs::SpellingLemmas::decimal_shorter, std::proofs::lemmas::Fmt::decimal_digit, std::proofs::lemmas::Fmt::decimal_nonempty, crate::proofs::SpellingLemmas::ten_digits))]
+    fn put_whole(&mut self, whole: u64)
+        requires in_range { whole ≤ 10 ^ 9 }
+        requires room { length self.old + 10 ≤ 18 }
+        ensures bytes { self.new ≡ decimal whole ++ self.old }
+        ensures longer { length self.new ≤ length self.old + 10 }
+    {
+        let mut left = whole;
+        while left >= 10 {
+            self.put(b'0' + (left % 10) as u8);
+            left /= 10;
+        }
+        self.put(b'0' + left as u8);
+    }
+
+    fn bytes(&self) -> &[u8]
+        ensures bytes { result.now ≡ self.now }
+        ensures longest { length result.now ≤ 18 }
+    {
+        &self.bytes[self.start..]
+    }
+}
+
+#[cfg(test)]
+mod tests {
+    use super::*;
+    use std::test::Fail;
+
+    #[test]
+    fn how_numbers_are_spelled(rt: HostRuntime) -> Result<(), Fail> {
+        for (micro, text) in [
+            (0, "0.000000"),
+            (1, "0.000001"),
+            (-1, "-0.000001"),
+            (-500_000, "-0.500000"),
+            (1_000_000, "1.000000"),
+            (-12_034_001, "-12.034001"),
+            (100_000_000, "100.000000"),
+            (999_999_999_999_999, "999999999.999999"),
+            (1_000_000_000_000_000, "1000000000.000000"),
+            (-1_000_000_000_000_000, "-1000000000.000000"),
+        ] {
+            let number = Fx::from_micro(micro);
+            assert_eq!(rt; number.text(rt.alloc())?.as_str(), text);
+            assert_eq!(rt; format!(in rt.alloc(); "{number}")?.as_str(), text);
+            assert_eq!(rt; number.to_string(rt.alloc())?.as_str(), text);
+
+            let mut bytes = Vec::with_capacity(rt.alloc(), Fx::LONGEST_TEXT)?;
+            number.push_text(&mut bytes)?;
+            assert_eq!(rt; bytes.as_slice(), text.as_bytes());
+        }
+        Ok(())
+    }
+
+    #[test]
+    fn a_text_comes_after_what_stands_there(rt: HostRuntime) -> Result<(), Fail> {
+        let mut bytes = Vec::from_slice(rt.alloc(), b"at ")?;
+        Fx::from_micro(-1_500_000).push_text(&mut bytes)?;
+        bytes.extend_from_slice(b" and ")?;
+        Fx::from_micro(7).push_text(&mut bytes)?;
+        assert_eq!(rt; bytes.as_slice(), b"at -1.500000 and 0.000007".as_slice());
+        Ok(())
+    }
+}
