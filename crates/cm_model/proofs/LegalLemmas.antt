@@ -117,6 +117,7 @@ step-ReportsNothing s who ListControllers next r stepped = tt
 step-ReportsNothing s who (Begin n) next r stepped = allowed _ _ _ _ stepped
 step-ReportsNothing s who (End n) next r stepped = allowed _ _ _ _ stepped
 step-ReportsNothing s who Close next r stepped = allowed _ _ _ _ stepped
+step-ReportsNothing s who _ next r stepped = tt
 
 -- a legal history reports nothing
 pub LegalFrom-IsUneventful : (s : State) (history : List Entry) → LegalFrom s history → IsUneventful history

@@ -1,6 +1,21 @@
+pub mod ReadingLemmas
+pub mod FormLemmas
+pub mod DescribedLemmas
 pub mod DocumentLemmas
 pub mod LegalLemmas
-pub mod NameLemmas
+pub mod LineLemmas
 pub mod ScriptLemmas
 pub mod WholeLemmas
+pub mod DistinctLemmas
+pub mod GivenLemmas
+pub mod KindLemmas
+pub mod PlaceLemmas
+pub mod ValidLemmas
+pub mod RouteLemmas
+pub mod ChainLemmas
 mod Rows
+mod DescribedRows
+mod ValidRows
+mod PlaceRows
+mod ScriptRows
+mod ScriptLawRows

@@ -4,7 +4,8 @@ use Rattle.std.specs.Prelude.{codes, Result}
 use Rattle.std.specs.Fmt.{digits}
 use Rattle.std.specs.Str.{is_utf8, chars}
 use Rattle.toml.proofs.OnLiterals.{toml_on_literals}
-use Rattle.cm_model.specs.Walk.{tree_of, description_of, controller_of}
+use Rattle.cm_model.specs.Described.{tree_of}
+use Rattle.cm_model.specs.Walk.{description_of, controller_of}
 use Rattle.cm_model.specs.Checks.{checked}
 use Rattle.cm_model.specs.Lines.{parts_of}
 use Rattle.cm_model.specs.Script.{with_line, script_of}

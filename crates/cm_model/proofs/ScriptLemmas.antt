@@ -3,14 +3,13 @@ use Rattle.std.proofs.Common.{◌≡◌, ℕ, ◌+◌, ◌<◌, ◌≤◌, Bool,
 use Rattle.std.specs.Prelude.{IfOk, option_to_list, nat_lt, if◌then◌else◌, ◌&&◌, not, codes}
 use Rattle.std.specs.List.{AllByRecursion}
 use Rattle.std.proofs.lemmas.Bool.{cond_both}
-use Rattle.cm_model.specs.Names.{is_name, same_name}
-use Rattle.cm_model.specs.Reading.{◌>>=◌}
+use Rattle.iface_names.specs.Names.{is_name, same_name}
 use Rattle.cm_model.specs.Lines.{raw_lines, bare, words, is_skipped}
-use Rattle.cm_model.specs.Script.{is_built, statement_of, session_form, with_session, with_call_in, with_statement, with_line, with_lines, nothing_written, script_of, IsSmall}
+use Rattle.cm_model.specs.Built.{built}
+use Rattle.cm_model.specs.Script.{statement_of, session_built, with_session, with_call_in, with_statement, with_line, with_lines, nothing_written, script_of, IsSmall}
 use Rattle.cm_model.specs.Sessions.{IsConsole, AllConsole}
 use Rattle.cm_model.specs.declared.call.Call.{Call}
 use Rattle.cm_model.specs.declared.call.Call.TheVariants as call
-use Rattle.cm_model.specs.declared.script.Form.TheVariants as form
 use Rattle.cm_model.specs.declared.script.SessionText.{SessionText}
 use Rattle.cm_model.specs.declared.script.Statement.{Statement}
 use Rattle.cm_model.specs.declared.script.Statement.TheVariants as statement
@@ -18,6 +17,7 @@ use Rattle.cm_model.specs.declared.script.Script.{Script}
 use Rattle.cm_model.specs.declared.script.Written.{Written}
 use Rattle.cm_model.specs.declared.faults.ScriptFault.{ScriptFault}
 use Rattle.cm_model.specs.declared.faults.ScriptFault.TheVariants.{BadLine}
+use Rattle.cm_model.proofs.ReadingLemmas.{bind_keeps}
 
 -- The session has as many lines as calls are counted, 10,000 at most, and each is a console call.
 abbrev CountedIn : Option SessionText → ℕ → Type 0
@@ -27,11 +27,6 @@ CountedIn (Some s) calls = (length s.lines ≡ calls) × AllByRecursion IsConsol
 record Kept (w : Written) : Type 0 where
   counted : CountedIn w.session w.calls
   few : w.calls ≤ 10000
-
--- a reading goes on with what was kept
-bind_keeps : {A B E : Type 0} (P : A → Type 0) (Q : B → Type 0) (r : Result A E) (f : A → Result B E) → IfOk r P → ((x : A) → P x → IfOk (f x) Q) → IfOk (r >>= f) Q
-bind_keeps P Q (Ok x) f p q = q x p
-bind_keeps P Q (Err e) f p q = tt
 
 -- a call of this statement is a console call
 abbrev Says : Option Statement → Type 0
@@ -51,8 +46,8 @@ statement_of_Says : (said : List (List ℕ)) → Says (statement_of said)
 statement_of_Says [] = tt
 statement_of_Says (verb ∷ []) = tt
 statement_of_Says (verb ∷ object ∷ []) =
-    chosen_Says (same_name verb (codes "session") && is_name object) ((same_name verb (codes "load") && is_name object) && is_built form.Load)
-    ((same_name verb (codes "list") && same_name object (codes "controllers")) && is_built form.ListControllers) object
+    chosen_Says (same_name verb (codes "session") && is_name object) ((same_name verb (codes "load") && is_name object) && built.load)
+    ((same_name verb (codes "list") && same_name object (codes "controllers")) && built.list_controllers) object
 statement_of_Says (verb ∷ object ∷ more ∷ words) = tt
 
 -- a session that opens has no calls yet
@@ -63,7 +58,7 @@ opened_keeps false line calls name kept = tt
 
 -- a session's line keeps the count
 with_session_keeps : (line : ℕ) (session : Option SessionText) (calls : ℕ) (name : List ℕ) → Kept (record { session = session; calls = calls }) → IfOk (with_session line (record { session = session; calls = calls }) name) Kept
-with_session_keeps line None calls name kept = opened_keeps (is_built (session_form None) && not (same_name name (codes "loop"))) line calls name kept
+with_session_keeps line None calls name kept = opened_keeps (session_built None && not (same_name name (codes "loop"))) line calls name kept
 with_session_keeps line (Some s) calls name kept = tt
 
 -- one console call more
@@ -114,7 +109,7 @@ record Lawful (s : Script) : Type 0 where
   asked : AllConsole s.sessions
 
 -- a script of what is kept
-lawful : (session : Option SessionText) (calls : ℕ) → Kept (record { session = session; calls = calls }) → Lawful (record { sessions = option_to_list session })
+lawful : (session : Option SessionText) (calls : ℕ) → Kept (record { session = session; calls = calls }) → Lawful (record { sessions = option_to_list session; schedule = [] })
 lawful None calls kept = record { small = record { one_session = omega arith; few_calls = omega arith }; asked = tt }
 lawful (Some s) calls kept = record { small = record { one_session = omega arith; few_calls = omega (arith, kept.counted.0, kept.few) }; asked = (kept.counted.1, tt) }
 
@@ -122,7 +117,7 @@ lawful (Some s) calls kept = record { small = record { one_session = omega arith
 script_of_Lawful : (n : ℕ) (text : List ℕ) → IfOk (script_of n text) Lawful
 unfolding script_of
 script_of_Lawful n text =
-    bind_keeps Kept Lawful (with_lines n nothing_written (raw_lines text)) (λ w. Ok (record { sessions = option_to_list w.session }))
+    bind_keeps Kept Lawful (with_lines n nothing_written (raw_lines text)) (λ w. Ok (record { sessions = option_to_list w.session; schedule = [] }))
     (with_lines_keeps n nothing_written (raw_lines text) (record { counted = refl; few = omega arith }))
     (λ w kept. lawful w.session w.calls kept)
 

@@ -1,7 +1,7 @@
 -- What a description that was read must meet besides, in the order in which a fault counts.
 use Rattle.std.specs.Prelude.{ℕ, Bool, ◌&&◌, nat_lt, nat_le, ◌==◌, if◌then◌else◌, List, [], ◌∷◌, ◌++◌, length, map, codes, Option, Some, None, Result, Ok, Err}
 use Rattle.std.specs.List.{list_any}
-use Rattle.cm_model.specs.Names.{same_name}
+use Rattle.iface_names.specs.Names.{same_name}
 use Rattle.cm_model.specs.Reading.{◌>>=◌}
 use Rattle.cm_model.specs.declared.description.Description.{Description}
 use Rattle.cm_model.specs.declared.faults.What.TheVariants.{Controllers}

@@ -1,7 +1,8 @@
 -- A whole document: a description, the separator, a script. Either all of it is accepted, or its first fault is told.
 use Rattle.std.specs.Prelude.{ℕ, ◌+◌, List, Option, Some, None, Result, Ok, Err}
 use Rattle.cm_model.specs.Reading.{◌>>=◌, told_as}
-use Rattle.cm_model.specs.Walk.{tree_of, described}
+use Rattle.cm_model.specs.Described.{tree_of}
+use Rattle.cm_model.specs.Walk.{described}
 use Rattle.cm_model.specs.Checks.{checked}
 use Rattle.cm_model.specs.Lines.{Parts, parts_of}
 use Rattle.cm_model.specs.Script.{script_of}

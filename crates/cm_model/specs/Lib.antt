@@ -1,9 +1,20 @@
 -- In reading order: what a document is, then what the manager makes of it.
-pub mod Names
 pub mod Reading
+pub mod Params
+pub mod Forms
+pub mod Tables
+pub mod Described
+pub mod Links
+pub mod Valid
+pub mod Places
 pub mod Walk
 pub mod Checks
 pub mod Lines
+pub mod Built
+pub mod CallText
+pub mod LineForms
+pub mod ScriptRules
+pub mod ScriptLaws
 pub mod Script
 pub mod Document
 pub mod Words

@@ -1,7 +1,8 @@
 -- The written manager as a machine: one call, one step. A history is legal where each of its entries is such a step.
 use Rattle.std.specs.Prelude.{◌≡◌, ℕ, ◌+◌, ◌==◌, nat_lt, Bool, true, false, not, ◌&&◌, if◌then◌else◌, List, [], ◌∷◌, ◌++◌, position, slice_get, Option, Some, None, IsSomeAnd}
 use Rattle.std.specs.List.{list_any}
-use Rattle.cm_model.specs.Names.{same_name}
+use Rattle.iface_names.specs.Names.{same_name}
+use Rattle.cm_model.specs.Params.{kind_of}
 use Rattle.cm_model.specs.State.{boot, blanks_of, with_one_less, controller_lines}
 use Rattle.cm_model.specs.declared.call.Call.{Call}
 use Rattle.cm_model.specs.declared.call.Call.TheVariants.{Load, ListControllers, Begin, End, Close}
@@ -41,7 +42,7 @@ loaded_from_stock s place kind =
 -- a load of what stands at this place
 abbrev pub load_at : State → ℕ → Option CtlDesc → State × Reply
 load_at s place None = (s, reply.Not why.NotDescribed)
-load_at s place (Some c) = if is_loaded_at place s then (s, reply.Not why.Loaded) else loaded_from_stock s place c.kind
+load_at s place (Some c) = if is_loaded_at place s then (s, reply.Not why.Loaded) else loaded_from_stock s place (kind_of c.params)
 
 -- A load: not described, else loaded already, else no blank of the kind left, else done.
 abbrev pub load_from : State → Option ℕ → State × Reply
@@ -72,13 +73,14 @@ can_close s = not s.aloft && not s.closed
 abbrev pub where_allowed : Bool → State × Reply → Option (State × Reply)
 where_allowed allowed made = if allowed then Some made else None
 
--- The state after a call and the reply, where the call is enabled. Sessions are numbered below their count; the loop has that count as its number.
+-- The state after a call and the reply, where the call is enabled. A call that is not answered yet never is. Sessions are numbered below their count; the loop has that count as its number.
 unfoldable pub step : State → ℕ → Call → Option (State × Reply)
 step s who (Load name) = where_allowed (nat_lt who s.sessions) (load s name)
 step s who ListControllers = where_allowed (nat_lt who s.sessions) (s, reply.Controllers (controller_lines s))
 step s who (Begin n) = where_allowed (who == s.sessions && can_begin s n) (record s { aloft = true }, reply.Decisions [])
 step s who (End n) = where_allowed (who == s.sessions && can_end s n) (record s { aloft = false; ended = s.ended + 1 }, reply.Cycle (record { cycle = n }))
 step s who Close = where_allowed (who == s.sessions && can_close s) (record s { closed = true }, reply.Decisions [])
+step s who _ = None
 
 -- ---- Histories
 

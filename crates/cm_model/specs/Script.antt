@@ -1,12 +1,11 @@
 -- The script: lines, each with a form, and the first bad line.
-use Rattle.std.specs.Prelude.{ℕ, ◌+◌, ◌≤◌, Bool, true, false, not, nat_lt, ◌&&◌, if◌then◌else◌, List, [], ◌∷◌, ◌++◌, length, sum_by, codes, Option, Some, None, Result, Ok, Err, option_to_list}
-use Rattle.cm_model.specs.Names.{is_name, same_name}
+use Rattle.std.specs.Prelude.{ℕ, ◌+◌, ◌≤◌, Bool, not, nat_lt, ◌&&◌, if◌then◌else◌, List, [], ◌∷◌, ◌++◌, length, sum_by, codes, Option, Some, None, Result, Ok, Err, option_to_list}
+use Rattle.iface_names.specs.Names.{is_name, same_name}
 use Rattle.cm_model.specs.Reading.{◌>>=◌}
+use Rattle.cm_model.specs.Built.{built}
 use Rattle.cm_model.specs.Lines.{raw_lines, bare, words, is_skipped}
 use Rattle.cm_model.specs.declared.call.Call.{Call}
 use Rattle.cm_model.specs.declared.call.Call.TheVariants as call
-use Rattle.cm_model.specs.declared.script.Form.{Form}
-use Rattle.cm_model.specs.declared.script.Form.TheVariants as form
 use Rattle.cm_model.specs.declared.script.Statement.{Statement}
 use Rattle.cm_model.specs.declared.script.Statement.TheVariants as statement
 use Rattle.cm_model.specs.declared.script.SessionText.{SessionText}
@@ -17,33 +16,26 @@ use Rattle.cm_model.specs.declared.faults.ScriptFault.TheVariants.{BadLine, NoSe
 
 -- ---- Forms
 
--- which forms of line are accepted today
-abbrev pub is_built : Form → Bool
-is_built form.FirstSession = true
-is_built form.FurtherSession = false
-is_built form.Load = true
-is_built form.ListControllers = true
-
 -- A line says `session NAME`, `load NAME` or `list controllers`; other words have no form.
 abbrev pub statement_of : List (List ℕ) → Option Statement
 statement_of (verb ∷ object ∷ []) =
     if same_name verb (codes "session") && is_name object then Some (statement.Session object)
-    else if (same_name verb (codes "load") && is_name object) && is_built form.Load then Some (statement.Call (call.Load object))
-    else if (same_name verb (codes "list") && same_name object (codes "controllers")) && is_built form.ListControllers then Some (statement.Call call.ListControllers)
+    else if (same_name verb (codes "load") && is_name object) && built.load then Some (statement.Call (call.Load object))
+    else if (same_name verb (codes "list") && same_name object (codes "controllers")) && built.list_controllers then Some (statement.Call call.ListControllers)
     else None
 statement_of _ = None
 
 -- ---- The rules, line by line
 
--- a session line is the first one, or a further one
-abbrev pub session_form : Option SessionText → Form
-session_form None = form.FirstSession
-session_form (Some _) = form.FurtherSession
+-- whether a session line is accepted, as the first one or as a further one
+abbrev pub session_built : Option SessionText → Bool
+session_built None = built.first_session
+session_built (Some _) = built.further_session
 
 -- A session has a new name, which is not `loop`.
 abbrev pub with_session : ℕ → Written → List ℕ → Result Written ScriptFault
 with_session line w name =
-    if is_built (session_form w.session) && not (same_name name (codes "loop"))
+    if session_built w.session && not (same_name name (codes "loop"))
     then Ok (record w { session = Some (record { name = name; lines = [] }) })
     else Err (BadLine line)
 
@@ -80,7 +72,7 @@ nothing_written = record { session = None; calls = 0 }
 
 -- the script that a text is, whose first line has this number in the document
 unfoldable pub script_of : ℕ → List ℕ → Result Script ScriptFault
-script_of first_line text = with_lines first_line nothing_written (raw_lines text) >>= λ w. Ok (record { sessions = option_to_list w.session })
+script_of first_line text = with_lines first_line nothing_written (raw_lines text) >>= λ w. Ok (record { sessions = option_to_list w.session; schedule = [] })
 
 -- An accepted script has one session at most, and at most 10,000 calls.
 pub record IsSmall (s : Script) : Type 0 where

@@ -9,7 +9,7 @@ use Rattle.cm_model.specs.declared.reply.Reply.TheVariants as reply
 use Rattle.cm_model.specs.declared.document.Document.{Document}
 use Rattle.cm_model.specs.declared.script.SessionText.{SessionText}
 
--- a call that a line of a session can make
+-- a call that a session can make, of those that are answered today
 abbrev pub IsConsole : Call → Type 0
 IsConsole (Load _) = Unit {0}
 IsConsole ListControllers = Unit {0}

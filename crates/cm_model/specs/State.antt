@@ -1,11 +1,12 @@
 -- What a state says: its opening, and what is read off it.
 use Rattle.std.specs.Prelude.{ℕ, ◌-◌, false, List, [], slice_get, filter_map, Option, option_map}
+use Rattle.cm_model.specs.Params.{kind_of}
 use Rattle.cm_model.specs.declared.description.CtlKind.{CtlKind}
 use Rattle.cm_model.specs.declared.description.CtlKind.TheVariants.{Forward, Passthrough, Pid, Trajectory, Broadcaster, Mock}
 use Rattle.cm_model.specs.declared.description.CtlDesc.{CtlDesc}
 use Rattle.cm_model.specs.declared.description.Description.{Description}
 use Rattle.cm_model.specs.declared.reply.CtlLine.{CtlLine}
-use Rattle.cm_model.specs.declared.reply.Life.TheVariants.{Unconfigured}
+use Rattle.cm_model.specs.declared.life.Life.TheVariants.{Unconfigured}
 use Rattle.cm_model.specs.declared.state.Blanks.{Blanks}
 use Rattle.cm_model.specs.declared.state.Loaded.{Loaded}
 use Rattle.cm_model.specs.declared.state.State.{State}
@@ -43,7 +44,7 @@ with_one_less b Mock = record b { mock = b.mock - 1 }
 
 -- the line of a loaded controller: without parameters it is unconfigured
 abbrev pub line_of : List CtlDesc → Loaded → Option CtlLine
-line_of described l = option_map (λ c. record { serial = l.serial; name = c.name; kind = c.kind; life = Unconfigured }) (slice_get described l.place)
+line_of described l = option_map (λ c. record { serial = l.serial; name = c.name; kind = kind_of c.params; life = Unconfigured }) (slice_get described l.place)
 
 -- the list of controllers, by serial
 abbrev pub controller_lines : State → List CtlLine

@@ -1,16 +1,13 @@
 -- The trace: one line for each entry of a history.
 use Rattle.std.specs.Prelude.{ℕ, List, [], ◌∷◌, ◌++◌, flat_map, codes, decimal, slice_get, option_map, unwrap_or}
+use Rattle.cm_model.specs.CallText.{life_word, call_text}
 use Rattle.cm_model.specs.Scheduled.{scheduled}
-use Rattle.cm_model.specs.declared.call.Call.{Call}
-use Rattle.cm_model.specs.declared.call.Call.TheVariants as call
 use Rattle.cm_model.specs.declared.call.Entry.{Entry}
 use Rattle.cm_model.specs.declared.description.CtlKind.{CtlKind}
 use Rattle.cm_model.specs.declared.description.CtlKind.TheVariants as kind
 use Rattle.cm_model.specs.declared.document.Document.{Document}
 use Rattle.cm_model.specs.declared.reply.CtlLine.{CtlLine}
 use Rattle.cm_model.specs.declared.reply.Decision.{Decision}
-use Rattle.cm_model.specs.declared.reply.Life.{Life}
-use Rattle.cm_model.specs.declared.reply.Life.TheVariants as life
 use Rattle.cm_model.specs.declared.reply.Outcome.{Outcome}
 use Rattle.cm_model.specs.declared.reply.Outcome.TheVariants as outcome
 use Rattle.cm_model.specs.declared.reply.Reply.{Reply}
@@ -30,13 +27,6 @@ kind_word kind.Pid = codes "pid"
 kind_word kind.Trajectory = codes "trajectory"
 kind_word kind.Broadcaster = codes "broadcaster"
 kind_word kind.Mock = codes "mock"
-
--- a lifecycle state
-abbrev pub life_word : Life → List ℕ
-life_word life.Unconfigured = codes "unconfigured"
-life_word life.Inactive = codes "inactive"
-life_word life.Active = codes "active"
-life_word life.Finalized = codes "finalized"
 
 -- why a call did nothing
 abbrev pub why_word : Why → List ℕ
@@ -65,14 +55,6 @@ abbrev pub decision_text : Decision → List ℕ
 decision_text d = decimal d.ticket ++ codes " " ++ outcome_text d.outcome
 
 -- ---- Lines
-
--- the call as a script's line prints it, and the loop's calls with the number of the cycle
-abbrev pub call_text : Call → List ℕ
-call_text (call.Load name) = codes "load " ++ name
-call_text call.ListControllers = codes "list controllers"
-call_text (call.Begin n) = codes "begin " ++ decimal n
-call_text (call.End n) = codes "end " ++ decimal n
-call_text call.Close = codes "close"
 
 -- the reply; the record of a cycle has no items yet
 abbrev pub reply_text : Reply → List ℕ

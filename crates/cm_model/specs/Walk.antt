@@ -1,26 +1,22 @@
--- The description in its text: the tree that TOML's grammar gives, and the walk over it, whose first fault counts.
-use Rattle.std.specs.Prelude.{ℕ, ◌+◌, ◌^◌, Bool, ◌||◌, nat_lt, if◌then◌else◌, List, [], ◌∷◌, ◌++◌, pos, codes, decimal, Option, Some, None, Result, Ok, Err}
-use Rattle.std.specs.Str.{is_utf8}
-use Rattle.toml.specs.Data.{Data, string, integer, float, array, table, Items, no_items, item, Members, no_members, member, get_member, same_key}
-use Rattle.toml.specs.Parse.{parse_document}
-use Rattle.cm_model.specs.Names.{is_name}
+-- The shorter descriptions that the program accepts today: mocks with a name and no component. The walk is that of the whole
+-- description, over fewer keys.
+use Rattle.std.specs.Prelude.{ℕ, ◌+◌, Bool, false, ◌||◌, if◌then◌else◌, List, [], ◌∷◌, ◌++◌, codes, decimal, Option, Some, None, Result, Ok, Err}
+use Rattle.toml.specs.Data.{Data, string, array, table, Items, no_items, item, Members, no_members, member, get_member, same_key}
 use Rattle.cm_model.specs.Reading.{◌>>=◌}
+use Rattle.cm_model.specs.Forms.{whole_in, name_in, placed}
+use Rattle.cm_model.specs.Described.{a_controller, a_description}
 use Rattle.cm_model.specs.declared.description.CtlKind.{CtlKind}
 use Rattle.cm_model.specs.declared.description.CtlKind.TheVariants.{Mock}
 use Rattle.cm_model.specs.declared.description.CtlDesc.{CtlDesc}
 use Rattle.cm_model.specs.declared.description.Description.{Description}
+use Rattle.cm_model.specs.declared.description.Params.{Params}
+use Rattle.cm_model.specs.declared.description.Params.TheVariants as params
 use Rattle.cm_model.specs.declared.description.TableKind.{TableKind}
 use Rattle.cm_model.specs.declared.description.TableKind.TheVariants.{Top, Controller}
 use Rattle.cm_model.specs.declared.faults.Wrong.{Wrong}
 use Rattle.cm_model.specs.declared.faults.Wrong.TheVariants as wrong
 use Rattle.cm_model.specs.declared.faults.DescFault.{DescFault}
-use Rattle.cm_model.specs.declared.faults.DescFault.TheVariants.{NotToml, BadKey, BadValue, FloatGiven}
-
--- ---- The tree
-
--- the table that the grammar of TOML 1.1 gives to the bytes; bytes that are not UTF-8 have none
-unfoldable pub tree_of : List ℕ → Option Members
-tree_of bytes = if is_utf8 bytes then parse_document bytes else None
+use Rattle.cm_model.specs.declared.faults.DescFault.TheVariants.{NotToml, BadKey, BadValue}
 
 -- ---- Keys
 
@@ -48,27 +44,10 @@ path_in path key = path ++ codes "." ++ key
 
 -- ---- Values
 
--- A whole is an integer from 0 to 4,294,967,295.
-abbrev pub whole_of : Data → Result ℕ Wrong
-whole_of (integer (pos n)) = if nat_lt n (2 ^ 32) then Ok n else Err wrong.Value
-whole_of (float x) = Err wrong.Float
-whole_of _ = Err wrong.Value
-
--- a name is a text by the naming rule
-abbrev pub name_in : Data → Result (List ℕ) Wrong
-name_in (string text) = if is_name text then Ok text else Err wrong.Value
-name_in _ = Err wrong.Value
-
 -- The type of a controller is a listed word. The one listed word today is `mock`.
 abbrev pub kind_in : Data → Result CtlKind Wrong
 kind_in (string text) = if same_key text (codes "mock") then Ok Mock else Err wrong.Value
 kind_in _ = Err wrong.Value
-
--- what is wrong, at its place
-abbrev pub placed : {A : Type 0} → List ℕ → Result A Wrong → Result A DescFault
-placed path (Ok x) = Ok x
-placed path (Err wrong.Float) = Err (FloatGiven path)
-placed path (Err wrong.Value) = Err (BadValue path)
 
 -- a required key: missing it is BadKey, else its value is read
 abbrev pub required : {A : Type 0} → (Data → Result A Wrong) → List ℕ → Option Data → Result A DescFault
@@ -82,13 +61,17 @@ only_listed (Some key) path = Err (BadKey (path key))
 
 -- ---- The walk
 
+-- a mock without keys of its own
+abbrev pub a_mock : Params
+a_mock = params.Mock 0 false [] []
+
 -- a controller's table: its type first, then unlisted keys, then its name
 unfoldable pub controller_of : List ℕ → Members → Result CtlDesc DescFault
 controller_of path ms =
-    required kind_in (path_in path (codes "type")) (get_member (codes "type") ms) >>= λ kind.
+    required kind_in (path_in path (codes "type")) (get_member (codes "type") ms) >>= λ _.
     only_listed (unlisted_key Controller ms) (path_in path) >>= λ _.
     required name_in (path_in path (codes "name")) (get_member (codes "name") ms) >>= λ name.
-    Ok (record { name = name; kind = kind })
+    Ok (a_controller name 0 [] [] a_mock)
 
 -- the controllers from the k-th on, after those found; an item that is no table is BadValue in its turn
 abbrev pub controllers_from : ℕ → Items → List CtlDesc → Result (List CtlDesc) DescFault
@@ -106,11 +89,11 @@ controllers_of (Some _) = Err (BadValue (codes "controller"))
 unfoldable pub description_of : Members → Result Description DescFault
 description_of ms =
     only_listed (unlisted_key Top ms) path_of_top >>= λ _.
-    required whole_of (codes "version") (get_member (codes "version") ms) >>= λ version.
-    required whole_of (codes "update_rate") (get_member (codes "update_rate") ms) >>= λ update_rate.
-    required whole_of (codes "cycles") (get_member (codes "cycles") ms) >>= λ cycles.
+    required whole_in (codes "version") (get_member (codes "version") ms) >>= λ version.
+    required whole_in (codes "update_rate") (get_member (codes "update_rate") ms) >>= λ update_rate.
+    required whole_in (codes "cycles") (get_member (codes "cycles") ms) >>= λ cycles.
     controllers_of (get_member (codes "controller") ms) >>= λ controllers.
-    Ok (record { version = version; update_rate = update_rate; cycles = cycles; controllers = controllers })
+    Ok (a_description version update_rate cycles [] controllers)
 
 -- the description that a tree is; no tree is no TOML
 abbrev pub described : Option Members → Result Description DescFault

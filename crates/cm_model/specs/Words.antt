@@ -1,6 +1,6 @@
 -- The words after the program's name.
 use Rattle.std.specs.Prelude.{ℕ, Bool, false, List, [], ◌∷◌, codes}
-use Rattle.cm_model.specs.Names.{same_name}
+use Rattle.iface_names.specs.Names.{same_name}
 
 -- The one accepted list of words is `run`.
 abbrev pub is_asked : List (List ℕ) → Bool

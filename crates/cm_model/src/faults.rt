@@ -1,13 +1,14 @@
 //! Why a document is refused: the first fault, with its place.
 
 use crate::text::Text;
+use iface_names::{IfaceName, Name};
 use std::alloc::AllocError;
 use thiserror::Error;
 
 /// What is wrong with a value, before its place is known.
 #[derive(Clone, Copy, Debug, PartialEq, Eq)]
 pub enum Wrong {
-    /// A float, where a whole is wanted.
+    /// A float, where a whole or a quantity is wanted.
     Float,
     /// Another type than the wanted one, or a value that is not of the wanted form.
     Value,
@@ -25,7 +26,7 @@ pub enum DescFault {
     /// A value of the wrong type or form, at this path.
     #[error("bad_value {0}")]
     BadValue(Text),
-    /// A float, where a whole is wanted, at this path.
+    /// A float, where a whole or a quantity is wanted, at this path.
     #[error("float_given {0}")]
     FloatGiven(Text),
     /// Memory ran out.
@@ -47,9 +48,30 @@ impl From<AllocError> for DescFault {
 /// What there is too much of.
 #[derive(Clone, Copy, Debug, PartialEq, Eq, Error)]
 pub enum What {
+    /// More than 16 components.
+    #[error("components")]
+    Components,
+    /// More than 32 joints.
+    #[error("joints")]
+    Joints,
+    /// More than 96 state interfaces.
+    #[error("states")]
+    States,
+    /// More than 96 command interfaces of components.
+    #[error("commands")]
+    Commands,
     /// More than 64 controllers.
     #[error("controllers")]
     Controllers,
+    /// More than 96 references.
+    #[error("references")]
+    References,
+    /// More than 192 claims in all controllers together.
+    #[error("claims")]
+    Claims,
+    /// More than 256 reads in all controllers together.
+    #[error("reads")]
+    Reads,
 }
 
 /// The first fault of a description that was read.
@@ -61,9 +83,20 @@ pub enum CheckFault {
     /// The first name that stands earlier too.
     #[error("name_twice {0}")]
     NameTwice(Text),
-    /// A number outside its range, at this path.
+    /// A number, or a number of items, outside its range, at this path.
     #[error("bad_range {0}")]
     BadRange(Text),
+    /// A claim that is no command interface and no reference, or a read that is no state interface.
+    #[error("no_interface {controller} {interface}")]
+    NoInterface {
+        /// The controller that claims or reads it.
+        controller: Name,
+        /// What it claims or reads.
+        interface: IfaceName,
+    },
+    /// The first controller that precedes itself at some distance.
+    #[error("chain_loop {0}")]
+    ChainLoop(Name),
     /// Memory ran out.
     #[error("out of memory")]
     Memory,

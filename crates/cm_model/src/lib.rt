@@ -2,25 +2,30 @@
 //! Nothing here runs a manager. Read `specs/` first, in the order of `specs/Lib.antt`.
 #![tactic(auto)]
 
-pub use call::{Call, Entry};
-pub use description::{CtlDesc, CtlKind, Description, TableKind};
+pub use call::{Call, Entry, Mail, Point2, SwitchRequest};
+pub use checked::Checked;
+pub use description::{
+    CompDesc, CompKind, CtlDesc, CtlKind, Description, JointDesc, Params, TableKind,
+};
 pub use document::Document;
 pub use faults::{CheckFault, DescFault, DescProblem, DocumentFault, ScriptFault, What, Wrong};
-pub use fixed_num::Memory;
-pub use name::{Name, NameFault};
-pub use reply::{CtlLine, CycleRecord, Decision, Life, Outcome, Reply, Why};
-pub use script::{Form, Script, SessionText, Statement, Written, built};
+pub use fixed_num::{Fx, Memory};
+pub use iface_names::{IfaceName, Kind, Name, NameFault};
+pub use life::Life;
+pub use reply::{CtlLine, CycleRecord, Decision, Outcome, Reply, Why};
+pub use script::{Forms, Script, ScriptLine, SessionText, Statement, Turn, Verb, Written, built};
 pub use sequence::Seq;
 pub use state::{Blanks, Loaded, State};
 pub use text::Text;
 
 mod call;
+mod checked;
 mod description;
 mod display;
 mod document;
 mod faults;
 pub mod laws;
-mod name;
+mod life;
 mod reply;
 mod script;
 mod state;

@@ -1,21 +1,9 @@
 //! What the manager answers.
 
 use crate::description::CtlKind;
-use crate::name::Name;
+use crate::life::Life;
+use iface_names::Name;
 use sequence::Seq;
-
-/// The lifecycle state of a controller or a component.
-#[derive(Clone, Copy, Debug, PartialEq, Eq)]
-pub enum Life {
-    /// Loaded, without parameters.
-    Unconfigured,
-    /// Configured, not running.
-    Inactive,
-    /// Running.
-    Active,
-    /// Gone for good.
-    Finalized,
-}
 
 /// Why a call did nothing.
 #[derive(Clone, Copy, Debug, PartialEq, Eq)]
