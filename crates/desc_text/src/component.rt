@@ -1,0 +1,53 @@
+//! The table of a component.
+
+ghost use Rattle.cm_model.specs.Described.{component_table};
+ghost use Rattle.cm_model.specs.Tables.{walk};
+
+use crate::forms::{ListOf, One, TableForm, TablesOf};
+use crate::joint::Joint;
+use crate::keys::Keys;
+use crate::values::{Cycle, Named};
+use crate::words::{ComponentKinds, StatesAtStart, StatesOnError, WordOf};
+use cm_model::{CompDesc, DescFault, Life, Seq};
+
+/// The keys that a component may have.
+const KEYS: [&str; 7] = [
+    "name",
+    "kind",
+    "initial",
+    "on_error",
+    "fail_read",
+    "fail_write",
+    "joint",
+];
+
+/// The table of a component.
+#[derive(Drop)]
+pub struct Component;
+
+impl TableForm for Component {
+    type Read = CompDesc;
+
+    ghost table_form = { λ _. walk component_table };
+
+    #[tactic(auto, unfolding(cm_model::specs::Described::component_table))]
+    fn read(&self, keys: &Keys<'_>) -> Result<CompDesc, DescFault> {
+        keys.none_but(&KEYS)?;
+        let name = keys.required("name", &One(Named))?;
+        let kind = keys.required("kind", &One(WordOf(ComponentKinds)))?;
+        let initial = keys.defaulted("initial", &One(WordOf(StatesAtStart)), Life::Active)?;
+        let on_error = keys.defaulted("on_error", &One(WordOf(StatesOnError)), Life::Unconfigured)?;
+        let fail_read = keys.defaulted("fail_read", &ListOf(Cycle), Seq::new(keys.alloc))?;
+        let fail_write = keys.defaulted("fail_write", &ListOf(Cycle), Seq::new(keys.alloc))?;
+        let joints = keys.required("joint", &TablesOf(Joint))?;
+        Ok(CompDesc {
+            name,
+            kind,
+            initial,
+            on_error,
+            fail_read,
+            fail_write,
+            joints,
+        })
+    }
+}

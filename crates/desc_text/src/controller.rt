@@ -1,0 +1,214 @@
+//! The table of a controller: its type says which keys it may have.
+
+ghost use Rattle.std.specs.Prelude.{◌≡◌};
+ghost use Rattle.sequence.specs.Answers.{Answers};
+ghost use Rattle.toml.specs.View.{table_view};
+ghost use Rattle.cm_model.specs.Described.{controller_form, claiming_table, pid_table, trajectory_table, broadcaster_table, mock_table, states_of, count};
+ghost use Rattle.cm_model.specs.Tables.{walk};
+ghost use Rattle.cm_model.specs.declared.description.Params.TheVariants as params;
+
+use crate::forms::{ListOf, One, TableForm};
+use crate::keys::Keys;
+use crate::states::AllOrList;
+use crate::values::{
+    Boolean, Cycle, Interface, Named, Quantity, State, Whole, most_units, no_units,
+};
+use crate::words::{ControllerTypes, WordOf};
+use cm_model::{CompDesc, CtlDesc, CtlKind, DescFault, IfaceName, Params, Seq};
+
+/// The keys that a forward or a passthrough may have.
+const CLAIMING: [&str; 4] = ["name", "type", "update_rate", "claims"];
+
+/// The keys that a pid may have.
+const PID: [&str; 10] = [
+    "name",
+    "type",
+    "update_rate",
+    "claims",
+    "reads",
+    "kp",
+    "ki",
+    "kd",
+    "imax",
+    "omax",
+];
+
+/// The keys that a trajectory may have.
+const TRAJECTORY: [&str; 5] = ["name", "type", "update_rate", "claims", "reads"];
+
+/// The keys that a broadcaster may have.
+const BROADCASTER: [&str; 4] = ["name", "type", "update_rate", "reads"];
+
+/// The keys that a mock may have.
+const MOCK: [&str; 8] = [
+    "name",
+    "type",
+    "update_rate",
+    "claims",
+    "reads",
+    "refuse_config",
+    "not_ready",
+    "fail_update",
+];
+
+/// The table of a controller.
+#[derive(Drop)]
+pub struct Controller<'a> {
+    /// The components that are described, whose states are `all` that can be read.
+    pub components: &'a [CompDesc],
+}
+
+impl TableForm for Controller<'_> {
+    type Read = CtlDesc;
+
+    ghost table_form = { λ s. controller_form (states_of s.components.now) };
+
+    #[tactic(auto, unfolding(cm_model::specs::Described::controller_table))]
+    fn read(&self, keys: &Keys<'_>) -> Result<CtlDesc, DescFault> {
+        match keys.required("type", &One(WordOf(ControllerTypes)))? {
+            CtlKind::Forward => forward(keys),
+            CtlKind::Passthrough => passthrough(keys),
+            CtlKind::Pid => pid(keys),
+            CtlKind::Trajectory => trajectory(keys),
+            CtlKind::Broadcaster => broadcaster(keys, self.components),
+            CtlKind::Mock => mock(keys),
+        }
+    }
+}
+
+fn forward(keys: &Keys<'_>) -> Result<CtlDesc, DescFault>
+    ensures { Answers DescFault.Memory ((walk (claiming_table params.Forward)).read keys.now.prefix.now (table_view keys.now.table.now)) result }
+{
+    keys.none_but(&CLAIMING)?;
+    let name = keys.required("name", &One(Named))?;
+    keys.required("type", &One(WordOf(ControllerTypes)))?;
+    let rate = keys.defaulted("update_rate", &One(Whole), 0)?;
+    let claims = keys.required("claims", &ListOf(Interface))?;
+    Ok(CtlDesc {
+        name,
+        rate,
+        params: Params::Forward {
+            outs: count(&claims),
+        },
+        claims,
+        reads: Seq::new(keys.alloc),
+    })
+}
+
+fn passthrough(keys: &Keys<'_>) -> Result<CtlDesc, DescFault>
+    ensures { Answers DescFault.Memory ((walk (claiming_table params.Passthrough)).read keys.now.prefix.now (table_view keys.now.table.now)) result }
+{
+    keys.none_but(&CLAIMING)?;
+    let name = keys.required("name", &One(Named))?;
+    keys.required("type", &One(WordOf(ControllerTypes)))?;
+    let rate = keys.defaulted("update_rate", &One(Whole), 0)?;
+    let claims = keys.required("claims", &ListOf(Interface))?;
+    Ok(CtlDesc {
+        name,
+        rate,
+        params: Params::Passthrough {
+            outs: count(&claims),
+        },
+        claims,
+        reads: Seq::new(keys.alloc),
+    })
+}
+
+fn pid(keys: &Keys<'_>) -> Result<CtlDesc, DescFault>
+    ensures { Answers DescFault.Memory ((walk pid_table).read keys.now.prefix.now (table_view keys.now.table.now)) result }
+{
+    keys.none_but(&PID)?;
+    let name = keys.required("name", &One(Named))?;
+    keys.required("type", &One(WordOf(ControllerTypes)))?;
+    let rate = keys.defaulted("update_rate", &One(Whole), 0)?;
+    let claims = keys.required("claims", &ListOf(Interface))?;
+    let reads = keys.required("reads", &ListOf(State))?;
+    let kp = keys.defaulted("kp", &One(Quantity), no_units())?;
+    let ki = keys.defaulted("ki", &One(Quantity), no_units())?;
+    let kd = keys.defaulted("kd", &One(Quantity), no_units())?;
+    let imax = keys.defaulted("imax", &One(Quantity), no_units())?;
+    let omax = keys.defaulted("omax", &One(Quantity), most_units())?;
+    Ok(CtlDesc {
+        name,
+        rate,
+        claims,
+        reads,
+        params: Params::Pid {
+            kp,
+            ki,
+            kd,
+            imax,
+            omax,
+        },
+    })
+}
+
+fn trajectory(keys: &Keys<'_>) -> Result<CtlDesc, DescFault>
+    ensures { Answers DescFault.Memory ((walk trajectory_table).read keys.now.prefix.now (table_view keys.now.table.now)) result }
+{
+    keys.none_but(&TRAJECTORY)?;
+    let name = keys.required("name", &One(Named))?;
+    keys.required("type", &One(WordOf(ControllerTypes)))?;
+    let rate = keys.defaulted("update_rate", &One(Whole), 0)?;
+    let claims = keys.required("claims", &ListOf(Interface))?;
+    let reads = keys.required("reads", &ListOf(State))?;
+    Ok(CtlDesc {
+        name,
+        rate,
+        params: Params::Trajectory {
+            outs: count(&claims),
+        },
+        claims,
+        reads,
+    })
+}
+
+fn broadcaster(keys: &Keys<'_>, components: &[CompDesc]) -> Result<CtlDesc, DescFault>
+    ensures { Answers DescFault.Memory ((walk (broadcaster_table (states_of components.now))).read keys.now.prefix.now (table_view keys.now.table.now)) result }
+{
+    keys.none_but(&BROADCASTER)?;
+    let name = keys.required("name", &One(Named))?;
+    keys.required("type", &One(WordOf(ControllerTypes)))?;
+    let rate = keys.defaulted("update_rate", &One(Whole), 0)?;
+    let reads = keys.required("reads", &AllOrList { components })?;
+    Ok(CtlDesc {
+        name,
+        rate,
+        claims: Seq::new(keys.alloc),
+        params: Params::Broadcaster { ins: count(&reads) },
+        reads,
+    })
+}
+
+fn mock(keys: &Keys<'_>) -> Result<CtlDesc, DescFault>
+    ensures { Answers DescFault.Memory ((walk mock_table).read keys.now.prefix.now (table_view keys.now.table.now)) result }
+{
+    keys.none_but(&MOCK)?;
+    let name = keys.required("name", &One(Named))?;
+    keys.required("type", &One(WordOf(ControllerTypes)))?;
+    let rate = keys.defaulted("update_rate", &One(Whole), 0)?;
+    let claims = keys.defaulted("claims", &ListOf(Interface), Seq::new(keys.alloc))?;
+    let reads = keys.defaulted("reads", &ListOf(State), Seq::new(keys.alloc))?;
+    let refuse_config = keys.defaulted("refuse_config", &One(Boolean), false)?;
+    let not_ready = keys.defaulted("not_ready", &ListOf(Cycle), Seq::new(keys.alloc))?;
+    let fail_update = keys.defaulted("fail_update", &ListOf(Cycle), Seq::new(keys.alloc))?;
+    Ok(CtlDesc {
+        name,
+        rate,
+        params: Params::Mock {
+            outs: count(&claims),
+            refuse_config,
+            not_ready,
+            fail_update,
+        },
+        claims,
+        reads,
+    })
+}
+
+/// How many, or the most that 32 bits hold.
+fn count(interfaces: &Seq<IfaceName>) -> u32
+    ensures { result ≡ count interfaces.now }
+{
+    u32::try_from(interfaces.as_slice().len()).unwrap_or(u32::MAX)
+}

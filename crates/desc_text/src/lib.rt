@@ -1,0 +1,19 @@
+//! A description's text, read: the description that it is, or its first fault with its place.
+//! Each kind of table is one file, with the keys that it may have and how each is read.
+#![tactic(auto)]
+
+pub use read::read_description;
+
+mod component;
+mod controller;
+mod faults;
+mod forms;
+mod joint;
+mod keys;
+mod paths;
+mod read;
+mod states;
+#[cfg(test)]
+mod tests;
+mod values;
+mod words;
