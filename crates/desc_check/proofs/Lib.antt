@@ -1,0 +1,4 @@
+pub mod CountLemmas
+pub mod InterfaceLemmas
+pub mod NameLemmas
+pub mod VerdictLemmas

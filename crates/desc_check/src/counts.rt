@@ -1,0 +1,126 @@
+//! How many there are of each thing, against the limits.
+
+ghost use Rattle.std.specs.Prelude.{◌≡◌, ◌<◌, ◌^◌, length, flat_map, sum_by, OnOk};
+ghost use Rattle.cm_model.specs.Described.{states_of, states_of_joint};
+ghost use Rattle.cm_model.specs.Links.{joints_of, commands_of, commands_of_joint, references_of};
+ghost use Rattle.cm_model.specs.Valid.{limited, few_enough};
+ghost use Rattle.desc_check.specs.Counts.{counted};
+
+use crate::references::exported_for;
+use cm_model::{CheckFault, CompDesc, CtlDesc, Description, JointDesc, What};
+
+/// None of the counts is above its limit: else TooMany of the first that is.
+#[tactic(auto, using(crate::proofs::CountLemmas::limited_counted))]
+pub fn few_enough(description: &Description) -> Result<(), CheckFault>
+    ensures few { OnOk result (length description.now.controllers < 2 ^ 32) }
+    ensures exact { result ≡ few_enough description.now }
+{
+    let components = description.components.as_slice();
+    let controllers = description.controllers.as_slice();
+    limited(What::Components, components.len(), 16)?;
+    limited(What::Joints, joints(components), 32)?;
+    limited(What::States, states(components), 96)?;
+    limited(What::Commands, commands(components), 96)?;
+    limited(What::Controllers, controllers.len(), 64)?;
+    limited(What::References, references(controllers), 96)?;
+    limited(What::Claims, claims(controllers), 192)?;
+    limited(What::Reads, reads(controllers), 256)
+}
+
+/// There are no more of these than the limit.
+fn limited(what: What, number: usize, limit: usize) -> Result<(), CheckFault>
+    ensures { result ≡ limited what number limit }
+{
+    if number > limit {
+        return Err(CheckFault::TooMany(what));
+    }
+    Ok(())
+}
+
+/// How many joints there are.
+fn joints(components: &[CompDesc]) -> usize
+    ensures { result ≡ counted (length (joints_of components.now)) }
+{
+    let mut count = 0usize;
+    for component in components {
+        count = count.saturating_add(component.joints.as_slice().len());
+    }
+    count
+}
+
+/// How many state interfaces there are.
+fn states(components: &[CompDesc]) -> usize
+    ensures { result ≡ counted (length (states_of components.now)) }
+{
+    let mut count = 0usize;
+    for component in components {
+        count = count.saturating_add(states_in(component.joints.as_slice()));
+    }
+    count
+}
+
+/// How many state interfaces these joints have.
+fn states_in(joints: &[JointDesc]) -> usize
+    ensures { result ≡ counted (length (flat_map states_of_joint joints.now)) }
+{
+    let mut count = 0usize;
+    for joint in joints {
+        count = count.saturating_add(joint.states.as_slice().len());
+    }
+    count
+}
+
+/// How many command interfaces of components there are.
+fn commands(components: &[CompDesc]) -> usize
+    ensures { result ≡ counted (length (commands_of components.now)) }
+{
+    let mut count = 0usize;
+    for component in components {
+        count = count.saturating_add(commands_in(component.joints.as_slice()));
+    }
+    count
+}
+
+/// How many command interfaces these joints have.
+fn commands_in(joints: &[JointDesc]) -> usize
+    ensures { result ≡ counted (length (flat_map commands_of_joint joints.now)) }
+{
+    let mut count = 0usize;
+    for joint in joints {
+        count = count.saturating_add(joint.commands.as_slice().len());
+    }
+    count
+}
+
+/// How many references there are.
+fn references(controllers: &[CtlDesc]) -> usize
+    ensures { result ≡ counted (length (references_of controllers.now)) }
+{
+    let mut count = 0usize;
+    for controller in controllers {
+        count = count.saturating_add(exported_for(controller).len());
+    }
+    count
+}
+
+/// How many claims all controllers have together.
+fn claims(controllers: &[CtlDesc]) -> usize
+    ensures { result ≡ counted (sum_by (λ c. length c.claims) controllers.now) }
+{
+    let mut count = 0usize;
+    for controller in controllers {
+        count = count.saturating_add(controller.claims.as_slice().len());
+    }
+    count
+}
+
+/// How many reads all controllers have together.
+fn reads(controllers: &[CtlDesc]) -> usize
+    ensures { result ≡ counted (sum_by (λ c. length c.reads) controllers.now) }
+{
+    let mut count = 0usize;
+    for controller in controllers {
+        count = count.saturating_add(controller.reads.as_slice().len());
+    }
+    count
+}

@@ -1,0 +1,15 @@
+//! The checks of a description that was read: it is valid, or its first fault is told.
+//! Each check is one module, in the order in which a fault counts: counts, names, ranges, interfaces, loops.
+#![tactic(auto)]
+
+pub use verdict::check;
+
+mod counts;
+mod interfaces;
+mod loops;
+mod names;
+mod ranges;
+mod references;
+#[cfg(test)]
+mod tests;
+mod verdict;

@@ -1,0 +1,187 @@
+//! Numbers and numbers of items within their ranges, in the order of the walk.
+
+ghost use Rattle.std.specs.Prelude.{◌≡◌, ◌++◌, codes, length, IfOk};
+ghost use Rattle.sequence.specs.Answers.{Answers};
+ghost use Rattle.cm_model.specs.Forms.{item_path, inside};
+ghost use Rattle.cm_model.specs.Valid.{ranged, not_negative, each_ranged, may_have, joint_ranged, joint_count_fits, component_ranged, claims_fit, reads_fit, limits_ranged, controller_ranged, in_range};
+
+use cm_model::{CheckFault, CompDesc, CompKind, CtlDesc, Description, Fx, JointDesc, Params, Text};
+use std::alloc::{AllocError, Global};
+
+/// Every number is within its range: else BadRange of the first that is not, with its path.
+pub fn in_range(alloc: Global, description: &Description) -> Result<(), CheckFault>
+    ensures { Answers CheckFault.Memory (in_range description.now) result }
+{
+    let rate = description.update_rate;
+    ranged(alloc, description.version == 1, "", "version")?;
+    ranged(alloc, 1 <= rate && rate <= 10_000, "", "update_rate")?;
+    ranged(alloc, description.cycles <= 100_000, "", "cycles")?;
+    components_ranged(alloc, description.components.as_slice())?;
+    controllers_ranged(alloc, description.controllers.as_slice())
+}
+
+/// The ranges of each component.
+fn components_ranged(alloc: Global, components: &[CompDesc]) -> Result<(), CheckFault>
+    ensures { Answers CheckFault.Memory (each_ranged component_ranged (codes "component") 0 components.now) result }
+{
+    for (index, component) in components.iter().enumerate() {
+        let prefix = item_prefix(alloc, "component", index)?;
+        component_ranged(alloc, prefix.as_str(), component)?;
+    }
+    Ok(())
+}
+
+/// The number of joints, then each joint.
+fn component_ranged(alloc: Global, prefix: &str, component: &CompDesc) -> Result<(), CheckFault>
+    ensures { Answers CheckFault.Memory (component_ranged prefix.now component.now) result }
+{
+    let joints = component.joints.as_slice();
+    ranged(
+        alloc,
+        joint_count_fits(component.kind, joints.len()),
+        prefix,
+        "joint",
+    )?;
+    let path = key_path(alloc, prefix, "joint")?;
+    joints_ranged(alloc, component.kind, path.as_str(), joints)
+}
+
+/// One joint at least, and of an actuator one at most.
+fn joint_count_fits(kind: CompKind, count: usize) -> bool
+    ensures { result ≡ joint_count_fits kind count }
+{
+    match kind {
+        CompKind::Actuator => count == 1,
+        CompKind::Sensor | CompKind::System => 1 <= count,
+    }
+}
+
+/// The ranges of each joint of a component, in the list at this path.
+fn joints_ranged(
+    alloc: Global,
+    kind: CompKind,
+    path: &str,
+    joints: &[JointDesc],
+) -> Result<(), CheckFault>
+    ensures { Answers CheckFault.Memory (each_ranged (joint_ranged kind) path.now 0 joints.now) result }
+{
+    for (index, joint) in joints.iter().enumerate() {
+        let prefix = item_prefix(alloc, path, index)?;
+        joint_ranged(alloc, kind, prefix.as_str(), joint)?;
+    }
+    Ok(())
+}
+
+/// `vmax`, `gain` and `damping` are not negative, and a sensor takes no command.
+fn joint_ranged(
+    alloc: Global,
+    kind: CompKind,
+    prefix: &str,
+    joint: &JointDesc,
+) -> Result<(), CheckFault>
+    ensures { Answers CheckFault.Memory (joint_ranged kind prefix.now joint.now) result }
+{
+    ranged(alloc, not_negative(joint.vmax), prefix, "vmax")?;
+    ranged(alloc, not_negative(joint.gain), prefix, "gain")?;
+    ranged(alloc, not_negative(joint.damping), prefix, "damping")?;
+    ranged(alloc, may_have(kind, joint), prefix, "command")
+}
+
+/// A sensor takes no command.
+fn may_have(kind: CompKind, joint: &JointDesc) -> bool
+    ensures { result ≡ may_have kind joint.now }
+{
+    match kind {
+        CompKind::Sensor => joint.commands.as_slice().is_empty(),
+        CompKind::Actuator | CompKind::System => true,
+    }
+}
+
+/// The ranges of each controller.
+fn controllers_ranged(alloc: Global, controllers: &[CtlDesc]) -> Result<(), CheckFault>
+    ensures { Answers CheckFault.Memory (each_ranged controller_ranged (codes "controller") 0 controllers.now) result }
+{
+    for (index, controller) in controllers.iter().enumerate() {
+        let prefix = item_prefix(alloc, "controller", index)?;
+        controller_ranged(alloc, prefix.as_str(), controller)?;
+    }
+    Ok(())
+}
+
+/// At most 10,000 hertz, then the numbers of claims and reads, then the limits.
+fn controller_ranged(alloc: Global, prefix: &str, controller: &CtlDesc) -> Result<(), CheckFault>
+    ensures { Answers CheckFault.Memory (controller_ranged prefix.now controller.now) result }
+{
+    let params = &controller.params;
+    let claims = controller.claims.as_slice().len();
+    let reads = controller.reads.as_slice().len();
+    ranged(alloc, controller.rate <= 10_000, prefix, "update_rate")?;
+    ranged(alloc, claims_fit(params, claims), prefix, "claims")?;
+    ranged(alloc, reads_fit(params, claims, reads), prefix, "reads")?;
+    limits_ranged(alloc, prefix, params)
+}
+
+/// How many claims a controller of this kind may have.
+fn claims_fit(params: &Params, count: usize) -> bool
+    ensures { result ≡ claims_fit params.now count }
+{
+    match params {
+        Params::Pid { .. } => count == 1,
+        Params::Broadcaster { .. } => true,
+        Params::Mock { .. } => count <= 32,
+        _ => 1 <= count && count <= 32,
+    }
+}
+
+/// How many reads beside so many claims: a pid has one, a trajectory as many as claims.
+fn reads_fit(params: &Params, claims: usize, count: usize) -> bool
+    ensures { result ≡ reads_fit params.now claims count }
+{
+    match params {
+        Params::Pid { .. } => count == 1,
+        Params::Trajectory { .. } => count == claims,
+        _ => true,
+    }
+}
+
+/// The limits of a pid are not negative.
+fn limits_ranged(alloc: Global, prefix: &str, params: &Params) -> Result<(), CheckFault>
+    ensures { Answers CheckFault.Memory (limits_ranged prefix.now params.now) result }
+{
+    let Params::Pid { imax, omax, .. } = params else {
+        return Ok(());
+    };
+    ranged(alloc, not_negative(*imax), prefix, "imax")?;
+    ranged(alloc, not_negative(*omax), prefix, "omax")
+}
+
+/// Not below 0.
+fn not_negative(number: Fx) -> bool
+    ensures { result ≡ not_negative number }
+{
+    0 <= number.micro()
+}
+
+/// What this key of the table with this prefix has is within its range.
+fn ranged(alloc: Global, fits: bool, prefix: &str, key: &str) -> Result<(), CheckFault>
+    ensures { Answers CheckFault.Memory (ranged fits (prefix.now ++ key.now)) result }
+{
+    if fits {
+        return Ok(());
+    }
+    Err(CheckFault::BadRange(key_path(alloc, prefix, key)?))
+}
+
+/// A key of the table with this prefix.
+fn key_path(alloc: Global, prefix: &str, key: &str) -> Result<Text, AllocError>
+    ensures { IfOk result (λ path. path ≡ prefix.now ++ key.now) }
+{
+    Ok(Text::from_string(format!(in alloc; "{prefix}{key}")?))
+}
+
+/// What stands before the keys of a table that is an item of the list at this path.
+fn item_prefix(alloc: Global, path: &str, index: usize) -> Result<Text, AllocError>
+    ensures { IfOk result (λ prefix. prefix ≡ inside (item_path path.now index)) }
+{
+    Ok(Text::from_string(format!(in alloc; "{path}[{index}].")?))
+}
