@@ -1,0 +1,152 @@
+-- Words parted by single spaces are the words of their line, and lines with a feed behind each are the lines of their text.
+use Rattle.std.proofs.Common.{◌≡◌, ℕ, suc, ◌+◌, ◌*◌, ◌<◌, ◌≤◌, true, false, List, [], ◌∷◌, ◌++◌, length, Option, Some, Ok, refl, sym, ap, ◌∙◌, arith, append_assoc, length-append}
+use Rattle.std.specs.Prelude.{flat_map, nat_lt, ◌==◌}
+use Rattle.std.specs.List.{AllByRecursion}
+use Rattle.std.proofs.lemmas.Bool.{le-ltb}
+use Rattle.std.proofs.lemmas.Bool.Decides.{nat_tests}
+use Rattle.std.proofs.lemmas.List.{append-nil}
+use Rattle.cm_model.specs.Reading.{◌>>=◌}
+use Rattle.cm_model.specs.Lines.{onto_first, raw_lines, without_last, bare, is_blank, words, is_comment}
+use Rattle.cm_model.specs.LineForms.{line_of}
+use Rattle.cm_model.specs.ScriptRules.{Standing, with_said, with_line, with_lines}
+use Rattle.cm_model.specs.declared.script.Forms.{Forms}
+
+-- bytes from the space on: none of them ends a line
+abbrev pub IsPrinted : List ℕ → Type 0
+IsPrinted text = AllByRecursion (λ b. 32 ≤ b) text
+
+-- a word: one or more bytes behind the space
+pub record IsWord (word : List ℕ) : Type 0 where
+  pub some : 0 < length word
+  pub shown : AllByRecursion (λ b. 32 < b) word
+
+-- each word after a space
+abbrev pub spaced : List (List ℕ) → List ℕ
+spaced ws = flat_map (λ w. 32 ∷ w) ws
+
+-- ---- Words
+
+not_blank : (b : ℕ) → 32 < b → is_blank b ≡ false
+not_blank b h = grind (arith, nat_tests)
+
+-- a blank in front goes
+blank_first : (rest : List ℕ) → words (32 ∷ rest) ≡ words rest
+blank_first [] = refl
+blank_first (b ∷ bs) = refl
+
+-- a byte before a byte of its word
+word_goes_on : (b c : ℕ) (bs : List ℕ) → is_blank b ≡ false → is_blank c ≡ false → words (b ∷ c ∷ bs) ≡ onto_first b (words (c ∷ bs))
+word_goes_on b c bs h k = rw (h, k) refl
+
+-- a word before a space
+word_then : (word rest : List ℕ) → 0 < length word → AllByRecursion (λ b. 32 < b) word → words (word ++ 32 ∷ rest) ≡ word ∷ words rest
+word_then [] rest some shown = absurd (omega (arith, some))
+word_then (b ∷ []) rest some shown = rw (not_blank b shown.0) (ap (λ ws. (b ∷ []) ∷ ws) (blank_first rest))
+word_then (b ∷ c ∷ bs) rest some shown =
+    word_goes_on b c (bs ++ 32 ∷ rest) (not_blank b shown.0) (not_blank c shown.1.0)
+    ∙ ap (onto_first b) (word_then (c ∷ bs) rest (omega arith) shown.1)
+
+-- a word alone
+word_alone : (word : List ℕ) → 0 < length word → AllByRecursion (λ b. 32 < b) word → words word ≡ word ∷ []
+word_alone [] some shown = absurd (omega (arith, some))
+word_alone (b ∷ []) some shown = rw (not_blank b shown.0) refl
+word_alone (b ∷ c ∷ bs) some shown =
+    word_goes_on b c bs (not_blank b shown.0) (not_blank c shown.1.0) ∙ ap (onto_first b) (word_alone (c ∷ bs) (omega arith) shown.1)
+
+-- words parted by single spaces
+pub words_spaced : (word : List ℕ) (ws : List (List ℕ)) → IsWord word → AllByRecursion IsWord ws → words (word ++ spaced ws) ≡ word ∷ ws
+words_spaced word [] one more = rw append-nil (word_alone word one.some one.shown)
+words_spaced word (w ∷ ws) one more = word_then word (w ++ spaced ws) one.some one.shown ∙ ap (λ ws. word ∷ ws) (words_spaced w ws more.0 more.1)
+
+-- ---- Lines
+
+-- a printed line ends at its feed
+line_then : (line rest : List ℕ) → IsPrinted line → raw_lines (line ++ 10 ∷ rest) ≡ (line ++ 10 ∷ []) ∷ raw_lines rest
+line_then [] rest printed = refl
+line_then (b ∷ bs) rest printed =
+    let inside : (b == 10) ≡ false = grind (arith, nat_tests, printed.0) in
+    rw inside (ap (onto_first b) (line_then bs rest printed.1))
+
+-- the feed goes
+without_feed : (line : List ℕ) → without_last 10 (line ++ 10 ∷ []) ≡ line
+without_feed [] = refl
+without_feed (b ∷ []) = refl
+without_feed (b ∷ c ∷ bs) = ap (λ l. b ∷ l) (without_feed (c ∷ bs))
+
+-- and nothing else does
+without_return : (line : List ℕ) → IsPrinted line → without_last 13 line ≡ line
+without_return [] printed = refl
+without_return (b ∷ []) printed =
+    let inside : (b == 13) ≡ false = grind (arith, nat_tests, printed.0) in rw inside refl
+without_return (b ∷ c ∷ bs) printed = ap (λ l. b ∷ l) (without_return (c ∷ bs) printed.1)
+
+bare_line : (line : List ℕ) → IsPrinted line → bare (line ++ 10 ∷ []) ≡ line
+bare_line line printed = ap (without_last 13) (without_feed line) ∙ without_return line printed
+
+-- what two printed texts are together
+IsPrinted-append : (xs ys : List ℕ) → IsPrinted xs → IsPrinted ys → IsPrinted (xs ++ ys)
+IsPrinted-append [] ys p q = q
+IsPrinted-append (x ∷ xs) ys p q = (p.0, IsPrinted-append xs ys p.1 q)
+
+shown_IsPrinted : (word : List ℕ) → AllByRecursion (λ b. 32 < b) word → IsPrinted word
+shown_IsPrinted [] shown = tt
+shown_IsPrinted (b ∷ bs) shown = (omega (arith, shown.0), shown_IsPrinted bs shown.1)
+
+spaced_IsPrinted : (ws : List (List ℕ)) → AllByRecursion IsWord ws → IsPrinted (spaced ws)
+spaced_IsPrinted [] all = tt
+spaced_IsPrinted (w ∷ ws) all = (omega arith, IsPrinted-append w (spaced ws) (shown_IsPrinted w all.0.shown) (spaced_IsPrinted ws all.1))
+
+-- ---- Reading
+
+-- reading this text leads from what stands before it to what stands behind it, whatever text follows
+abbrev pub Reads : Forms → List ℕ → Standing → Standing → Type 0
+Reads forms text before behind = (n : ℕ) (rest : List ℕ) → (m : ℕ) × (with_lines forms n before (raw_lines (text ++ rest)) ≡ with_lines forms m behind (raw_lines rest))
+
+-- no text leads nowhere
+pub Reads-nil : (forms : Forms) (w : Standing) → Reads forms [] w w
+Reads-nil forms w = λ n rest. (n, refl)
+
+-- one text after another
+pub Reads-append : (forms : Forms) (xs ys : List ℕ) (a b c : Standing) → Reads forms xs a b → Reads forms ys b c → Reads forms (xs ++ ys) a c
+Reads-append forms xs ys a b c f g = λ n rest.
+    let first = f n (ys ++ rest) in
+    let second = g first.0 rest in
+    (second.0, ap (λ text. with_lines forms n a (raw_lines text)) (append_assoc xs ys rest) ∙ first.1 ∙ second.1)
+
+-- a line of these words, which is no comment and not too long
+pub record IsLine (word : List ℕ) (ws : List (List ℕ)) : Type 0 where
+  pub first : IsWord word
+  pub others : AllByRecursion IsWord ws
+  pub said : is_comment word ≡ false
+  pub short : length (word ++ spaced ws) ≤ 65536
+
+line_read : (forms : Forms) (n : ℕ) (word : List ℕ) (ws : List (List ℕ)) (before : Standing) → IsLine word ws
+    → with_line forms n before ((word ++ spaced ws) ++ 10 ∷ []) ≡ with_said forms n before (line_of forms (word ∷ ws))
+unfolding with_line
+line_read forms n word ws before line =
+    let printed = IsPrinted-append word (spaced ws) (shown_IsPrinted word line.first.shown) (spaced_IsPrinted ws line.others) in
+    let fits : nat_lt 65536 (length (word ++ spaced ws)) ≡ false = le-ltb 65536 (length (word ++ spaced ws)) line.short in
+    rw (bare_line (word ++ spaced ws) printed, words_spaced word ws line.first line.others, line.said, fits) refl
+
+-- reading a line is what it says
+pub Reads-line : (forms : Forms) (word : List ℕ) (ws : List (List ℕ)) (before behind : Standing) → IsLine word ws
+    → ((n : ℕ) → with_said forms n before (line_of forms (word ∷ ws)) ≡ Ok behind) → Reads forms ((word ++ spaced ws) ++ 10 ∷ []) before behind
+Reads-line forms word ws before behind line says = λ n rest.
+    let text = word ++ spaced ws in
+    let printed = IsPrinted-append word (spaced ws) (shown_IsPrinted word line.first.shown) (spaced_IsPrinted ws line.others) in
+    let read : with_line forms n before (text ++ 10 ∷ []) ≡ Ok behind = line_read forms n word ws before line ∙ says n in (
+      n + 1,
+      ap (λ t. with_lines forms n before (raw_lines t)) (append_assoc text (10 ∷ []) rest)
+          ∙ ap (with_lines forms n before) (line_then text rest printed)
+          ∙ ap (λ r. r >>= λ more. with_lines forms (n + 1) more (raw_lines rest)) read,
+    )
+
+-- ---- Length
+
+-- so many words of at most so many bytes
+pub spaced_long : (k : ℕ) (ws : List (List ℕ)) → AllByRecursion (λ w. length w ≤ k) ws → length (spaced ws) ≤ length ws * suc k
+spaced_long k [] all = omega arith
+spaced_long k (w ∷ ws) all =
+    let more = spaced_long k ws all.1 in
+    let e = length-append w (spaced ws) in
+    omega (arith, all.0)

@@ -1,0 +1,12 @@
+use Rattle.std.proofs.Common.{◌≡◌, length}
+use Rattle.cm_model.specs.Lines.{words}
+use Rattle.cm_model.specs.LineForms.{all_words, value_word}
+use Rattle.script_text.proofs.MailLemmas.{found_before}
+use Rattle.script_text.proofs.mail.all_values.Given as goal
+
+-- the values so far, and those of the words that are left
+abbrev pub invariant-loop-word : goal.invariant-loop-word
+invariant-loop-word l = found_before l.found (all_words value_word (words l.left)) ≡ all_words value_word (words l.text)
+
+abbrev pub decreases-loop-word : goal.decreases-loop-word
+decreases-loop-word l = length (words l.left)

@@ -1,0 +1,2 @@
+pub mod FewWords
+pub mod SwitchWords

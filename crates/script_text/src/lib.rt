@@ -1,0 +1,22 @@
+//! Scripts as text, both ways: the script that a text is, or its first bad line; and a script in its one spelling, which reads back.
+//! What each form says and which rules hold stands in `cm_model`, in `LineForms`, `ScriptRules` and `ScriptLaws`.
+#![tactic(auto)]
+
+pub use print::print_script;
+pub use reading::{read_script, read_script_with};
+
+mod calls;
+mod forms;
+pub mod laws;
+mod limits;
+mod lines;
+mod mail;
+mod numbers;
+mod print;
+mod reading;
+mod rules;
+mod switches;
+#[cfg(test)]
+mod tests;
+mod verbs;
+mod words;
