@@ -11,9 +11,10 @@ use Rattle.toml.specs.Parse.{parse_document}
 use Rattle.toml.specs.View.{view, items_view}
 use Rattle.toml.specs.declared.value.Value.{Value}
 use Rattle.toml.proofs.Views.{items_view-drop}
-use Rattle.cm_model.specs.Names.{same_name}
+use Rattle.iface_names.specs.Names.{same_name}
 use Rattle.cm_model.specs.Checks.{repeated_after}
-use Rattle.cm_model.specs.Walk.{tree_of, controller_of, controller_path, controllers_from}
+use Rattle.cm_model.specs.Described.{tree_of}
+use Rattle.cm_model.specs.Walk.{controller_of, controller_path, controllers_from}
 use Rattle.cm_model.specs.declared.description.CtlDesc.{CtlDesc}
 use Rattle.cm_model.specs.declared.faults.DescFault.{DescFault}
 use Rattle.cm_model.specs.declared.faults.DescFault.TheVariants.{BadValue}

@@ -1,5 +1,4 @@
 mod DescriptionLemmas
-pub mod LineLemmas
 pub mod ListLemmas
 pub mod PartsLemmas
 pub mod RoomLemmas

@@ -21,6 +21,8 @@ pub plain_check : (f : CheckFault) → (f ≡ check_fault.Memory → ⊥) → Is
 plain_check (check_fault.TooMany what) other = tt
 plain_check (check_fault.NameTwice name) other = tt
 plain_check (check_fault.BadRange path) other = tt
+plain_check (check_fault.NoInterface controller interface) other = tt
+plain_check (check_fault.ChainLoop controller) other = tt
 plain_check check_fault.Memory other = absurd (other refl)
 
 pub plain_script : (f : ScriptFault) → (f ≡ script_fault.Memory → ⊥) → IsPlainFault (fault.Script f)

@@ -6,6 +6,7 @@ use Rattle.std.proofs.lemmas.Bool.{and_parts}
 use Rattle.std.proofs.lemmas.Bool.Decides.{nat_tests}
 use Rattle.cm_model.proofs.LegalLemmas.{cases_Option, chosen}
 use Rattle.cm_model.proofs.WholeLemmas.{load_from-SameLoop}
+use Rattle.cm_model.specs.Params.{kind_of}
 use Rattle.cm_model.specs.State.{blanks_of}
 use Rattle.cm_model.specs.Machine.{step, load, load_from, load_at, place_of, is_loaded_at, can_begin}
 use Rattle.cm_model.specs.Scheduled.{with_entry, settle, settle_from, cycles}
@@ -22,7 +23,7 @@ load_at-loads : (s : State) (place : ℕ) (c : Option CtlDesc) → (load_at s pl
 load_at-loads s place None = omega arith
 load_at-loads s place (Some c) =
     chosen (λ (made : State × Reply). made.0.loads ≤ s.loads + 1) (is_loaded_at place s) _ _ (omega arith)
-    (chosen (λ (made : State × Reply). made.0.loads ≤ s.loads + 1) (blanks_of s.blanks c.kind == 0) _ _ (omega arith) (omega arith))
+    (chosen (λ (made : State × Reply). made.0.loads ≤ s.loads + 1) (blanks_of s.blanks (kind_of c.params) == 0) _ _ (omega arith) (omega arith))
 
 load_from-loads : (s : State) (place : Option ℕ) → (load_from s place).0.loads ≤ s.loads + 1
 load_from-loads s None = omega arith
@@ -46,18 +47,15 @@ Room-less s k j room less = record { serials = omega (arith, room.serials); coun
 -- a call has room where one entry has
 pub room_for_call : (s : State) (call : Call) (k : ℕ) → Room s (suc k) → Room s (serials_of call)
 room_for_call s (Load name) k room = Room-less s _ 1 room (omega arith)
-room_for_call s ListControllers k room = Room-less s _ 0 room (omega arith)
-room_for_call s (Begin n) k room = Room-less s _ 0 room (omega arith)
-room_for_call s (End n) k room = Room-less s _ 0 room (omega arith)
-room_for_call s Close k room = Room-less s _ 0 room (omega arith)
+room_for_call s _ k room = Room-less s _ 0 room (omega arith)
 
 -- a call of the loop takes no serial
 pub room_for_loop : (s : State) (call : Call) (k : ℕ) → IsLoops call → Room s k → Room s (serials_of call)
 room_for_loop s (Load name) k loops room = absurd loops
-room_for_loop s ListControllers k loops room = absurd loops
 room_for_loop s (Begin n) k loops room = Room-less s k 0 room (omega arith)
 room_for_loop s (End n) k loops room = Room-less s k 0 room (omega arith)
 room_for_loop s Close k loops room = Room-less s k 0 room (omega arith)
+room_for_loop s _ k loops room = absurd loops
 
 -- where all tests of a begin passed, its last two say so
 counted_by : (passes : Bool) (ended n cycles : ℕ) → ((passes && ended == n) && nat_lt n cycles) ≡ true → ended < cycles
@@ -72,7 +70,6 @@ begun-counted s n can = counted_by (not s.aloft && not s.closed) s.ended n s.des
 pub loop_step-Room : (s : State) (who : ℕ) (call : Call) (q : State × Reply) (k : ℕ) → IsLoops call → step s who call ≡ Some q → Room s k → Room q.0 k
 unfolding step
 loop_step-Room s who (Load name) q k loops stepped room = absurd loops
-loop_step-Room s who ListControllers q k loops stepped room = absurd loops
 loop_step-Room s who (Begin n) q k loops stepped room =
     let made = cond_some _ _ _ stepped in
     rw (← made.1) (record { serials = room.serials; counted = λ up. begun-counted s n (and_parts _ _ made.0).1 })
@@ -80,6 +77,7 @@ loop_step-Room s who (End n) q k loops stepped room =
     let made = cond_some _ _ _ stepped in rw (← made.1) (record { serials = room.serials; counted = λ up. cc })
 loop_step-Room s who Close q k loops stepped room =
     let made = cond_some _ _ _ stepped in rw (← made.1) (record { serials = room.serials; counted = room.counted })
+loop_step-Room s who _ q k loops stepped room = absurd loops
 
 -- a step takes room for one entry
 pub step-Room : (s : State) (who : ℕ) (call : Call) (q : State × Reply) (k : ℕ) → step s who call ≡ Some q → Room s (suc k) → Room q.0 k
@@ -91,6 +89,7 @@ step-Room s who ListControllers q k stepped room =
 step-Room s who (Begin n) q k stepped room = loop_step-Room s who (Begin n) q k tt stepped (Room-less s (suc k) k room (omega arith))
 step-Room s who (End n) q k stepped room = loop_step-Room s who (End n) q k tt stepped (Room-less s (suc k) k room (omega arith))
 step-Room s who Close q k stepped room = loop_step-Room s who Close q k tt stepped (Room-less s (suc k) k room (omega arith))
+step-Room s who _ q k stepped room = cc
 
 -- ---- What a settling session leaves
 

@@ -7,6 +7,7 @@ use Rattle.std.proofs.KnownBytes.{Appends-kept}
 use Rattle.outside_io.specs.Bytes.{AllFlushed, GivesAll}
 use Rattle.outside_io.proofs.Prefixes.{AppendsPrefix-all}
 use Rattle.cm_model.specs.Document.{document}
+use Rattle.cm_model.specs.Scheduled.{start, scheduled}
 use Rattle.cm_model.specs.Trace.{output}
 use Rattle.cm_model.specs.declared.document.Document.{Document}
 use Rattle.cm_model.specs.declared.script.SessionText.{SessionText}
@@ -25,6 +26,12 @@ pub small_room : (sessions : List SessionText) → length sessions ≤ 1 → sum
 small_room [] one few = omega arith
 small_room (s ∷ []) one few = omega arith
 small_room (s ∷ t ∷ others) one few = absurd (omega arith)
+
+-- the job `run` looks at no turns
+pub schedule_is_unused : (d : Document) (blanks : Blanks)
+    → scheduled (record { description = d.description; script = record { sessions = d.script.sessions; schedule = [] } }) blanks ≡ scheduled d blanks
+unfolding scheduled start
+schedule_is_unused d blanks = refl
 
 -- what was written of an accepted document's trace says what its run promises
 pub Wrote-Ran : (bytes : List ℕ) (d : Document) (blanks : Blanks) (old new : Option (List ℕ)) (flushed : Option ℕ) (ended : Status)

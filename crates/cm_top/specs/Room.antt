@@ -1,7 +1,7 @@
 -- How many entries a state has room for.
 use Rattle.std.specs.Prelude.{◌≡◌, ℕ, ◌+◌, ◌<◌, ◌^◌, true, List, [], ◌∷◌, length}
 use Rattle.cm_model.specs.declared.call.Call.{Call}
-use Rattle.cm_model.specs.declared.call.Call.TheVariants.{Load, ListControllers}
+use Rattle.cm_model.specs.declared.call.Call.TheVariants.{Load, Begin, End, Close}
 use Rattle.cm_model.specs.declared.state.State.{State}
 
 -- So many entries fit, of which each may be a load that takes a serial; and a cycle that is aloft is one of the described ones.
@@ -21,6 +21,7 @@ serials_of _ = 0
 
 -- a call of the loop
 abbrev pub IsLoops : Call → Type 0
-IsLoops (Load _) = ⊥
-IsLoops ListControllers = ⊥
-IsLoops _ = Unit {0}
+IsLoops (Begin _) = Unit {0}
+IsLoops (End _) = Unit {0}
+IsLoops Close = Unit {0}
+IsLoops _ = ⊥

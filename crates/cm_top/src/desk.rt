@@ -99,7 +99,7 @@ fn load(state: &mut State, name: &Name) -> Result<Reply, Memory>
     let Some(controller) = state.description.controllers.as_slice().get(place) else {
         return Ok(Reply::Not(Why::NotDescribed));
     };
-    let kind = controller.kind;
+    let kind = controller.params.kind();
     if is_loaded_at(state, place) {
         return Ok(Reply::Not(Why::Loaded));
     }
@@ -185,7 +185,7 @@ fn controller_line(described: &[CtlDesc], loaded: &Loaded) -> Result<Option<CtlL
     Ok(Some(CtlLine {
         serial: loaded.serial,
         name: controller.name.clone()?,
-        kind: controller.kind,
+        kind: controller.params.kind(),
         life: Life::Unconfigured,
     }))
 }

@@ -11,3 +11,5 @@ mod session;
 mod status;
 mod top;
 mod trace;
+#[cfg(test)]
+mod whole_tests;

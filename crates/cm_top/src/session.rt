@@ -1,6 +1,6 @@
 //! Sessions over the desk, and the order of the job `run`.
 
-ghost use Rattle.std.specs.Prelude.{◌≡◌, ◌+◌, ◌<◌, ◌^◌, length, map, IfOk};
+ghost use Rattle.std.specs.Prelude.{◌≡◌, ◌+◌, ◌<◌, ◌^◌, [], length, map, IfOk};
 ghost use Rattle.cm_model.specs.Scheduled.{settle, settle_all, looped, cycle, cycles, finish, start, scheduled};
 ghost use Rattle.cm_top.specs.Room.{Room, lines_left, IsLoops};
 
@@ -30,7 +30,7 @@ impl<'a> Job<'a> {
         blanks: Blanks,
     ) -> Result<Job<'a>, Memory>
         requires { length sessions.now + lines_left (map (λ s. s.lines) sessions.now) < 2 ^ 32 }
-        ensures { IfOk result (λ job. progress_of job ≡ start (record { description = description; script = record { sessions = sessions.now } }) blanks) }
+        ensures { IfOk result (λ job. progress_of job ≡ start (record { description = description; script = record { sessions = sessions.now; schedule = [] } }) blanks) }
     {
         let mut rests = Vec::new(alloc);
         for session in sessions {
@@ -134,7 +134,7 @@ pub fn history(
     blanks: Blanks,
 ) -> Result<Seq<Entry>, Memory>
     requires { length sessions.now + lines_left (map (λ s. s.lines) sessions.now) < 2 ^ 32 }
-    ensures { IfOk result (λ made. made ≡ scheduled (record { description = description; script = record { sessions = sessions.now } }) blanks) }
+    ensures { IfOk result (λ made. made ≡ scheduled (record { description = description; script = record { sessions = sessions.now; schedule = [] } }) blanks) }
 {
     let count = description.cycles;
     let job = Job::start(alloc, description, sessions, blanks)?;

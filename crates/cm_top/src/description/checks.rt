@@ -3,7 +3,7 @@
 ghost use Rattle.std.specs.Prelude.{◌≡◌, [], map, option_copied};
 ghost use Rattle.std.specs.List.{list_any};
 ghost use Rattle.sequence.specs.Answers.{Answers};
-ghost use Rattle.cm_model.specs.Names.{same_name};
+ghost use Rattle.iface_names.specs.Names.{same_name};
 ghost use Rattle.cm_model.specs.Checks.{few_enough, repeated_after, named_apart, within, in_range, checked};
 
 use crate::description::paths::text_of;

@@ -4,7 +4,8 @@ ghost use Rattle.std.specs.Prelude.{◌≡◌, codes, option_map};
 ghost use Rattle.sequence.specs.Answers.{Answers};
 ghost use Rattle.toml.specs.Data.{get_member};
 ghost use Rattle.toml.specs.View.{view, table_view};
-ghost use Rattle.cm_model.specs.Walk.{whole_of, name_in, kind_in, path_in, placed, required};
+ghost use Rattle.cm_model.specs.Forms.{whole_in, name_in, placed};
+ghost use Rattle.cm_model.specs.Walk.{kind_in, path_in, required};
 
 use crate::description::keys::same_key;
 use crate::description::paths::{path_in, text_of};
@@ -21,7 +22,7 @@ pub fn look_up<'a>(table: &'a Table, key: &str) -> Option<&'a Value>
 
 /// A required whole of the top table: BadKey where the key is missing.
 pub fn required_whole(alloc: Global, table: &Table, key: &str) -> Result<u32, DescFault>
-    ensures { Answers DescFault.Memory (required whole_of key.now (get_member key.now (table_view table.now))) result }
+    ensures { Answers DescFault.Memory (required whole_in key.now (get_member key.now (table_view table.now))) result }
 {
     let path = text_of(alloc, key)?;
     match look_up(table, key) {
@@ -65,7 +66,7 @@ fn at_path<T>(path: Text, read: Result<T, Wrong>) -> Result<T, DescFault>
 
 /// A whole: an integer from 0 to 4,294,967,295.
 fn whole(value: &Value) -> Result<u32, Wrong>
-    ensures { result ≡ whole_of (view value.now) }
+    ensures { result ≡ whole_in (view value.now) }
 {
     match value {
         Value::Integer(number) => match u32::try_from(*number) {

@@ -3,12 +3,13 @@
 ghost use Rattle.std.specs.Prelude.{[], option_map};
 ghost use Rattle.sequence.specs.Answers.{Answers};
 ghost use Rattle.toml.specs.View.{view, items_view, table_view};
-ghost use Rattle.cm_model.specs.Walk.{tree_of, controller_of, controllers_from, controllers_of, description_of, described};
+ghost use Rattle.cm_model.specs.Described.{tree_of};
+ghost use Rattle.cm_model.specs.Walk.{controller_of, controllers_from, controllers_of, description_of, described};
 
 use crate::description::keys::{only_listed_at_top, only_listed_in_controller};
 use crate::description::paths::{controller_path, text_of};
 use crate::description::values::{look_up, required_kind, required_name, required_whole};
-use cm_model::{CtlDesc, DescFault, Description, Seq};
+use cm_model::{CtlDesc, DescFault, Description, Params, Seq};
 use std::alloc::Global;
 use toml::{Table, Value};
 
@@ -43,6 +44,7 @@ fn description(alloc: Global, table: &Table) -> Result<Description, DescFault>
         version,
         update_rate,
         cycles: u64::from(cycles),
+        components: Seq::new(alloc),
         controllers,
     })
 }
@@ -79,8 +81,19 @@ fn each_controller(alloc: Global, items: &[Value]) -> Result<Seq<CtlDesc>, DescF
 fn controller(alloc: Global, table: &Table, path: &str) -> Result<CtlDesc, DescFault>
     ensures { Answers DescFault.Memory (controller_of path.now (table_view table.now)) result }
 {
-    let kind = required_kind(alloc, table, path)?;
+    required_kind(alloc, table, path)?;
     only_listed_in_controller(alloc, table, path)?;
     let name = required_name(alloc, table, path)?;
-    Ok(CtlDesc { name, kind })
+    Ok(CtlDesc {
+        name,
+        rate: 0,
+        claims: Seq::new(alloc),
+        reads: Seq::new(alloc),
+        params: Params::Mock {
+            outs: 0,
+            refuse_config: false,
+            not_ready: Seq::new(alloc),
+            fail_update: Seq::new(alloc),
+        },
+    })
 }

@@ -2,12 +2,12 @@
 
 ghost use Rattle.std.specs.Prelude.{◌≡◌, [], ◌∷◌, if◌then◌else◌, Some, None, Ok};
 ghost use Rattle.sequence.specs.Answers.{Answers};
-ghost use Rattle.cm_model.specs.Names.{is_name};
+ghost use Rattle.iface_names.specs.Names.{is_name};
 ghost use Rattle.cm_model.specs.Lines.{words, is_comment};
 ghost use Rattle.cm_model.specs.Script.{statement_of};
 
 use crate::script::words::next_word;
-use cm_model::{Call, Form, Name, NameFault, ScriptFault, Statement, built};
+use cm_model::{Call, Name, NameFault, ScriptFault, Statement, built};
 use std::alloc::Global;
 
 /// Whether a line whose first word is this one is a comment.
@@ -40,12 +40,12 @@ fn two_words(alloc: Global, verb: &[u8], object: &[u8]) -> Result<Option<Stateme
     if verb == b"session".as_slice() {
         return Ok(name_in(alloc, object)?.map(Statement::Session));
     }
-    if verb == b"load".as_slice() && built(Form::Load) {
+    if verb == b"load".as_slice() && built().load {
         return Ok(name_in(alloc, object)?.map(|name| Statement::Call(Call::Load(name))));
     }
     if verb == b"list".as_slice()
         && object == b"controllers".as_slice()
-        && built(Form::ListControllers)
+        && built().list_controllers
     {
         return Ok(Some(Statement::Call(Call::ListControllers)));
     }

@@ -4,7 +4,7 @@ ghost use Rattle.std.specs.Prelude.{◌≡◌, ◌+◌, ◌<◌, ◌^◌, length
 ghost use Rattle.sequence.specs.Answers.{Answers};
 ghost use Rattle.cm_model.specs.Reading.{told_as};
 ghost use Rattle.cm_model.specs.Lines.{raw_lines};
-ghost use Rattle.cm_model.specs.Script.{session_form, with_session, with_call_in, with_statement, with_line, with_lines, nothing_written, script_of};
+ghost use Rattle.cm_model.specs.Script.{session_built, with_session, with_call_in, with_statement, with_line, with_lines, nothing_written, script_of};
 ghost use Rattle.cm_model.specs.Document.{accepted_script};
 ghost use Rattle.cm_top.specs.Status.{IsPlainFault};
 
@@ -12,8 +12,7 @@ use crate::script::form::{begins_comment, statement};
 use crate::script::lines::{bare_line, first_line};
 use crate::script::words::next_word;
 use cm_model::{
-    Call, DocumentFault, Form, Name, Script, ScriptFault, Seq, SessionText, Statement, Written,
-    built,
+    Call, DocumentFault, Name, Script, ScriptFault, Seq, SessionText, Statement, Written, built,
 };
 use std::alloc::Global;
 
@@ -52,7 +51,10 @@ fn read_script(alloc: Global, first: u32, text: &[u8]) -> Result<Script, ScriptF
     if let Some(session) = session {
         sessions.push(session)?;
     }
-    Ok(Script { sessions })
+    Ok(Script {
+        sessions,
+        schedule: Seq::new(alloc),
+    })
 }
 
 /// What stands after all lines, of which the first has this number.
@@ -118,7 +120,7 @@ fn with_session(
 ) -> Result<Written, ScriptFault>
     ensures { result ≡ with_session line written name }
 {
-    if built(session_form(&written.session)) && name.bytes() != b"loop".as_slice() {
+    if session_built(&written.session) && name.bytes() != b"loop".as_slice() {
         Ok(Written {
             session: Some(SessionText {
                 name,
@@ -131,13 +133,13 @@ fn with_session(
     }
 }
 
-/// A session's line is the first one, or a further one.
-fn session_form(session: &Option<SessionText>) -> Form
-    ensures { result ≡ session_form session.now }
+/// Whether a session's line is accepted, as the first one or as a further one.
+fn session_built(session: &Option<SessionText>) -> bool
+    ensures { result ≡ session_built session.now }
 {
     match session {
-        None => Form::FirstSession,
-        Some(_) => Form::FurtherSession,
+        None => built().first_session,
+        Some(_) => built().further_session,
     }
 }
 

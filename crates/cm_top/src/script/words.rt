@@ -4,7 +4,7 @@ ghost use Rattle.std.specs.Prelude.{◌≡◌, not, [], ◌∷◌, position, Mat
 ghost use Rattle.cm_model.specs.Lines.{is_blank, words};
 
 /// The first word of a text and what stands after it; nothing where the text has no word.
-#[tactic(auto, using(crate::proofs::LineLemmas::cutting_words))]
+#[tactic(auto, using(cm_model::proofs::LineLemmas::cutting_words))]
 pub fn next_word(text: &[u8]) -> Option<(&[u8], &[u8])>
     ensures { MatchOption result (words text.now ≡ []) (λ cut. words text.now ≡ cut.0.now ∷ words cut.1.now) }
 {

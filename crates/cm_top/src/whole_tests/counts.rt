@@ -1,0 +1,164 @@
+//! Each count at its limit, and one past it.
+
+use super::{TOP, told};
+use std::alloc::{AllocError, Global};
+use std::test::Fail;
+
+/// One component of so many joints, each commanded and measured by position.
+fn joints(text: &mut String, alloc: Global, count: u32) -> Result<(), AllocError> {
+    text.push_str("[[component]]\nname = \"sys\"\nkind = \"system\"\n")?;
+    for index in 0..count {
+        let joint = format!(in alloc;
+            "[[component.joint]]\nname = \"j{index}\"\nvmax = 1\ncommand = [\"position\"]\nstate = [\"position\"]\n"
+        )?;
+        text.push_str(joint.as_str())?;
+    }
+    Ok(())
+}
+
+/// So many components of one joint.
+fn components(text: &mut String, alloc: Global, count: u32) -> Result<(), AllocError> {
+    for index in 0..count {
+        let component = format!(in alloc;
+            "[[component]]\nname = \"c{index}\"\nkind = \"sensor\"\n[[component.joint]]\nname = \"j{index}\"\nvmax = 1\n"
+        )?;
+        text.push_str(component.as_str())?;
+    }
+    Ok(())
+}
+
+/// The position of the first so many joints, as a list.
+fn positions(alloc: Global, count: u32) -> Result<String, AllocError> {
+    let mut list = String::from_str(alloc, "[")?;
+    for index in 0..count {
+        let position = format!(in alloc; "\"j{index}/position\", ")?;
+        list.push_str(position.as_str())?;
+    }
+    list.push_str("]")?;
+    Ok(list)
+}
+
+/// So many controllers of a type, of the names `a0`, `a1` and on after this letter, each with these keys.
+fn controllers(
+    text: &mut String,
+    alloc: Global,
+    letter: &str,
+    kind: &str,
+    count: u32,
+    keys: &str,
+) -> Result<(), AllocError> {
+    for index in 0..count {
+        let controller = format!(in alloc;
+            "[[controller]]\nname = \"{letter}{index}\"\ntype = \"{kind}\"\n{keys}\n"
+        )?;
+        text.push_str(controller.as_str())?;
+    }
+    Ok(())
+}
+
+#[test]
+fn components_joints_and_controllers_at_their_limits(rt: HostRuntime) -> Result<(), Fail> {
+    let alloc = rt.alloc();
+    for (sensors, moved, mocks, want) in [
+        (0, 0, 0, "valid"),
+        (16, 0, 0, "valid"),
+        (17, 0, 0, "too_many components"),
+        (0, 32, 0, "valid"),
+        (0, 33, 0, "too_many joints"),
+        (0, 0, 64, "valid"),
+        (0, 0, 65, "too_many controllers"),
+        (17, 0, 65, "too_many components"),
+        (0, 33, 65, "too_many joints"),
+    ] {
+        let mut text = String::from_str(alloc, TOP)?;
+        components(&mut text, alloc, sensors)?;
+        if moved > 0 {
+            joints(&mut text, alloc, moved)?;
+        }
+        controllers(&mut text, alloc, "m", "mock", mocks, "")?;
+        let got = told(alloc, text.as_str())?;
+        assert_eq!(rt; got.as_str(), want, "{sensors}, {moved}, {mocks}");
+    }
+    Ok(())
+}
+
+#[test]
+fn references_claims_and_reads_at_their_limits(rt: HostRuntime) -> Result<(), Fail> {
+    let alloc = rt.alloc();
+    let all = positions(alloc, 32)?;
+    let claim_all = format!(in alloc; "claims = {all}")?;
+    let claim_one = "claims = [\"j0/position\"]";
+    // Passthroughs export what they claim, forwards export nothing, and a broadcaster of all states reads 32 here.
+    for (passing, one_more, forwards, and_one, listeners, and_listens, want) in [
+        (3, 0, 0, 0, 0, 0, "valid"),
+        (3, 1, 0, 0, 0, 0, "too_many references"),
+        (0, 0, 6, 0, 0, 0, "valid"),
+        (0, 0, 6, 1, 0, 0, "too_many claims"),
+        (3, 0, 3, 0, 0, 0, "valid"),
+        (3, 0, 3, 1, 0, 0, "too_many claims"),
+        (0, 0, 0, 0, 8, 0, "valid"),
+        (0, 0, 0, 0, 8, 1, "too_many reads"),
+        (3, 1, 6, 1, 8, 1, "too_many references"),
+        (0, 0, 6, 1, 8, 1, "too_many claims"),
+    ] {
+        let mut text = String::from_str(alloc, TOP)?;
+        joints(&mut text, alloc, 32)?;
+        controllers(
+            &mut text,
+            alloc,
+            "p",
+            "passthrough",
+            passing,
+            claim_all.as_str(),
+        )?;
+        controllers(&mut text, alloc, "q", "passthrough", one_more, claim_one)?;
+        controllers(
+            &mut text,
+            alloc,
+            "f",
+            "forward",
+            forwards,
+            claim_all.as_str(),
+        )?;
+        controllers(&mut text, alloc, "g", "forward", and_one, claim_one)?;
+        controllers(
+            &mut text,
+            alloc,
+            "b",
+            "broadcaster",
+            listeners,
+            "reads = \"all\"",
+        )?;
+        controllers(
+            &mut text,
+            alloc,
+            "l",
+            "mock",
+            and_listens,
+            "reads = [\"j0/position\"]",
+        )?;
+        let got = told(alloc, text.as_str())?;
+        assert_eq!(rt;
+            got.as_str(),
+            want,
+            "{passing}, {one_more}, {forwards}, {and_one}, {listeners}"
+        );
+    }
+    Ok(())
+}
+
+#[test]
+fn all_states_and_commands_of_all_joints_are_not_too_many(rt: HostRuntime) -> Result<(), Fail> {
+    let alloc = rt.alloc();
+    let mut text = String::from_str(alloc, TOP)?;
+    text.push_str("[[component]]\nname = \"sys\"\nkind = \"system\"\n")?;
+    for index in 0..32 {
+        let joint = format!(in alloc;
+            "[[component.joint]]\nname = \"j{index}\"\nvmax = 1\ncommand = [\"position\", \"velocity\", \"effort\"]\nstate = [\"effort\", \"velocity\", \"position\"]\n"
+        )?;
+        text.push_str(joint.as_str())?;
+    }
+    let got = told(alloc, text.as_str())?;
+    assert_eq!(rt; got.as_str(), "valid");
+    Ok(())
+}
