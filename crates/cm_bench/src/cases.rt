@@ -1,0 +1,64 @@
+//! The numbers that the bodies get. They come from a seed given at run time, so the compiler knows none of them.
+
+ghost use Rattle.std.specs.Prelude.{pos, ◌<ℤ◌};
+
+use fixed_num::{Fx, Memory};
+use std::alloc::Global;
+
+/// How many cases a round has. They fit the nearest cache.
+const COUNT: usize = 1000;
+
+/// How far from 0 a number is at most, in micro-units: a thousand units, so that the product of two fits 64 bits.
+const FAR: u64 = 1_000_000_000;
+
+/// What one turn of a body is given.
+#[derive(Clone, Copy, Debug)]
+pub struct Case {
+    pub left: Fx,
+    pub right: Fx,
+    pub divisor: i64,
+    ghost positive: { pos 0 <ℤ divisor },
+}
+
+/// The cases of a seed.
+pub fn made(alloc: Global, seed: u64) -> Result<Vec<Case>, Memory> {
+    let mut source = Source::make(seed);
+    let mut cases = Vec::with_capacity(alloc, COUNT)?;
+    for _ in 0..COUNT {
+        cases.push(source.case())?;
+    }
+    Ok(cases)
+}
+
+/// Gives numbers without visible order: the generator known as SplitMix64.
+#[derive(Drop)]
+pub struct Source {
+    state: u64,
+}
+
+impl Source {
+    /// The numbers of a seed.
+    pub fn make(seed: u64) -> Source {
+        Source { state: seed }
+    }
+
+    fn case(&mut self) -> Case {
+        Case {
+            left: self.number(),
+            right: self.number(),
+            divisor: 1 + (self.next() % 1_000_000) as i64,
+        }
+    }
+
+    /// The next number, of up to a thousand units either way.
+    pub fn number(&mut self) -> Fx {
+        Fx::from_micro((self.next() % (2 * FAR + 1)) as i64 - FAR as i64)
+    }
+
+    fn next(&mut self) -> u64 {
+        self.state = self.state.wrapping_add(0x9E37_79B9_7F4A_7C15);
+        let mixed = (self.state ^ (self.state >> 30)).wrapping_mul(0xBF58_476D_1CE4_E5B9);
+        let mixed = (mixed ^ (mixed >> 27)).wrapping_mul(0x94D0_49BB_1331_11EB);
+        mixed ^ (mixed >> 31)
+    }
+}

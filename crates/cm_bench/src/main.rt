@@ -1,0 +1,93 @@
+//! Times the fast bodies of the crates below beside plain ones, in one run over the same numbers, and compares their answers.
+#![tactic(auto)]
+
+use bodies::{FastMul, FastOver, FastText, PlainMul, PlainOver, PlainText};
+use plan::Plan;
+use reading::{ScriptReader, TomlReader};
+use std::process::ExitCode;
+use std::rt::{Clock, Env};
+use std::{env, io};
+use timing::{Course, Pair};
+
+mod bodies;
+mod cases;
+mod plain;
+mod plan;
+mod reading;
+mod texts;
+mod timing;
+
+/// Status 0 where all answers were the same, 1 where some differ or a call failed, 2 for words that are no plan.
+fn main(rt: HostRuntime) -> anyhow::Result<ExitCode> {
+    let words: Vec<String> = env::args(&rt)?.skip(1).collect(rt.alloc())?;
+    let Some(plan) = Plan::from_words(words.as_slice()) else {
+        eprintln!(rt; "cm_bench: usage: cm_bench TURNS SEED")?;
+        return Ok(ExitCode::from(2));
+    };
+    match compare_all(&rt, plan)? {
+        true => Ok(ExitCode::SUCCESS),
+        false => Ok(ExitCode::FAILURE),
+    }
+}
+
+/// Prints a line for each pair of bodies, and says whether all gave the same answers.
+fn compare_all<R>(rt: &R, plan: Plan) -> anyhow::Result<bool>
+where
+    R: Clock + Print + AllocGlobal,
+{
+    let cases = cases::made(rt.alloc(), plan.seed)?;
+    let course = Course {
+        cases: cases.as_slice(),
+        turns: plan.turns,
+    };
+    let mul = course.compare(rt, &mut PlainMul, &mut FastMul)?;
+    tell(rt, plan, "mul", "answers", &mul)?;
+    let over = course.compare(rt, &mut PlainOver, &mut FastOver)?;
+    tell(rt, plan, "over", "answers", &over)?;
+    let alloc = rt.alloc();
+    let text = course.compare(rt, &mut PlainText::make(alloc), &mut FastText::make(alloc))?;
+    tell(rt, plan, "text", "bytes", &text)?;
+    let read = compare_readers(rt, plan)?;
+    Ok(mul.same && over.same && text.same && read)
+}
+
+/// Prints the line of the readers, the kit's of TOML beside that of scripts over as many bytes, and says whether both read all.
+fn compare_readers<R>(rt: &R, plan: Plan) -> anyhow::Result<bool>
+where
+    R: Clock + Print + AllocGlobal,
+{
+    let alloc = rt.alloc();
+    let cases = [texts::made(alloc, plan.seed)?];
+    let course = Course {
+        cases: cases.as_slice(),
+        turns: plan.turns / READER_SHARE + 1,
+    };
+    let pair = course.compare(rt, &mut TomlReader { alloc }, &mut ScriptReader { alloc })?;
+    let bytes = cases[0].script.len();
+    if !pair.same {
+        println!(rt; "script: bytes differ")?;
+    } else if plan.turns == 1 {
+        println!(rt; "script: same bytes")?;
+    } else {
+        let (toml, script) = (pair.plain.bytes_a_us(bytes), pair.fast.bytes_a_us(bytes));
+        println!(rt; "script: same bytes, {toml} bytes a us by toml, {script}")?;
+    }
+    Ok(pair.same)
+}
+
+/// A reader goes over a whole text, so it gets one turn for so many of the others.
+const READER_SHARE: u64 = 100_000;
+
+/// The line of a pair. One turn has no time worth telling, so its line is the same in each run.
+fn tell<R: Print>(rt: &R, plan: Plan, name: &str, what: &str, pair: &Pair) -> io::Result<()> {
+    if !pair.same {
+        println!(rt; "{name}: {what} differ")
+    } else if plan.turns == 1 {
+        println!(rt; "{name}: same {what}")
+    } else {
+        println!(rt;
+            "{name}: same {what}, {} ns plain, {} ns",
+            pair.plain, pair.fast
+        )
+    }
+}

@@ -1,0 +1,74 @@
+//! The plain bodies: each as its contract reads, its result under the clause of the call that it stands beside.
+
+ghost use Rattle.std.specs.Prelude.{◌≡◌, pos, ◌*ℤ◌, ◌<ℤ◌, ◌++◌, nat_abs, OnOk, string_bytes};
+ghost use Rattle.fixed_num.specs.Micro.{clamped};
+ghost use Rattle.fixed_num.specs.Arithmetic.{multiplied, ratio, floor_div};
+ghost use Rattle.fixed_num.specs.Text.{spelled, sign_text};
+
+use fixed_num::{Fx, Memory};
+
+/// The largest number, in micro-units.
+const LARGEST: i128 = 1_000_000_000_000_000;
+
+/// How many micro-units are a unit.
+const MICRO: u64 = 1_000_000;
+
+/// The product, always by 128 bits.
+pub fn plain_mul(left: Fx, right: Fx) -> Fx
+    ensures { result ≡ multiplied left right }
+{
+    in_range(quotient(left.micro(), right.micro(), 1_000_000))
+}
+
+/// The number times `num` and divided by `den`, always by 128 bits.
+pub fn plain_over(number: Fx, num: i64, den: i64) -> Fx
+    requires positive { pos 0 <ℤ den }
+    ensures { result ≡ ratio number num den }
+{
+    in_range(quotient(number.micro(), num, den))
+}
+
+fn quotient(left: i64, right: i64, den: i64) -> i128
+    requires positive { pos 0 <ℤ den }
+    ensures { result ≡ floor_div (left *ℤ right) den }
+{
+    floor(left as i128 * right as i128, den as i128)
+}
+
+#[tactic(auto, unfolding(fixed_num::specs::Arithmetic::floor_div))]
+fn floor(product: i128, den: i128) -> i128
+    requires positive { pos 0 <ℤ den }
+    ensures { result ≡ floor_div product den }
+{
+    product.div_euclid(den)
+}
+
+#[tactic(auto, unfolding(fixed_num::specs::Micro::clamped))]
+fn in_range(n: i128) -> Fx
+    ensures { result ≡ clamped n }
+{
+    Fx::from_micro(n.max(-LARGEST).min(LARGEST) as i64)
+}
+
+/// Appends the number's text, by the format of std.
+#[tactic(auto, unfolding(fixed_num::specs::Text::spelled))]
+pub fn plain_text(number: Fx, text: &mut String) -> Result<(), Memory>
+    ensures { OnOk result (string_bytes text.new ≡ string_bytes text.old ++ spelled number) }
+{
+    let sign = sign(number);
+    let size = size(number);
+    write!(text, "{sign}{}.{:06}", size / MICRO, size % MICRO)?;
+    Ok(())
+}
+
+fn sign(number: Fx) -> &'static str
+    ensures { result.now ≡ sign_text number }
+{
+    if number.micro() < 0 { "-" } else { "" }
+}
+
+fn size(number: Fx) -> u64
+    ensures { result ≡ nat_abs number }
+{
+    number.micro().unsigned_abs()
+}

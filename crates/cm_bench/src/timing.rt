@@ -1,0 +1,107 @@
+//! Two bodies beside each other: their answers compared, and their turns timed.
+
+ghost use Rattle.std.specs.Prelude.{◌<◌};
+
+use crate::bodies::Body;
+use fixed_num::Memory;
+use std::fmt;
+use std::rt::Clock;
+use std::time::Instant;
+
+/// What the bodies go over, and how many turns each is given.
+#[derive(Drop)]
+pub struct Course<'a, C> {
+    pub cases: &'a [C],
+    pub turns: u64,
+    ghost some: { 0 < turns },
+}
+
+/// How a plain body and a fast one compare.
+#[derive(Clone, Copy, Debug)]
+pub struct Pair {
+    /// Whether they gave the same answers.
+    pub same: bool,
+    /// The time of a turn of each.
+    pub plain: Tenths,
+    pub fast: Tenths,
+}
+
+/// A number of tenths, as a time in tenths of a nanosecond; it prints with one decimal.
+#[derive(Clone, Copy, Debug)]
+pub struct Tenths(u128);
+
+impl Tenths {
+    /// How many bytes a microsecond that is, where so many take this time: again in tenths.
+    pub fn bytes_a_us(self, bytes: usize) -> Tenths {
+        Tenths((bytes as u128 * 100_000).checked_div(self.0).unwrap_or(0))
+    }
+}
+
+impl fmt::Display for Tenths {
+    fn fmt<W: fmt::Write>(&self, f: &mut fmt::Formatter<W>) -> fmt::Result {
+        write!(f, "{}.{}", self.0 / 10, self.0 % 10)
+    }
+}
+
+impl<C> Course<'_, C> {
+    /// Compares both bodies at each case, and then times the turns of each.
+    pub fn compare<R, P, F>(&self, rt: &R, plain: &mut P, fast: &mut F) -> anyhow::Result<Pair>
+    where
+        R: Clock,
+        P: Body<C>,
+        F: Body<C>,
+    {
+        let agree = agree(self.cases, plain, fast)?;
+        let (by_plain, plain) = self.timed(rt, plain)?;
+        let (by_fast, fast) = self.timed(rt, fast)?;
+        Ok(Pair {
+            same: agree && by_plain == by_fast,
+            plain,
+            fast,
+        })
+    }
+
+    /// The sum of all turns of a body, and the time of one.
+    fn timed<R: Clock, B: Body<C>>(&self, rt: &R, body: &mut B) -> anyhow::Result<(i64, Tenths)> {
+        let start = Instant::now(rt)?;
+        let sum = self.sum(body)?;
+        let nanos = start.elapsed(rt)?.as_nanos();
+        Ok((sum, Tenths(nanos.saturating_mul(10) / self.turns as u128)))
+    }
+
+    /// The sum of all turns: round after round over the cases, and at last over as many as are left.
+    fn sum<B: Body<C>>(&self, body: &mut B) -> Result<i64, Memory> {
+        let count = self.cases.len() as u64;
+        let Some(rounds) = self.turns.checked_div(count) else {
+            return Ok(0);
+        };
+        let mut sum = 0;
+        for _ in 0..rounds {
+            sum = round(self.cases, body, sum)?;
+        }
+        let left = (self.turns % count) as usize;
+        round(&self.cases[..left], body, sum)
+    }
+}
+
+/// Whether both give the same answer at each case.
+fn agree<C, P: Body<C>, F: Body<C>>(
+    cases: &[C],
+    plain: &mut P,
+    fast: &mut F,
+) -> Result<bool, Memory> {
+    for case in cases {
+        if plain.turn(case)? != fast.turn(case)? {
+            return Ok(false);
+        }
+    }
+    Ok(true)
+}
+
+/// One turn at each case, the answers added to the sum so far: so no round is the same call as another, and none is left out.
+fn round<C, B: Body<C>>(cases: &[C], body: &mut B, mut sum: i64) -> Result<i64, Memory> {
+    for case in cases {
+        sum = sum.wrapping_add(body.turn(case)?);
+    }
+    Ok(sum)
+}
