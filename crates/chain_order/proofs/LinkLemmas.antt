@@ -1,17 +1,12 @@
 -- Which places the rows of links have.
-use Rattle.std.proofs.Common.{◌≡◌, ℕ, zero, suc, ◌+◌, ◌<◌, ◌≤◌, ◌^◌, true, Bool, List, [], ◌∷◌, length, map, get_or, ◌⊎◌, inl, inr, refl, arith}
-use Rattle.std.specs.List.{list_any, All, Contains}
+use Rattle.std.proofs.Common.{◌≡◌, ℕ, zero, suc, ◌+◌, ◌<◌, ◌≤◌, ◌^◌, true, List, [], ◌∷◌, length, get_or, ◌⊎◌, inl, inr, arith}
+use Rattle.std.specs.List.{All, Contains}
 use Rattle.std.proofs.lemmas.Bool.{cases_Bool}
 use Rattle.std.proofs.lemmas.List.{get_or-map, length-map}
 use Rattle.std.proofs.lemmas.List.Elements.{All-nil, All-cons, All-map}
 use Rattle.cm_model.specs.Links.{precedes}
 use Rattle.cm_model.specs.declared.description.CtlDesc.{CtlDesc}
 use Rattle.chain_order.specs.Links.{followers_from, followers, links_of, linked, IsLinks}
-
--- a test of what others are made into
-pub list_any_map : {A B : Type 0} (test : B → Bool) (f : A → B) (xs : List A) → list_any test (map f xs) ≡ list_any (λ x. test (f x)) xs
-list_any_map test f [] = refl
-list_any_map test f (x ∷ xs) = rw (list_any_map test f xs) refl
 
 -- an element is the first one or is among the others
 Contains_cases : {A : Type 0} (x : A) (xs : List A) (y : A) → Contains (x ∷ xs) y → (x ≡ y) ⊎ Contains xs y

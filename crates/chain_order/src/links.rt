@@ -1,12 +1,12 @@
 //! Which controllers precede which, by place.
 
-ghost use Rattle.std.specs.Prelude.{◌≡◌, ◌<◌, ◌^◌, length, take, IfOk, All};
+ghost use Rattle.std.specs.Prelude.{◌≡◌, ◌<◌, ◌^◌, length, IfOk, All};
 ghost use Rattle.std.specs.List.{list_any};
 ghost use Rattle.iface_names.specs.Interfaces.{same_interface};
-ghost use Rattle.cm_model.specs.Links.{precedes, is_among, refs_of, exported_for, reference_for};
+ghost use Rattle.cm_model.specs.Links.{precedes, is_among, refs_of, reference_for};
 ghost use Rattle.chain_order.specs.Links.{followers, links_of, linked};
 
-use cm_model::{CtlDesc, IfaceName, Memory, Name, Params, Seq};
+use cm_model::{CtlDesc, IfaceName, Memory, Name, Seq};
 use std::alloc::Global;
 use std::marker::Model;
 
@@ -87,29 +87,11 @@ fn precedes(controller: &CtlDesc, other: &CtlDesc) -> bool
 }
 
 /// Whether the interface is a reference of the controller.
-#[tactic(auto, using(crate::proofs::LinkLemmas::list_any_map))]
+#[tactic(auto, using(sequence::proofs::ListLemmas::any_map))]
 fn exports(controller: &CtlDesc, interface: &IfaceName) -> bool
     ensures { result ≡ is_among interface.now (refs_of controller.now) }
 {
-    is_any_reference(interface, &controller.name, exported_for(controller))
-}
-
-/// The interfaces for which the controller exports references.
-fn exported_for(controller: &CtlDesc) -> &[IfaceName]
-    ensures { result.now ≡ exported_for controller.now.params controller.now }
-{
-    match &controller.params {
-        Params::Passthrough { .. } => controller.claims.as_slice(),
-        Params::Pid { .. } => first(controller.reads.as_slice()),
-        _ => &[],
-    }
-}
-
-/// The first of these, alone.
-fn first(interfaces: &[IfaceName]) -> &[IfaceName]
-    ensures { result.now ≡ take 1 interfaces.now }
-{
-    &interfaces[..interfaces.len().min(1)]
+    is_any_reference(interface, &controller.name, controller.exported_for())
 }
 
 /// Whether a claim is a reference of the controller of this name, which exports one for each of its own interfaces here.

@@ -3,7 +3,7 @@
 
 use bodies::{FastMul, FastOver, FastText, PlainMul, PlainOver, PlainText};
 use plan::Plan;
-use reading::{ScriptReader, TomlReader};
+use reading::{DescriptionChecker, DescriptionReader, ScriptReader, TomlReader};
 use std::process::ExitCode;
 use std::rt::{Clock, Env};
 use std::{env, io};
@@ -11,6 +11,7 @@ use timing::{Course, Pair};
 
 mod bodies;
 mod cases;
+mod described;
 mod plain;
 mod plan;
 mod reading;
@@ -47,9 +48,37 @@ where
     let alloc = rt.alloc();
     let text = course.compare(rt, &mut PlainText::make(alloc), &mut FastText::make(alloc))?;
     tell(rt, plan, "text", "bytes", &text)?;
+    let checked = compare_checks(rt, plan)?;
     let read = compare_readers(rt, plan)?;
-    Ok(mul.same && over.same && text.same && read)
+    Ok(mul.same && over.same && text.same && checked && read)
 }
+
+/// Prints the line of the checks, over a description near every limit: what reading it takes, and what checking it takes besides.
+fn compare_checks<R>(rt: &R, plan: Plan) -> anyhow::Result<bool>
+where
+    R: Clock + Print + AllocGlobal,
+{
+    let alloc = rt.alloc();
+    let cases = [described::made(alloc)?];
+    let course = Course {
+        cases: cases.as_slice(),
+        turns: plan.turns / CHECK_SHARE + 1,
+    };
+    let mut reader = DescriptionReader { alloc };
+    let pair = course.compare(rt, &mut reader, &mut DescriptionChecker { alloc })?;
+    if !pair.same {
+        println!(rt; "check: bytes differ")?;
+    } else if plan.turns == 1 {
+        println!(rt; "check: same bytes")?;
+    } else {
+        let (read, checked) = (pair.plain, pair.fast.besides(pair.plain));
+        println!(rt; "check: same bytes, {read} ns read, {checked} ns checked")?;
+    }
+    Ok(pair.same)
+}
+
+/// A description is read in some hundred microseconds, so it gets one turn for so many of the others.
+const CHECK_SHARE: u64 = 2_000;
 
 /// Prints the line of the readers, the kit's of TOML beside that of scripts over as many bytes, and says whether both read all.
 fn compare_readers<R>(rt: &R, plan: Plan) -> anyhow::Result<bool>

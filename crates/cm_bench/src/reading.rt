@@ -1,8 +1,10 @@
-//! The readers that are timed: each reads a whole text and answers how many bytes it was, or -1 where it was refused.
+//! The readers that are timed: each goes over a whole text and answers how many bytes it was, or -1 where it was refused.
 
 use crate::bodies::Body;
 use crate::texts::Texts;
-use cm_model::{Forms, ScriptFault};
+use cm_model::{CheckFault, DescFault, ScriptFault, every_form};
+use desc_check::check;
+use desc_text::read_description;
 use fixed_num::Memory;
 use script_text::read_script_with;
 use std::alloc::Global;
@@ -36,7 +38,7 @@ impl Body<Texts> for ScriptReader {
         if text.len() > MOST_BYTES {
             return Ok(-1);
         }
-        match read_script_with(self.alloc, EVERY_FORM, text, 1) {
+        match read_script_with(self.alloc, every_form(), text, 1) {
             Ok(_script) => Ok(text.len() as i64),
             Err(ScriptFault::Memory) => Err(Memory),
             Err(_) => Ok(-1),
@@ -47,21 +49,39 @@ impl Body<Texts> for ScriptReader {
 /// So long a text has no more lines than can be numbered.
 const MOST_BYTES: usize = 1 << 30;
 
-/// Every form of line.
-const EVERY_FORM: Forms = Forms {
-    first_session: true,
-    further_session: true,
-    load: true,
-    configure: true,
-    cleanup: true,
-    unload: true,
-    rate: true,
-    send: true,
-    switch: true,
-    hardware: true,
-    await_cycles: true,
-    list_controllers: true,
-    list_interfaces: true,
-    list_components: true,
-    schedule: true,
-};
+/// The reader of descriptions, alone.
+#[derive(Drop)]
+pub struct DescriptionReader {
+    pub alloc: Global,
+}
+
+impl Body<String> for DescriptionReader {
+    fn turn(&mut self, case: &String) -> Result<i64, Memory> {
+        match read_description(self.alloc, case.as_bytes()) {
+            Ok(_description) => Ok(case.len() as i64),
+            Err(DescFault::Memory) => Err(Memory),
+            Err(_) => Ok(-1),
+        }
+    }
+}
+
+/// The reader of descriptions, and then the checks.
+#[derive(Drop)]
+pub struct DescriptionChecker {
+    pub alloc: Global,
+}
+
+impl Body<String> for DescriptionChecker {
+    fn turn(&mut self, case: &String) -> Result<i64, Memory> {
+        let description = match read_description(self.alloc, case.as_bytes()) {
+            Ok(description) => description,
+            Err(DescFault::Memory) => return Err(Memory),
+            Err(_) => return Ok(-1),
+        };
+        match check(self.alloc, description) {
+            Ok(_checked) => Ok(case.len() as i64),
+            Err(CheckFault::Memory) => Err(Memory),
+            Err(_) => Ok(-1),
+        }
+    }
+}

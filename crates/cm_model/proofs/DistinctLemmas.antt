@@ -8,6 +8,7 @@ use Rattle.std.proofs.lemmas.Option.{slice_get_within, get_or_from_slice_get}
 use Rattle.std.proofs.lemmas.List.Concat.{flat_map-append}
 use Rattle.std.proofs.lemmas.Map.Keys.{IsDistinct-push, apart_from_distinct}
 use Rattle.cm_model.specs.Valid.{repeated_after}
+use Rattle.sequence.proofs.ListLemmas.{all_append}
 
 -- ---- What holds of all
 
@@ -20,11 +21,6 @@ all_of P holds (x ∷ xs) = (holds x, all_of P holds xs)
 pub all_so : {A : Type 0} (P Q : A → Type 0) → ((x : A) → P x → Q x) → (xs : List A) → AllByRecursion P xs → AllByRecursion Q xs
 all_so P Q follows [] all = tt
 all_so P Q follows (x ∷ xs) all = (follows x all.0, all_so P Q follows xs all.1)
-
--- what holds of all of two lists holds of all of both together
-pub all_append : {A : Type 0} (P : A → Type 0) (xs ys : List A) → AllByRecursion P xs → AllByRecursion P ys → AllByRecursion P (xs ++ ys)
-all_append P [] ys all others = others
-all_append P (x ∷ xs) ys all others = (all.0, all_append P xs ys all.1 others)
 
 -- what holds of what each becomes holds of all that they become
 pub all_map : {A B : Type 0} (P : B → Type 0) (f : A → B) (xs : List A) → AllByRecursion (λ x. P (f x)) xs → AllByRecursion P (map f xs)

@@ -7,7 +7,7 @@ use Rattle.cm_model.specs.Reading.{◌>>=◌}
 use Rattle.cm_model.specs.Forms.{Form, item_path, inside, tables_from, array_read, tables_of}
 use Rattle.cm_model.specs.Tables.{Table, required, required_read, defaulted, defaulted_read, walk}
 use Rattle.cm_model.specs.declared.faults.DescFault.{DescFault}
-use Rattle.cm_model.proofs.DistinctLemmas.{all_append}
+use Rattle.sequence.proofs.ListLemmas.{all_append}
 use Rattle.cm_model.proofs.ReadingLemmas.{bind_keeps}
 
 -- how a value or a table is read at its path

@@ -4,7 +4,6 @@ pub mod DescribedLemmas
 pub mod DocumentLemmas
 pub mod LegalLemmas
 pub mod LineLemmas
-pub mod ScriptLemmas
 pub mod WholeLemmas
 pub mod DistinctLemmas
 pub mod GivenLemmas

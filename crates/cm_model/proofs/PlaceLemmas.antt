@@ -21,7 +21,8 @@ use Rattle.cm_model.specs.declared.description.Description.{Description}
 use Rattle.cm_model.specs.declared.description.JointDesc.{JointDesc}
 use Rattle.cm_model.specs.declared.faults.CheckFault.{CheckFault}
 use Rattle.cm_model.specs.declared.faults.CheckFault.TheVariants.{NameTwice}
-use Rattle.cm_model.proofs.DistinctLemmas.{AreApart, all_of, all_so, all_append, all_map, all_flat_map, IsDistinct-append, IsDistinct-map, flat_map-flat_map, repeated_after-IsDistinct, one_place}
+use Rattle.sequence.proofs.ListLemmas.{all_append}
+use Rattle.cm_model.proofs.DistinctLemmas.{AreApart, all_of, all_so, all_map, all_flat_map, IsDistinct-append, IsDistinct-map, flat_map-flat_map, repeated_after-IsDistinct, one_place}
 use Rattle.cm_model.proofs.KindLemmas.{KindsOnce, IsDescribed-DescribesOnce}
 use Rattle.cm_model.proofs.ReadingLemmas.{bind_Ok}
 

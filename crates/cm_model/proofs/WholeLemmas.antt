@@ -62,7 +62,7 @@ console-step : (s : State) (who : ℕ) (call : Call) → IsConsole call → nat_
 unfolding step
 console-step s who (Load name) asked known = (load s name, rw known refl, load_from-SameLoop s (place_of s name))
 console-step s who ListControllers asked known = ((s, reply.Controllers (controller_lines s)), rw known refl, same s)
-console-step s who _ asked known = absurd asked
+console-step s who _ asked known = let no : false ≡ true = asked in cc
 
 -- ---- Who called what
 

@@ -7,15 +7,12 @@ pub mod Described
 pub mod Links
 pub mod Valid
 pub mod Places
-pub mod Walk
-pub mod Checks
 pub mod Lines
 pub mod Built
 pub mod CallText
 pub mod LineForms
 pub mod ScriptRules
 pub mod ScriptLaws
-pub mod Script
 pub mod Document
 pub mod Words
 pub mod State

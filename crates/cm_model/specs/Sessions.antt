@@ -1,19 +1,19 @@
 -- What a history must hold of a document: every session's lines, each once and in order, and the requested cycles.
-use Rattle.std.specs.Prelude.{◌≡◌, ℕ, zero, suc, ◌≤◌, ◌==◌, List, [], ◌∷◌, ◌++◌, length, map, filter, slice_get, IfSome}
+use Rattle.std.specs.Prelude.{◌≡◌, ℕ, zero, suc, ◌≤◌, ◌==◌, List, [], ◌∷◌, ◌++◌, length, map, filter, slice_get, IfSome, IsTrue}
 use Rattle.std.specs.List.{AllByRecursion}
+use Rattle.cm_model.specs.Built.{built}
+use Rattle.cm_model.specs.ScriptLaws.{has_form}
 use Rattle.cm_model.specs.declared.call.Call.{Call}
-use Rattle.cm_model.specs.declared.call.Call.TheVariants.{Load, ListControllers, Begin, End, Close}
+use Rattle.cm_model.specs.declared.call.Call.TheVariants.{Begin, End, Close}
 use Rattle.cm_model.specs.declared.call.Entry.{Entry}
 use Rattle.cm_model.specs.declared.reply.Reply.{Reply}
 use Rattle.cm_model.specs.declared.reply.Reply.TheVariants as reply
 use Rattle.cm_model.specs.declared.document.Document.{Document}
 use Rattle.cm_model.specs.declared.script.SessionText.{SessionText}
 
--- a call that a session can make, of those that are answered today
+-- a call that a session can make today: its form is built
 abbrev pub IsConsole : Call → Type 0
-IsConsole (Load _) = Unit {0}
-IsConsole ListControllers = Unit {0}
-IsConsole _ = ⊥
+IsConsole c = IsTrue (has_form built c)
 
 -- each line of each session is a console call
 abbrev pub AllConsole : List SessionText → Type 0

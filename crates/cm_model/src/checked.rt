@@ -41,4 +41,12 @@ impl Checked {
     {
         &self.description
     }
+
+    /// The description, no longer held.
+    pub fn into_description(self) -> Description
+        ensures same { result ≡ self }
+        ensures valid { IsValid self }
+    {
+        self.description
+    }
 }

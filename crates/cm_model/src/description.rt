@@ -1,6 +1,7 @@
 //! The description of a robot: its components with their joints, and its controllers.
 
-ghost use Rattle.std.specs.Prelude.{◌≡◌};
+ghost use Rattle.std.specs.Prelude.{◌≡◌, take};
+ghost use Rattle.cm_model.specs.Links.{exported_for};
 ghost use Rattle.cm_model.specs.Params.{kind_of};
 
 use crate::life::Life;
@@ -106,6 +107,26 @@ pub struct CtlDesc {
     pub params: Params,
 }
 
+impl CtlDesc {
+    /// The interfaces for which it exports references, one for each: a passthrough its claims, a pid what it reads first.
+    pub fn exported_for(&self) -> &[IfaceName]
+        ensures { result.now ≡ exported_for self.now.params self.now }
+    {
+        match &self.params {
+            Params::Passthrough { .. } => self.claims.as_slice(),
+            Params::Pid { .. } => first(self.reads.as_slice()),
+            _ => &[],
+        }
+    }
+}
+
+/// The first of these alone, or none where there is none.
+fn first(interfaces: &[IfaceName]) -> &[IfaceName]
+    ensures { result.now ≡ take 1 interfaces.now }
+{
+    &interfaces[..interfaces.len().min(1)]
+}
+
 /// A controller's parameters, by its kind. A count of claims or reads is their number, or 4,294,967,295 where that is smaller.
 #[derive(Clone, Debug, PartialEq, Eq, Drop)]
 pub enum Params {
@@ -169,13 +190,4 @@ impl Params {
             Params::Mock { .. } => CtlKind::Mock,
         }
     }
-}
-
-/// The kinds of table in the shorter descriptions that the program accepts today.
-#[derive(Clone, Copy, Debug, PartialEq, Eq)]
-pub enum TableKind {
-    /// The top table.
-    Top,
-    /// The table of a controller.
-    Controller,
 }

@@ -1,13 +1,13 @@
 //! A whole document.
 
-use crate::description::Description;
+use crate::checked::Checked;
 use crate::script::Script;
 
 /// An accepted description with an accepted script.
-#[derive(Clone, Debug, PartialEq, Eq, Drop)]
+#[derive(Debug, PartialEq, Eq, Drop)]
 pub struct Document {
-    /// What is described.
-    pub description: Description,
+    /// What is described, without a fault.
+    pub description: Checked,
     /// What the sessions ask.
     pub script: Script,
 }

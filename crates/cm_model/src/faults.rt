@@ -130,10 +130,10 @@ pub enum ScriptFault {
     /// A line without an accepted form, or longer than 65,536 bytes; or the missing separator, one past the last line.
     #[error("bad_line {0}")]
     BadLine(u32),
-    /// A call before any session.
+    /// A call before any session, or a step of a session that is not there.
     #[error("no_session {0}")]
     NoSession(u32),
-    /// The 10,001st call.
+    /// The ninth session, the 10,001st call or turn, or a call with too many names, points or values.
     #[error("too_many {0}")]
     TooMany(u32),
     /// Memory ran out.

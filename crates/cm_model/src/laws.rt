@@ -1,4 +1,4 @@
-//! Laws of the definitions: each is the contract of a function that does nothing, and holds of every document.
+//! Laws of the definitions of descriptions, documents and histories: each is the contract of a function that does nothing.
 
 ghost use Rattle.std.specs.Prelude.{◌≡◌, ◌↔◌, ℕ, true, List, length, take, Ok, Some, is_ok, All, Contains};
 ghost use Rattle.toml.specs.Data.{Members};
@@ -6,33 +6,28 @@ ghost use Rattle.cm_model.specs.declared.description.CtlDesc.{CtlDesc};
 ghost use Rattle.cm_model.specs.declared.document.Document.{Document};
 ghost use Rattle.cm_model.specs.declared.state.Blanks.{Blanks};
 ghost use Rattle.cm_model.specs.Forms.{fault_in};
+ghost use Rattle.cm_model.specs.Built.{built};
 ghost use Rattle.cm_model.specs.Described.{description_in, all_faults, has_form};
 ghost use Rattle.cm_model.specs.Document.{document};
 ghost use Rattle.cm_model.specs.Links.{precedes_far, IsChain};
 ghost use Rattle.cm_model.specs.Machine.{IsLegal};
 ghost use Rattle.cm_model.specs.Places.{EachStandsOnce};
 ghost use Rattle.cm_model.specs.Scheduled.{scheduled};
-ghost use Rattle.cm_model.specs.Script.{IsSmall};
-ghost use Rattle.cm_model.specs.Sessions.{AllConsole, IsWhole, IsUneventful};
+ghost use Rattle.cm_model.specs.ScriptLaws.{UsesForms};
+ghost use Rattle.cm_model.specs.Sessions.{IsWhole, IsUneventful};
+ghost use Rattle.cm_model.specs.Valid.{IsValid};
 
 use crate::checked::Checked;
-
-/// The script of an accepted document has one session at most and at most 10,000 calls, each of them a session's: so numbers
-/// of sessions, lines and loads stay far below 2^32.
-pub fn accepted_scripts_are_small()
-    ensures small { (bytes : List ℕ) (d : Document) → document bytes ≡ Ok d → IsSmall d.script }
-    ensures console { (bytes : List ℕ) (d : Document) → document bytes ≡ Ok d → AllConsole d.script.sessions }
-{}
 
 /// Each scheduled history is legal: from boot each of its entries is a step of the written manager.
 pub fn scheduled_histories_are_legal()
     ensures { (d : Document) (blanks : Blanks) → IsLegal d.description blanks (length d.script.sessions) (scheduled d blanks) }
 {}
 
-/// Each history that is scheduled for an accepted document is whole for it: it has every session's lines, each once and in
-/// order, the begin and the end of each cycle, the close, and nothing else.
+/// Each history that is scheduled for a document whose lines have forms that are built is whole for it: it has every session's
+/// lines, each once and in order, the begin and the end of each cycle, the close, and nothing else.
 pub fn scheduled_histories_are_whole()
-    ensures { (bytes : List ℕ) (d : Document) (blanks : Blanks) → document bytes ≡ Ok d → IsWhole d (scheduled d blanks) }
+    ensures { (d : Document) (blanks : Blanks) → UsesForms built d.script → IsWhole d (scheduled d blanks) }
 {}
 
 /// Nothing is decided in a scheduled history, and the record of each cycle is empty.
@@ -57,6 +52,13 @@ pub fn an_accepted_tree_has_its_form()
 pub fn precedes_at_a_distance()
     ensures { (cs : List CtlDesc) (c d : CtlDesc) → Contains cs c
         → (precedes_far cs c d ≡ true) ↔ ((es : List CtlDesc) × All (Contains cs) es × IsChain c es d) }
+{}
+
+/// The description of an accepted document is one that a tree stands for, and no check finds a fault in it. So each of its
+/// interfaces stands at one place.
+pub fn accepted_documents_are_valid()
+    ensures valid { (bytes : List ℕ) (d : Document) → document bytes ≡ Ok d → IsValid d.description }
+    ensures places { (bytes : List ℕ) (d : Document) → document bytes ≡ Ok d → EachStandsOnce d.description }
 {}
 
 /// Each interface of a checked description stands at one place. So a place on the one hand, and a name with whether it is a

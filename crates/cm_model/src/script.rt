@@ -1,7 +1,7 @@
 //! Scripts: what each session asks, line by line, and the turns in which sessions and the loop go on.
 
 ghost use Rattle.std.specs.Prelude.{◌≡◌};
-ghost use Rattle.cm_model.specs.Built.{built};
+ghost use Rattle.cm_model.specs.Built.{built, every_form};
 
 use crate::call::Call;
 use iface_names::Name;
@@ -65,6 +65,29 @@ pub fn built() -> Forms
     }
 }
 
+/// Every form.
+pub fn every_form() -> Forms
+    ensures { result ≡ every_form }
+{
+    Forms {
+        first_session: true,
+        further_session: true,
+        load: true,
+        configure: true,
+        cleanup: true,
+        unload: true,
+        rate: true,
+        send: true,
+        switch: true,
+        hardware: true,
+        await_cycles: true,
+        list_controllers: true,
+        list_interfaces: true,
+        list_components: true,
+        schedule: true,
+    }
+}
+
 /// What the first word of a line says that the line is.
 #[derive(Clone, Copy, Debug, PartialEq, Eq)]
 pub enum Verb {
@@ -117,15 +140,6 @@ pub enum ScriptLine {
     End,
 }
 
-/// What a line of the shorter scripts says that the program accepts today.
-#[derive(Clone, Debug, PartialEq, Eq, Drop)]
-pub enum Statement {
-    /// A session of this name begins.
-    Session(Name),
-    /// The session makes this call.
-    Call(Call),
-}
-
 /// A session and the calls that it makes, in order.
 #[derive(Clone, Debug, PartialEq, Eq, Drop)]
 pub struct SessionText {
@@ -144,15 +158,6 @@ pub enum Turn {
     Begin,
     /// The cycle that is aloft ends.
     End,
-}
-
-/// What a shorter script says up to some line.
-#[derive(Debug, PartialEq, Eq, Drop)]
-pub struct Written {
-    /// The session so far, once its line stands.
-    pub session: Option<SessionText>,
-    /// How many calls stand, at most 10,000.
-    pub calls: u32,
 }
 
 /// All sessions, the number of each being its place, and the turns.

@@ -1,4 +1,3 @@
-mod DescriptionLemmas
 pub mod ListLemmas
 pub mod PartsLemmas
 pub mod RoomLemmas

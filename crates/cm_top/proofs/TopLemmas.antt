@@ -1,37 +1,48 @@
 -- From the parts of a run to what it promises.
-use Rattle.std.proofs.Common.{◌≡◌, ℕ, ◌+◌, ◌<◌, ◌≤◌, ◌^◌, List, [], ◌∷◌, length, map, Option, Some, None, Ok, true, false, refl, inl, inr, ◌⊎◌, arith}
+use Rattle.std.proofs.Common.{◌≡◌, ℕ, ◌+◌, ◌<◌, ◌≤◌, ◌^◌, List, [], ◌∷◌, length, map, Option, Some, None, Ok, true, false, refl, ap, sym, ◌∙◌, inl, inr, ◌⊎◌, arith}
 use Rattle.std.specs.Prelude.{sum_by, IfSome, IsSome, nat_lt}
 use Rattle.std.proofs.lemmas.Bool.Decides.{nat_tests}
+use Rattle.std.proofs.lemmas.List.Sums.{sum_by-cons}
 use Rattle.std.specs.Io.KnownBytes.{Keeps, Appends, IsAtEnd}
 use Rattle.std.proofs.KnownBytes.{Appends-kept}
 use Rattle.outside_io.specs.Bytes.{AllFlushed, GivesAll}
 use Rattle.outside_io.proofs.Prefixes.{AppendsPrefix-all}
-use Rattle.cm_model.specs.Document.{document}
-use Rattle.cm_model.specs.Scheduled.{start, scheduled}
+use Rattle.cm_model.specs.Built.{built}
+use Rattle.cm_model.specs.Document.{accepted_script, document}
+use Rattle.cm_model.specs.Lines.{parts_of}
+use Rattle.cm_model.specs.ScriptLaws.{MeetsRules, UsesForms}
 use Rattle.cm_model.specs.Trace.{output}
 use Rattle.cm_model.specs.declared.document.Document.{Document}
+use Rattle.cm_model.specs.declared.script.Script.{Script}
 use Rattle.cm_model.specs.declared.script.SessionText.{SessionText}
 use Rattle.cm_model.specs.declared.state.Blanks.{Blanks}
-use Rattle.cm_model.proofs.DocumentLemmas.{document-AllConsole}
+use Rattle.cm_model.proofs.DocumentLemmas.{document-AcceptedParts}
 use Rattle.cm_model.proofs.LegalLemmas.{scheduled-IsLegal}
 use Rattle.cm_model.proofs.WholeLemmas.{scheduled-IsWhole}
+use Rattle.script_text.proofs.ReadScriptLemmas.{read_script_meets, read_script_uses}
 use Rattle.cm_top.specs.Room.{lines_left}
 use Rattle.cm_top.specs.Status.{Ran, Wrote, status_of, status_of_document}
 use Rattle.cm_top.specs.declared.status.Status.{Status}
 use Rattle.cm_top.specs.declared.status.Status.TheVariants as status
 
--- one session at most has 10,000 lines at most
-pub small_room : (sessions : List SessionText) → length sessions ≤ 1 → sum_by (λ (t : SessionText). length t.lines) sessions ≤ 10000
-    → length sessions + lines_left (map (λ (t : SessionText). t.lines) sessions) < 2 ^ 32
-small_room [] one few = omega arith
-small_room (s ∷ []) one few = omega arith
-small_room (s ∷ t ∷ others) one few = absurd (omega arith)
+-- the lines that sessions have together are their calls
+lines_left_all : (sessions : List SessionText) → lines_left (map (λ (t : SessionText). t.lines) sessions) ≡ sum_by (λ (t : SessionText). length t.lines) sessions
+lines_left_all [] = refl
+lines_left_all (s ∷ sessions) = ap (λ n. length s.lines + n) (lines_left_all sessions) ∙ sym (sum_by-cons (λ (t : SessionText). length t.lines) s sessions)
 
--- the job `run` looks at no turns
-pub schedule_is_unused : (d : Document) (blanks : Blanks)
-    → scheduled (record { description = d.description; script = record { sessions = d.script.sessions; schedule = [] } }) blanks ≡ scheduled d blanks
-unfolding scheduled start
-schedule_is_unused d blanks = refl
+-- a script that meets the rules leaves room for each of its loads
+pub rules_room : (s : Script) → MeetsRules s → length s.sessions + lines_left (map (λ (t : SessionText). t.lines) s.sessions) < 2 ^ 32
+rules_room s rules = omega (arith, rules.few_sessions, rules.few_calls, lines_left_all s.sessions)
+
+-- what an accepted script is
+accepted_script-Rules : (lines : ℕ) (text : Option (List ℕ)) (s : Script) → accepted_script lines text ≡ Ok s → MeetsRules s × UsesForms built s
+accepted_script-Rules lines None s e = cc
+accepted_script-Rules lines (Some text) s e = (read_script_meets built (lines + 2) text s e, read_script_uses built (lines + 2) text s e)
+
+-- the script of an accepted document meets the rules, and has the forms that are built
+pub document-Rules : (bytes : List ℕ) (d : Document) → document bytes ≡ Ok d → MeetsRules d.script × UsesForms built d.script
+document-Rules bytes d accepted =
+    let parts = parts_of bytes in accepted_script-Rules parts.lines parts.script d.script (document-AcceptedParts bytes d accepted).script
 
 -- what was written of an accepted document's trace says what its run promises
 pub Wrote-Ran : (bytes : List ℕ) (d : Document) (blanks : Blanks) (old new : Option (List ℕ)) (flushed : Option ℕ) (ended : Status)
@@ -43,7 +54,7 @@ Wrote-Ran bytes d blanks old new flushed status.Ok short accepted wrote = record
   taken = wrote.0;
   all_flushed = wrote.1;
   legal = scheduled-IsLegal d blanks;
-  whole = scheduled-IsWhole d blanks (document-AllConsole bytes d accepted);
+  whole = scheduled-IsWhole d blanks (document-Rules bytes d accepted).1.calls;
 }
 Wrote-Ran bytes d blanks old new flushed status.BadWords short accepted wrote = wrote
 Wrote-Ran bytes d blanks old new flushed (status.BadDescription p) short accepted wrote = absurd wrote

@@ -4,9 +4,9 @@
 pub use status::Status;
 pub use top::{run, run_alone};
 
-mod description;
 mod desk;
-mod script;
+mod document;
+mod parts;
 mod session;
 mod status;
 mod top;

@@ -1,11 +1,11 @@
 //! Sessions over the desk, and the order of the job `run`.
 
-ghost use Rattle.std.specs.Prelude.{◌≡◌, ◌+◌, ◌<◌, ◌^◌, [], length, map, IfOk};
+ghost use Rattle.std.specs.Prelude.{◌≡◌, ◌+◌, ◌<◌, ◌^◌, length, map, IfOk};
 ghost use Rattle.cm_model.specs.Scheduled.{settle, settle_all, looped, cycle, cycles, finish, start, scheduled};
 ghost use Rattle.cm_top.specs.Room.{Room, lines_left, IsLoops};
 
 use crate::desk::{boot, step};
-use cm_model::{Blanks, Call, Description, Entry, Memory, Reply, Seq, SessionText, State};
+use cm_model::{Blanks, Call, Checked, Entry, Memory, Reply, Script, Seq, State};
 use std::alloc::Global;
 
 /// How far a run has come: its state, its history, and for each session the lines that are left.
@@ -25,17 +25,19 @@ impl<'a> Job<'a> {
     #[tactic(auto, unfolding(cm_model::specs::Scheduled::start))]
     pub fn start(
         alloc: Global,
-        description: Description,
-        sessions: &'a [SessionText],
+        checked: Checked,
+        script: &'a Script,
         blanks: Blanks,
     ) -> Result<Job<'a>, Memory>
-        requires { length sessions.now + lines_left (map (λ s. s.lines) sessions.now) < 2 ^ 32 }
-        ensures { IfOk result (λ job. progress_of job ≡ start (record { description = description; script = record { sessions = sessions.now; schedule = [] } }) blanks) }
+        requires { length script.now.sessions + lines_left (map (λ s. s.lines) script.now.sessions) < 2 ^ 32 }
+        ensures { IfOk result (λ job. progress_of job ≡ start (record { description = checked; script = script.now }) blanks) }
     {
+        let sessions = script.sessions.as_slice();
         let mut rests = Vec::new(alloc);
         for session in sessions {
             rests.push(session.lines.as_slice())?;
         }
+        let description = checked.into_description();
         let state = boot(alloc, description, blanks, sessions.len() as u32);
         Ok(Job {
             state,
@@ -125,19 +127,19 @@ impl<'a> Job<'a> {
     }
 }
 
-/// The history of the job `run` over a description and the sessions of its script.
+/// The history of the job `run` over a checked description and a script.
 #[tactic(auto, unfolding(cm_model::specs::Scheduled::scheduled))]
 pub fn history(
     alloc: Global,
-    description: Description,
-    sessions: &[SessionText],
+    checked: Checked,
+    script: &Script,
     blanks: Blanks,
 ) -> Result<Seq<Entry>, Memory>
-    requires { length sessions.now + lines_left (map (λ s. s.lines) sessions.now) < 2 ^ 32 }
-    ensures { IfOk result (λ made. made ≡ scheduled (record { description = description; script = record { sessions = sessions.now; schedule = [] } }) blanks) }
+    requires { length script.now.sessions + lines_left (map (λ s. s.lines) script.now.sessions) < 2 ^ 32 }
+    ensures { IfOk result (λ made. made ≡ scheduled (record { description = checked; script = script.now }) blanks) }
 {
-    let count = description.cycles;
-    let job = Job::start(alloc, description, sessions, blanks)?;
+    let count = checked.description().cycles;
+    let job = Job::start(alloc, checked, script, blanks)?;
     let job = job.cycles(alloc, count)?.finish(alloc)?;
     Ok(job.into_history())
 }

@@ -1,21 +1,19 @@
 //! The top call: a document in, its trace out.
 
-ghost use Rattle.std.specs.Prelude.{◌≡◌, ◌+◌, ◌<◌, ◌≤◌, ◌⊎◌, ◌↔◌, length, map, string_bytes, IfErr, true, false};
+ghost use Rattle.std.specs.Prelude.{◌≡◌, ◌+◌, ◌<◌, ◌≤◌, ◌⊎◌, ◌↔◌, length, map, string_bytes, true, false};
 ghost use Rattle.std.specs.Io.KnownBytes.{Keeps};
-ghost use Rattle.sequence.specs.Answers.{Answers};
 ghost use Rattle.outside_io.specs.Bytes.{AllFlushed};
 ghost use Rattle.outside_io.specs.Faults.{Rose};
-ghost use Rattle.cm_model.specs.Document.{document};
 ghost use Rattle.cm_model.specs.Words.{is_asked};
-ghost use Rattle.cm_model.specs.Script.{IsSmall};
+ghost use Rattle.cm_model.specs.ScriptLaws.{MeetsRules};
 ghost use Rattle.cm_model.specs.Trace.{output};
-ghost use Rattle.cm_top.specs.Status.{Ran, Wrote, IsPlain, IsPlainFault, ComesBeforeWriting, ComesOfBytes};
+ghost use Rattle.cm_top.specs.Status.{Ran, Wrote, IsPlain, ComesBeforeWriting, ComesOfBytes};
 ghost use Rattle.cm_top.specs.Calls.Run.{Runs};
 
+use crate::document::read_document;
 use crate::session::history;
 use crate::status::Status;
 use crate::trace::{OutFault, write_trace};
-use crate::{description, script};
 use cm_model::{Blanks, Document, DocumentFault};
 use outside_io::{Gate, Pace, ReadFault, Sink, Source, read_whole};
 use std::alloc::Global;
@@ -113,26 +111,10 @@ fn run_bytes<K: Sink>(alloc: Global, bytes: &[u8], sink: &mut K, stock: Blanks) 
     }
 }
 
-/// The document that these bytes are, or its first fault.
-#[tactic(auto, unfolding(cm_model::specs::Document::document_of))]
-fn read_document(alloc: Global, bytes: &[u8]) -> Result<Document, DocumentFault>
-    requires { length bytes.now ≤ 1048576 }
-    ensures reads { Answers DocumentFault.Memory (document bytes.now) result }
-    ensures plain { IfErr result IsPlainFault }
-{
-    let parts = script::divide(bytes);
-    let description = description::accepted(alloc, parts.description)?;
-    let script = script::accepted(alloc, parts.lines, parts.script)?;
-    Ok(Document {
-        description,
-        script,
-    })
-}
-
 /// Runs an accepted document and writes its trace.
 #[tactic(auto, unfolding(cm_model::specs::Trace::output))]
 fn run_document<K: Sink>(alloc: Global, document: Document, sink: &mut K, stock: Blanks) -> Status
-    requires { IsSmall document.script }
+    requires { MeetsRules document.script }
     ensures wrote { Wrote (output document stock) (K.taken sink.old) (K.taken sink.new) (K.flushed sink.new) result }
     ensures write_fault { result ≡ Status.WriteFault → Rose (K.faults sink.old) (K.faults sink.new) }
     ensures later { K.faults sink.old ≤ K.faults sink.new }
@@ -141,11 +123,10 @@ fn run_document<K: Sink>(alloc: Global, document: Document, sink: &mut K, stock:
         description,
         script,
     } = document;
-    let sessions = script.sessions.as_slice();
-    let Ok(history) = history(alloc, description, sessions, stock) else {
+    let Ok(history) = history(alloc, description, &script, stock) else {
         return Status::Memory;
     };
-    match write_trace(alloc, sink, sessions, history.as_slice()) {
+    match write_trace(alloc, sink, script.sessions.as_slice(), history.as_slice()) {
         Ok(()) => flush(sink),
         Err(OutFault::Failed) => Status::WriteFault,
         Err(OutFault::Memory) => Status::Memory,

@@ -5,7 +5,7 @@ use Rattle.std.specs.List.{list_any}
 use Rattle.std.proofs.lemmas.Bool.{cases_Bool}
 use Rattle.std.proofs.lemmas.List.{map-append}
 use Rattle.cm_model.specs.Valid.{repeated_after, apart}
-use Rattle.desc_check.proofs.InterfaceLemmas.{any_seen}
+use Rattle.sequence.proofs.ListLemmas.{any_map}
 use Rattle.cm_model.specs.declared.faults.CheckFault.TheVariants.{NameTwice}
 
 -- what is seen of the first that repeats is the first of what is seen that does
@@ -14,8 +14,8 @@ pub repeated_seen : {A B : Type 0} (same : B → B → Bool) (f : A → B) (seen
 repeated_seen same f seen [] = refl
 repeated_seen same f seen (x ∷ xs) =
     elim (cases_Bool (list_any (λ y. same (f x) (f y)) seen)) [
-      | inl found ↦ rw (any_seen (same (f x)) f seen, found) refl
-      | inr none ↦ rw (any_seen (same (f x)) f seen, none, ← map-append f seen (x ∷ [])) (repeated_seen same f (seen ++ x ∷ []) xs)
+      | inl found ↦ rw (any_map (same (f x)) f seen, found) refl
+      | inr none ↦ rw (any_map (same (f x)) f seen, none, ← map-append f seen (x ∷ [])) (repeated_seen same f (seen ++ x ∷ []) xs)
     ]
 
 -- where nothing repeats, what is seen of it differs

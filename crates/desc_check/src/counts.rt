@@ -6,7 +6,6 @@ ghost use Rattle.cm_model.specs.Links.{joints_of, commands_of, commands_of_joint
 ghost use Rattle.cm_model.specs.Valid.{limited, few_enough};
 ghost use Rattle.desc_check.specs.Counts.{counted};
 
-use crate::references::exported_for;
 use cm_model::{CheckFault, CompDesc, CtlDesc, Description, JointDesc, What};
 
 /// None of the counts is above its limit: else TooMany of the first that is.
@@ -98,7 +97,7 @@ fn references(controllers: &[CtlDesc]) -> usize
 {
     let mut count = 0usize;
     for controller in controllers {
-        count = count.saturating_add(exported_for(controller).len());
+        count = count.saturating_add(controller.exported_for().len());
     }
     count
 }

@@ -96,7 +96,7 @@ fn no_interface(controller: &CtlDesc, interface: &IfaceName) -> Result<CheckFaul
 }
 
 /// Whether the interface is a command interface of these components, or one of these references.
-#[tactic(auto, using(crate::proofs::InterfaceLemmas::any_of_both))]
+#[tactic(auto, using(sequence::proofs::ListLemmas::any_append))]
 fn is_claimable(components: &[CompDesc], references: &[IfaceName], interface: &IfaceName) -> bool
     ensures { result ≡ is_among interface.now (commands_of components.now ++ references.now) }
 {

@@ -1,9 +1,9 @@
 //! The references that controllers export.
 
-ghost use Rattle.std.specs.Prelude.{◌≡◌, ◌++◌, take, IfOk, OnOk};
-ghost use Rattle.cm_model.specs.Links.{exported_for, refs_of, references_of, reference_for};
+ghost use Rattle.std.specs.Prelude.{◌≡◌, ◌++◌, IfOk, OnOk};
+ghost use Rattle.cm_model.specs.Links.{refs_of, references_of, reference_for};
 
-use cm_model::{CtlDesc, IfaceName, Name, Params, Seq};
+use cm_model::{CtlDesc, IfaceName, Name, Seq};
 use std::alloc::{AllocError, Global};
 
 /// Every reference, controller by controller.
@@ -21,7 +21,7 @@ pub fn references(alloc: Global, controllers: &[CtlDesc]) -> Result<Seq<IfaceNam
 fn push_references(references: &mut Seq<IfaceName>, controller: &CtlDesc) -> Result<(), AllocError>
     ensures { OnOk result (references.new ≡ references.old ++ refs_of controller.now) }
 {
-    let interfaces = exported_for(controller);
+    let interfaces = controller.exported_for();
     for interface in interfaces {
         references.push(reference_for(&controller.name, interface)?)?;
     }
@@ -38,22 +38,4 @@ fn reference_for(controller: &Name, interface: &IfaceName) -> Result<IfaceName, 
         joint: joint.clone()?,
         kind: *kind,
     })
-}
-
-/// The interfaces for which the controller exports references.
-pub fn exported_for(controller: &CtlDesc) -> &[IfaceName]
-    ensures { result.now ≡ exported_for controller.now.params controller.now }
-{
-    match &controller.params {
-        Params::Passthrough { .. } => controller.claims.as_slice(),
-        Params::Pid { .. } => first(controller.reads.as_slice()),
-        _ => &[],
-    }
-}
-
-/// The first of these alone, or none where there is none.
-fn first(interfaces: &[IfaceName]) -> &[IfaceName]
-    ensures { result.now ≡ take 1 interfaces.now }
-{
-    &interfaces[..interfaces.len().min(1)]
 }

@@ -1,14 +1,9 @@
-//! Descriptions that were made by hand, and what the checks say of each.
-
-mod links;
-mod names;
-mod numbers;
+//! Descriptions that were made by hand, and what the checks say of each. No text describes these: a joint of a text has each kind of
+//! interface once, so its states and commands stay within their limits while the joints do. All that a text can describe is tried
+//! by texts, where `cm` stands on these checks.
 
 use crate::verdict::no_fault;
-use cm_model::{
-    CompDesc, CompKind, CtlDesc, CtlKind, Description, Fx, IfaceName, JointDesc, Kind, Life, Name,
-    Params, Seq,
-};
+use cm_model::{CompDesc, CompKind, Description, Fx, JointDesc, Kind, Life, Name, Seq};
 use std::alloc::{AllocError, Global};
 use std::test::Fail;
 
@@ -20,27 +15,38 @@ fn told(alloc: Global, description: &Description) -> Result<String, AllocError> 
     }
 }
 
-/// A description with numbers that fit.
-fn description(components: Vec<CompDesc>, controllers: Vec<CtlDesc>) -> Description {
-    Description {
+/// So many systems, each with so many joints, each with so many commands and states.
+fn described(
+    alloc: Global,
+    systems: u32,
+    joints: u32,
+    commands: usize,
+    states: usize,
+) -> Result<Description, Fail> {
+    let mut components = Vec::new(alloc);
+    for system in 0..systems {
+        let mut own = Vec::new(alloc);
+        for index in 0..joints {
+            let name = format!(in alloc; "j{system}_{index}")?;
+            own.push(joint(alloc, name.as_str(), commands, states)?)?;
+        }
+        let name = format!(in alloc; "c{system}")?;
+        components.push(component(alloc, name.as_str(), own)?)?;
+    }
+    Ok(Description {
         version: 1,
         update_rate: 100,
         cycles: 5,
         components: Seq::from_vec(components),
-        controllers: Seq::from_vec(controllers),
-    }
+        controllers: Seq::new(alloc),
+    })
 }
 
-/// A component without failures that is active at start.
-fn component(
-    alloc: Global,
-    name: &str,
-    kind: CompKind,
-    joints: Vec<JointDesc>,
-) -> Result<CompDesc, Fail> {
+/// A system of these joints.
+fn component(alloc: Global, name: &str, joints: Vec<JointDesc>) -> Result<CompDesc, Fail> {
     Ok(CompDesc {
         name: Name::read(alloc, name.as_bytes())?,
-        kind,
+        kind: CompKind::System,
         initial: Life::Active,
         on_error: Life::Unconfigured,
         fail_read: Seq::new(alloc),
@@ -49,82 +55,38 @@ fn component(
     })
 }
 
-/// A joint whose vmax, gain and damping are of so many micro-units.
-fn joint(
-    alloc: Global,
-    name: &str,
-    micro: [i64; 3],
-    commands: &[Kind],
-    states: &[Kind],
-) -> Result<JointDesc, Fail> {
-    let [vmax, gain, damping] = micro;
+/// A joint with so many commands and states, all of one kind.
+fn joint(alloc: Global, name: &str, commands: usize, states: usize) -> Result<JointDesc, Fail> {
     Ok(JointDesc {
         name: Name::read(alloc, name.as_bytes())?,
-        vmax: Fx::from_micro(vmax),
-        gain: Fx::from_micro(gain),
-        damping: Fx::from_micro(damping),
+        vmax: Fx::from_micro(0),
+        gain: Fx::from_micro(0),
+        damping: Fx::from_micro(0),
         position: Fx::from_micro(0),
         velocity: Fx::from_micro(0),
-        commands: Seq::from_vec(commands.to_vec(alloc)?),
-        states: Seq::from_vec(states.to_vec(alloc)?),
+        commands: Seq::from_vec(vec![in alloc; Kind::Effort; commands]?),
+        states: Seq::from_vec(vec![in alloc; Kind::Position; states]?),
     })
 }
 
-/// A controller that claims and reads these.
-fn controller(
-    alloc: Global,
-    name: &str,
-    kind: CtlKind,
-    claims: Vec<IfaceName>,
-    reads: Vec<IfaceName>,
-) -> Result<CtlDesc, Fail> {
-    let outs = claims.len().min(1_000) as u32;
-    let ins = reads.len().min(1_000) as u32;
-    Ok(CtlDesc {
-        name: Name::read(alloc, name.as_bytes())?,
-        rate: 0,
-        claims: Seq::from_vec(claims),
-        reads: Seq::from_vec(reads),
-        params: params(alloc, kind, outs, ins),
-    })
-}
-
-/// The parameters of a controller of this kind, with so many claims and reads.
-fn params(alloc: Global, kind: CtlKind, outs: u32, ins: u32) -> Params {
-    match kind {
-        CtlKind::Forward => Params::Forward { outs },
-        CtlKind::Passthrough => Params::Passthrough { outs },
-        CtlKind::Pid => pid(0, 1),
-        CtlKind::Trajectory => Params::Trajectory { outs },
-        CtlKind::Broadcaster => Params::Broadcaster { ins },
-        CtlKind::Mock => Params::Mock {
-            outs,
-            refuse_config: false,
-            not_ready: Seq::new(alloc),
-            fail_update: Seq::new(alloc),
-        },
+#[test]
+fn states_and_commands_at_their_limits(rt: HostRuntime) -> Result<(), Fail> {
+    for (systems, joints, commands, states, want) in [
+        (1, 1, 0, 96, "valid"),
+        (1, 1, 0, 97, "too_many states"),
+        (7, 1, 0, 14, "too_many states"),
+        (1, 1, 96, 0, "valid"),
+        (1, 2, 49, 0, "too_many commands"),
+        (1, 1, 97, 97, "too_many states"),
+        (1, 33, 3, 3, "too_many joints"),
+    ] {
+        let made = described(rt.alloc(), systems, joints, commands, states)?;
+        let got = told(rt.alloc(), &made)?;
+        assert_eq!(rt;
+            got.as_str(),
+            want,
+            "{systems}, {joints}, {commands}, {states}"
+        );
     }
-}
-
-/// A pid with limits of so many micro-units.
-fn pid(imax: i64, omax: i64) -> Params {
-    Params::Pid {
-        kp: Fx::from_micro(-1),
-        ki: Fx::from_micro(-1),
-        kd: Fx::from_micro(-1),
-        imax: Fx::from_micro(imax),
-        omax: Fx::from_micro(omax),
-    }
-}
-
-/// The interfaces of these texts.
-fn interfaces(alloc: Global, texts: &str) -> Result<Vec<IfaceName>, Fail> {
-    let mut interfaces = Vec::new(alloc);
-    if texts.is_empty() {
-        return Ok(interfaces);
-    }
-    for text in texts.split(',') {
-        interfaces.push(IfaceName::read(alloc, text.as_bytes())?)?;
-    }
-    Ok(interfaces)
+    Ok(())
 }

@@ -1,7 +1,6 @@
 -- Lemmas about keys, and about the tree of a text.
-use Rattle.std.proofs.Common.{◌≡◌, ℕ, List, [], ◌∷◌, map, ◌||◌, Bool, ap, Some, None, Ok, inl, inr, refl}
+use Rattle.std.proofs.Common.{◌≡◌, ℕ, List, [], ◌∷◌, Some, None, Ok, inl, inr}
 use Rattle.std.specs.Prelude.{IsUtf8, codes}
-use Rattle.std.specs.List.{list_any}
 use Rattle.std.specs.Str.{is_utf8}
 use Rattle.std.proofs.lemmas.Bool.{cases_Bool}
 use Rattle.std.proofs.lemmas.Str.{IsUtf8-from_is_utf8, is_utf8-from_IsUtf8}
@@ -12,11 +11,6 @@ use Rattle.cm_model.specs.Forms.{one, tables_of, whole_in}
 use Rattle.cm_model.specs.Reading.{◌>>=◌}
 use Rattle.cm_model.specs.Tables.{none_unlisted, unlisted, required_read, defaulted_read}
 use Rattle.cm_model.specs.declared.description.CompDesc.{CompDesc}
-
--- some of what is seen is so where some of those seen are
-pub any_seen : {A B : Type 0} (p : B → Bool) (f : A → B) (xs : List A) → list_any (λ x. p (f x)) xs ≡ list_any p (map f xs)
-any_seen p f [] = refl
-any_seen p f (x ∷ xs) = ap (λ b. p (f x) || b) (any_seen p f xs)
 
 -- the tree of a text that was parsed
 pub tree_of_parsed : (text : List ℕ) (ms : Members) → IsUtf8 text → parse_document text ≡ Some ms → tree_of text ≡ Some ms

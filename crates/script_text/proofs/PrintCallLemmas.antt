@@ -1,13 +1,12 @@
 -- Each call prints as a line that says it.
-use Rattle.std.proofs.Common.{◌≡◌, ℕ, suc, ◌+◌, ◌*◌, ◌<◌, ◌≤◌, Bool, true, false, List, [], ◌∷◌, ◌++◌, length, Option, Some, None, refl, sym, ap, ◌∙◌, arith, rules, append_assoc, length-append}
-use Rattle.std.specs.Prelude.{IsTrue, nat_le, codes}
-use Rattle.std.specs.List.{AllByRecursion}
+use Rattle.std.proofs.Common.{◌≡◌, ℕ, ◌≤◌, Bool, true, false, List, [], ◌∷◌, ◌++◌, length, Some, refl, sym, ap, ◌∙◌, arith, rules, append_assoc, length-append}
+use Rattle.std.specs.Prelude.{nat_le, codes}
 use Rattle.std.specs.Fmt.{decimal}
 use Rattle.std.proofs.lemmas.Bool.Decides.{nat_tests}
 use Rattle.std.proofs.lemmas.List.{append-nil}
 use Rattle.cm_model.specs.Lines.{is_comment}
-use Rattle.cm_model.specs.CallText.{life_word, strictness_word, mail_text, call_text}
-use Rattle.cm_model.specs.LineForms.{lives, listed, mail_in, line_of}
+use Rattle.cm_model.specs.CallText.{life_word, strictness_word, call_text}
+use Rattle.cm_model.specs.LineForms.{lives, listed, line_of}
 use Rattle.cm_model.specs.ScriptLaws.{IsName, CanBeSent, CanBeAsked, CanBeWritten, has_form}
 use Rattle.cm_model.specs.declared.call.Call.{Call}
 use Rattle.cm_model.specs.declared.call.Call.TheVariants as call
@@ -16,7 +15,6 @@ use Rattle.cm_model.specs.declared.call.SwitchRequest.{SwitchRequest}
 use Rattle.cm_model.specs.declared.life.Life.{Life}
 use Rattle.cm_model.specs.declared.life.Life.TheVariants as life
 use Rattle.cm_model.specs.declared.script.Forms.{Forms}
-use Rattle.cm_model.specs.declared.script.ScriptLine.{ScriptLine}
 use Rattle.cm_model.specs.declared.script.ScriptLine.TheVariants as line
 use Rattle.script_text.proofs.PrintWordLemmas.{IsWord, IsLine, spaced, spaced_long}
 use Rattle.script_text.proofs.PrintValueLemmas.{name_IsWord, name_short, whole_IsWord, whole_short, whole_reads}

@@ -1,6 +1,6 @@
 -- What is sent and what a switch names prints as words that read back.
-use Rattle.std.proofs.Common.{◌≡◌, ℕ, zero, suc, ◌+◌, ◌*◌, ◌<◌, ◌≤◌, Bool, true, false, List, [], ◌∷◌, ◌++◌, length, map, Option, Some, None, ℤ, refl, sym, ap, ◌∙◌, arith, append_assoc, length-append}
-use Rattle.std.specs.Prelude.{IsTrue, nat_lt, ◌==◌, ◌&&◌, flat_map, filter_map, codes}
+use Rattle.std.proofs.Common.{◌≡◌, ℕ, ◌*◌, ◌<◌, ◌≤◌, Bool, true, false, List, [], ◌∷◌, ◌++◌, length, map, Some, ℤ, refl, sym, ap, ◌∙◌, arith, append_assoc, length-append}
+use Rattle.std.specs.Prelude.{nat_lt, ◌==◌, flat_map, filter_map, codes}
 use Rattle.std.specs.List.{AllByRecursion, list_all}
 use Rattle.std.specs.Fmt.{decimal}
 use Rattle.std.proofs.lemmas.Bool.Decides.{nat_tests}
@@ -10,19 +10,15 @@ use Rattle.std.proofs.lemmas.Grind.{flat_map-append}
 use Rattle.fixed_num.specs.Micro.{IsInRange}
 use Rattle.fixed_num.specs.Text.{spelled}
 use Rattle.cm_model.specs.CallText.{values_text, point_text, mail_text, signed_text, strictness_word}
-use Rattle.cm_model.specs.LineForms.{name_word, whole_word, value_word, in_front, all_words, values_in, is_time, untimed, timed, points_after, mail_in, behind, is_signed, strictnesses, listed, switch_in}
-use Rattle.cm_model.specs.ScriptLaws.{IsName, AreValues, IsPointAfter, ArePointsAfter, ArePoints, CanBeSent, CanBeAsked}
+use Rattle.cm_model.specs.LineForms.{whole_word, value_word, in_front, all_words, values_in, untimed, timed, points_after, mail_in, behind, is_signed, strictnesses, listed, switch_in}
+use Rattle.cm_model.specs.ScriptLaws.{IsName, AreValues, ArePointsAfter, CanBeSent, CanBeAsked}
 use Rattle.cm_model.specs.declared.call.Mail.{Mail}
 use Rattle.cm_model.specs.declared.call.Mail.TheVariants.{Values, Points}
 use Rattle.cm_model.specs.declared.call.Point2.{Point2}
 use Rattle.cm_model.specs.declared.call.SwitchRequest.{SwitchRequest}
+use Rattle.sequence.proofs.ListLemmas.{all_append}
 use Rattle.script_text.proofs.PrintWordLemmas.{IsWord, spaced}
-use Rattle.script_text.proofs.PrintValueLemmas.{name_IsWord, name_short, name_reads, whole_IsWord, whole_short, whole_reads, value_IsWord, value_short, value_reads, value_untimed}
-
--- what holds of both lists holds of them together
-pub all_append : {A : Type 0} (P : A → Type 0) (xs ys : List A) → AllByRecursion P xs → AllByRecursion P ys → AllByRecursion P (xs ++ ys)
-all_append P [] ys p q = q
-all_append P (x ∷ xs) ys p q = (p.0, all_append P xs ys p.1 q)
+use Rattle.script_text.proofs.PrintValueLemmas.{name_IsWord, name_short, whole_IsWord, whole_short, whole_reads, value_IsWord, value_short, value_reads, value_untimed}
 
 -- ---- Values
 

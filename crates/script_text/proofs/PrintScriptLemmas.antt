@@ -1,8 +1,7 @@
 -- A printed script reads back: its sessions, then its schedule.
-use Rattle.std.proofs.Common.{◌≡◌, ℕ, zero, suc, ◌+◌, ◌<◌, ◌≤◌, Bool, true, false, List, [], ◌∷◌, ◌++◌, length, Option, Some, None, Result, Ok, refl, sym, ap, ◌∙◌, subst, arith, rules, append_assoc, length-append}
-use Rattle.std.specs.Prelude.{IsTrue, nat_le, nat_lt, ◌&&◌, ◌||◌, flat_map, sum_by, codes, slice_get, position, option_to_list, unwrap_or, nat_eq}
+use Rattle.std.proofs.Common.{◌≡◌, ℕ, zero, suc, ◌+◌, ◌<◌, ◌≤◌, true, false, List, [], ◌∷◌, ◌++◌, length, Option, Some, None, Ok, refl, sym, ap, ◌∙◌, subst, arith, rules, append_assoc, length-append}
+use Rattle.std.specs.Prelude.{IsTrue, nat_le, nat_lt, flat_map, sum_by, codes, position, option_to_list}
 use Rattle.std.specs.List.{AllByRecursion, list_any, list_all, position_from}
-use Rattle.std.specs.Cmp.Lexicographic.{pointwise}
 use Rattle.std.proofs.lemmas.Bool.Decides.{nat_tests}
 use Rattle.std.proofs.lemmas.Bool.{and_from}
 use Rattle.std.proofs.lemmas.Cmp.{nat_list_eq_equiv}
@@ -14,7 +13,7 @@ use Rattle.iface_names.specs.Names.{same_name}
 use Rattle.cm_model.specs.Reading.{◌>>=◌}
 use Rattle.cm_model.specs.Lines.{raw_lines}
 use Rattle.cm_model.specs.CallText.{call_text, session_text, session_name, turn_text, schedule_text, script_text}
-use Rattle.cm_model.specs.ScriptRules.{Standing, nothing, sessions_in, session_accepted, mail_fits, call_fits, session_number, with_said, with_lines, script_in, script_with}
+use Rattle.cm_model.specs.ScriptRules.{Standing, nothing, sessions_in, session_accepted, mail_fits, call_fits, with_lines, script_in, script_with}
 use Rattle.cm_model.specs.ScriptLaws.{IsName, ArePointsAfter, CanBeSent, CanBeWritten, IsSession, AreApart, IsTurnAmong, MeetsRules, has_form, UsesForms}
 use Rattle.cm_model.specs.declared.call.Call.{Call}
 use Rattle.cm_model.specs.declared.call.Call.TheVariants as call
@@ -26,10 +25,9 @@ use Rattle.cm_model.specs.declared.script.Script.{Script}
 use Rattle.cm_model.specs.declared.script.SessionText.{SessionText}
 use Rattle.cm_model.specs.declared.script.Turn.{Turn}
 use Rattle.cm_model.specs.declared.script.Turn.TheVariants as turn
-use Rattle.cm_model.specs.declared.faults.ScriptFault.{ScriptFault}
-use Rattle.script_text.proofs.PrintWordLemmas.{IsWord, IsLine, spaced, Reads, Reads-nil, Reads-append, Reads-line}
+use Rattle.script_text.proofs.PrintWordLemmas.{Reads, Reads-nil, Reads-append, Reads-line}
 use Rattle.script_text.proofs.PrintValueLemmas.{name_IsWord, name_short}
-use Rattle.script_text.proofs.PrintCallLemmas.{SaysCall, call_says, one_behind}
+use Rattle.script_text.proofs.PrintCallLemmas.{call_says, one_behind}
 
 -- ---- Calls
 

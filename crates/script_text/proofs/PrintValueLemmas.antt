@@ -1,6 +1,6 @@
 -- The words that names, whole numbers and values print as, and that they read back.
-use Rattle.std.proofs.Common.{◌≡◌, ℕ, zero, suc, ◌+◌, ◌-◌, ◌/◌, ◌%◌, ◌<◌, ◌≤◌, ◌^◌, Bool, true, false, List, [], ◌∷◌, ◌++◌, length, replicate, Some, Ok, ℤ, pos, negsuc, nat_abs, inl, inr, refl, ap, ◌∙◌, arith, length-append}
-use Rattle.std.specs.Prelude.{IsTrue, nat_le, ◌==◌}
+use Rattle.std.proofs.Common.{◌≡◌, ℕ, zero, suc, ◌-◌, ◌/◌, ◌%◌, ◌<◌, ◌≤◌, ◌^◌, true, false, List, [], ◌∷◌, ◌++◌, length, replicate, Some, Ok, ℤ, pos, negsuc, nat_abs, inl, inr, refl, arith, length-append}
+use Rattle.std.specs.Prelude.{nat_le, ◌==◌}
 use Rattle.std.specs.List.{AllByRecursion, list_all}
 use Rattle.std.specs.Char.{is_ascii_digit}
 use Rattle.std.specs.Str.{all_ascii_digits}
@@ -14,7 +14,7 @@ use Rattle.fixed_num.specs.Micro.{IsInRange}
 use Rattle.fixed_num.specs.Text.{number_of, sign_text, six_digits, spelled}
 use Rattle.fixed_num.proofs.DigitLemmas.{own}
 use Rattle.fixed_num.proofs.ReadBackLemmas.{spelled_reads_back, spelled_is_short}
-use Rattle.iface_names.specs.Names.{is_name, is_name_byte}
+use Rattle.iface_names.specs.Names.{is_name_byte}
 use Rattle.cm_model.specs.LineForms.{name_word, whole_word, value_word, is_time}
 use Rattle.cm_model.specs.ScriptLaws.{IsName}
 use Rattle.script_text.proofs.PrintWordLemmas.{IsWord}

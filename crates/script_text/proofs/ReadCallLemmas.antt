@@ -1,6 +1,6 @@
 -- A call that is read can be written, once its values, points and names are few enough, and its form is accepted.
-use Rattle.std.proofs.Common.{◌≡◌, ℕ, ◌<◌, ◌≤◌, ◌+◌, ◌^◌, Bool, true, false, List, [], ◌∷◌, length, Option, Some, None, Result, Ok, Err, ℤ, pos, negsuc, nat_abs, ◌⊎◌, inl, inr, refl, sym, ap, ◌∙◌, arith, ltb-true}
-use Rattle.std.specs.Prelude.{IfSome, IsTrue, option_map, filter_map, nat_le, nat_lt, is_some, if◌then◌else◌, ◌&&◌, ◌==◌, codes}
+use Rattle.std.proofs.Common.{◌≡◌, ℕ, ◌<◌, ◌≤◌, Bool, true, false, List, [], ◌∷◌, length, Option, Some, None, Result, Ok, Err, ℤ, nat_abs, refl, arith, ltb-true}
+use Rattle.std.specs.Prelude.{IfSome, option_map, filter_map, nat_le, nat_lt, if◌then◌else◌, ◌&&◌, ◌==◌}
 use Rattle.std.specs.List.{AllByRecursion, list_all, cons_option}
 use Rattle.std.specs.Option.{option_and_then}
 use Rattle.std.specs.Char.{is_ascii_digit}
@@ -25,7 +25,6 @@ use Rattle.cm_model.specs.declared.call.Call.TheVariants as call
 use Rattle.cm_model.specs.declared.call.Mail.{Mail}
 use Rattle.cm_model.specs.declared.call.Mail.TheVariants.{Values, Points}
 use Rattle.cm_model.specs.declared.call.Point2.{Point2}
-use Rattle.cm_model.specs.declared.call.SwitchRequest.{SwitchRequest}
 use Rattle.cm_model.specs.declared.script.Forms.{Forms}
 use Rattle.cm_model.specs.declared.script.ScriptLine.{ScriptLine}
 use Rattle.cm_model.specs.declared.script.ScriptLine.TheVariants as line

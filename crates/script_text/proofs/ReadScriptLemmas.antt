@@ -1,5 +1,5 @@
 -- A script that is read meets the rules and uses accepted forms alone.
-use Rattle.std.proofs.Common.{◌≡◌, ℕ, ◌<◌, ◌≤◌, ◌+◌, Bool, true, false, List, [], ◌∷◌, ◌++◌, length, Option, Some, None, Result, Ok, Err, ◌⊎◌, inl, inr, refl, sym, ap, ◌∙◌, subst, arith, rules, append-nil, length-append, ltb-true}
+use Rattle.std.proofs.Common.{◌≡◌, ℕ, ◌<◌, ◌+◌, Bool, true, false, List, [], ◌∷◌, ◌++◌, length, Option, Some, None, Result, Ok, Err, refl, ap, subst, arith, length-append, ltb-true}
 use Rattle.std.specs.Prelude.{IfOk, IfSome, IsTrue, is_some, unwrap_or, option_to_list, position, sum_by, nat_le, nat_lt, not, ◌&&◌, ◌||◌, if◌then◌else◌, codes}
 use Rattle.std.specs.List.{AllByRecursion, list_any}
 use Rattle.std.proofs.lemmas.Bool.{and_parts, cond_both}
@@ -7,10 +7,9 @@ use Rattle.std.proofs.lemmas.Bool.Decides.{nat_tests}
 use Rattle.std.proofs.lemmas.List.Sums.{sum_by_push}
 use Rattle.std.proofs.lemmas.List.Quantifiers.{position-Some}
 use Rattle.iface_names.specs.Names.{same_name}
-use Rattle.cm_model.specs.Reading.{◌>>=◌}
 use Rattle.cm_model.specs.Lines.{raw_lines, bare, words, is_skipped}
 use Rattle.cm_model.specs.LineForms.{line_of}
-use Rattle.cm_model.specs.ScriptRules.{Standing, nothing, sessions_in, is_used, session_accepted, is_session_line, with_session, call_fits, with_call_in, with_call, with_schedule, with_turn_in, with_turn, session_number, with_step, with_said, with_line, with_lines, script_in, script_with}
+use Rattle.cm_model.specs.ScriptRules.{Standing, nothing, sessions_in, session_accepted, is_session_line, with_session, call_fits, with_call, with_schedule, with_turn, session_number, with_step, with_said, with_line, with_lines, script_in, script_with}
 use Rattle.cm_model.specs.ScriptLaws.{IsName, CanBeWritten, IsSession, AreApart, IsTurnAmong, MeetsRules, has_form, UsesForms}
 use Rattle.cm_model.specs.declared.call.Call.{Call}
 use Rattle.cm_model.specs.declared.script.Forms.{Forms}
@@ -21,15 +20,12 @@ use Rattle.cm_model.specs.declared.script.SessionText.{SessionText}
 use Rattle.cm_model.specs.declared.script.Turn.{Turn}
 use Rattle.cm_model.specs.declared.script.Turn.TheVariants as turn
 use Rattle.cm_model.specs.declared.faults.ScriptFault.{ScriptFault}
-use Rattle.cm_model.specs.declared.faults.ScriptFault.TheVariants.{BadLine, NoSession, TooMany}
+use Rattle.cm_model.specs.declared.faults.ScriptFault.TheVariants.{BadLine, NoSession}
+use Rattle.sequence.proofs.ListLemmas.{all_push}
+use Rattle.cm_model.proofs.ReadingLemmas.{bind_keeps}
 use Rattle.script_text.proofs.ReadCallLemmas.{Says, line_of_Says}
 
 -- ---- Lists that grow at their end
-
--- one more
-pushed : {A : Type 0} (P : A → Type 0) (xs : List A) (x : A) → AllByRecursion P xs → P x → AllByRecursion P (xs ++ x ∷ [])
-pushed P [] x all one = (one, tt)
-pushed P (y ∷ xs) x all one = (all.0, pushed P xs x all.1 one)
 
 -- another last one
 last_changed : {A : Type 0} (P : A → Type 0) (xs : List A) (a b : A) → AllByRecursion P (xs ++ a ∷ []) → (P a → P b) → AllByRecursion P (xs ++ b ∷ [])
@@ -49,7 +45,7 @@ apart_push : (xs : List SessionText) (s : SessionText) → AreApart xs → list_
 apart_push [] s apart new = (tt, tt)
 apart_push (x ∷ xs) s apart new =
     let both = or_parts (same_name s.name x.name) (list_any (λ x. same_name s.name x.name) xs) new in
-    (pushed (λ later. same_name later.name x.name ≡ false) xs s apart.0 both.0, apart_push xs s apart.1 both.1)
+    (all_push (λ later. same_name later.name x.name ≡ false) xs s apart.0 both.0, apart_push xs s apart.1 both.1)
 
 -- and stays so, whatever its calls
 apart_changed : (xs : List SessionText) (name : List ℕ) (before after : List Call)
@@ -73,11 +69,6 @@ record Keeps (forms : Forms) (w : Standing) : Type 0 where
   uses : UsesForms forms (script_in w)
   begun : Begun w.finished w.current
   counted : sum_by (λ t. length t.lines) (sessions_in w) + length (unwrap_or w.turns []) ≡ w.count
-
--- a reading goes on with what was kept
-bind_keeps : {A B E : Type 0} (P : A → Type 0) (Q : B → Type 0) (r : Result A E) (f : A → Result B E) → IfOk r P → ((x : A) → P x → IfOk (f x) Q) → IfOk (r >>= f) Q
-bind_keeps P Q (Ok x) f p q = q x p
-bind_keeps P Q (Err e) f p q = tt
 
 -- ---- Sessions
 
@@ -114,14 +105,14 @@ session_added forms finished current count name keeps new =
       meets = record {
         few_sessions = omega (arith, new.few);
         few_calls = omega arith;
-        sessions = pushed IsSession sessions s keeps.meets.sessions (record { named = new.named; not_loop = new.not_loop; written = tt });
+        sessions = all_push IsSession sessions s keeps.meets.sessions (record { named = new.named; not_loop = new.not_loop; written = tt });
         apart = apart_push sessions s keeps.meets.apart new.new;
         turns = tt;
       };
       uses = record {
         first = λ _. first_accepted forms finished current new.accepted keeps.uses.first;
         further = λ many. further_accepted forms finished current new.accepted keeps.begun (omega arith);
-        calls = pushed (λ t. AllByRecursion (λ c. IsTrue (has_form forms c)) t.lines) sessions s keeps.uses.calls tt;
+        calls = all_push (λ t. AllByRecursion (λ c. IsTrue (has_form forms c)) t.lines) sessions s keeps.uses.calls tt;
         turns = keeps.uses.turns;
       };
       begun = tt;
@@ -178,14 +169,14 @@ call_added forms finished name lines count c keeps can accepted room =
       meets = record {
         few_sessions = omega arith;
         few_calls = omega arith;
-        sessions = last_changed IsSession finished s t keeps.meets.sessions (λ is. record { named = is.named; not_loop = is.not_loop; written = pushed CanBeWritten lines c is.written can });
+        sessions = last_changed IsSession finished s t keeps.meets.sessions (λ is. record { named = is.named; not_loop = is.not_loop; written = all_push CanBeWritten lines c is.written can });
         apart = apart_changed finished name lines (lines ++ c ∷ []) keeps.meets.apart;
         turns = tt;
       };
       uses = record {
         first = λ _. keeps.uses.first (omega arith);
         further = λ many. keeps.uses.further (omega arith);
-        calls = last_changed (λ t. AllByRecursion (λ c. IsTrue (has_form forms c)) t.lines) finished s t keeps.uses.calls (λ all. pushed (λ c. IsTrue (has_form forms c)) lines c all accepted);
+        calls = last_changed (λ t. AllByRecursion (λ c. IsTrue (has_form forms c)) t.lines) finished s t keeps.uses.calls (λ all. all_push (λ c. IsTrue (has_form forms c)) lines c all accepted);
         turns = keeps.uses.turns;
       };
       begun = tt;
@@ -228,7 +219,7 @@ turn_added forms finished current ts count t keeps among accepted room =
         few_calls = omega arith;
         sessions = keeps.meets.sessions;
         apart = keeps.meets.apart;
-        turns = pushed (IsTurnAmong (length (finished ++ option_to_list current))) ts t keeps.meets.turns among;
+        turns = all_push (IsTurnAmong (length (finished ++ option_to_list current))) ts t keeps.meets.turns among;
       };
       uses = record { first = keeps.uses.first; further = keeps.uses.further; calls = keeps.uses.calls; turns = λ _. accepted };
       begun = keeps.begun;

@@ -4,9 +4,6 @@ use Rattle.std.specs.Prelude.{position, option_map, option_to_list, nat_lt, not}
 use Rattle.std.specs.List.{position_or_len, list_any}
 use Rattle.std.proofs.lemmas.Bool.{cases_Bool}
 use Rattle.std.proofs.lemmas.Bool.Decides.{nat_tests}
-use Rattle.std.proofs.lemmas.List.Folds.{list_any-append}
-
-pub ruleset any_session = (list_any-append)
 
 -- one more on both sides changes no order
 less_more : (n len : ℕ) → nat_lt (1 + n) (suc len) ≡ nat_lt n len

@@ -2,6 +2,7 @@
 //! What each form says and which rules hold stands in `cm_model`, in `LineForms`, `ScriptRules` and `ScriptLaws`.
 #![tactic(auto)]
 
+pub use lines::{bare_line, first_line};
 pub use print::print_script;
 pub use reading::{read_script, read_script_with};
 

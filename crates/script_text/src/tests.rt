@@ -5,28 +5,9 @@ mod long;
 mod scripts;
 
 use crate::{read_script, read_script_with};
-use cm_model::{Forms, Script, Turn};
+use cm_model::{Script, Turn, every_form};
 use std::alloc::Global;
 use std::test::Fail;
-
-/// A table in which every form is accepted.
-const EVERY_FORM: Forms = Forms {
-    first_session: true,
-    further_session: true,
-    load: true,
-    configure: true,
-    cleanup: true,
-    unload: true,
-    rate: true,
-    send: true,
-    switch: true,
-    hardware: true,
-    await_cycles: true,
-    list_controllers: true,
-    list_interfaces: true,
-    list_components: true,
-    schedule: true,
-};
 
 /// The longest text that is tried.
 const LONGEST: usize = 1_000_000;
@@ -38,7 +19,7 @@ fn told(alloc: Global, text: &str) -> Result<String, Fail> {
     if bytes.len() > LONGEST {
         return Err(Fail::from("a text too long"));
     }
-    match read_script_with(alloc, EVERY_FORM, bytes, 1) {
+    match read_script_with(alloc, every_form(), bytes, 1) {
         Ok(script) => printed(alloc, &script),
         Err(fault) => Ok(format!(in alloc; "{fault}")?),
     }

@@ -90,24 +90,71 @@ fn a_document_prints_its_trace_however_it_is_read(rt: HostRuntime) -> Result<(),
     Ok(())
 }
 
-#[test]
-fn a_refused_document_prints_nothing(rt: HostRuntime) -> Result<(), Fail> {
-    let alloc = rt.alloc();
-    let jumping = format!(in alloc; "{FIRST}jump mk\n")?;
-    let with_rate = FIRST.replace(alloc, "type = \"mock\"\n", "type = \"mock\"\nrate = 5\n")?;
-    for (document, answer) in [
-        (jumping.as_str(), "script: bad_line 13"),
-        (
-            with_rate.as_str(),
-            "description: bad_key controller[0].rate",
-        ),
-    ] {
+/// What differs from a table of documents, a line for each. A case is a line `DOCUMENT => STATUS`, or `DOCUMENT => STATUS and TRACE`,
+/// with line feeds, carriage returns and tabs written as `\n`, `\r` and `\t`. Without a trace nothing may be printed.
+fn differences(alloc: Global, cases: &str) -> Result<String, Fail> {
+    let mut found = String::new(alloc);
+    for case in cases.lines() {
+        let (document, want) = case.split_once(" => ").unwrap_or((case, "ok"));
+        let (answer, trace) = want.split_once(" and ").unwrap_or((want, ""));
+        let document = written_out(alloc, document)?;
+        let trace = written_out(alloc, trace)?;
         let (status, sink) = told(alloc, document.as_bytes(), 1000)?;
-        assert_eq!(rt; status.as_str(), answer);
-        assert_eq!(rt; sink.bytes(), b"".as_slice(), "{answer}");
+        if status.as_str() != answer || sink.bytes() != trace.as_bytes() {
+            let line = format!(in alloc; "{case}: {status}\n")?;
+            found.push_str(line.as_str())?;
+        }
+    }
+    Ok(found)
+}
+
+/// A text in which `\n`, `\r` and `\t` stood for a line feed, a carriage return and a tab.
+fn written_out(alloc: Global, text: &str) -> Result<String, AllocError> {
+    text.replace(alloc, r"\n", "\n")?
+        .replace(alloc, r"\r", "\r")?
+        .replace(alloc, r"\t", "\t")
+}
+
+#[test]
+fn each_document_is_printed_or_refused(rt: HostRuntime) -> Result<(), Fail> {
+    for cases in [DESCRIPTIONS, SEPARATORS, SCRIPTS] {
+        let found = differences(rt.alloc(), cases)?;
+        assert_eq!(rt; found.as_str(), "");
     }
     Ok(())
 }
+
+/// Faults of the text, then of the checks, then a component, and all of them before those of the script.
+const DESCRIPTIONS: &str = r#" => description: bad_key version
+version = 1\nupdate_rate = 100\n => description: bad_key cycles
+version = => description: not_toml
+version = 1\nupdate_rate = 100\ncycles = 3\n[[component]]\nname = "arm"\nkind = "actuator"\n[[component.joint]]\nname = "j1"\nvmax = 1.5\n--- script ---\njump\n => description: float_given component[0].joint[0].vmax
+version = 1\nupdate_rate = 100\ncycles = 2\n[[controller]]\nname = "p"\ntype = "passthrough"\nclaims = ["q/j1/position"]\n[[controller]]\nname = "q"\ntype = "passthrough"\nclaims = ["p/j1/position"]\n--- script ---\njump\n => description: chain_loop p
+version = 1\nupdate_rate = 100\ncycles = 0\n[[controller]]\nname = "mk"\ntype = "mock"\nrate = 5\n--- script ---\n => description: bad_key controller[0].rate
+version = 1\nupdate_rate = 100\ncycles = 0\n[[controller]]\nname = "f"\ntype = "forward"\nclaims = ["j1/effort"]\n--- script ---\n => description: no_interface f j1/effort
+version = 1\nupdate_rate = 100\ncycles = 0\n[[component]]\nname = "arm"\nkind = "actuator"\n[[component.joint]]\nname = "j1"\nvmax = 1\n--- script ---\njump\n => description: bad_key component
+version = 1\nupdate_rate = 100\ncycles = 0\n[[component]]\nname = "arm"\nkind = "actuator"\n[[component.joint]]\nname = "j1"\nvmax = -1\n--- script ---\n => description: bad_range component[0].joint[0].vmax
+version = 1\nupdate_rate = 100\ncycles = 0\ncomponent = []\n--- script ---\n => ok and loop close: none\n"#;
+
+/// Where the script begins, behind three lines of description.
+const SEPARATORS: &str = r"version = 1\nupdate_rate = 100\ncycles = 0\n => script: bad_line 4
+version = 1\nupdate_rate = 100\ncycles = 0 => script: bad_line 4
+version = 1\nupdate_rate = 100\ncycles = 0\n--- script --- => ok and loop close: none\n
+version = 1\nupdate_rate = 100\ncycles = 0\n--- script ---\r\nsession a\n => ok and loop close: none\n
+version = 1\nupdate_rate = 100\ncycles = 0\n--- script ---\nsession a\n--- script ---\n => script: bad_line 6
+version = 1\nupdate_rate = 100\ncycles = 0\n--- script ---\r\r\nsession a\n => description: not_toml
+version = 1\nupdate_rate = 100\ncycles = 0\n# \n--- script --- \nsession a\n => description: not_toml
+version = 1\nupdate_rate = 100\ncycles = 0\n\n\n--- script ---\njump\n => script: bad_line 7";
+
+/// A mock or another controller, and scripts whose first line is line 8.
+const SCRIPTS: &str =
+    r#"version = 1\nupdate_rate = 100\ncycles = 0\n[[controller]]\nname = "mk"\ntype = "broadcaster"\nreads = "all"\n--- script ---\nsession a\nload mk\n => ok and a load mk: stock_empty\nloop close: none\n
+version = 1\nupdate_rate = 100\ncycles = 2\n[[controller]]\nname = "mk"\ntype = "mock"\n => script: bad_line 7
+version = 1\nupdate_rate = 100\ncycles = 2\n[[controller]]\nname = "mk"\ntype = "mock"\n--- script ---\nload mk\nload mk\n => script: no_session 8
+version = 1\nupdate_rate = 100\ncycles = 2\n[[controller]]\nname = "mk"\ntype = "mock"\n--- script ---\nsession a\nload mk\nlist controllers\nload nosuch\njump mk\n => script: bad_line 12
+version = 1\nupdate_rate = 100\ncycles = 2\n[[controller]]\nname = "mk"\ntype = "mock"\n--- script ---\nsession a\n\n# x\nsession b\n => script: bad_line 11
+version = 1\nupdate_rate = 100\ncycles = 2\n[[controller]]\nname = "mk"\ntype = "mock"\n--- script ---\nschedule\n => script: bad_line 8
+version = 1\nupdate_rate = 100\ncycles = 0\n[[controller]]\nname = "mk"\ntype = "mock"\n--- script ---\r\n\tsession \t a\r\nload  mk\t => ok and a load mk: ok 0\nloop close: none\n"#;
 
 #[test]
 fn a_fault_outside_is_told_and_leaves_a_front_of_the_trace(rt: HostRuntime) -> Result<(), Fail> {

@@ -162,3 +162,30 @@ fn all_states_and_commands_of_all_joints_are_not_too_many(rt: HostRuntime) -> Re
     assert_eq!(rt; got.as_str(), "valid");
     Ok(())
 }
+
+#[test]
+fn a_controller_claims_no_more_than_thirty_two(rt: HostRuntime) -> Result<(), Fail> {
+    let alloc = rt.alloc();
+    let most = positions(alloc, 32)?;
+    let more = positions(alloc, 33)?;
+    for (kind, reads) in [
+        ("forward", 0),
+        ("passthrough", 0),
+        ("trajectory", 1),
+        ("mock", 0),
+    ] {
+        for (list, want) in [(&most, "valid"), (&more, "bad_range controller[0].claims")] {
+            let list = list.as_str();
+            let mut text = String::from_str(alloc, TOP)?;
+            joints(&mut text, alloc, 32)?;
+            let mut keys = format!(in alloc; "claims = {list}")?;
+            for _ in 0..reads {
+                write!(keys, "\nreads = {list}")?;
+            }
+            controllers(&mut text, alloc, "c", kind, 1, keys.as_str())?;
+            let got = told(alloc, text.as_str())?;
+            assert_eq!(rt; got.as_str(), want, "{kind}");
+        }
+    }
+    Ok(())
+}

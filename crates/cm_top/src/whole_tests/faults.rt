@@ -75,6 +75,8 @@ const RANGES: &str =
 [[component]] | name = "arm" | kind = "system" | [[component.joint]] | name = "j1" | vmax = 0 | command = ["position"] | state = ["position"] => valid
 [[component]] | name = "arm" | kind = "system" | [[component.joint]] | name = "j1" | vmax = 1 | gain = -1 => bad_range component[0].joint[0].gain
 [[component]] | name = "arm" | kind = "system" | [[component.joint]] | name = "j1" | vmax = 1 | damping = -1 => bad_range component[0].joint[0].damping
+[[component]] | name = "arm" | kind = "system" | [[component.joint]] | name = "j1" | vmax = 1 | gain = 0 | damping = 0 => valid
+[[component]] | name = "arm" | kind = "actuator" | joint = [] => bad_range component[0].joint
 [[component]] | name = "arm" | kind = "system" | [[component.joint]] | name = "j1" | vmax = 1 | position = -1 | velocity = -1 => valid
 [[component]] | name = "eye" | kind = "sensor" | [[component.joint]] | name = "j1" | vmax = 1 | command = ["position"] | state = ["position"] => bad_range component[0].joint[0].command
 [[component]] | name = "eye" | kind = "sensor" | [[component.joint]] | name = "j1" | vmax = 1 | state = ["effort"] => valid

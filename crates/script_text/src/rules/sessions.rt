@@ -31,7 +31,7 @@ impl Draft {
     }
 
     /// Whether a session of this name is there.
-    #[tactic(auto, using(crate::proofs::RuleLemmas::any_session))]
+    #[tactic(auto, using(sequence::proofs::ListLemmas::any_append))]
     fn is_used(&self, name: &Name) -> bool
         ensures { result ≡ is_used name.now self.now }
     {

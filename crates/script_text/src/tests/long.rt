@@ -1,8 +1,8 @@
 //! Limits, met and passed by one.
 
 use crate::read_script_with;
-use crate::tests::{EVERY_FORM, LONGEST};
-use cm_model::Script;
+use crate::tests::LONGEST;
+use cm_model::{Script, every_form};
 use std::alloc::{AllocError, Global};
 use std::test::Fail;
 
@@ -22,7 +22,7 @@ fn counted(alloc: Global, text: &str) -> Result<String, Fail> {
     if bytes.len() > LONGEST {
         return Err(Fail::from("a text too long"));
     }
-    Ok(match read_script_with(alloc, EVERY_FORM, bytes, 1) {
+    Ok(match read_script_with(alloc, every_form(), bytes, 1) {
         Ok(script) => {
             let sessions = script.sessions.as_slice().len();
             let count = count(&script);

@@ -3,7 +3,8 @@ use Rattle.std.proofs.lemmas.Iterator.{YieldsList-from_slice}
 use Rattle.std.proofs.lemmas.Iterator.Search.{any_from_yields_List}
 use Rattle.iface_names.specs.Interfaces.{same_interface}
 use Rattle.iface_names.specs.declared.interface.IfaceName.TheVariants.{Joint}
-use Rattle.desc_check.proofs.InterfaceLemmas.{any_seen, no_reference_among}
+use Rattle.sequence.proofs.ListLemmas.{any_map}
+use Rattle.desc_check.proofs.InterfaceLemmas.{no_reference_among}
 use Rattle.desc_check.proofs.interfaces.is_interface_of.Goals as goal
 
 pub returns-in_default : goal.returns-in_default
@@ -15,4 +16,4 @@ returns c =
     let test = same_interface (Joint c.in-Joint.named c.in-Joint.wanted) in
     rw c.in-Joint.is
     (any_from_yields_List (λ k. test (Joint c.args.joint.now k)) _ _ _ c.any.ensures.ran (YieldsList-from_slice c.args.kinds.now cc) (λ x b q k. search (rules, tests))
-    ∙ sym (any_seen test (Joint c.args.joint.now) c.args.kinds.now))
+    ∙ sym (any_map test (Joint c.args.joint.now) c.args.kinds.now))

@@ -4,10 +4,10 @@ use Rattle.std.proofs.lemmas.Iterator.Search.{any_from_yields_List}
 use Rattle.iface_names.specs.Interfaces.{same_interface}
 use Rattle.cm_model.specs.Described.{states_of_joint}
 use Rattle.cm_model.specs.Links.{is_among}
-use Rattle.desc_check.proofs.InterfaceLemmas.{any_joined}
+use Rattle.sequence.proofs.ListLemmas.{any_flat_map}
 use Rattle.desc_check.proofs.interfaces.is_state_in.Goals as goal
 
 pub returns : goal.returns
 returns c =
     any_from_yields_List (λ x. is_among c.args.interface.now (states_of_joint x)) _ _ _ c.any.ensures.ran (YieldsList-from_slice c.args.joints.now cc) (λ x b q k. search (rules, tests))
-    ∙ sym (any_joined (same_interface c.args.interface.now) (λ x. states_of_joint x) c.args.joints.now)
+    ∙ sym (any_flat_map (same_interface c.args.interface.now) (λ x. states_of_joint x) c.args.joints.now)

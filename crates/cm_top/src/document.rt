@@ -1,0 +1,91 @@
+//! The document that some bytes are: description and script, each accepted or told by its first fault.
+
+ghost use Rattle.std.specs.Prelude.{◌≡◌, ◌+◌, ◌<◌, ◌≤◌, ◌^◌, length, option_map, unwrap_or, IfErr};
+ghost use Rattle.sequence.specs.Answers.{Answers};
+ghost use Rattle.cm_model.specs.Reading.{told_as};
+ghost use Rattle.cm_model.specs.Document.{without_components, checked, accepted_description, accepted_script, document_of, document};
+ghost use Rattle.cm_model.specs.Valid.{IsDescribed};
+ghost use Rattle.cm_top.specs.Status.{IsPlainFault};
+
+use crate::parts::divide;
+use cm_model::{
+    CheckFault, Checked, DescFault, DescProblem, Description, Document, DocumentFault, Script,
+    ScriptFault, Text,
+};
+use desc_check::check;
+use desc_text::read_description;
+use script_text::read_script;
+use std::alloc::Global;
+
+/// The document that these bytes are, or its first fault: the description's comes before the script's.
+#[tactic(auto, unfolding(cm_model::specs::Document::document_of))]
+pub fn read_document(alloc: Global, bytes: &[u8]) -> Result<Document, DocumentFault>
+    requires { length bytes.now ≤ 1048576 }
+    ensures reads { Answers DocumentFault.Memory (document bytes.now) result }
+    ensures plain { IfErr result IsPlainFault }
+{
+    let parts = divide(bytes);
+    let description = description(alloc, parts.description)?;
+    let script = script(alloc, parts.lines, parts.script)?;
+    Ok(Document {
+        description,
+        script,
+    })
+}
+
+/// The description in its text: read, then checked, and then without a component; or its first fault.
+#[tactic(auto, unfolding(cm_model::specs::Document::accepted_description), using(crate::proofs::PlainLemmas::plain_faults))]
+fn description(alloc: Global, text: &[u8]) -> Result<Checked, DocumentFault>
+    ensures reads { Answers DocumentFault.Memory (told_as DocumentFault.Description (accepted_description text.now)) result }
+    ensures plain { IfErr result IsPlainFault }
+{
+    match read_description(alloc, text) {
+        Ok(description) => checked(alloc, description),
+        Err(DescFault::Memory) => Err(DocumentFault::Memory),
+        Err(fault) => Err(DocumentFault::Description(DescProblem::Text(fault))),
+    }
+}
+
+/// A description that was read: checked, and then without a component.
+#[tactic(auto, using(crate::proofs::PlainLemmas::plain_faults))]
+fn checked(alloc: Global, description: Description) -> Result<Checked, DocumentFault>
+    requires described { IsDescribed description }
+    ensures reads { Answers DocumentFault.Memory (told_as DocumentFault.Description (checked description)) result }
+    ensures plain { IfErr result IsPlainFault }
+{
+    match check(alloc, description) {
+        Ok(checked) => without_components(alloc, checked),
+        Err(CheckFault::Memory) => Err(DocumentFault::Memory),
+        Err(fault) => Err(DocumentFault::Description(DescProblem::Check(fault))),
+    }
+}
+
+/// Components are not built yet: a description that has one is refused at their key.
+fn without_components(alloc: Global, checked: Checked) -> Result<Checked, DocumentFault>
+    ensures reads { Answers DocumentFault.Memory (told_as DocumentFault.Description (without_components checked)) result }
+    ensures plain { IfErr result IsPlainFault }
+{
+    if checked.description().components.as_slice().is_empty() {
+        return Ok(checked);
+    }
+    let key = Text::from_string(String::from_str(alloc, "component")?);
+    Err(DocumentFault::Description(DescProblem::Text(DescFault::BadKey(key))))
+}
+
+/// The script after so many lines of description and a separator, or its first bad line. Lines are counted from 1 over
+/// the whole document; without a separator the line after the last is bad.
+#[tactic(auto, using(crate::proofs::PlainLemmas::plain_faults, cm_model::proofs::LineLemmas::raw_lines_within))]
+fn script(alloc: Global, lines: usize, text: Option<&[u8]>) -> Result<Script, DocumentFault>
+    requires { lines + unwrap_or (option_map (λ t. length t.now) text) 0 + 2 < 2 ^ 32 }
+    ensures reads { Answers DocumentFault.Memory (told_as DocumentFault.Script (accepted_script lines (option_map (λ t. t.now) text.entry))) result }
+    ensures plain { IfErr result IsPlainFault }
+{
+    let Some(text) = text else {
+        return Err(DocumentFault::Script(ScriptFault::BadLine(lines as u32 + 1)));
+    };
+    match read_script(alloc, text, lines as u32 + 2) {
+        Ok(script) => Ok(script),
+        Err(ScriptFault::Memory) => Err(DocumentFault::Memory),
+        Err(fault) => Err(DocumentFault::Script(fault)),
+    }
+}

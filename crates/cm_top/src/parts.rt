@@ -1,0 +1,54 @@
+//! The parts of a document.
+
+ghost use Rattle.std.specs.Prelude.{◌≡◌, ◌+◌, ◌≤◌, length, option_map, unwrap_or};
+ghost use Rattle.cm_model.specs.Lines.{is_separator, parts_of};
+
+use script_text::{bare_line, first_line};
+
+/// A document divided at its separator, none of it copied.
+#[derive(Clone, Copy, Debug)]
+pub struct Divided<'a> {
+    /// The bytes before the separator; all of them where there is none.
+    pub description: &'a [u8],
+    /// How many lines the description is.
+    pub lines: usize,
+    /// The bytes after the separator, where it stands.
+    pub script: Option<&'a [u8]>,
+}
+
+/// Divides a document at its separator, the first line that is one.
+#[tactic(auto, using(crate::proofs::PartsLemmas::dividing))]
+pub fn divide(bytes: &[u8]) -> Divided<'_>
+    ensures description { result.description.now ≡ (parts_of bytes.now).description }
+    ensures lines { result.lines ≡ (parts_of bytes.now).lines }
+    ensures script { option_map (λ t. t.now) result.script ≡ (parts_of bytes.now).script }
+    ensures fits { result.lines + unwrap_or (option_map (λ t. length t.now) result.script) 0 ≤ length bytes.now }
+{
+    let mut lines = 0;
+    let mut rest = bytes;
+    while !rest.is_empty() {
+        let (line, more) = first_line(rest);
+        if separates(line) {
+            let (description, _) = bytes.split_at(bytes.len() - rest.len());
+            return Divided {
+                description,
+                lines,
+                script: Some(more),
+            };
+        }
+        lines += 1;
+        rest = more;
+    }
+    Divided {
+        description: bytes,
+        lines,
+        script: None,
+    }
+}
+
+/// Whether this line is the separator.
+fn separates(line: &[u8]) -> bool
+    ensures { result ≡ is_separator line.now }
+{
+    bare_line(line) == b"--- script ---".as_slice()
+}
