@@ -6,6 +6,7 @@ pub use top::{run, run_alone};
 
 mod desk;
 mod document;
+pub mod laws;
 mod parts;
 mod session;
 mod status;

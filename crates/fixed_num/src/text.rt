@@ -176,7 +176,6 @@ mod tests {
             let number = Fx::from_micro(micro);
             assert_eq!(rt; number.text(rt.alloc())?.as_str(), text);
             assert_eq!(rt; format!(in rt.alloc(); "{number}")?.as_str(), text);
-            assert_eq!(rt; number.to_string(rt.alloc())?.as_str(), text);
 
             let mut bytes = Vec::with_capacity(rt.alloc(), Fx::LONGEST_TEXT)?;
             number.push_text(&mut bytes)?;

@@ -156,32 +156,39 @@ version = 1\nupdate_rate = 100\ncycles = 2\n[[controller]]\nname = "mk"\ntype = 
 version = 1\nupdate_rate = 100\ncycles = 2\n[[controller]]\nname = "mk"\ntype = "mock"\n--- script ---\nschedule\n => script: bad_line 8
 version = 1\nupdate_rate = 100\ncycles = 0\n[[controller]]\nname = "mk"\ntype = "mock"\n--- script ---\r\n\tsession \t a\r\nload  mk\t => ok and a load mk: ok 0\nloop close: none\n"#;
 
+/// A row is `READ-STEP FAILING-READ ROOM WRITE-STEP FAILING-WRITE => STATUS and TAKEN`, without the last where nothing is taken. In the
+/// fifth, the first call takes the whole trace, and the second is the flush.
+const FAULTS: &str = r"8 0 4096 4096 1000000 => read fault
+8 1 4096 4096 1000000 => read fault
+8 1000000 4096 10 1 => write fault and a load mk:
+8 1000000 4096 4096 0 => write fault
+8 1000000 4096 4096 1 => write fault and a load mk: ok 0\na list controllers: mk mock unconfigured 0\na load nosuch: not_described\na load mk: loaded\nloop begin 0: none\nloop end 0: none\nloop begin 1: none\nloop end 1: none\nloop close: none\n
+8 1000000 0 4096 1000000 => write fault";
+
 #[test]
 fn a_fault_outside_is_told_and_leaves_a_front_of_the_trace(rt: HostRuntime) -> Result<(), Fail> {
     let alloc = rt.alloc();
-    for (read_step, bad_read, room, write_step, bad_write, answer, taken) in [
-        (8, 0, AMPLE, AMPLE, NEVER, "read fault", ""),
-        (8, 1, AMPLE, AMPLE, NEVER, "read fault", ""),
-        (8, NEVER, AMPLE, 10, 1, "write fault", "a load mk:"),
-        (8, NEVER, AMPLE, AMPLE, 0, "write fault", ""),
-        // Here the first call takes the whole trace, and the second is the flush.
-        (8, NEVER, AMPLE, AMPLE, 1, "write fault", FIRST_TRACE),
-        (8, NEVER, 0, AMPLE, NEVER, "write fault", ""),
-    ] {
-        let mut source = source(alloc, FIRST.as_bytes(), read_step, bad_read)?;
-        let mut sink = MemSink::make(alloc, room, write_step, vec![in alloc; bad_write]?)?;
+    for row in FAULTS.lines() {
+        let (numbers, want) = row.split_once(" => ").ok_or("a row without an arrow")?;
+        let (answer, taken) = want.split_once(" and ").unwrap_or((want, ""));
+        let mut given = Vec::new(alloc);
+        for number in numbers.split(' ') {
+            given.push(number.parse::<u32>()?)?;
+        }
+        let [read_step, bad_read, room, write_step, bad_write] = *given.as_slice() else {
+            return Err(Fail::from("not five numbers"));
+        };
+        if read_step == 0 || write_step == 0 {
+            return Err(Fail::from("a step of none"));
+        }
+        let mut source = source(alloc, FIRST.as_bytes(), read_step as usize, bad_read as u64)?;
+        let fails = vec![in alloc; bad_write as u64]?;
+        let mut sink = MemSink::make(alloc, room as usize, write_step as usize, fails)?;
         let status = run_alone(alloc, &mut source, &mut sink, stock());
         let status = format!(in alloc; "{status}")?;
-        assert_eq!(rt;
-            status.as_str(),
-            answer,
-            "read {bad_read}, write {bad_write}, room {room}"
-        );
-        assert_eq!(rt;
-            sink.bytes(),
-            taken.as_bytes(),
-            "read {bad_read}, write {bad_write}, room {room}"
-        );
+        let taken = written_out(alloc, taken)?;
+        assert_eq!(rt; status.as_str(), answer, "{row}");
+        assert_eq!(rt; sink.bytes(), taken.as_bytes(), "{row}");
     }
     Ok(())
 }

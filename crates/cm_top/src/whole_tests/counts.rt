@@ -56,20 +56,26 @@ fn controllers(
     Ok(())
 }
 
+/// So many sensors of one joint, joints that move, and mocks.
+const COMPONENTS: &str = "\
+0 0 0 => valid
+16 0 0 => valid
+17 0 0 => too_many components
+0 32 0 => valid
+0 33 0 => too_many joints
+0 0 64 => valid
+0 0 65 => too_many controllers
+17 0 65 => too_many components
+0 33 65 => too_many joints";
+
 #[test]
 fn components_joints_and_controllers_at_their_limits(rt: HostRuntime) -> Result<(), Fail> {
     let alloc = rt.alloc();
-    for (sensors, moved, mocks, want) in [
-        (0, 0, 0, "valid"),
-        (16, 0, 0, "valid"),
-        (17, 0, 0, "too_many components"),
-        (0, 32, 0, "valid"),
-        (0, 33, 0, "too_many joints"),
-        (0, 0, 64, "valid"),
-        (0, 0, 65, "too_many controllers"),
-        (17, 0, 65, "too_many components"),
-        (0, 33, 65, "too_many joints"),
-    ] {
+    for row in COMPONENTS.lines() {
+        let (numbers, want) = numbers(alloc, row)?;
+        let [sensors, moved, mocks] = *numbers.as_slice() else {
+            return Err(Fail::from("not three numbers"));
+        };
         let mut text = String::from_str(alloc, TOP)?;
         components(&mut text, alloc, sensors)?;
         if moved > 0 {
@@ -77,50 +83,50 @@ fn components_joints_and_controllers_at_their_limits(rt: HostRuntime) -> Result<
         }
         controllers(&mut text, alloc, "m", "mock", mocks, "")?;
         let got = told(alloc, text.as_str())?;
-        assert_eq!(rt; got.as_str(), want, "{sensors}, {moved}, {mocks}");
+        assert_eq!(rt; got.as_str(), want, "{row}");
     }
     Ok(())
 }
+
+/// So many passthroughs of 32 claims and of one, forwards of 32 claims and of one, broadcasters of 32 reads, and mocks of one read.
+/// Passthroughs export what they claim, the others nothing.
+const LINKS: &str = "\
+3 0 0 0 0 0 => valid
+3 1 0 0 0 0 => too_many references
+0 0 6 0 0 0 => valid
+0 0 6 1 0 0 => too_many claims
+3 0 3 0 0 0 => valid
+3 0 3 1 0 0 => too_many claims
+0 0 0 0 8 0 => valid
+0 0 0 0 8 1 => too_many reads
+3 1 6 1 8 1 => too_many references
+0 0 6 1 8 1 => too_many claims";
 
 #[test]
 fn references_claims_and_reads_at_their_limits(rt: HostRuntime) -> Result<(), Fail> {
     let alloc = rt.alloc();
     let all = positions(alloc, 32)?;
-    let claim_all = format!(in alloc; "claims = {all}")?;
-    let claim_one = "claims = [\"j0/position\"]";
-    // Passthroughs export what they claim, forwards export nothing, and a broadcaster of all states reads 32 here.
-    for (passing, one_more, forwards, and_one, listeners, and_listens, want) in [
-        (3, 0, 0, 0, 0, 0, "valid"),
-        (3, 1, 0, 0, 0, 0, "too_many references"),
-        (0, 0, 6, 0, 0, 0, "valid"),
-        (0, 0, 6, 1, 0, 0, "too_many claims"),
-        (3, 0, 3, 0, 0, 0, "valid"),
-        (3, 0, 3, 1, 0, 0, "too_many claims"),
-        (0, 0, 0, 0, 8, 0, "valid"),
-        (0, 0, 0, 0, 8, 1, "too_many reads"),
-        (3, 1, 6, 1, 8, 1, "too_many references"),
-        (0, 0, 6, 1, 8, 1, "too_many claims"),
-    ] {
+    let all = format!(in alloc; "claims = {all}")?;
+    let one = "claims = [\"j0/position\"]";
+    for row in LINKS.lines() {
+        let (numbers, want) = numbers(alloc, row)?;
+        let [
+            passing,
+            passing_one,
+            forwards,
+            forwards_one,
+            listeners,
+            listens,
+        ] = *numbers.as_slice()
+        else {
+            return Err(Fail::from("not six numbers"));
+        };
         let mut text = String::from_str(alloc, TOP)?;
         joints(&mut text, alloc, 32)?;
-        controllers(
-            &mut text,
-            alloc,
-            "p",
-            "passthrough",
-            passing,
-            claim_all.as_str(),
-        )?;
-        controllers(&mut text, alloc, "q", "passthrough", one_more, claim_one)?;
-        controllers(
-            &mut text,
-            alloc,
-            "f",
-            "forward",
-            forwards,
-            claim_all.as_str(),
-        )?;
-        controllers(&mut text, alloc, "g", "forward", and_one, claim_one)?;
+        controllers(&mut text, alloc, "p", "passthrough", passing, all.as_str())?;
+        controllers(&mut text, alloc, "q", "passthrough", passing_one, one)?;
+        controllers(&mut text, alloc, "f", "forward", forwards, all.as_str())?;
+        controllers(&mut text, alloc, "g", "forward", forwards_one, one)?;
         controllers(
             &mut text,
             alloc,
@@ -134,17 +140,23 @@ fn references_claims_and_reads_at_their_limits(rt: HostRuntime) -> Result<(), Fa
             alloc,
             "l",
             "mock",
-            and_listens,
+            listens,
             "reads = [\"j0/position\"]",
         )?;
         let got = told(alloc, text.as_str())?;
-        assert_eq!(rt;
-            got.as_str(),
-            want,
-            "{passing}, {one_more}, {forwards}, {and_one}, {listeners}"
-        );
+        assert_eq!(rt; got.as_str(), want, "{row}");
     }
     Ok(())
+}
+
+/// The numbers of a row `3 0 6 => TOLD`, and what is told.
+fn numbers(alloc: Global, row: &str) -> Result<(Vec<u32>, &str), Fail> {
+    let (words, want) = row.split_once(" => ").ok_or("a row without an arrow")?;
+    let mut numbers = Vec::new(alloc);
+    for word in words.split(' ') {
+        numbers.push(word.parse()?)?;
+    }
+    Ok((numbers, want))
 }
 
 #[test]

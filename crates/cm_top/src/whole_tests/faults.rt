@@ -1,27 +1,24 @@
 //! The faults of the checks, alone and two in one description: the order of the checks decides, not that of the text.
 
-use super::{TOP, differences, told};
+use super::{TOP, differences};
 use std::test::Fail;
 
 #[test]
 fn ranges_of_the_top(rt: HostRuntime) -> Result<(), Fail> {
-    for (version, rate, cycles, want) in [
-        (1, 1, 0, "valid"),
-        (1, 10_000, 100_000, "valid"),
-        (0, 1, 0, "bad_range version"),
-        (2, 0, 100_001, "bad_range version"),
-        (1, 0, 100_001, "bad_range update_rate"),
-        (1, 10_001, 0, "bad_range update_rate"),
-        (1, 1, 100_001, "bad_range cycles"),
-    ] {
-        let text = format!(in rt.alloc();
-            "cycles = {cycles}\nupdate_rate = {rate}\nversion = {version}\n"
-        )?;
-        let got = told(rt.alloc(), text.as_str())?;
-        assert_eq!(rt; got.as_str(), want, "{version}, {rate}, {cycles}");
-    }
+    let found = differences(rt.alloc(), "", RANGES_OF_THE_TOP)?;
+    assert_eq!(rt; found.as_str(), "");
     Ok(())
 }
+
+/// The numbers of the top table, whatever their order.
+const RANGES_OF_THE_TOP: &str = "\
+version = 1 | update_rate = 1 | cycles = 0 => valid
+version = 1 | update_rate = 10000 | cycles = 100000 => valid
+version = 0 | update_rate = 1 | cycles = 0 => bad_range version
+cycles = 100001 | update_rate = 0 | version = 2 => bad_range version
+cycles = 100001 | update_rate = 0 | version = 1 => bad_range update_rate
+version = 1 | update_rate = 10001 | cycles = 0 => bad_range update_rate
+version = 1 | update_rate = 1 | cycles = 100001 => bad_range cycles";
 
 #[test]
 fn the_first_fault_of_the_checks_is_told(rt: HostRuntime) -> Result<(), Fail> {

@@ -32,125 +32,91 @@ fn counted(alloc: Global, text: &str) -> Result<String, Fail> {
     })
 }
 
+/// The rows of a table that tell something else than what is told of their texts. A row is `FRONT | TIMES | PIECE | BACK => TOLD`: a
+/// text with a piece many times in its middle. Spaces at ends, line feeds and carriage returns are written as `\s`, `\n` and `\r`.
+fn wrong_rows(alloc: Global, table: &str) -> Result<String, Fail> {
+    let mut wrong = String::new(alloc);
+    for row in table.lines() {
+        let (parts, expected) = row.split_once(" => ").ok_or("a row without an arrow")?;
+        let (front, parts) = parts.split_once(" | ").ok_or("a row of one part")?;
+        let (times, parts) = parts.split_once(" | ").ok_or("a row of two parts")?;
+        let (piece, back) = parts.split_once(" | ").ok_or("a row of three parts")?;
+        let text = repeating(alloc, front, times.parse()?, piece, back)?;
+        let told = counted(alloc, text.as_str())?;
+        if told.as_str() != expected {
+            wrong.push_str(format!(in alloc; "{row}, not {told}\n")?.as_str())?;
+        }
+    }
+    Ok(wrong)
+}
+
 /// A text with a piece many times in its middle.
 fn repeating(
     alloc: Global,
     front: &str,
+    times: u32,
     piece: &str,
-    times: usize,
     back: &str,
 ) -> Result<String, AllocError> {
-    let mut text = String::from_str(alloc, front)?;
+    let piece = written_out(alloc, piece)?;
+    let mut text = written_out(alloc, front)?;
     for _ in 0..times {
-        text.push_str(piece)?;
+        text.push_str(piece.as_str())?;
     }
-    text.push_str(back)?;
+    text.push_str(written_out(alloc, back)?.as_str())?;
     Ok(text)
 }
 
-#[test]
-fn calls_and_turns(rt: HostRuntime) -> Result<(), Fail> {
-    for (front, piece, times, back, expected) in [
-        ("session a\n", "load c\n", 10_000, "", "1 and 10000"),
-        ("session a\n", "load c\n", 10_000, "# x\n\n", "1 and 10000"),
-        (
-            "session a\n",
-            "load c\n",
-            10_000,
-            "session b\nschedule\n",
-            "2 and 10000",
-        ),
-        ("session a\n", "load c\n", 10_001, "", "too_many 10002"),
-        (
-            "session a\n",
-            "load c\n",
-            10_000,
-            "load 1a\n",
-            "bad_line 10002",
-        ),
-        (
-            "session a\n",
-            "load c\n",
-            10_000,
-            "schedule\nbegin\n",
-            "too_many 10003",
-        ),
-        (
-            "session a\nload c\nschedule\n",
-            "step a\n",
-            9_999,
-            "",
-            "1 and 10000",
-        ),
-        (
-            "session a\nload c\nschedule\n",
-            "step a\n",
-            9_999,
-            "end\n",
-            "too_many 10003",
-        ),
-        (
-            "schedule\n",
-            "begin\n",
-            10_000,
-            "step b\n",
-            "no_session 10002",
-        ),
-        (
-            "schedule\n",
-            "begin\n",
-            10_000,
-            "load c\n",
-            "bad_line 10002",
-        ),
-    ] {
-        let text = repeating(rt.alloc(), front, piece, times, back)?;
-        assert_eq!(rt;
-            counted(rt.alloc(), text.as_str())?.as_str(),
-            expected,
-            "{front}{times} {piece}{back}"
-        );
-    }
-    Ok(())
+/// A text in which `\s`, `\n` and `\r` stood for a space, a line feed and a carriage return.
+fn written_out(alloc: Global, text: &str) -> Result<String, AllocError> {
+    text.replace(alloc, r"\s", " ")?
+        .replace(alloc, r"\n", "\n")?
+        .replace(alloc, r"\r", "\r")
 }
 
+/// At most 10,000 calls and turns.
+const CALLS_AND_TURNS: &str = r"session a\n | 10000 | load c\n |  => 1 and 10000
+session a\n | 10000 | load c\n | # x\n\n => 1 and 10000
+session a\n | 10000 | load c\n | session b\nschedule\n => 2 and 10000
+session a\n | 10001 | load c\n |  => too_many 10002
+session a\n | 10000 | load c\n | load 1a\n => bad_line 10002
+session a\n | 10000 | load c\n | schedule\nbegin\n => too_many 10003
+session a\nload c\nschedule\n | 9999 | step a\n |  => 1 and 10000
+session a\nload c\nschedule\n | 9999 | step a\n | end\n => too_many 10003
+schedule\n | 10000 | begin\n | step b\n => no_session 10002
+schedule\n | 10000 | begin\n | load c\n => bad_line 10002";
+
+/// At most so many names, values and bytes of a name.
+const SIZES_OF_CALLS: &str = r"session a\nswitch strict | 128 | \s+c | \n => 1 and 1
+session a\nswitch strict | 127 | \s+c | \s-d\n => 1 and 1
+session a\nswitch strict | 128 | \s+c | \s-d\n => too_many 2
+session a\nswitch best | 129 | \s-c | \n => too_many 2
+session a\nswitch best | 129 | \s-c | \sc\n => bad_line 2
+switch best | 129 | \s-c | \n => no_session 1
+session a\nsend c | 32 | \s1 | \n => 1 and 1
+session a\nsend c | 33 | \s1 | \n => too_many 2
+session a\nsend c | 33 | \s1 | \sx\n => bad_line 2
+send c | 33 | \s1 | \n => no_session 1
+session a\nsend c @1 | 32 | \s1 | \n => 1 and 1
+session a\nsend c @1 | 33 | \s1 | \n => too_many 2
+session a\nsend c @1 1 @2 | 33 | \s1 | \s@3 1\n => too_many 2
+session a\nload  | 64 | n | \n => 1 and 1
+session a\nload  | 65 | n | \n => bad_line 2";
+
+/// At most 65,536 bytes of a line that is not skipped.
+const LONG_LINES: &str = r"session a\nload | 65530 | \s | mk\n => 1 and 1
+session a\nload | 65530 | \s | mk\r\n => 1 and 1
+session a\nload | 65531 | \s | mk\n => bad_line 2
+session a\nload | 65531 | \s | mk => bad_line 2
+load | 65531 | \s | mk => bad_line 1
+ | 70000 | \s | \nsession a\n => 1 and 0
+# | 70000 | x | \nsession a\n => 1 and 0
+ | 70000 | \s | # x\nsession a\n => 1 and 0";
+
 #[test]
-fn sizes_of_calls(rt: HostRuntime) -> Result<(), Fail> {
-    for (front, piece, times, back, expected) in [
-        ("session a\nswitch strict", " +c", 128, "\n", "1 and 1"),
-        ("session a\nswitch strict", " +c", 127, " -d\n", "1 and 1"),
-        (
-            "session a\nswitch strict",
-            " +c",
-            128,
-            " -d\n",
-            "too_many 2",
-        ),
-        ("session a\nswitch best", " -c", 129, "\n", "too_many 2"),
-        ("session a\nswitch best", " -c", 129, " c\n", "bad_line 2"),
-        ("switch best", " -c", 129, "\n", "no_session 1"),
-        ("session a\nsend c", " 1", 32, "\n", "1 and 1"),
-        ("session a\nsend c", " 1", 33, "\n", "too_many 2"),
-        ("session a\nsend c", " 1", 33, " x\n", "bad_line 2"),
-        ("send c", " 1", 33, "\n", "no_session 1"),
-        ("session a\nsend c @1", " 1", 32, "\n", "1 and 1"),
-        ("session a\nsend c @1", " 1", 33, "\n", "too_many 2"),
-        (
-            "session a\nsend c @1 1 @2",
-            " 1",
-            33,
-            " @3 1\n",
-            "too_many 2",
-        ),
-        ("session a\nload ", "n", 64, "\n", "1 and 1"),
-        ("session a\nload ", "n", 65, "\n", "bad_line 2"),
-    ] {
-        let text = repeating(rt.alloc(), front, piece, times, back)?;
-        assert_eq!(rt;
-            counted(rt.alloc(), text.as_str())?.as_str(),
-            expected,
-            "{front}{times} {piece}{back}"
-        );
+fn limits(rt: HostRuntime) -> Result<(), Fail> {
+    for table in [CALLS_AND_TURNS, SIZES_OF_CALLS, LONG_LINES] {
+        assert_eq!(rt; wrong_rows(rt.alloc(), table)?.as_str(), "");
     }
     Ok(())
 }
@@ -186,27 +152,5 @@ fn points_and_sessions(rt: HostRuntime) -> Result<(), Fail> {
     let mut used = sessions(rt.alloc(), 8)?;
     used.push_str("session s7\n")?;
     assert_eq!(rt; counted(rt.alloc(), used.as_str())?.as_str(), "bad_line 9");
-    Ok(())
-}
-
-#[test]
-fn long_lines(rt: HostRuntime) -> Result<(), Fail> {
-    for (front, piece, times, back, expected) in [
-        ("session a\nload", " ", 65_530, "mk\n", "1 and 1"),
-        ("session a\nload", " ", 65_530, "mk\r\n", "1 and 1"),
-        ("session a\nload", " ", 65_531, "mk\n", "bad_line 2"),
-        ("session a\nload", " ", 65_531, "mk", "bad_line 2"),
-        ("load", " ", 65_531, "mk", "bad_line 1"),
-        ("", " ", 70_000, "\nsession a\n", "1 and 0"),
-        ("#", "x", 70_000, "\nsession a\n", "1 and 0"),
-        ("", " ", 70_000, "# x\nsession a\n", "1 and 0"),
-    ] {
-        let text = repeating(rt.alloc(), front, piece, times, back)?;
-        assert_eq!(rt;
-            counted(rt.alloc(), text.as_str())?.as_str(),
-            expected,
-            "{front}{times} {piece}{back}"
-        );
-    }
     Ok(())
 }

@@ -1,0 +1,8 @@
+use Rattle.cm_top.proofs.TopLemmas.{document-Rules}
+use Rattle.cm_top.proofs.laws.accepted_scripts_meet_the_rules.Goals as goal
+
+pub returns-clause-rules : goal.returns-clause-rules
+returns-clause-rules c = λ bytes d accepted. (document-Rules bytes d accepted).0
+
+pub returns-clause-forms : goal.returns-clause-forms
+returns-clause-forms c = λ bytes d accepted. (document-Rules bytes d accepted).1
