@@ -4,8 +4,8 @@ use Rattle.std.specs.List.{All, Contains}
 use Rattle.std.proofs.lemmas.Bool.{cases_Bool}
 use Rattle.std.proofs.lemmas.List.{get_or-map, length-map}
 use Rattle.std.proofs.lemmas.List.Elements.{All-nil, All-cons, All-map}
-use Rattle.cm_model.specs.Links.{precedes}
-use Rattle.cm_model.specs.declared.description.CtlDesc.{CtlDesc}
+use Rattle.cm_document.specs.Links.{precedes}
+use Rattle.cm_document.specs.declared.description.CtlDesc.{CtlDesc}
 use Rattle.chain_order.specs.Links.{followers_from, followers, links_of, linked, IsLinks}
 
 -- an element is the first one or is among the others

@@ -6,9 +6,9 @@ use Rattle.std.proofs.lemmas.Bool.{cases_eq, false_from_ne_true}
 use Rattle.std.proofs.lemmas.List.{get_or_default, length-map}
 use Rattle.std.proofs.lemmas.List.Elements.{All-nil, All-cons, All-head, All-tail, Contains-get_or}
 use Rattle.std.proofs.lemmas.List.Sums.{position_or_len_is}
-use Rattle.cm_model.proofs.ChainLemmas.{HasChain, far_iff_HasChain}
-use Rattle.cm_model.specs.Links.{precedes_far, IsChain, first_in_loop}
-use Rattle.cm_model.specs.declared.description.CtlDesc.{CtlDesc}
+use Rattle.cm_document.proofs.ChainLemmas.{HasChain, far_iff_HasChain}
+use Rattle.cm_document.specs.Links.{precedes_far, IsChain, first_in_loop}
+use Rattle.cm_document.specs.declared.description.CtlDesc.{CtlDesc}
 use Rattle.chain_order.specs.Links.{followers, links_of}
 use Rattle.chain_order.specs.Ways.{IsWay, Leads, NoneBefore, IsFirstBack}
 use Rattle.chain_order.proofs.LinkLemmas.{linked-precedes, precedes-linked}

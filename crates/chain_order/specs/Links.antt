@@ -1,8 +1,8 @@
 -- Links by place: for each controller, the places of those that it precedes.
 use Rattle.std.specs.Prelude.{ℕ, ◌+◌, ◌<◌, ◌^◌, if◌then◌else◌, List, [], ◌∷◌, length, map, slice_index_or}
 use Rattle.std.specs.List.{All}
-use Rattle.cm_model.specs.Links.{precedes}
-use Rattle.cm_model.specs.declared.description.CtlDesc.{CtlDesc}
+use Rattle.cm_document.specs.Links.{precedes}
+use Rattle.cm_document.specs.declared.description.CtlDesc.{CtlDesc}
 
 -- the places, where the first of these has place k, of those that c precedes
 abbrev pub followers_from : ℕ → CtlDesc → List CtlDesc → List ℕ

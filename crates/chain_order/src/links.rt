@@ -3,10 +3,10 @@
 ghost use Rattle.std.specs.Prelude.{◌≡◌, ◌<◌, ◌^◌, length, IfOk, All};
 ghost use Rattle.std.specs.List.{list_any};
 ghost use Rattle.iface_names.specs.Interfaces.{same_interface};
-ghost use Rattle.cm_model.specs.Links.{precedes, is_among, refs_of, reference_for};
+ghost use Rattle.cm_document.specs.Links.{precedes, is_among, refs_of, reference_for};
 ghost use Rattle.chain_order.specs.Links.{followers, links_of, linked};
 
-use cm_model::{CtlDesc, IfaceName, Memory, Name, Seq};
+use cm_document::{CtlDesc, IfaceName, Memory, Name, Seq};
 use std::alloc::Global;
 use std::marker::Model;
 

@@ -1,12 +1,12 @@
 //! Loops among described controllers.
 
 ghost use Rattle.std.specs.Prelude.{◌≡◌, ◌<◌, ◌^◌, length, IfOk};
-ghost use Rattle.cm_model.specs.Links.{first_in_loop};
+ghost use Rattle.cm_document.specs.Links.{first_in_loop};
 ghost use Rattle.chain_order.specs.Ways.{IsFirstBack};
 
 use crate::links::Links;
 use crate::search::leads_back;
-use cm_model::{Description, Memory};
+use cm_document::{Description, Memory};
 use std::alloc::Global;
 
 /// The least place of a controller that precedes itself at some distance, or None where there is none.

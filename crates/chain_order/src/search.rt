@@ -6,7 +6,7 @@ ghost use Rattle.chain_order.specs.Search.{Seen, Spreads};
 ghost use Rattle.chain_order.specs.Ways.{Leads};
 
 use crate::links::Links;
-use cm_model::Memory;
+use cm_document::Memory;
 use std::alloc::Global;
 use std::marker::Model;
 

@@ -2,7 +2,7 @@
 
 use crate::bodies::Body;
 use crate::texts::Texts;
-use cm_model::{CheckFault, DescFault, ScriptFault, every_form};
+use cm_document::{CheckFault, DescFault, ScriptFault, every_form};
 use desc_check::check;
 use desc_text::read_description;
 use fixed_num::Memory;
@@ -32,7 +32,7 @@ pub struct ScriptReader {
 }
 
 impl Body<Texts> for ScriptReader {
-    #[tactic(auto, using(cm_model::proofs::LineLemmas::raw_lines_within))]
+    #[tactic(auto, using(cm_document::proofs::LineLemmas::raw_lines_within))]
     fn turn(&mut self, case: &Texts) -> Result<i64, Memory> {
         let text = case.script.as_bytes();
         if text.len() > MOST_BYTES {

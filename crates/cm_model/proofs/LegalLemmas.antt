@@ -1,27 +1,18 @@
 -- Every scheduled history is legal, and every legal history of this language reports nothing.
 use Rattle.std.proofs.Common.{◌≡◌, ℕ, zero, suc, ◌+◌, List, [], ◌∷◌, ◌++◌, length, Option, Some, None, Bool, true, false, refl, ◌⊎◌, inl, inr}
 use Rattle.std.specs.Prelude.{IsSomeAnd, cond}
+use Rattle.cm_document.proofs.ReadingLemmas.{cases_Option, chosen}
 use Rattle.cm_model.specs.State.{boot}
 use Rattle.cm_model.specs.Machine.{step, where_allowed, LegalFrom, IsLegal, state_after}
 use Rattle.cm_model.specs.Scheduled.{Progress, with_entry, settle, settle_from, settle_all, looped, cycle, cycles, finish, start, scheduled}
 use Rattle.cm_model.specs.Sessions.{ReportsNothing, IsUneventful}
-use Rattle.cm_model.specs.declared.call.Call.{Call}
-use Rattle.cm_model.specs.declared.call.Call.TheVariants.{Load, ListControllers, Begin, End, Close}
-use Rattle.cm_model.specs.declared.call.Entry.{Entry}
+use Rattle.cm_document.specs.declared.call.Call.{Call}
+use Rattle.cm_document.specs.declared.call.Call.TheVariants.{Load, ListControllers, Begin, End, Close}
+use Rattle.cm_model.specs.declared.entry.Entry.{Entry}
 use Rattle.cm_model.specs.declared.reply.Reply.{Reply}
-use Rattle.cm_model.specs.declared.document.Document.{Document}
+use Rattle.cm_document.specs.declared.document.Document.{Document}
 use Rattle.cm_model.specs.declared.state.Blanks.{Blanks}
 use Rattle.cm_model.specs.declared.state.State.{State}
-
--- an option is none, or has a value
-pub cases_Option : {A : Type 0} (o : Option A) → (o ≡ None) ⊎ ((x : A) × (o ≡ Some x))
-cases_Option None = inl refl
-cases_Option (Some x) = inr (x, refl)
-
--- what holds of both choices holds of the one taken
-pub chosen : {A : Type 0} (P : A → Type 0) (b : Bool) (x y : A) → P x → P y → P (cond b x y)
-chosen P true x y p q = p
-chosen P false x y p q = q
 
 -- what a legal entry says of its step
 pub step_of : (o : Option (State × Reply)) (r : Reply) (P : State → Type 0) → IsSomeAnd o (λ m. (m.1 ≡ r) × P m.0)

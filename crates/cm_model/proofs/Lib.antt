@@ -1,20 +1,3 @@
-pub mod ReadingLemmas
-pub mod FormLemmas
-pub mod DescribedLemmas
-pub mod DocumentLemmas
 pub mod LegalLemmas
-pub mod LineLemmas
 pub mod WholeLemmas
-pub mod DistinctLemmas
-pub mod GivenLemmas
-pub mod KindLemmas
-pub mod PlaceLemmas
-pub mod ValidLemmas
-pub mod RouteLemmas
-pub mod ChainLemmas
 mod Rows
-mod DescribedRows
-mod ValidRows
-mod PlaceRows
-mod ScriptRows
-mod ScriptLawRows

@@ -6,20 +6,20 @@ use Rattle.std.proofs.lemmas.List.{map-append, length-map}
 use Rattle.std.proofs.lemmas.List.Elements.{filter-append}
 use Rattle.std.proofs.lemmas.Bool.Decides.{nat_tests}
 use Rattle.std.proofs.lemmas.Option.{same_Some, slice_get-map, slice_get_within}
-use Rattle.cm_model.proofs.LegalLemmas.{cases_Option, chosen}
+use Rattle.cm_document.proofs.ReadingLemmas.{cases_Option, chosen}
 use Rattle.cm_model.specs.State.{boot, controller_lines}
 use Rattle.cm_model.specs.Machine.{step, load, load_from, load_at, place_of, is_loaded_at, can_begin, can_end, can_close}
 use Rattle.cm_model.specs.Scheduled.{Progress, Settled, with_entry, settle, settle_from, settle_all, looped, cycle, cycles, finish, start, scheduled}
 use Rattle.cm_model.specs.Sessions.{IsConsole, AllConsole, entries_by, calls_of, Follows, cycle_calls, loop_calls, IsWhole}
-use Rattle.cm_model.specs.declared.call.Call.{Call}
-use Rattle.cm_model.specs.declared.call.Call.TheVariants.{Load, ListControllers, Begin, End, Close}
-use Rattle.cm_model.specs.declared.call.Entry.{Entry}
+use Rattle.cm_document.specs.declared.call.Call.{Call}
+use Rattle.cm_document.specs.declared.call.Call.TheVariants.{Load, ListControllers, Begin, End, Close}
+use Rattle.cm_model.specs.declared.entry.Entry.{Entry}
 use Rattle.cm_model.specs.declared.reply.Reply.{Reply}
 use Rattle.cm_model.specs.declared.reply.Reply.TheVariants as reply
-use Rattle.cm_model.specs.declared.description.CtlDesc.{CtlDesc}
-use Rattle.cm_model.specs.declared.description.Description.{Description}
-use Rattle.cm_model.specs.declared.document.Document.{Document}
-use Rattle.cm_model.specs.declared.script.SessionText.{SessionText}
+use Rattle.cm_document.specs.declared.description.CtlDesc.{CtlDesc}
+use Rattle.cm_document.specs.declared.description.Description.{Description}
+use Rattle.cm_document.specs.declared.document.Document.{Document}
+use Rattle.cm_document.specs.declared.script.SessionText.{SessionText}
 use Rattle.cm_model.specs.declared.state.Blanks.{Blanks}
 use Rattle.cm_model.specs.declared.state.State.{State}
 

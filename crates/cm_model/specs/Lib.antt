@@ -1,19 +1,4 @@
--- In reading order: what a document is, then what the manager makes of it.
-pub mod Reading
-pub mod Params
-pub mod Forms
-pub mod Tables
-pub mod Described
-pub mod Links
-pub mod Valid
-pub mod Places
-pub mod Lines
-pub mod Built
-pub mod CallText
-pub mod LineForms
-pub mod ScriptRules
-pub mod ScriptLaws
-pub mod Document
+-- In reading order: what the manager makes of a document.
 pub mod Words
 pub mod State
 pub mod Machine

@@ -2,17 +2,17 @@
 use Rattle.std.specs.Prelude.{◌≡◌, ℕ, ◌+◌, ◌==◌, nat_lt, Bool, true, false, not, ◌&&◌, if◌then◌else◌, List, [], ◌∷◌, ◌++◌, position, slice_get, Option, Some, None, IsSomeAnd}
 use Rattle.std.specs.List.{list_any}
 use Rattle.iface_names.specs.Names.{same_name}
-use Rattle.cm_model.specs.Params.{kind_of}
+use Rattle.cm_document.specs.Params.{kind_of}
 use Rattle.cm_model.specs.State.{boot, blanks_of, with_one_less, controller_lines}
-use Rattle.cm_model.specs.declared.call.Call.{Call}
-use Rattle.cm_model.specs.declared.call.Call.TheVariants.{Load, ListControllers, Begin, End, Close}
-use Rattle.cm_model.specs.declared.call.Entry.{Entry}
+use Rattle.cm_document.specs.declared.call.Call.{Call}
+use Rattle.cm_document.specs.declared.call.Call.TheVariants.{Load, ListControllers, Begin, End, Close}
+use Rattle.cm_model.specs.declared.entry.Entry.{Entry}
 use Rattle.cm_model.specs.declared.reply.Reply.{Reply}
 use Rattle.cm_model.specs.declared.reply.Reply.TheVariants as reply
 use Rattle.cm_model.specs.declared.reply.Why.TheVariants as why
-use Rattle.cm_model.specs.declared.description.CtlKind.{CtlKind}
-use Rattle.cm_model.specs.declared.description.CtlDesc.{CtlDesc}
-use Rattle.cm_model.specs.declared.description.Description.{Description}
+use Rattle.cm_document.specs.declared.description.CtlKind.{CtlKind}
+use Rattle.cm_document.specs.declared.description.CtlDesc.{CtlDesc}
+use Rattle.cm_document.specs.declared.description.Description.{Description}
 use Rattle.cm_model.specs.declared.state.Blanks.{Blanks}
 use Rattle.cm_model.specs.declared.state.State.{State}
 

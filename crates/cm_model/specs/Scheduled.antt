@@ -2,11 +2,11 @@
 use Rattle.std.specs.Prelude.{ℕ, zero, suc, ◌+◌, List, [], ◌∷◌, ◌++◌, length, map, Some, None}
 use Rattle.cm_model.specs.State.{boot}
 use Rattle.cm_model.specs.Machine.{step}
-use Rattle.cm_model.specs.declared.call.Call.{Call}
-use Rattle.cm_model.specs.declared.call.Call.TheVariants.{Begin, End, Close}
-use Rattle.cm_model.specs.declared.call.Entry.{Entry}
+use Rattle.cm_document.specs.declared.call.Call.{Call}
+use Rattle.cm_document.specs.declared.call.Call.TheVariants.{Begin, End, Close}
+use Rattle.cm_model.specs.declared.entry.Entry.{Entry}
 use Rattle.cm_model.specs.declared.reply.Reply.{Reply}
-use Rattle.cm_model.specs.declared.document.Document.{Document}
+use Rattle.cm_document.specs.declared.document.Document.{Document}
 use Rattle.cm_model.specs.declared.state.Blanks.{Blanks}
 use Rattle.cm_model.specs.declared.state.State.{State}
 

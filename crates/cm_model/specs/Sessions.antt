@@ -1,15 +1,15 @@
 -- What a history must hold of a document: every session's lines, each once and in order, and the requested cycles.
 use Rattle.std.specs.Prelude.{◌≡◌, ℕ, zero, suc, ◌≤◌, ◌==◌, List, [], ◌∷◌, ◌++◌, length, map, filter, slice_get, IfSome, IsTrue}
 use Rattle.std.specs.List.{AllByRecursion}
-use Rattle.cm_model.specs.Built.{built}
-use Rattle.cm_model.specs.ScriptLaws.{has_form}
-use Rattle.cm_model.specs.declared.call.Call.{Call}
-use Rattle.cm_model.specs.declared.call.Call.TheVariants.{Begin, End, Close}
-use Rattle.cm_model.specs.declared.call.Entry.{Entry}
+use Rattle.cm_document.specs.Built.{built}
+use Rattle.cm_document.specs.ScriptLaws.{has_form}
+use Rattle.cm_document.specs.declared.call.Call.{Call}
+use Rattle.cm_document.specs.declared.call.Call.TheVariants.{Begin, End, Close}
+use Rattle.cm_model.specs.declared.entry.Entry.{Entry}
 use Rattle.cm_model.specs.declared.reply.Reply.{Reply}
 use Rattle.cm_model.specs.declared.reply.Reply.TheVariants as reply
-use Rattle.cm_model.specs.declared.document.Document.{Document}
-use Rattle.cm_model.specs.declared.script.SessionText.{SessionText}
+use Rattle.cm_document.specs.declared.document.Document.{Document}
+use Rattle.cm_document.specs.declared.script.SessionText.{SessionText}
 
 -- a call that a session can make today: its form is built
 abbrev pub IsConsole : Call → Type 0

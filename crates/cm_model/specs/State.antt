@@ -1,12 +1,12 @@
 -- What a state says: its opening, and what is read off it.
 use Rattle.std.specs.Prelude.{ℕ, ◌-◌, false, List, [], slice_get, filter_map, Option, option_map}
-use Rattle.cm_model.specs.Params.{kind_of}
-use Rattle.cm_model.specs.declared.description.CtlKind.{CtlKind}
-use Rattle.cm_model.specs.declared.description.CtlKind.TheVariants.{Forward, Passthrough, Pid, Trajectory, Broadcaster, Mock}
-use Rattle.cm_model.specs.declared.description.CtlDesc.{CtlDesc}
-use Rattle.cm_model.specs.declared.description.Description.{Description}
+use Rattle.cm_document.specs.Params.{kind_of}
+use Rattle.cm_document.specs.declared.description.CtlKind.{CtlKind}
+use Rattle.cm_document.specs.declared.description.CtlKind.TheVariants.{Forward, Passthrough, Pid, Trajectory, Broadcaster, Mock}
+use Rattle.cm_document.specs.declared.description.CtlDesc.{CtlDesc}
+use Rattle.cm_document.specs.declared.description.Description.{Description}
 use Rattle.cm_model.specs.declared.reply.CtlLine.{CtlLine}
-use Rattle.cm_model.specs.declared.life.Life.TheVariants.{Unconfigured}
+use Rattle.cm_document.specs.declared.life.Life.TheVariants.{Unconfigured}
 use Rattle.cm_model.specs.declared.state.Blanks.{Blanks}
 use Rattle.cm_model.specs.declared.state.Loaded.{Loaded}
 use Rattle.cm_model.specs.declared.state.State.{State}

@@ -1,11 +1,10 @@
 -- The trace: one line for each entry of a history.
 use Rattle.std.specs.Prelude.{ℕ, List, [], ◌∷◌, ◌++◌, flat_map, codes, decimal, slice_get, option_map, unwrap_or}
-use Rattle.cm_model.specs.CallText.{life_word, call_text}
+use Rattle.cm_document.specs.Params.{kind_word}
+use Rattle.cm_document.specs.CallText.{life_word, call_text}
 use Rattle.cm_model.specs.Scheduled.{scheduled}
-use Rattle.cm_model.specs.declared.call.Entry.{Entry}
-use Rattle.cm_model.specs.declared.description.CtlKind.{CtlKind}
-use Rattle.cm_model.specs.declared.description.CtlKind.TheVariants as kind
-use Rattle.cm_model.specs.declared.document.Document.{Document}
+use Rattle.cm_model.specs.declared.entry.Entry.{Entry}
+use Rattle.cm_document.specs.declared.document.Document.{Document}
 use Rattle.cm_model.specs.declared.reply.CtlLine.{CtlLine}
 use Rattle.cm_model.specs.declared.reply.Decision.{Decision}
 use Rattle.cm_model.specs.declared.reply.Outcome.{Outcome}
@@ -14,19 +13,10 @@ use Rattle.cm_model.specs.declared.reply.Reply.{Reply}
 use Rattle.cm_model.specs.declared.reply.Reply.TheVariants as reply
 use Rattle.cm_model.specs.declared.reply.Why.{Why}
 use Rattle.cm_model.specs.declared.reply.Why.TheVariants as why
-use Rattle.cm_model.specs.declared.script.SessionText.{SessionText}
+use Rattle.cm_document.specs.declared.script.SessionText.{SessionText}
 use Rattle.cm_model.specs.declared.state.Blanks.{Blanks}
 
 -- ---- Words
-
--- a controller's kind, as a description's `type` says it
-abbrev pub kind_word : CtlKind → List ℕ
-kind_word kind.Forward = codes "forward"
-kind_word kind.Passthrough = codes "passthrough"
-kind_word kind.Pid = codes "pid"
-kind_word kind.Trajectory = codes "trajectory"
-kind_word kind.Broadcaster = codes "broadcaster"
-kind_word kind.Mock = codes "mock"
 
 -- why a call did nothing
 abbrev pub why_word : Why → List ℕ

@@ -1,23 +1,13 @@
-//! Laws of the definitions of descriptions, documents and histories: each is the contract of a function that does nothing.
+//! Laws of the definitions of histories: each is the contract of a function that does nothing.
 
-ghost use Rattle.std.specs.Prelude.{◌≡◌, ◌↔◌, ℕ, true, List, length, take, Ok, Some, is_ok, All, Contains};
-ghost use Rattle.toml.specs.Data.{Members};
-ghost use Rattle.cm_model.specs.declared.description.CtlDesc.{CtlDesc};
-ghost use Rattle.cm_model.specs.declared.document.Document.{Document};
+ghost use Rattle.std.specs.Prelude.{length};
+ghost use Rattle.cm_document.specs.declared.document.Document.{Document};
 ghost use Rattle.cm_model.specs.declared.state.Blanks.{Blanks};
-ghost use Rattle.cm_model.specs.Forms.{fault_in};
-ghost use Rattle.cm_model.specs.Built.{built};
-ghost use Rattle.cm_model.specs.Described.{description_in, all_faults, has_form};
-ghost use Rattle.cm_model.specs.Document.{document};
-ghost use Rattle.cm_model.specs.Links.{precedes_far, IsChain};
+ghost use Rattle.cm_document.specs.Built.{built};
+ghost use Rattle.cm_document.specs.ScriptLaws.{UsesForms};
 ghost use Rattle.cm_model.specs.Machine.{IsLegal};
-ghost use Rattle.cm_model.specs.Places.{EachStandsOnce};
 ghost use Rattle.cm_model.specs.Scheduled.{scheduled};
-ghost use Rattle.cm_model.specs.ScriptLaws.{UsesForms};
 ghost use Rattle.cm_model.specs.Sessions.{IsWhole, IsUneventful};
-ghost use Rattle.cm_model.specs.Valid.{IsValid};
-
-use crate::checked::Checked;
 
 /// Each scheduled history is legal: from boot each of its entries is a step of the written manager.
 pub fn scheduled_histories_are_legal()
@@ -34,38 +24,3 @@ pub fn scheduled_histories_are_whole()
 pub fn scheduled_histories_are_uneventful()
     ensures { (d : Document) (blanks : Blanks) → IsUneventful (scheduled d blanks) }
 {}
-
-/// What is told of a tree that is no description is the first of all that is wrong with it, in the order in which the keys
-/// are visited; and a tree is accepted exactly where nothing is wrong with it.
-pub fn the_first_of_all_faults_is_told()
-    ensures { (ms : Members) → fault_in (description_in (Some ms)) ≡ take 1 (all_faults ms) }
-{}
-
-/// A tree is accepted exactly where it has the form of a description: no unlisted key, each required key, and at every key a
-/// value of the form that is asked there.
-pub fn an_accepted_tree_has_its_form()
-    ensures { (ms : Members) → is_ok (description_in (Some ms)) ≡ has_form ms }
-{}
-
-/// Among some controllers one precedes another at a distance exactly where a chain leads from it to the other over controllers of
-/// them, each of which precedes the next: the bound in the definition, their number, leaves out no chain.
-pub fn precedes_at_a_distance()
-    ensures { (cs : List CtlDesc) (c d : CtlDesc) → Contains cs c
-        → (precedes_far cs c d ≡ true) ↔ ((es : List CtlDesc) × All (Contains cs) es × IsChain c es d) }
-{}
-
-/// The description of an accepted document is one that a tree stands for, and no check finds a fault in it. So each of its
-/// interfaces stands at one place.
-pub fn accepted_documents_are_valid()
-    ensures valid { (bytes : List ℕ) (d : Document) → document bytes ≡ Ok d → IsValid d.description }
-    ensures places { (bytes : List ℕ) (d : Document) → document bytes ≡ Ok d → EachStandsOnce d.description }
-{}
-
-/// Each interface of a checked description stands at one place. So a place on the one hand, and a name with whether it is a
-/// state's or a command's on the other, determine each other.
-pub fn interfaces_stand_once(checked: &Checked)
-    ensures { EachStandsOnce checked.now }
-{
-    // A checked description tells that it is valid where it is read.
-    let _ = checked.description();
-}

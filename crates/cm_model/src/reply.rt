@@ -1,7 +1,6 @@
 //! What the manager answers.
 
-use crate::description::CtlKind;
-use crate::life::Life;
+use cm_document::{CtlKind, Life};
 use iface_names::Name;
 use sequence::Seq;
 

@@ -1,6 +1,6 @@
 //! The state of the written manager.
 
-use crate::description::Description;
+use cm_document::Description;
 use sequence::Seq;
 
 /// How many blanks of each kind the stock holds: each load takes one.

@@ -1,8 +1,8 @@
 -- A document divided line by line.
 use Rattle.std.proofs.Common.{◌≡◌, ℕ, ◌+◌, ◌-◌, ◌<◌, ◌≤◌, true, false, List, [], ◌∷◌, ◌++◌, length, take, Some, None, refl, sym, ap, ◌∙◌, arith, append_assoc, append-nil, add-zero, length-append}
 use Rattle.std.proofs.lemmas.List.{take_at}
-use Rattle.cm_model.specs.Lines.{raw_lines, is_separator, Parts, parts_of_lines, parts_of}
-use Rattle.cm_model.proofs.LineLemmas.{joined_raw_lines}
+use Rattle.cm_document.specs.Lines.{raw_lines, is_separator, Parts, parts_of_lines, parts_of}
+use Rattle.cm_document.proofs.LineLemmas.{joined_raw_lines}
 
 -- what is before a rest, and the rest's own parts
 abbrev pub parts_after : List ℕ → ℕ → Parts → Parts

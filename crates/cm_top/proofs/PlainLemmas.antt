@@ -1,13 +1,13 @@
 -- A fault that is no want of memory carries none.
 use Rattle.std.proofs.Common.{◌≡◌, refl}
-use Rattle.cm_model.specs.declared.faults.CheckFault.{CheckFault}
-use Rattle.cm_model.specs.declared.faults.CheckFault.TheVariants as check_fault
-use Rattle.cm_model.specs.declared.faults.DescFault.{DescFault}
-use Rattle.cm_model.specs.declared.faults.DescFault.TheVariants as desc_fault
-use Rattle.cm_model.specs.declared.faults.DescProblem.TheVariants as problem
-use Rattle.cm_model.specs.declared.faults.DocumentFault.TheVariants as fault
-use Rattle.cm_model.specs.declared.faults.ScriptFault.{ScriptFault}
-use Rattle.cm_model.specs.declared.faults.ScriptFault.TheVariants as script_fault
+use Rattle.cm_document.specs.declared.faults.CheckFault.{CheckFault}
+use Rattle.cm_document.specs.declared.faults.CheckFault.TheVariants as check_fault
+use Rattle.cm_document.specs.declared.faults.DescFault.{DescFault}
+use Rattle.cm_document.specs.declared.faults.DescFault.TheVariants as desc_fault
+use Rattle.cm_document.specs.declared.faults.DescProblem.TheVariants as problem
+use Rattle.cm_document.specs.declared.faults.DocumentFault.TheVariants as fault
+use Rattle.cm_document.specs.declared.faults.ScriptFault.{ScriptFault}
+use Rattle.cm_document.specs.declared.faults.ScriptFault.TheVariants as script_fault
 use Rattle.cm_top.specs.Status.{IsPlainFault}
 
 pub plain_text : (f : DescFault) → (f ≡ desc_fault.Memory → ⊥) → IsPlainFault (fault.Description (problem.Text f))

@@ -6,15 +6,15 @@ use Rattle.std.proofs.lemmas.Bool.{and_parts}
 use Rattle.std.proofs.lemmas.Bool.Decides.{nat_tests}
 use Rattle.cm_model.proofs.LegalLemmas.{cases_Option, chosen}
 use Rattle.cm_model.proofs.WholeLemmas.{load_from-SameLoop}
-use Rattle.cm_model.specs.Params.{kind_of}
+use Rattle.cm_document.specs.Params.{kind_of}
 use Rattle.cm_model.specs.State.{blanks_of}
 use Rattle.cm_model.specs.Machine.{step, load, load_from, load_at, place_of, is_loaded_at, can_begin}
 use Rattle.cm_model.specs.Scheduled.{with_entry, settle, settle_from, cycles}
-use Rattle.cm_model.specs.declared.call.Call.{Call}
-use Rattle.cm_model.specs.declared.call.Call.TheVariants.{Load, ListControllers, Begin, End, Close}
-use Rattle.cm_model.specs.declared.call.Entry.{Entry}
+use Rattle.cm_document.specs.declared.call.Call.{Call}
+use Rattle.cm_document.specs.declared.call.Call.TheVariants.{Load, ListControllers, Begin, End, Close}
+use Rattle.cm_model.specs.declared.entry.Entry.{Entry}
 use Rattle.cm_model.specs.declared.reply.Reply.{Reply}
-use Rattle.cm_model.specs.declared.description.CtlDesc.{CtlDesc}
+use Rattle.cm_document.specs.declared.description.CtlDesc.{CtlDesc}
 use Rattle.cm_model.specs.declared.state.State.{State}
 use Rattle.cm_top.specs.Room.{Room, lines_left, serials_of, IsLoops}
 

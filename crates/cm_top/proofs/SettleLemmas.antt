@@ -2,8 +2,8 @@
 use Rattle.std.proofs.Common.{◌≡◌, ℕ, suc, ◌+◌, ◌<◌, List, [], ◌∷◌, ◌++◌, length, Some, get_or, drop, refl, ap, arith, add-one, drop-cons}
 use Rattle.cm_model.specs.Machine.{step}
 use Rattle.cm_model.specs.Scheduled.{with_entry, settle, settle_from}
-use Rattle.cm_model.specs.declared.call.Call.{Call}
-use Rattle.cm_model.specs.declared.call.Entry.{Entry}
+use Rattle.cm_document.specs.declared.call.Call.{Call}
+use Rattle.cm_model.specs.declared.entry.Entry.{Entry}
 use Rattle.cm_model.specs.declared.reply.Reply.{Reply}
 use Rattle.cm_model.specs.declared.state.State.{State}
 use Rattle.cm_top.specs.Room.{Room, lines_left, serials_of}

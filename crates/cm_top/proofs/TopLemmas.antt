@@ -7,16 +7,16 @@ use Rattle.std.specs.Io.KnownBytes.{Keeps, Appends, IsAtEnd}
 use Rattle.std.proofs.KnownBytes.{Appends-kept}
 use Rattle.outside_io.specs.Bytes.{AllFlushed, GivesAll}
 use Rattle.outside_io.proofs.Prefixes.{AppendsPrefix-all}
-use Rattle.cm_model.specs.Built.{built}
-use Rattle.cm_model.specs.Document.{accepted_script, document}
-use Rattle.cm_model.specs.Lines.{parts_of}
-use Rattle.cm_model.specs.ScriptLaws.{MeetsRules, UsesForms}
+use Rattle.cm_document.specs.Built.{built}
+use Rattle.cm_document.specs.Document.{accepted_script, document}
+use Rattle.cm_document.specs.Lines.{parts_of}
+use Rattle.cm_document.specs.ScriptLaws.{MeetsRules, UsesForms}
 use Rattle.cm_model.specs.Trace.{output}
-use Rattle.cm_model.specs.declared.document.Document.{Document}
-use Rattle.cm_model.specs.declared.script.Script.{Script}
-use Rattle.cm_model.specs.declared.script.SessionText.{SessionText}
+use Rattle.cm_document.specs.declared.document.Document.{Document}
+use Rattle.cm_document.specs.declared.script.Script.{Script}
+use Rattle.cm_document.specs.declared.script.SessionText.{SessionText}
 use Rattle.cm_model.specs.declared.state.Blanks.{Blanks}
-use Rattle.cm_model.proofs.DocumentLemmas.{document-AcceptedParts}
+use Rattle.cm_document.proofs.DocumentLemmas.{document-AcceptedParts}
 use Rattle.cm_model.proofs.LegalLemmas.{scheduled-IsLegal}
 use Rattle.cm_model.proofs.WholeLemmas.{scheduled-IsWhole}
 use Rattle.script_text.proofs.ReadScriptLemmas.{read_script_meets, read_script_uses}

@@ -1,7 +1,7 @@
 -- How many entries a state has room for.
 use Rattle.std.specs.Prelude.{◌≡◌, ℕ, ◌+◌, ◌<◌, ◌^◌, true, List, [], ◌∷◌, length}
-use Rattle.cm_model.specs.declared.call.Call.{Call}
-use Rattle.cm_model.specs.declared.call.Call.TheVariants.{Load, Begin, End, Close}
+use Rattle.cm_document.specs.declared.call.Call.{Call}
+use Rattle.cm_document.specs.declared.call.Call.TheVariants.{Load, Begin, End, Close}
 use Rattle.cm_model.specs.declared.state.State.{State}
 
 -- So many entries fit, of which each may be a load that takes a serial; and a cycle that is aloft is one of the described ones.

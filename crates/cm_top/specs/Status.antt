@@ -2,18 +2,18 @@
 use Rattle.std.specs.Prelude.{◌≡◌, ℕ, ◌<◌, ◌≤◌, List, Option, Result, Ok, Err, length, nat_lt, if◌then◌else◌, ◌⊎◌}
 use Rattle.std.specs.Io.KnownBytes.{Keeps, Appends}
 use Rattle.outside_io.specs.Bytes.{AllFlushed, AppendsPrefix}
-use Rattle.cm_model.specs.Document.{document}
+use Rattle.cm_document.specs.Document.{document}
 use Rattle.cm_model.specs.Machine.{IsLegal}
 use Rattle.cm_model.specs.Scheduled.{scheduled}
 use Rattle.cm_model.specs.Sessions.{IsWhole}
 use Rattle.cm_model.specs.Trace.{output}
-use Rattle.cm_model.specs.declared.document.Document.{Document}
-use Rattle.cm_model.specs.declared.faults.DescProblem.TheVariants as problem
-use Rattle.cm_model.specs.declared.faults.DescFault.TheVariants as desc_fault
-use Rattle.cm_model.specs.declared.faults.CheckFault.TheVariants as check_fault
-use Rattle.cm_model.specs.declared.faults.ScriptFault.TheVariants as script_fault
-use Rattle.cm_model.specs.declared.faults.DocumentFault.{DocumentFault}
-use Rattle.cm_model.specs.declared.faults.DocumentFault.TheVariants as fault
+use Rattle.cm_document.specs.declared.document.Document.{Document}
+use Rattle.cm_document.specs.declared.faults.DescProblem.TheVariants as problem
+use Rattle.cm_document.specs.declared.faults.DescFault.TheVariants as desc_fault
+use Rattle.cm_document.specs.declared.faults.CheckFault.TheVariants as check_fault
+use Rattle.cm_document.specs.declared.faults.ScriptFault.TheVariants as script_fault
+use Rattle.cm_document.specs.declared.faults.DocumentFault.{DocumentFault}
+use Rattle.cm_document.specs.declared.faults.DocumentFault.TheVariants as fault
 use Rattle.cm_model.specs.declared.state.Blanks.{Blanks}
 use Rattle.cm_top.specs.declared.status.Status.{Status}
 use Rattle.cm_top.specs.declared.status.Status.TheVariants as status

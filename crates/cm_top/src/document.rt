@@ -2,9 +2,9 @@
 
 ghost use Rattle.std.specs.Prelude.{◌≡◌, ◌+◌, ◌<◌, ◌≤◌, ◌^◌, length, option_map, unwrap_or, IfErr};
 ghost use Rattle.sequence.specs.Answers.{Answers};
-ghost use Rattle.cm_model.specs.Reading.{told_as};
-ghost use Rattle.cm_model.specs.Document.{without_components, checked, accepted_description, accepted_script, document_of, document};
-ghost use Rattle.cm_model.specs.Valid.{IsDescribed};
+ghost use Rattle.cm_document.specs.Reading.{told_as};
+ghost use Rattle.cm_document.specs.Document.{without_components, checked, accepted_description, accepted_script, document_of, document};
+ghost use Rattle.cm_document.specs.Valid.{IsDescribed};
 ghost use Rattle.cm_top.specs.Status.{IsPlainFault};
 
 use crate::parts::divide;
@@ -18,7 +18,7 @@ use script_text::read_script;
 use std::alloc::Global;
 
 /// The document that these bytes are, or its first fault: the description's comes before the script's.
-#[tactic(auto, unfolding(cm_model::specs::Document::document_of))]
+#[tactic(auto, unfolding(cm_document::specs::Document::document_of))]
 pub fn read_document(alloc: Global, bytes: &[u8]) -> Result<Document, DocumentFault>
     requires { length bytes.now ≤ 1048576 }
     ensures reads { Answers DocumentFault.Memory (document bytes.now) result }
@@ -34,7 +34,7 @@ pub fn read_document(alloc: Global, bytes: &[u8]) -> Result<Document, DocumentFa
 }
 
 /// The description in its text: read, then checked, and then without a component; or its first fault.
-#[tactic(auto, unfolding(cm_model::specs::Document::accepted_description), using(crate::proofs::PlainLemmas::plain_faults))]
+#[tactic(auto, unfolding(cm_document::specs::Document::accepted_description), using(crate::proofs::PlainLemmas::plain_faults))]
 fn description(alloc: Global, text: &[u8]) -> Result<Checked, DocumentFault>
     ensures reads { Answers DocumentFault.Memory (told_as DocumentFault.Description (accepted_description text.now)) result }
     ensures plain { IfErr result IsPlainFault }
@@ -74,7 +74,7 @@ fn without_components(alloc: Global, checked: Checked) -> Result<Checked, Docume
 
 /// The script after so many lines of description and a separator, or its first bad line. Lines are counted from 1 over
 /// the whole document; without a separator the line after the last is bad.
-#[tactic(auto, using(crate::proofs::PlainLemmas::plain_faults, cm_model::proofs::LineLemmas::raw_lines_within))]
+#[tactic(auto, using(crate::proofs::PlainLemmas::plain_faults, cm_document::proofs::LineLemmas::raw_lines_within))]
 fn script(alloc: Global, lines: usize, text: Option<&[u8]>) -> Result<Script, DocumentFault>
     requires { lines + unwrap_or (option_map (λ t. length t.now) text) 0 + 2 < 2 ^ 32 }
     ensures reads { Answers DocumentFault.Memory (told_as DocumentFault.Script (accepted_script lines (option_map (λ t. t.now) text.entry))) result }

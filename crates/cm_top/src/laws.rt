@@ -1,12 +1,12 @@
 //! Laws of accepted documents: each is the contract of a function that does nothing.
 
 ghost use Rattle.std.specs.Prelude.{◌≡◌, ℕ, List, Ok};
-ghost use Rattle.cm_model.specs.Built.{built};
-ghost use Rattle.cm_model.specs.Document.{document};
+ghost use Rattle.cm_document.specs.Built.{built};
+ghost use Rattle.cm_document.specs.Document.{document};
 ghost use Rattle.cm_model.specs.Scheduled.{scheduled};
-ghost use Rattle.cm_model.specs.ScriptLaws.{MeetsRules, UsesForms};
+ghost use Rattle.cm_document.specs.ScriptLaws.{MeetsRules, UsesForms};
 ghost use Rattle.cm_model.specs.Sessions.{IsWhole};
-ghost use Rattle.cm_model.specs.declared.document.Document.{Document};
+ghost use Rattle.cm_document.specs.declared.document.Document.{Document};
 ghost use Rattle.cm_model.specs.declared.state.Blanks.{Blanks};
 
 /// The script of an accepted document meets the rules of scripts, and each of its lines has a form that is built: so it has one

@@ -1,7 +1,7 @@
 //! The parts of a document.
 
 ghost use Rattle.std.specs.Prelude.{◌≡◌, ◌+◌, ◌≤◌, length, option_map, unwrap_or};
-ghost use Rattle.cm_model.specs.Lines.{is_separator, parts_of};
+ghost use Rattle.cm_document.specs.Lines.{is_separator, parts_of};
 
 use script_text::{bare_line, first_line};
 

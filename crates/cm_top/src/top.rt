@@ -5,7 +5,7 @@ ghost use Rattle.std.specs.Io.KnownBytes.{Keeps};
 ghost use Rattle.outside_io.specs.Bytes.{AllFlushed};
 ghost use Rattle.outside_io.specs.Faults.{Rose};
 ghost use Rattle.cm_model.specs.Words.{is_asked};
-ghost use Rattle.cm_model.specs.ScriptLaws.{MeetsRules};
+ghost use Rattle.cm_document.specs.ScriptLaws.{MeetsRules};
 ghost use Rattle.cm_model.specs.Trace.{output};
 ghost use Rattle.cm_top.specs.Status.{Ran, Wrote, IsPlain, ComesBeforeWriting, ComesOfBytes};
 ghost use Rattle.cm_top.specs.Calls.Run.{Runs};

@@ -1,6 +1,6 @@
 //! Whole descriptions in their text: read, checked, and told by their first fault.
 
-ghost use Rattle.cm_model.specs.Valid.{IsDescribed};
+ghost use Rattle.cm_document.specs.Valid.{IsDescribed};
 
 mod counts;
 mod faults;

@@ -1,8 +1,8 @@
 -- Lemmas about counts.
 use Rattle.std.proofs.Common.{◌≡◌, ℕ, ◌<◌, ◌^◌, ◌-◌, arith}
 use Rattle.std.proofs.lemmas.Bool.Decides.{nat_tests}
-use Rattle.cm_model.specs.Valid.{limited}
-use Rattle.cm_model.specs.declared.faults.What.{What}
+use Rattle.cm_document.specs.Valid.{limited}
+use Rattle.cm_document.specs.declared.faults.What.{What}
 use Rattle.desc_check.specs.Counts.{counted}
 
 -- a limit below the largest number of 64 bits is passed by a count where it is passed by the number

@@ -5,12 +5,12 @@ use Rattle.std.specs.List.{find}
 use Rattle.iface_names.specs.declared.interface.IfaceName.TheVariants.{Joint, Reference}
 use Rattle.iface_names.specs.declared.kind.Kind.{Kind}
 use Rattle.iface_names.specs.declared.interface.IfaceName.{IfaceName}
-use Rattle.cm_model.specs.declared.description.CtlDesc.{CtlDesc}
+use Rattle.cm_document.specs.declared.description.CtlDesc.{CtlDesc}
 use Rattle.std.proofs.lemmas.List.{append-nil, take_more}
 use Rattle.std.proofs.lemmas.List.Concat.{flat_map-append}
-use Rattle.cm_model.specs.declared.faults.CheckFault.TheVariants.{NoInterface}
-use Rattle.cm_model.specs.Valid.{all_among}
-use Rattle.cm_model.specs.Links.{is_among, refs_of, references_of}
+use Rattle.cm_document.specs.declared.faults.CheckFault.TheVariants.{NoInterface}
+use Rattle.cm_document.specs.Valid.{all_among}
+use Rattle.cm_document.specs.Links.{is_among, refs_of, references_of}
 
 -- no reference is among interfaces of a joint
 pub no_reference_among : (controller joint named : List ℕ) (kind : Kind) (kinds : List Kind) → is_among (Reference controller joint kind) (map (Joint named) kinds) ≡ false

@@ -4,9 +4,9 @@ use Rattle.std.specs.Prelude.{option_map}
 use Rattle.std.specs.List.{list_any}
 use Rattle.std.proofs.lemmas.Bool.{cases_Bool}
 use Rattle.std.proofs.lemmas.List.{map-append}
-use Rattle.cm_model.specs.Valid.{repeated_after, apart}
+use Rattle.cm_document.specs.Valid.{repeated_after, apart}
 use Rattle.sequence.proofs.ListLemmas.{any_map}
-use Rattle.cm_model.specs.declared.faults.CheckFault.TheVariants.{NameTwice}
+use Rattle.cm_document.specs.declared.faults.CheckFault.TheVariants.{NameTwice}
 
 -- what is seen of the first that repeats is the first of what is seen that does
 pub repeated_seen : {A B : Type 0} (same : B → B → Bool) (f : A → B) (seen xs : List A)

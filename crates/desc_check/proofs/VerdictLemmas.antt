@@ -1,13 +1,13 @@
 -- Lemmas about the checks together.
 use Rattle.std.proofs.Common.{◌≡◌, Result, Ok, Err, ◌∙◌, ap, inl, inr}
 use Rattle.std.specs.Prelude.{◌⊎◌}
-use Rattle.cm_model.specs.Reading.{◌>>=◌}
-use Rattle.cm_model.specs.Valid.{valid}
-use Rattle.cm_model.specs.declared.description.Description.{Description}
-use Rattle.cm_model.specs.declared.faults.CheckFault.{CheckFault}
-use Rattle.cm_model.specs.declared.faults.CheckFault.TheVariants.{Memory}
-use Rattle.cm_model.proofs.ReadingLemmas.{bind_Ok}
-use Rattle.cm_model.proofs.ValidLemmas.{valid_same}
+use Rattle.cm_document.specs.Reading.{◌>>=◌}
+use Rattle.cm_document.specs.Valid.{valid}
+use Rattle.cm_document.specs.declared.description.Description.{Description}
+use Rattle.cm_document.specs.declared.faults.CheckFault.{CheckFault}
+use Rattle.cm_document.specs.declared.faults.CheckFault.TheVariants.{Memory}
+use Rattle.cm_document.proofs.ReadingLemmas.{bind_Ok}
+use Rattle.cm_document.proofs.ValidLemmas.{valid_same}
 use Rattle.desc_check.specs.Verdict.{verdict}
 
 -- a description without a fault is valid

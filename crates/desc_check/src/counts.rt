@@ -1,12 +1,12 @@
 //! How many there are of each thing, against the limits.
 
 ghost use Rattle.std.specs.Prelude.{◌≡◌, ◌<◌, ◌^◌, length, flat_map, sum_by, OnOk};
-ghost use Rattle.cm_model.specs.Described.{states_of, states_of_joint};
-ghost use Rattle.cm_model.specs.Links.{joints_of, commands_of, commands_of_joint, references_of};
-ghost use Rattle.cm_model.specs.Valid.{limited, few_enough};
+ghost use Rattle.cm_document.specs.Described.{states_of, states_of_joint};
+ghost use Rattle.cm_document.specs.Links.{joints_of, commands_of, commands_of_joint, references_of};
+ghost use Rattle.cm_document.specs.Valid.{limited, few_enough};
 ghost use Rattle.desc_check.specs.Counts.{counted};
 
-use cm_model::{CheckFault, CompDesc, CtlDesc, Description, JointDesc, What};
+use cm_document::{CheckFault, CompDesc, CtlDesc, Description, JointDesc, What};
 
 /// None of the counts is above its limit: else TooMany of the first that is.
 #[tactic(auto, using(crate::proofs::CountLemmas::limited_counted))]

@@ -4,12 +4,12 @@ ghost use Rattle.std.specs.Prelude.{◌≡◌, not, ◌++◌, map, flat_map, fin
 ghost use Rattle.sequence.specs.Answers.{Answers};
 ghost use Rattle.iface_names.specs.Interfaces.{same_interface};
 ghost use Rattle.iface_names.specs.declared.interface.IfaceName.TheVariants.{Joint};
-ghost use Rattle.cm_model.specs.Described.{states_of, states_of_joint};
-ghost use Rattle.cm_model.specs.Links.{commands_of, commands_of_joint, is_among};
-ghost use Rattle.cm_model.specs.Valid.{claimable, all_among, links_exist};
+ghost use Rattle.cm_document.specs.Described.{states_of, states_of_joint};
+ghost use Rattle.cm_document.specs.Links.{commands_of, commands_of_joint, is_among};
+ghost use Rattle.cm_document.specs.Valid.{claimable, all_among, links_exist};
 
 use crate::references::references;
-use cm_model::{CheckFault, CompDesc, CtlDesc, Description, IfaceName, JointDesc, Kind, Name};
+use cm_document::{CheckFault, CompDesc, CtlDesc, Description, IfaceName, JointDesc, Kind, Name};
 use std::alloc::{AllocError, Global};
 
 /// Each claim is a command interface of a component or a reference, and each read a state interface: else NoInterface of the

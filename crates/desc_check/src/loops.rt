@@ -2,10 +2,10 @@
 
 ghost use Rattle.std.specs.Prelude.{◌<◌, ◌^◌, length};
 ghost use Rattle.sequence.specs.Answers.{Answers};
-ghost use Rattle.cm_model.specs.Valid.{loop_free};
+ghost use Rattle.cm_document.specs.Valid.{loop_free};
 
 use chain_order::first_loop;
-use cm_model::{CheckFault, Description};
+use cm_document::{CheckFault, Description};
 use std::alloc::Global;
 
 /// No controller precedes itself at some distance: else ChainLoop of the first that does.

@@ -5,11 +5,11 @@ ghost use Rattle.std.specs.List.{list_any};
 ghost use Rattle.sequence.specs.Answers.{Answers};
 ghost use Rattle.iface_names.specs.Interfaces.{same_interface};
 ghost use Rattle.iface_names.specs.Names.{same_name};
-ghost use Rattle.cm_model.specs.Links.{joints_of};
-ghost use Rattle.cm_model.specs.Valid.{repeated_after, names_apart, interfaces_apart, links_apart, named_apart};
+ghost use Rattle.cm_document.specs.Links.{joints_of};
+ghost use Rattle.cm_document.specs.Valid.{repeated_after, names_apart, interfaces_apart, links_apart, named_apart};
 
 use crate::references::references;
-use cm_model::{CheckFault, CompDesc, CtlDesc, Description, IfaceName, JointDesc, Name, Text};
+use cm_document::{CheckFault, CompDesc, CtlDesc, Description, IfaceName, JointDesc, Name, Text};
 use std::alloc::{AllocError, Global};
 
 /// No name stands twice among the components, the joints, the controllers, the references, or the claims or reads of one

@@ -2,10 +2,10 @@
 
 ghost use Rattle.std.specs.Prelude.{◌≡◌, ◌++◌, codes, length, IfOk};
 ghost use Rattle.sequence.specs.Answers.{Answers};
-ghost use Rattle.cm_model.specs.Forms.{item_path, inside};
-ghost use Rattle.cm_model.specs.Valid.{ranged, not_negative, each_ranged, may_have, joint_ranged, joint_count_fits, component_ranged, claims_fit, reads_fit, limits_ranged, controller_ranged, in_range};
+ghost use Rattle.cm_document.specs.Forms.{item_path, inside};
+ghost use Rattle.cm_document.specs.Valid.{ranged, not_negative, each_ranged, may_have, joint_ranged, joint_count_fits, component_ranged, claims_fit, reads_fit, limits_ranged, controller_ranged, in_range};
 
-use cm_model::{CheckFault, CompDesc, CompKind, CtlDesc, Description, Fx, JointDesc, Params, Text};
+use cm_document::{CheckFault, CompDesc, CompKind, CtlDesc, Description, Fx, JointDesc, Params, Text};
 use std::alloc::{AllocError, Global};
 
 /// Every number is within its range: else BadRange of the first that is not, with its path.

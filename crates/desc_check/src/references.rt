@@ -1,9 +1,9 @@
 //! The references that controllers export.
 
 ghost use Rattle.std.specs.Prelude.{◌≡◌, ◌++◌, IfOk, OnOk};
-ghost use Rattle.cm_model.specs.Links.{refs_of, references_of, reference_for};
+ghost use Rattle.cm_document.specs.Links.{refs_of, references_of, reference_for};
 
-use cm_model::{CtlDesc, IfaceName, Name, Seq};
+use cm_document::{CtlDesc, IfaceName, Name, Seq};
 use std::alloc::{AllocError, Global};
 
 /// Every reference, controller by controller.

@@ -3,7 +3,7 @@
 //! by texts, where `cm` stands on these checks.
 
 use crate::verdict::no_fault;
-use cm_model::{CompDesc, CompKind, Description, Fx, JointDesc, Kind, Life, Name, Seq};
+use cm_document::{CompDesc, CompKind, Description, Fx, JointDesc, Kind, Life, Name, Seq};
 use std::alloc::{AllocError, Global};
 use std::test::Fail;
 

@@ -1,7 +1,7 @@
 //! All checks of a description.
 
 ghost use Rattle.sequence.specs.Answers.{Answers};
-ghost use Rattle.cm_model.specs.Valid.{valid, IsDescribed};
+ghost use Rattle.cm_document.specs.Valid.{valid, IsDescribed};
 ghost use Rattle.desc_check.specs.Verdict.{verdict};
 
 use crate::counts::few_enough;
@@ -9,7 +9,7 @@ use crate::interfaces::links_exist;
 use crate::loops::loop_free;
 use crate::names::named_apart;
 use crate::ranges::in_range;
-use cm_model::{CheckFault, Checked, Description};
+use cm_document::{CheckFault, Checked, Description};
 use std::alloc::Global;
 
 /// Checks a description that was read: it is given back as Checked where it is valid, and else its first fault is told.
@@ -23,7 +23,7 @@ pub fn check(alloc: Global, description: Description) -> Result<Checked, CheckFa
 }
 
 /// The description is valid, or its first fault is told: counts, then names, ranges, interfaces and loops.
-#[tactic(auto, unfolding(cm_model::specs::Valid::valid, crate::specs::Verdict::verdict))]
+#[tactic(auto, unfolding(cm_document::specs::Valid::valid, crate::specs::Verdict::verdict))]
 pub(crate) fn no_fault(alloc: Global, description: &Description) -> Result<(), CheckFault>
     ensures { Answers CheckFault.Memory (verdict description.now) result }
 {

@@ -4,10 +4,10 @@ use Rattle.toml.specs.Data.{Data, string, integer, float, boolean, datetime, arr
 use Rattle.toml.specs.View.{view, items_view}
 use Rattle.toml.specs.declared.value.Value.{Value}
 use Rattle.toml.proofs.Views.{items_view-drop}
-use Rattle.cm_model.specs.Forms.{Form, placed, item_path, inside, items_from, tables_from}
-use Rattle.cm_model.specs.declared.faults.DescFault.{DescFault}
-use Rattle.cm_model.specs.declared.faults.DescFault.TheVariants.{BadValue}
-use Rattle.cm_model.specs.declared.faults.Wrong.{Wrong}
+use Rattle.cm_document.specs.Forms.{Form, placed, item_path, inside, items_from, tables_from}
+use Rattle.cm_document.specs.declared.faults.DescFault.{DescFault}
+use Rattle.cm_document.specs.declared.faults.DescFault.TheVariants.{BadValue}
+use Rattle.cm_document.specs.declared.faults.Wrong.{Wrong}
 
 -- ---- One value an item
 

@@ -6,11 +6,11 @@ use Rattle.std.proofs.lemmas.Bool.{cases_Bool}
 use Rattle.std.proofs.lemmas.Str.{IsUtf8-from_is_utf8, is_utf8-from_IsUtf8}
 use Rattle.toml.specs.Data.{Members, get_member}
 use Rattle.toml.specs.Parse.{parse_document}
-use Rattle.cm_model.specs.Described.{tree_of, component_key, controller_form, a_description, described_states, description_form, top_table, states_of}
-use Rattle.cm_model.specs.Forms.{one, tables_of, whole_in}
-use Rattle.cm_model.specs.Reading.{◌>>=◌}
-use Rattle.cm_model.specs.Tables.{none_unlisted, unlisted, required_read, defaulted_read}
-use Rattle.cm_model.specs.declared.description.CompDesc.{CompDesc}
+use Rattle.cm_document.specs.Described.{tree_of, component_key, controller_form, a_description, described_states, description_form, top_table, states_of}
+use Rattle.cm_document.specs.Forms.{one, tables_of, whole_in}
+use Rattle.cm_document.specs.Reading.{◌>>=◌}
+use Rattle.cm_document.specs.Tables.{none_unlisted, unlisted, required_read, defaulted_read}
+use Rattle.cm_document.specs.declared.description.CompDesc.{CompDesc}
 
 -- the tree of a text that was parsed
 pub tree_of_parsed : (text : List ℕ) (ms : Members) → IsUtf8 text → parse_document text ≡ Some ms → tree_of text ≡ Some ms

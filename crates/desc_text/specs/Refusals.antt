@@ -2,10 +2,10 @@
 use Rattle.std.specs.Prelude.{ℕ, List}
 use Rattle.iface_names.specs.declared.name.NameFault.{NameFault}
 use Rattle.iface_names.specs.declared.name.NameFault.TheVariants as name
-use Rattle.cm_model.specs.Forms.{at}
-use Rattle.cm_model.specs.declared.faults.DescFault.{DescFault}
-use Rattle.cm_model.specs.declared.faults.DescFault.TheVariants as fault
-use Rattle.cm_model.specs.declared.faults.Wrong.TheVariants as wrong
+use Rattle.cm_document.specs.Forms.{at}
+use Rattle.cm_document.specs.declared.faults.DescFault.{DescFault}
+use Rattle.cm_document.specs.declared.faults.DescFault.TheVariants as fault
+use Rattle.cm_document.specs.declared.faults.Wrong.TheVariants as wrong
 use Rattle.desc_text.specs.declared.faults.Refused.{Refused}
 use Rattle.desc_text.specs.declared.faults.Refused.TheVariants as refused
 

@@ -1,14 +1,14 @@
 //! The table of a component.
 
-ghost use Rattle.cm_model.specs.Described.{component_table};
-ghost use Rattle.cm_model.specs.Tables.{walk};
+ghost use Rattle.cm_document.specs.Described.{component_table};
+ghost use Rattle.cm_document.specs.Tables.{walk};
 
 use crate::forms::{ListOf, One, TableForm, TablesOf};
 use crate::joint::Joint;
 use crate::keys::Keys;
 use crate::values::{Cycle, Named};
 use crate::words::{ComponentKinds, StatesAtStart, StatesOnError, WordOf};
-use cm_model::{CompDesc, DescFault, Life, Seq};
+use cm_document::{CompDesc, DescFault, Life, Seq};
 
 /// The keys that a component may have.
 const KEYS: [&str; 7] = [
@@ -30,7 +30,7 @@ impl TableForm for Component {
 
     ghost table_form = { λ _. walk component_table };
 
-    #[tactic(auto, unfolding(cm_model::specs::Described::component_table))]
+    #[tactic(auto, unfolding(cm_document::specs::Described::component_table))]
     fn read(&self, keys: &Keys<'_>) -> Result<CompDesc, DescFault> {
         keys.none_but(&KEYS)?;
         let name = keys.required("name", &One(Named))?;

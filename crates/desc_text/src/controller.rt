@@ -3,9 +3,9 @@
 ghost use Rattle.std.specs.Prelude.{◌≡◌};
 ghost use Rattle.sequence.specs.Answers.{Answers};
 ghost use Rattle.toml.specs.View.{table_view};
-ghost use Rattle.cm_model.specs.Described.{controller_form, claiming_table, pid_table, trajectory_table, broadcaster_table, mock_table, states_of, count};
-ghost use Rattle.cm_model.specs.Tables.{walk};
-ghost use Rattle.cm_model.specs.declared.description.Params.TheVariants as params;
+ghost use Rattle.cm_document.specs.Described.{controller_form, claiming_table, pid_table, trajectory_table, broadcaster_table, mock_table, states_of, count};
+ghost use Rattle.cm_document.specs.Tables.{walk};
+ghost use Rattle.cm_document.specs.declared.description.Params.TheVariants as params;
 
 use crate::forms::{ListOf, One, TableForm};
 use crate::keys::Keys;
@@ -14,7 +14,7 @@ use crate::values::{
     Boolean, Cycle, Interface, Named, Quantity, State, Whole, most_units, no_units,
 };
 use crate::words::{ControllerTypes, WordOf};
-use cm_model::{CompDesc, CtlDesc, CtlKind, DescFault, IfaceName, Params, Seq};
+use cm_document::{CompDesc, CtlDesc, CtlKind, DescFault, IfaceName, Params, Seq};
 
 /// The keys that a forward or a passthrough may have.
 const CLAIMING: [&str; 4] = ["name", "type", "update_rate", "claims"];
@@ -63,7 +63,7 @@ impl TableForm for Controller<'_> {
 
     ghost table_form = { λ s. controller_form (states_of s.components.now) };
 
-    #[tactic(auto, unfolding(cm_model::specs::Described::controller_table))]
+    #[tactic(auto, unfolding(cm_document::specs::Described::controller_table))]
     fn read(&self, keys: &Keys<'_>) -> Result<CtlDesc, DescFault> {
         match keys.required("type", &One(WordOf(ControllerTypes)))? {
             CtlKind::Forward => forward(keys),

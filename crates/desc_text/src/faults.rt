@@ -3,7 +3,7 @@
 ghost use Rattle.std.specs.Prelude.{◌≡◌};
 ghost use Rattle.desc_text.specs.Refusals.{fault_at};
 
-use cm_model::{DescFault, NameFault, Text, Wrong};
+use cm_document::{DescFault, NameFault, Text, Wrong};
 use std::alloc::AllocError;
 
 /// Why a value was not read.

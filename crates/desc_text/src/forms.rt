@@ -4,15 +4,15 @@ ghost use Rattle.std.specs.Prelude.{◌≡◌, List, [], Result};
 ghost use Rattle.sequence.specs.Answers.{Answers};
 ghost use Rattle.toml.specs.Data.{Data, Members};
 ghost use Rattle.toml.specs.View.{view, items_view, table_view};
-ghost use Rattle.cm_model.specs.Forms.{Form, one, list_after, items_from, item_path, tables_of, tables_from, placed};
-ghost use Rattle.cm_model.specs.Reading.{told_as};
-ghost use Rattle.cm_model.specs.declared.faults.Wrong.{Wrong};
+ghost use Rattle.cm_document.specs.Forms.{Form, one, list_after, items_from, item_path, tables_of, tables_from, placed};
+ghost use Rattle.cm_document.specs.Reading.{told_as};
+ghost use Rattle.cm_document.specs.declared.faults.Wrong.{Wrong};
 ghost use Rattle.desc_text.specs.declared.faults.Refused.TheVariants as refused;
 
 use crate::faults::Refused;
 use crate::keys::Keys;
 use crate::paths::{item_path, item_prefix, text_of};
-use cm_model::{DescFault, Seq};
+use cm_document::{DescFault, Seq};
 use std::alloc::Global;
 use toml::Value;
 

@@ -1,12 +1,12 @@
 //! The table of a joint.
 
-ghost use Rattle.cm_model.specs.Described.{joint_table};
-ghost use Rattle.cm_model.specs.Tables.{walk};
+ghost use Rattle.cm_document.specs.Described.{joint_table};
+ghost use Rattle.cm_document.specs.Tables.{walk};
 
 use crate::forms::{ListOf, One, TableForm};
 use crate::keys::Keys;
 use crate::values::{Named, NewKind, Quantity, no_units, one_unit};
-use cm_model::{DescFault, JointDesc, Seq};
+use cm_document::{DescFault, JointDesc, Seq};
 
 /// The keys that a joint may have.
 const KEYS: [&str; 8] = [
@@ -22,7 +22,7 @@ impl TableForm for Joint {
 
     ghost table_form = { λ _. walk joint_table };
 
-    #[tactic(auto, unfolding(cm_model::specs::Described::joint_table))]
+    #[tactic(auto, unfolding(cm_document::specs::Described::joint_table))]
     fn read(&self, keys: &Keys<'_>) -> Result<JointDesc, DescFault> {
         keys.none_but(&KEYS)?;
         let name = keys.required("name", &One(Named))?;

@@ -5,11 +5,11 @@ ghost use Rattle.std.specs.List.{list_any};
 ghost use Rattle.sequence.specs.Answers.{Answers};
 ghost use Rattle.toml.specs.Data.{get_member, same_key};
 ghost use Rattle.toml.specs.View.{view, table_view};
-ghost use Rattle.cm_model.specs.Tables.{unlisted, none_unlisted, required_read, defaulted_read};
+ghost use Rattle.cm_document.specs.Tables.{unlisted, none_unlisted, required_read, defaulted_read};
 
 use crate::forms::Form;
 use crate::paths::key_path;
-use cm_model::DescFault;
+use cm_document::DescFault;
 use std::alloc::Global;
 use toml::{Table, Value};
 

@@ -1,9 +1,9 @@
 //! Where a key or an item stands in a description, as faults print it.
 
 ghost use Rattle.std.specs.Prelude.{◌≡◌, ◌++◌, IfOk};
-ghost use Rattle.cm_model.specs.Forms.{item_path, inside};
+ghost use Rattle.cm_document.specs.Forms.{item_path, inside};
 
-use cm_model::Text;
+use cm_document::Text;
 use std::alloc::{AllocError, Global};
 
 /// A copy of a path.

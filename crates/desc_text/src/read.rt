@@ -3,10 +3,10 @@
 ghost use Rattle.std.specs.Prelude.{[], ◌++◌, codes, IfOk};
 ghost use Rattle.sequence.specs.Answers.{Answers};
 ghost use Rattle.toml.specs.View.{table_view};
-ghost use Rattle.cm_model.specs.Described.{tree_of, description_in, description_form, controller_form, states_of};
-ghost use Rattle.cm_model.specs.Forms.{tables_of};
-ghost use Rattle.cm_model.specs.Tables.{defaulted_read};
-ghost use Rattle.cm_model.specs.Valid.{IsDescribed};
+ghost use Rattle.cm_document.specs.Described.{tree_of, description_in, description_form, controller_form, states_of};
+ghost use Rattle.cm_document.specs.Forms.{tables_of};
+ghost use Rattle.cm_document.specs.Tables.{defaulted_read};
+ghost use Rattle.cm_document.specs.Valid.{IsDescribed};
 ghost use Rattle.toml.specs.Data.{get_member};
 
 use crate::component::Component;
@@ -14,7 +14,7 @@ use crate::controller::Controller;
 use crate::forms::{One, TablesOf};
 use crate::keys::Keys;
 use crate::values::{Cycle, Whole};
-use cm_model::{CompDesc, CtlDesc, DescFault, Description, Seq};
+use cm_document::{CompDesc, CtlDesc, DescFault, Description, Seq};
 use std::alloc::Global;
 use toml::Table;
 
@@ -31,7 +31,7 @@ const KEYS: [&str; 5] = [
 /// tree, `BadKey` at a key that is not listed or that is missing, `FloatGiven` at a float for a number, `BadValue` at any other
 /// value that is not of its form. In a table the unlisted keys come first, then the listed ones in their order. Ranges, counts and
 /// repeated names are not looked at here.
-#[tactic(auto, using(crate::proofs::TreeLemmas::tree_of_parsed, crate::proofs::TreeLemmas::tree_of_refused, cm_model::proofs::ValidLemmas::read_IsDescribed))]
+#[tactic(auto, using(crate::proofs::TreeLemmas::tree_of_parsed, crate::proofs::TreeLemmas::tree_of_refused, cm_document::proofs::ValidLemmas::read_IsDescribed))]
 pub fn read_description(alloc: Global, text: &[u8]) -> Result<Description, DescFault>
     ensures reads { Answers DescFault.Memory (description_in (tree_of text.now)) result }
     ensures described { IfOk result IsDescribed }
@@ -49,7 +49,7 @@ pub fn read_description(alloc: Global, text: &[u8]) -> Result<Description, DescF
 }
 
 /// The top table.
-#[tactic(auto, unfolding(cm_model::specs::Described::description_form, cm_model::specs::Described::top_table))]
+#[tactic(auto, unfolding(cm_document::specs::Described::description_form, cm_document::specs::Described::top_table))]
 fn top(alloc: Global, table: &Table) -> Result<Description, DescFault>
     ensures { Answers DescFault.Memory (description_form.read [] (table_view table.now)) result }
 {

@@ -1,14 +1,14 @@
 //! Reads of a broadcaster: a list of states, or all that are described.
 
 ghost use Rattle.std.specs.Prelude.{◌≡◌, ◌++◌, flat_map, map, IfOk, OnOk};
-ghost use Rattle.cm_model.specs.Described.{states_of, states_of_joint};
-ghost use Rattle.cm_model.specs.Forms.{all_or_list};
+ghost use Rattle.cm_document.specs.Described.{states_of, states_of_joint};
+ghost use Rattle.cm_document.specs.Forms.{all_or_list};
 ghost use Rattle.iface_names.specs.declared.interface.IfaceName.TheVariants as interface;
 
 use crate::forms::{Form, ListOf};
 use crate::keys::same_key;
 use crate::values::State;
-use cm_model::{CompDesc, DescFault, IfaceName, Kind, Name, Seq};
+use cm_document::{CompDesc, DescFault, IfaceName, Kind, Name, Seq};
 use std::alloc::{AllocError, Global};
 use toml::Value;
 

@@ -4,14 +4,14 @@ ghost use Rattle.std.specs.Prelude.{◌≡◌, pos};
 ghost use Rattle.std.specs.List.{list_any};
 ghost use Rattle.sequence.specs.Answers.{Answers};
 ghost use Rattle.toml.specs.View.{view};
-ghost use Rattle.cm_model.specs.Forms.{whole_in, units, quantity_in, boolean_in, name_in, interface_in, state_in, new_kind, kind_in};
-ghost use Rattle.cm_model.specs.Described.{one_unit};
-ghost use Rattle.cm_model.specs.Reading.{told_as};
+ghost use Rattle.cm_document.specs.Forms.{whole_in, units, quantity_in, boolean_in, name_in, interface_in, state_in, new_kind, kind_in};
+ghost use Rattle.cm_document.specs.Described.{one_unit};
+ghost use Rattle.cm_document.specs.Reading.{told_as};
 ghost use Rattle.iface_names.specs.Interfaces.{same_kind};
 
 use crate::faults::Refused;
 use crate::forms::Rule;
-use cm_model::{Fx, IfaceName, Kind, Name, Wrong};
+use cm_document::{Fx, IfaceName, Kind, Name, Wrong};
 use std::alloc::Global;
 use toml::Value;
 

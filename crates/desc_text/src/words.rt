@@ -3,13 +3,13 @@
 ghost use Rattle.std.specs.Prelude.{◌≡◌, List, ℕ};
 ghost use Rattle.sequence.specs.Answers.{Answers};
 ghost use Rattle.toml.specs.View.{view};
-ghost use Rattle.cm_model.specs.Forms.{word_in, meaning_of};
-ghost use Rattle.cm_model.specs.Described.{component_kinds, states_at_start, states_on_error, controller_types};
+ghost use Rattle.cm_document.specs.Forms.{word_in, meaning_of};
+ghost use Rattle.cm_document.specs.Described.{component_kinds, states_at_start, states_on_error, controller_types};
 
 use crate::faults::Refused;
 use crate::forms::Rule;
 use crate::keys::same_key;
-use cm_model::{CompKind, CtlKind, Life, Wrong};
+use cm_document::{CompKind, CtlKind, Life, Wrong};
 use std::alloc::Global;
 use toml::Value;
 

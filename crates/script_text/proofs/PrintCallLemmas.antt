@@ -4,18 +4,18 @@ use Rattle.std.specs.Prelude.{nat_le, codes}
 use Rattle.std.specs.Fmt.{decimal}
 use Rattle.std.proofs.lemmas.Bool.Decides.{nat_tests}
 use Rattle.std.proofs.lemmas.List.{append-nil}
-use Rattle.cm_model.specs.Lines.{is_comment}
-use Rattle.cm_model.specs.CallText.{life_word, strictness_word, call_text}
-use Rattle.cm_model.specs.LineForms.{lives, listed, line_of}
-use Rattle.cm_model.specs.ScriptLaws.{IsName, CanBeSent, CanBeAsked, CanBeWritten, has_form}
-use Rattle.cm_model.specs.declared.call.Call.{Call}
-use Rattle.cm_model.specs.declared.call.Call.TheVariants as call
-use Rattle.cm_model.specs.declared.call.Mail.{Mail}
-use Rattle.cm_model.specs.declared.call.SwitchRequest.{SwitchRequest}
-use Rattle.cm_model.specs.declared.life.Life.{Life}
-use Rattle.cm_model.specs.declared.life.Life.TheVariants as life
-use Rattle.cm_model.specs.declared.script.Forms.{Forms}
-use Rattle.cm_model.specs.declared.script.ScriptLine.TheVariants as line
+use Rattle.cm_document.specs.Lines.{is_comment}
+use Rattle.cm_document.specs.CallText.{life_word, strictness_word, call_text}
+use Rattle.cm_document.specs.LineForms.{lives, listed, line_of}
+use Rattle.cm_document.specs.ScriptLaws.{IsName, CanBeSent, CanBeAsked, CanBeWritten, has_form}
+use Rattle.cm_document.specs.declared.call.Call.{Call}
+use Rattle.cm_document.specs.declared.call.Call.TheVariants as call
+use Rattle.cm_document.specs.declared.call.Mail.{Mail}
+use Rattle.cm_document.specs.declared.call.SwitchRequest.{SwitchRequest}
+use Rattle.cm_document.specs.declared.life.Life.{Life}
+use Rattle.cm_document.specs.declared.life.Life.TheVariants as life
+use Rattle.cm_document.specs.declared.script.Forms.{Forms}
+use Rattle.cm_document.specs.declared.script.ScriptLine.TheVariants as line
 use Rattle.script_text.proofs.PrintWordLemmas.{IsWord, IsLine, spaced, spaced_long}
 use Rattle.script_text.proofs.PrintValueLemmas.{name_IsWord, name_short, whole_IsWord, whole_short, whole_reads}
 use Rattle.script_text.proofs.PrintMailLemmas.{mail_words, mail_spaced, mail_are_words, mail_short, mail_few, mail_reads, asked_words, asked_spaced, asked_are_words, asked_short, asked_few, asked_reads}

@@ -10,21 +10,21 @@ use Rattle.std.proofs.lemmas.List.{append-nil}
 use Rattle.std.proofs.lemmas.List.Folds.{list_any-append}
 use Rattle.std.proofs.lemmas.List.Sums.{sum_by-cons}
 use Rattle.iface_names.specs.Names.{same_name}
-use Rattle.cm_model.specs.Reading.{◌>>=◌}
-use Rattle.cm_model.specs.Lines.{raw_lines}
-use Rattle.cm_model.specs.CallText.{call_text, session_text, session_name, turn_text, schedule_text, script_text}
-use Rattle.cm_model.specs.ScriptRules.{Standing, nothing, sessions_in, session_accepted, mail_fits, call_fits, with_lines, script_in, script_with}
-use Rattle.cm_model.specs.ScriptLaws.{IsName, ArePointsAfter, CanBeSent, CanBeWritten, IsSession, AreApart, IsTurnAmong, MeetsRules, has_form, UsesForms}
-use Rattle.cm_model.specs.declared.call.Call.{Call}
-use Rattle.cm_model.specs.declared.call.Call.TheVariants as call
-use Rattle.cm_model.specs.declared.call.Mail.{Mail}
-use Rattle.cm_model.specs.declared.call.Mail.TheVariants.{Values, Points}
-use Rattle.cm_model.specs.declared.call.Point2.{Point2}
-use Rattle.cm_model.specs.declared.script.Forms.{Forms}
-use Rattle.cm_model.specs.declared.script.Script.{Script}
-use Rattle.cm_model.specs.declared.script.SessionText.{SessionText}
-use Rattle.cm_model.specs.declared.script.Turn.{Turn}
-use Rattle.cm_model.specs.declared.script.Turn.TheVariants as turn
+use Rattle.cm_document.specs.Reading.{◌>>=◌}
+use Rattle.cm_document.specs.Lines.{raw_lines}
+use Rattle.cm_document.specs.CallText.{call_text, session_text, session_name, turn_text, schedule_text, script_text}
+use Rattle.cm_document.specs.ScriptRules.{Standing, nothing, sessions_in, session_accepted, mail_fits, call_fits, with_lines, script_in, script_with}
+use Rattle.cm_document.specs.ScriptLaws.{IsName, ArePointsAfter, CanBeSent, CanBeWritten, IsSession, AreApart, IsTurnAmong, MeetsRules, has_form, UsesForms}
+use Rattle.cm_document.specs.declared.call.Call.{Call}
+use Rattle.cm_document.specs.declared.call.Call.TheVariants as call
+use Rattle.cm_document.specs.declared.call.Mail.{Mail}
+use Rattle.cm_document.specs.declared.call.Mail.TheVariants.{Values, Points}
+use Rattle.cm_document.specs.declared.call.Point2.{Point2}
+use Rattle.cm_document.specs.declared.script.Forms.{Forms}
+use Rattle.cm_document.specs.declared.script.Script.{Script}
+use Rattle.cm_document.specs.declared.script.SessionText.{SessionText}
+use Rattle.cm_document.specs.declared.script.Turn.{Turn}
+use Rattle.cm_document.specs.declared.script.Turn.TheVariants as turn
 use Rattle.script_text.proofs.PrintWordLemmas.{Reads, Reads-nil, Reads-append, Reads-line}
 use Rattle.script_text.proofs.PrintValueLemmas.{name_IsWord, name_short}
 use Rattle.script_text.proofs.PrintCallLemmas.{call_says, one_behind}

@@ -5,11 +5,11 @@ use Rattle.std.specs.List.{AllByRecursion}
 use Rattle.std.proofs.lemmas.Bool.{le-ltb}
 use Rattle.std.proofs.lemmas.Bool.Decides.{nat_tests}
 use Rattle.std.proofs.lemmas.List.{append-nil}
-use Rattle.cm_model.specs.Reading.{◌>>=◌}
-use Rattle.cm_model.specs.Lines.{onto_first, raw_lines, without_last, bare, is_blank, words, is_comment}
-use Rattle.cm_model.specs.LineForms.{line_of}
-use Rattle.cm_model.specs.ScriptRules.{Standing, with_said, with_line, with_lines}
-use Rattle.cm_model.specs.declared.script.Forms.{Forms}
+use Rattle.cm_document.specs.Reading.{◌>>=◌}
+use Rattle.cm_document.specs.Lines.{onto_first, raw_lines, without_last, bare, is_blank, words, is_comment}
+use Rattle.cm_document.specs.LineForms.{line_of}
+use Rattle.cm_document.specs.ScriptRules.{Standing, with_said, with_line, with_lines}
+use Rattle.cm_document.specs.declared.script.Forms.{Forms}
 
 -- bytes from the space on: none of them ends a line
 abbrev pub IsPrinted : List ℕ → Type 0

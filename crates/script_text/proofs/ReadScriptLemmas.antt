@@ -7,22 +7,22 @@ use Rattle.std.proofs.lemmas.Bool.Decides.{nat_tests}
 use Rattle.std.proofs.lemmas.List.Sums.{sum_by_push}
 use Rattle.std.proofs.lemmas.List.Quantifiers.{position-Some}
 use Rattle.iface_names.specs.Names.{same_name}
-use Rattle.cm_model.specs.Lines.{raw_lines, bare, words, is_skipped}
-use Rattle.cm_model.specs.LineForms.{line_of}
-use Rattle.cm_model.specs.ScriptRules.{Standing, nothing, sessions_in, session_accepted, is_session_line, with_session, call_fits, with_call, with_schedule, with_turn, session_number, with_step, with_said, with_line, with_lines, script_in, script_with}
-use Rattle.cm_model.specs.ScriptLaws.{IsName, CanBeWritten, IsSession, AreApart, IsTurnAmong, MeetsRules, has_form, UsesForms}
-use Rattle.cm_model.specs.declared.call.Call.{Call}
-use Rattle.cm_model.specs.declared.script.Forms.{Forms}
-use Rattle.cm_model.specs.declared.script.Script.{Script}
-use Rattle.cm_model.specs.declared.script.ScriptLine.{ScriptLine}
-use Rattle.cm_model.specs.declared.script.ScriptLine.TheVariants as line
-use Rattle.cm_model.specs.declared.script.SessionText.{SessionText}
-use Rattle.cm_model.specs.declared.script.Turn.{Turn}
-use Rattle.cm_model.specs.declared.script.Turn.TheVariants as turn
-use Rattle.cm_model.specs.declared.faults.ScriptFault.{ScriptFault}
-use Rattle.cm_model.specs.declared.faults.ScriptFault.TheVariants.{BadLine, NoSession}
+use Rattle.cm_document.specs.Lines.{raw_lines, bare, words, is_skipped}
+use Rattle.cm_document.specs.LineForms.{line_of}
+use Rattle.cm_document.specs.ScriptRules.{Standing, nothing, sessions_in, session_accepted, is_session_line, with_session, call_fits, with_call, with_schedule, with_turn, session_number, with_step, with_said, with_line, with_lines, script_in, script_with}
+use Rattle.cm_document.specs.ScriptLaws.{IsName, CanBeWritten, IsSession, AreApart, IsTurnAmong, MeetsRules, has_form, UsesForms}
+use Rattle.cm_document.specs.declared.call.Call.{Call}
+use Rattle.cm_document.specs.declared.script.Forms.{Forms}
+use Rattle.cm_document.specs.declared.script.Script.{Script}
+use Rattle.cm_document.specs.declared.script.ScriptLine.{ScriptLine}
+use Rattle.cm_document.specs.declared.script.ScriptLine.TheVariants as line
+use Rattle.cm_document.specs.declared.script.SessionText.{SessionText}
+use Rattle.cm_document.specs.declared.script.Turn.{Turn}
+use Rattle.cm_document.specs.declared.script.Turn.TheVariants as turn
+use Rattle.cm_document.specs.declared.faults.ScriptFault.{ScriptFault}
+use Rattle.cm_document.specs.declared.faults.ScriptFault.TheVariants.{BadLine, NoSession}
 use Rattle.sequence.proofs.ListLemmas.{all_push}
-use Rattle.cm_model.proofs.ReadingLemmas.{bind_keeps}
+use Rattle.cm_document.proofs.ReadingLemmas.{bind_keeps}
 use Rattle.script_text.proofs.ReadCallLemmas.{Says, line_of_Says}
 
 -- ---- Lists that grow at their end

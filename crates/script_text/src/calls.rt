@@ -3,9 +3,9 @@
 ghost use Rattle.std.specs.Prelude.{◌≡◌, Ok, option_map};
 ghost use Rattle.std.specs.Option.{option_and_then};
 ghost use Rattle.sequence.specs.Answers.{Answers};
-ghost use Rattle.cm_model.specs.Lines.{words};
-ghost use Rattle.cm_model.specs.LineForms.{name_word, whole_word, rate_in, send_in, hardware_in};
-ghost use Rattle.cm_model.specs.declared.call.Call.TheVariants as call;
+ghost use Rattle.cm_document.specs.Lines.{words};
+ghost use Rattle.cm_document.specs.LineForms.{name_word, whole_word, rate_in, send_in, hardware_in};
+ghost use Rattle.cm_document.specs.declared.call.Call.TheVariants as call;
 ghost use Rattle.script_text.specs.FewWords.{only};
 ghost use Rattle.script_text.specs.SwitchWords.{switch_words};
 
@@ -14,7 +14,7 @@ use crate::numbers::{whole, whole_up_to};
 use crate::switches::{name, switch};
 use crate::verbs::{life, strictness};
 use crate::words::{next_word, only_word, two_words};
-use cm_model::{Call, Name, ScriptFault};
+use cm_document::{Call, Name, ScriptFault};
 use std::alloc::Global;
 
 /// The largest rate, in hertz.

@@ -2,14 +2,14 @@
 
 ghost use Rattle.std.specs.Prelude.{◌≡◌, ◌∷◌, Ok};
 ghost use Rattle.sequence.specs.Answers.{Answers};
-ghost use Rattle.cm_model.specs.Lines.{words};
-ghost use Rattle.cm_model.specs.LineForms.{where_accepted, a_call, list_in, said, line_of};
+ghost use Rattle.cm_document.specs.Lines.{words};
+ghost use Rattle.cm_document.specs.LineForms.{where_accepted, a_call, list_in, said, line_of};
 ghost use Rattle.script_text.specs.FewWords.{alone};
 
 use crate::calls::{await_cycles, hardware, one_name, rate, send, switched};
 use crate::verbs::{list, verb};
 use crate::words::{next_word, only_word};
-use cm_model::{Call, Forms, ScriptFault, ScriptLine, Verb};
+use cm_document::{Call, Forms, ScriptFault, ScriptLine, Verb};
 use std::alloc::Global;
 
 /// What a line says whose first word is this one and whose other words stand in `rest`; nothing where it has no form.

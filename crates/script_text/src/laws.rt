@@ -1,11 +1,11 @@
 //! Laws of scripts as text: each is the contract of a function that does nothing.
 
 ghost use Rattle.std.specs.Prelude.{◌≡◌, ℕ, List, Ok};
-ghost use Rattle.cm_model.specs.CallText.{script_text};
-ghost use Rattle.cm_model.specs.ScriptLaws.{MeetsRules, UsesForms};
-ghost use Rattle.cm_model.specs.ScriptRules.{script_with};
-ghost use Rattle.cm_model.specs.declared.script.Forms.{Forms};
-ghost use Rattle.cm_model.specs.declared.script.Script.{Script};
+ghost use Rattle.cm_document.specs.CallText.{script_text};
+ghost use Rattle.cm_document.specs.ScriptLaws.{MeetsRules, UsesForms};
+ghost use Rattle.cm_document.specs.ScriptRules.{script_with};
+ghost use Rattle.cm_document.specs.declared.script.Forms.{Forms};
+ghost use Rattle.cm_document.specs.declared.script.Script.{Script};
 
 /// Whatever text a script is read from, at whatever table of forms: it has at most 8 sessions of different names and at most
 /// 10,000 calls and turns, each call within its limits, and nothing whose form is not accepted.

@@ -2,9 +2,9 @@
 
 ghost use Rattle.std.specs.Prelude.{◌≡◌, ◌+◌, length, nat_le};
 ghost use Rattle.std.specs.List.{list_all};
-ghost use Rattle.cm_model.specs.ScriptRules.{mail_fits, call_fits};
+ghost use Rattle.cm_document.specs.ScriptRules.{mail_fits, call_fits};
 
-use cm_model::{Call, Mail, Point2, SwitchRequest};
+use cm_document::{Call, Mail, Point2, SwitchRequest};
 
 /// The values that a plain list or a point may have.
 const MOST_VALUES: usize = 32;

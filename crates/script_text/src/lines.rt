@@ -1,10 +1,10 @@
 //! Lines of a text, cut off one by one without a copy.
 
 ghost use Rattle.std.specs.Prelude.{◌≡◌, ◌<◌, ◌==◌, ◌∷◌, ◌++◌, length, position};
-ghost use Rattle.cm_model.specs.Lines.{raw_lines, without_last, bare};
+ghost use Rattle.cm_document.specs.Lines.{raw_lines, without_last, bare};
 
 /// The first line of a text, with its line feed where it has one, and what stands after it.
-#[tactic(auto, using(cm_model::proofs::LineLemmas::cutting_lines))]
+#[tactic(auto, using(cm_document::proofs::LineLemmas::cutting_lines))]
 pub fn first_line(text: &[u8]) -> (&[u8], &[u8])
     requires { 0 < length text.now }
     ensures cut { raw_lines text.now ≡ result.0.now ∷ raw_lines result.1.now }
@@ -32,7 +32,7 @@ pub fn bare_line(line: &[u8]) -> &[u8]
 }
 
 /// The text without this byte at its end, if it stands there.
-#[tactic(auto, using(cm_model::proofs::LineLemmas::cutting_ends))]
+#[tactic(auto, using(cm_document::proofs::LineLemmas::cutting_ends))]
 fn without_last(end: u8, text: &[u8]) -> &[u8]
     ensures { result.now ≡ without_last end text.now }
 {

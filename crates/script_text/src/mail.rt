@@ -2,13 +2,13 @@
 
 ghost use Rattle.std.specs.Prelude.{◌≡◌, Ok};
 ghost use Rattle.sequence.specs.Answers.{Answers};
-ghost use Rattle.cm_model.specs.Lines.{words};
-ghost use Rattle.cm_model.specs.LineForms.{all_words, value_word, values_in, untimed, timed, time_word, point_at, later, points_after, mail_in};
+ghost use Rattle.cm_document.specs.Lines.{words};
+ghost use Rattle.cm_document.specs.LineForms.{all_words, value_word, values_in, untimed, timed, time_word, point_at, later, points_after, mail_in};
 ghost use Rattle.script_text.specs.FewWords.{one_or_more};
 
 use crate::numbers::{is_time, time, value};
 use crate::words::next_word;
-use cm_model::{Fx, Mail, Point2, ScriptFault, Seq};
+use cm_document::{Fx, Mail, Point2, ScriptFault, Seq};
 use std::alloc::Global;
 
 /// Values alone, or, where the first word is a time, points.

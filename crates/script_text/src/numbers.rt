@@ -4,9 +4,9 @@ ghost use Rattle.std.specs.Prelude.{◌≡◌, ◌≤◌, ◌<◌, length, IfSom
 ghost use Rattle.std.specs.List.{list_all};
 ghost use Rattle.std.specs.Char.{is_ascii_digit};
 ghost use Rattle.std.specs.Str.Parse.{digits_value};
-ghost use Rattle.cm_model.specs.LineForms.{whole_word, at_most, value_word, is_time, time_word};
+ghost use Rattle.cm_document.specs.LineForms.{whole_word, at_most, value_word, is_time, time_word};
 
-use cm_model::Fx;
+use cm_document::Fx;
 
 /// The digits that a whole number may have.
 const MOST_DIGITS: usize = 9;

@@ -1,10 +1,10 @@
 //! How a script prints: a line for each session, call and turn.
 
 ghost use Rattle.std.specs.Prelude.{◌≡◌, ◌++◌, OnOk, IfOk, flat_map, codes, string_bytes};
-ghost use Rattle.cm_model.specs.CallText.{call_text, session_text, session_name, turn_text, schedule_text, script_text};
-ghost use Rattle.cm_model.specs.ScriptLaws.{ReadsBack};
+ghost use Rattle.cm_document.specs.CallText.{call_text, session_text, session_name, turn_text, schedule_text, script_text};
+ghost use Rattle.cm_document.specs.ScriptLaws.{ReadsBack};
 
-use cm_model::{Call, Memory, Script, SessionText, Turn};
+use cm_document::{Call, Memory, Script, SessionText, Turn};
 use std::alloc::Global;
 
 /// The text of a script: each session's line with its calls behind it, and `schedule` with the turns where there are some.
@@ -18,7 +18,7 @@ pub fn print_script(alloc: Global, script: &Script) -> Result<Vec<u8>, Memory>
     Ok(text.into_bytes())
 }
 
-#[tactic(auto, unfolding(cm_model::specs::CallText::script_text))]
+#[tactic(auto, unfolding(cm_document::specs::CallText::script_text))]
 fn text_of(alloc: Global, script: &Script) -> Result<String, Memory>
     ensures { IfOk result (λ text. string_bytes text ≡ script_text script.now) }
 {

@@ -2,15 +2,15 @@
 
 ghost use Rattle.std.specs.Prelude.{◌≡◌, ◌+◌, ◌<◌, ◌^◌, length};
 ghost use Rattle.sequence.specs.Answers.{Answers};
-ghost use Rattle.cm_model.specs.Built.{built};
-ghost use Rattle.cm_model.specs.Lines.{raw_lines};
-ghost use Rattle.cm_model.specs.ScriptRules.{nothing, with_line, with_lines, script_with};
+ghost use Rattle.cm_document.specs.Built.{built};
+ghost use Rattle.cm_document.specs.Lines.{raw_lines};
+ghost use Rattle.cm_document.specs.ScriptRules.{nothing, with_line, with_lines, script_with};
 
 use crate::forms::line_of;
 use crate::lines::{bare_line, first_line};
 use crate::rules::Draft;
 use crate::words::{begins_comment, next_word};
-use cm_model::{Forms, Script, ScriptFault, built};
+use cm_document::{Forms, Script, ScriptFault, built};
 use std::alloc::Global;
 
 /// The bytes that a line may have without its line feed and the carriage return before it.
@@ -27,7 +27,7 @@ pub fn read_script(alloc: Global, text: &[u8], first_line: u32) -> Result<Script
 
 /// The script of this text where these forms are accepted, its first line having this number; or the first bad line.
 /// `Memory` where memory ran out.
-#[tactic(auto, unfolding(cm_model::specs::ScriptRules::script_with))]
+#[tactic(auto, unfolding(cm_document::specs::ScriptRules::script_with))]
 pub fn read_script_with(
     alloc: Global,
     forms: Forms,
@@ -58,7 +58,7 @@ fn read_lines(alloc: Global, forms: Forms, text: &[u8], first: u32) -> Result<Dr
 }
 
 /// What stands after a line of this number.
-#[tactic(auto, unfolding(cm_model::specs::ScriptRules::with_line))]
+#[tactic(auto, unfolding(cm_document::specs::ScriptRules::with_line))]
 fn with_line(
     alloc: Global,
     forms: Forms,

@@ -5,11 +5,11 @@ mod sessions;
 
 ghost use Rattle.std.specs.Prelude.{◌≡◌, Ok};
 ghost use Rattle.sequence.specs.Answers.{Answers};
-ghost use Rattle.cm_model.specs.ScriptRules.{nothing, with_session, with_call_in, with_call, with_said, script_in};
+ghost use Rattle.cm_document.specs.ScriptRules.{nothing, with_session, with_call_in, with_call, with_said, script_in};
 
 use crate::limits::call_fits;
 use crate::rules::sessions::closed;
-use cm_model::{Call, Forms, Name, Script, ScriptFault, ScriptLine, Seq, SessionText, Turn};
+use cm_document::{Call, Forms, Name, Script, ScriptFault, ScriptLine, Seq, SessionText, Turn};
 use std::alloc::Global;
 use std::marker::Model;
 
@@ -30,7 +30,7 @@ pub struct Draft {
 
 impl Model for Draft {
     ghost use Rattle.std.specs.Prelude.{◌≤◌, length};
-    ghost use Rattle.cm_model.specs.ScriptRules.{Standing};
+    ghost use Rattle.cm_document.specs.ScriptRules.{Standing};
 
     ghost Value = { Standing };
 

@@ -2,11 +2,11 @@
 
 ghost use Rattle.std.specs.Prelude.{◌≡◌, Some, Ok};
 ghost use Rattle.sequence.specs.Answers.{Answers};
-ghost use Rattle.cm_model.specs.Lines.{words};
-ghost use Rattle.cm_model.specs.LineForms.{name_word, behind, switch_in};
+ghost use Rattle.cm_document.specs.Lines.{words};
+ghost use Rattle.cm_document.specs.LineForms.{name_word, behind, switch_in};
 
 use crate::words::next_word;
-use cm_model::{Name, NameFault, ScriptFault, Seq, SwitchRequest};
+use cm_document::{Name, NameFault, ScriptFault, Seq, SwitchRequest};
 use std::alloc::Global;
 
 /// A switch of a text's words, each a signed name; each list keeps its order.

@@ -5,7 +5,7 @@ mod long;
 mod scripts;
 
 use crate::{read_script, read_script_with};
-use cm_model::{Script, Turn, every_form};
+use cm_document::{Script, Turn, every_form};
 use std::alloc::Global;
 use std::test::Fail;
 
@@ -13,7 +13,7 @@ use std::test::Fail;
 const LONGEST: usize = 1_000_000;
 
 /// What is told of a text where every form is accepted: the script, or the first bad line.
-#[tactic(auto, using(cm_model::proofs::LineLemmas::raw_lines_within))]
+#[tactic(auto, using(cm_document::proofs::LineLemmas::raw_lines_within))]
 fn told(alloc: Global, text: &str) -> Result<String, Fail> {
     let bytes = text.as_bytes();
     if bytes.len() > LONGEST {
@@ -26,7 +26,7 @@ fn told(alloc: Global, text: &str) -> Result<String, Fail> {
 }
 
 /// The same where today's forms are accepted.
-#[tactic(auto, using(cm_model::proofs::LineLemmas::raw_lines_within))]
+#[tactic(auto, using(cm_document::proofs::LineLemmas::raw_lines_within))]
 fn told_today(alloc: Global, text: &str) -> Result<String, Fail> {
     let bytes = text.as_bytes();
     if bytes.len() > LONGEST {

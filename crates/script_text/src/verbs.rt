@@ -1,9 +1,9 @@
 //! The words that stand for something: verbs, lifecycle states, strictnesses, lists.
 
 ghost use Rattle.std.specs.Prelude.{◌≡◌, drop};
-ghost use Rattle.cm_model.specs.LineForms.{listed, verbs, lives, strictnesses, lists};
+ghost use Rattle.cm_document.specs.LineForms.{listed, verbs, lives, strictnesses, lists};
 
-use cm_model::{Call, Forms, Life, Verb};
+use cm_document::{Call, Forms, Life, Verb};
 
 /// What this word says as the first of a line.
 pub fn verb(word: &[u8]) -> Option<Verb>

@@ -1,11 +1,11 @@
 //! Words of a line, found one by one without a copy.
 
 ghost use Rattle.std.specs.Prelude.{◌≡◌, not, [], ◌∷◌, position, option_map, MatchOption};
-ghost use Rattle.cm_model.specs.Lines.{is_blank, is_comment, words};
+ghost use Rattle.cm_document.specs.Lines.{is_blank, is_comment, words};
 ghost use Rattle.script_text.specs.FewWords.{only, pair};
 
 /// The first word of a text and what stands after it; nothing where the text has no word.
-#[tactic(auto, using(cm_model::proofs::LineLemmas::cutting_words))]
+#[tactic(auto, using(cm_document::proofs::LineLemmas::cutting_words))]
 pub fn next_word(text: &[u8]) -> Option<(&[u8], &[u8])>
     ensures { MatchOption result (words text.now ≡ []) (λ cut. words text.now ≡ cut.0.now ∷ words cut.1.now) }
 {

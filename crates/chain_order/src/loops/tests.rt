@@ -1,7 +1,7 @@
 //! Loops and the lack of them, in descriptions written by hand.
 
 use super::first_loop;
-use cm_model::{CtlDesc, Description, Fx, IfaceName, Name, NameFault, Params, Seq};
+use cm_document::{CtlDesc, Description, Fx, IfaceName, Name, NameFault, Params, Seq};
 use std::alloc::Global;
 use std::test::Fail;
 

@@ -6,7 +6,7 @@ use super::documents::{
 };
 use super::{TOP, told};
 use crate::read_description;
-use cm_model::{CompDesc, CompKind, CtlDesc, JointDesc, Params};
+use cm_document::{CompDesc, CompKind, CtlDesc, JointDesc, Params};
 use std::alloc::{AllocError, Global};
 use std::fmt::Display;
 use std::test::Fail;

@@ -1,7 +1,7 @@
 //! Scripts that are made by hand, and their texts.
 
 use super::print_script;
-use cm_model::{Call, Fx, Life, Mail, Name, Point2, Script, Seq, SessionText, SwitchRequest, Turn};
+use cm_document::{Call, Fx, Life, Mail, Name, Point2, Script, Seq, SessionText, SwitchRequest, Turn};
 use std::alloc::Global;
 use std::test::Fail;
 

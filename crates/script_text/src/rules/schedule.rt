@@ -2,10 +2,10 @@
 
 ghost use Rattle.std.specs.Prelude.{◌≡◌};
 ghost use Rattle.sequence.specs.Answers.{Answers};
-ghost use Rattle.cm_model.specs.ScriptRules.{with_schedule, with_turn, with_step};
+ghost use Rattle.cm_document.specs.ScriptRules.{with_schedule, with_turn, with_step};
 
 use crate::rules::{Draft, MOST_CALLS};
-use cm_model::{Name, ScriptFault, Seq, Turn};
+use cm_document::{Name, ScriptFault, Seq, Turn};
 use std::alloc::Global;
 
 impl Draft {

@@ -4,10 +4,10 @@ ghost use Rattle.std.specs.Prelude.{◌≡◌, ◌<◌, ◌++◌, Ok, IfSome, le
 ghost use Rattle.std.specs.List.{list_any};
 ghost use Rattle.sequence.specs.Answers.{Answers};
 ghost use Rattle.iface_names.specs.Names.{same_name};
-ghost use Rattle.cm_model.specs.ScriptRules.{sessions_in, is_used, session_accepted, is_session_line, session_number};
+ghost use Rattle.cm_document.specs.ScriptRules.{sessions_in, is_used, session_accepted, is_session_line, session_number};
 
 use crate::rules::Draft;
-use cm_model::{Forms, Name, ScriptFault, Seq, SessionText};
+use cm_document::{Forms, Name, ScriptFault, Seq, SessionText};
 
 impl Draft {
     /// Whether a session of this name may begin: the name is new and not `loop`, and no schedule stands.

@@ -2,7 +2,7 @@
 
 use crate::read_script_with;
 use crate::tests::LONGEST;
-use cm_model::{Script, every_form};
+use cm_document::{Script, every_form};
 use std::alloc::{AllocError, Global};
 use std::test::Fail;
 
@@ -16,7 +16,7 @@ fn count(script: &Script) -> usize {
 }
 
 /// How many sessions, calls and turns are told of a text where every form is accepted, or its first bad line.
-#[tactic(auto, using(cm_model::proofs::LineLemmas::raw_lines_within))]
+#[tactic(auto, using(cm_document::proofs::LineLemmas::raw_lines_within))]
 fn counted(alloc: Global, text: &str) -> Result<String, Fail> {
     let bytes = text.as_bytes();
     if bytes.len() > LONGEST {

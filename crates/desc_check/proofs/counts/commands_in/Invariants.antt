@@ -1,6 +1,6 @@
 use Rattle.std.proofs.Common.{◌≡◌, length, take}
 use Rattle.std.specs.Prelude.{flat_map}
-use Rattle.cm_model.specs.Links.{commands_of_joint}
+use Rattle.cm_document.specs.Links.{commands_of_joint}
 use Rattle.desc_check.specs.Counts.{counted}
 use Rattle.desc_check.proofs.counts.commands_in.Given as goal
 

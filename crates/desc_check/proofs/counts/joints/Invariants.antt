@@ -1,5 +1,5 @@
 use Rattle.std.proofs.Common.{◌≡◌, length, take}
-use Rattle.cm_model.specs.Links.{joints_of}
+use Rattle.cm_document.specs.Links.{joints_of}
 use Rattle.desc_check.specs.Counts.{counted}
 use Rattle.desc_check.proofs.counts.joints.Given as goal
 

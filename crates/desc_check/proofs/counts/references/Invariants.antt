@@ -1,5 +1,5 @@
 use Rattle.std.proofs.Common.{◌≡◌, length, take}
-use Rattle.cm_model.specs.Links.{references_of}
+use Rattle.cm_document.specs.Links.{references_of}
 use Rattle.desc_check.specs.Counts.{counted}
 use Rattle.desc_check.proofs.counts.references.Given as goal
 

@@ -1,7 +1,7 @@
 use Rattle.std.proofs.Common.{◌≡◌, ◌++◌, drop}
-use Rattle.cm_model.specs.Described.{states_of}
-use Rattle.cm_model.specs.Links.{commands_of}
-use Rattle.cm_model.specs.Valid.{links_exist}
+use Rattle.cm_document.specs.Described.{states_of}
+use Rattle.cm_document.specs.Links.{commands_of}
+use Rattle.cm_document.specs.Valid.{links_exist}
 use Rattle.desc_check.proofs.interfaces.each_link_exists.Given as goal
 
 -- the controllers that are left have the first fault of all

@@ -2,8 +2,8 @@ use Rattle.std.proofs.Common.{sym, ◌∙◌, rules, tests}
 use Rattle.std.proofs.lemmas.Iterator.{YieldsList-from_slice}
 use Rattle.std.proofs.lemmas.Iterator.Search.{any_from_yields_List}
 use Rattle.iface_names.specs.Interfaces.{same_interface}
-use Rattle.cm_model.specs.Links.{commands_of_joint}
-use Rattle.cm_model.specs.Links.{is_among}
+use Rattle.cm_document.specs.Links.{commands_of_joint}
+use Rattle.cm_document.specs.Links.{is_among}
 use Rattle.sequence.proofs.ListLemmas.{any_flat_map}
 use Rattle.desc_check.proofs.interfaces.is_command_in.Goals as goal
 

@@ -1,5 +1,5 @@
 use Rattle.std.proofs.Common.{Err, inr, sym, ap, ◌∙◌}
-use Rattle.cm_model.specs.Described.{states_of}
+use Rattle.cm_document.specs.Described.{states_of}
 use Rattle.desc_check.proofs.InterfaceLemmas.{all_among_missing}
 use Rattle.desc_check.proofs.interfaces.reads_exist.Goals as goal
 

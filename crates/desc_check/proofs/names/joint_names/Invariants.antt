@@ -1,5 +1,5 @@
 use Rattle.std.proofs.Common.{◌≡◌, map, take}
-use Rattle.cm_model.specs.Links.{joints_of}
+use Rattle.cm_document.specs.Links.{joints_of}
 use Rattle.desc_check.proofs.names.joint_names.Given as goal
 
 -- the names of the joints so far

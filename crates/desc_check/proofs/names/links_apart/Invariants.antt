@@ -1,5 +1,5 @@
 use Rattle.std.proofs.Common.{◌≡◌, drop}
-use Rattle.cm_model.specs.Valid.{links_apart}
+use Rattle.cm_document.specs.Valid.{links_apart}
 use Rattle.desc_check.proofs.names.links_apart.Given as goal
 
 -- the controllers that are left have the first fault of all

@@ -1,6 +1,6 @@
 use Rattle.std.proofs.Common.{Err, inr, sym, ap, ◌∙◌}
 use Rattle.iface_names.specs.Names.{same_name}
-use Rattle.cm_model.specs.declared.faults.CheckFault.TheVariants.{NameTwice}
+use Rattle.cm_document.specs.declared.faults.CheckFault.TheVariants.{NameTwice}
 use Rattle.desc_check.proofs.NameLemmas.{apart_none, apart_some}
 use Rattle.desc_check.proofs.names.names_apart.Goals as goal
 

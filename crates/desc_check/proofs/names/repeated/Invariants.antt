@@ -1,5 +1,5 @@
 use Rattle.std.proofs.Common.{◌≡◌, [], take, drop}
-use Rattle.cm_model.specs.Valid.{repeated_after}
+use Rattle.cm_document.specs.Valid.{repeated_after}
 use Rattle.desc_check.proofs.names.repeated.Given as goal
 
 -- what is left, looked through after what was seen, gives what the whole list gives

@@ -1,6 +1,6 @@
 use Rattle.std.proofs.Common.{◌≡◌, drop}
 use Rattle.std.specs.Prelude.{codes}
-use Rattle.cm_model.specs.Valid.{each_ranged, component_ranged}
+use Rattle.cm_document.specs.Valid.{each_ranged, component_ranged}
 use Rattle.desc_check.proofs.ranges.components_ranged.Given as goal
 
 -- the components that are left have the first fault of all

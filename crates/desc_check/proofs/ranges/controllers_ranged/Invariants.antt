@@ -1,6 +1,6 @@
 use Rattle.std.proofs.Common.{◌≡◌, drop}
 use Rattle.std.specs.Prelude.{codes}
-use Rattle.cm_model.specs.Valid.{each_ranged, controller_ranged}
+use Rattle.cm_document.specs.Valid.{each_ranged, controller_ranged}
 use Rattle.desc_check.proofs.ranges.controllers_ranged.Given as goal
 
 -- the controllers that are left have the first fault of all

@@ -1,5 +1,5 @@
 use Rattle.std.proofs.Common.{◌≡◌, drop}
-use Rattle.cm_model.specs.Valid.{each_ranged, joint_ranged}
+use Rattle.cm_document.specs.Valid.{each_ranged, joint_ranged}
 use Rattle.desc_check.proofs.ranges.joints_ranged.Given as goal
 
 -- the joints that are left have the first fault of all

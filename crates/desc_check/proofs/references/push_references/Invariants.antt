@@ -1,5 +1,5 @@
 use Rattle.std.proofs.Common.{◌≡◌, ◌++◌, map, take}
-use Rattle.cm_model.specs.Links.{reference_for}
+use Rattle.cm_document.specs.Links.{reference_for}
 use Rattle.desc_check.proofs.references.push_references.Given as goal
 
 -- the references before, and those for the interfaces so far

@@ -1,5 +1,5 @@
 use Rattle.std.proofs.Common.{◌≡◌, take}
-use Rattle.cm_model.specs.Links.{references_of}
+use Rattle.cm_document.specs.Links.{references_of}
 use Rattle.desc_check.proofs.references.references.Given as goal
 
 -- the references of the controllers so far

@@ -1,6 +1,6 @@
 use Rattle.std.proofs.Common.{◌≡◌, [], drop}
 use Rattle.toml.specs.View.{items_view}
-use Rattle.cm_model.specs.Forms.{items_from}
+use Rattle.cm_document.specs.Forms.{items_from}
 use Rattle.desc_text.proofs.forms.each_item.Given as goal
 
 -- what is left, read after those found, gives what the whole list gives

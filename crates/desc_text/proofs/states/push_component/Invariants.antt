@@ -1,6 +1,6 @@
 use Rattle.std.proofs.Common.{◌≡◌, ◌++◌, drop}
 use Rattle.std.specs.Prelude.{flat_map}
-use Rattle.cm_model.specs.Described.{states_of_joint}
+use Rattle.cm_document.specs.Described.{states_of_joint}
 use Rattle.desc_text.proofs.states.push_component.Given as goal
 
 -- the states so far, and those of the joints that are left, are those before and all of the component

@@ -1,5 +1,5 @@
 use Rattle.std.proofs.Common.{◌≡◌, ◌++◌, drop}
-use Rattle.cm_model.specs.Described.{states_of}
+use Rattle.cm_document.specs.Described.{states_of}
 use Rattle.desc_text.proofs.states.states_of.Given as goal
 
 -- the states so far, and those of the components that are left, are all

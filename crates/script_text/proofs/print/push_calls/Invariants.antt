@@ -1,6 +1,6 @@
 use Rattle.std.proofs.Common.{◌≡◌, ◌++◌, drop, string_bytes}
 use Rattle.std.specs.Prelude.{flat_map, codes}
-use Rattle.cm_model.specs.CallText.{call_text}
+use Rattle.cm_document.specs.CallText.{call_text}
 use Rattle.script_text.proofs.print.push_calls.Given as goal
 
 -- the text so far, and the calls that are left, are all calls

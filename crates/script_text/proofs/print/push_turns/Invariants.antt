@@ -1,6 +1,6 @@
 use Rattle.std.proofs.Common.{◌≡◌, ◌++◌, drop, string_bytes}
 use Rattle.std.specs.Prelude.{flat_map}
-use Rattle.cm_model.specs.CallText.{turn_text}
+use Rattle.cm_document.specs.CallText.{turn_text}
 use Rattle.script_text.proofs.print.push_turns.Given as goal
 
 -- the text so far, and the turns that are left, are all turns

@@ -1,6 +1,6 @@
 use Rattle.std.proofs.Common.{◌≡◌, ◌+◌, ◌≤◌, length}
-use Rattle.cm_model.specs.Lines.{raw_lines}
-use Rattle.cm_model.specs.ScriptRules.{with_lines, nothing}
+use Rattle.cm_document.specs.Lines.{raw_lines}
+use Rattle.cm_document.specs.ScriptRules.{with_lines, nothing}
 use Rattle.script_text.proofs.reading.read_lines.Given as goal
 
 -- what stands so far, and the lines that are left

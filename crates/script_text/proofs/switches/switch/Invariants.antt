@@ -1,5 +1,5 @@
 use Rattle.std.proofs.Common.{length}
-use Rattle.cm_model.specs.Lines.{words}
+use Rattle.cm_document.specs.Lines.{words}
 use Rattle.script_text.proofs.SwitchLemmas.{Switched}
 use Rattle.script_text.proofs.switches.switch.Given as goal
 

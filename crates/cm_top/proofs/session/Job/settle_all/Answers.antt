@@ -1,6 +1,6 @@
 use Rattle.std.proofs.Common.{◌≡◌, ℕ, ◌+◌, ◌<◌, List, ◌++◌, [], ◌∷◌, length, get_or, map, sym, ap, ◌∙◌, arith, Bor}
 use Rattle.std.proofs.lemmas.List.{get_or-map, map-append, length-map, length-append}
-use Rattle.cm_model.specs.declared.call.Call.{Call}
+use Rattle.cm_document.specs.declared.call.Call.{Call}
 use Rattle.cm_top.proofs.SettleLemmas.{settle_from_next, room_from_next, room_here}
 use Rattle.cm_top.proofs.session.Job.settle_all.Goals as goal
 

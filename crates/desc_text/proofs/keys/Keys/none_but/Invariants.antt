@@ -1,6 +1,6 @@
 use Rattle.std.proofs.Common.{◌≡◌, map}
 use Rattle.toml.specs.View.{members_view}
-use Rattle.cm_model.specs.Tables.{unlisted, none_unlisted}
+use Rattle.cm_document.specs.Tables.{unlisted, none_unlisted}
 use Rattle.desc_text.proofs.keys.Keys.none_but.Given as goal
 
 -- what is left of the table has the first unlisted key of the whole

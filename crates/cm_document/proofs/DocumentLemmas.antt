@@ -1,0 +1,63 @@
+-- What holds of every accepted document.
+use Rattle.std.proofs.Common.{◌≡◌, ℕ, List, Result, Ok, Err, subst, sym}
+use Rattle.std.specs.Prelude.{◌==◌, length}
+use Rattle.cm_document.specs.Reading.{◌>>=◌, told_as}
+use Rattle.cm_document.specs.Described.{tree_of, description_in}
+use Rattle.cm_document.specs.Valid.{valid, IsValid}
+use Rattle.cm_document.specs.Lines.{Parts, parts_of}
+use Rattle.cm_document.specs.Document.{without_components, accepted_description, accepted_script, document_of, document}
+use Rattle.cm_document.specs.declared.description.Description.{Description}
+use Rattle.cm_document.specs.declared.document.Document.{Document}
+use Rattle.cm_document.specs.declared.faults.DescProblem.{DescProblem}
+use Rattle.cm_document.specs.declared.faults.DescProblem.TheVariants.{Text, Check}
+use Rattle.cm_document.specs.declared.faults.ScriptFault.{ScriptFault}
+use Rattle.cm_document.specs.declared.faults.DocumentFault.TheVariants as fault
+use Rattle.cm_document.specs.declared.script.Script.{Script}
+use Rattle.cm_document.proofs.ReadingLemmas.{bind_Ok, chosen}
+use Rattle.cm_document.proofs.ValidLemmas.{read_IsDescribed, checked_IsValid}
+
+-- what is told as another fault has the same value
+told_value : {A E F : Type 0} (f : E → F) (r : Result A E) (x : A) → told_as f r ≡ Ok x → r ≡ Ok x
+told_value f (Ok y) x e = cc
+told_value f (Err fault) x e = cc
+
+-- a description without components is given back as it is
+without_components_same : (d e : Description) → without_components d ≡ Ok e → e ≡ d
+without_components_same d e = chosen (λ (r : Result Description DescProblem). r ≡ Ok e → e ≡ d) (length d.components == 0) _ _ (λ h. cc) (λ h. cc)
+
+-- an accepted description is valid
+accepted_description-IsValid : (bytes : List ℕ) (d : Description) → accepted_description bytes ≡ Ok d → IsValid d
+unfolding accepted_description
+accepted_description-IsValid bytes d e =
+    let read = bind_Ok (told_as Text (description_in (tree_of bytes))) _ d e in
+    let checked = bind_Ok (told_as Check (valid read.0)) _ d read.2 in
+    let described = read_IsDescribed (tree_of bytes) read.0 (told_value Text _ read.0 read.1) in
+    let is_valid = checked_IsValid read.0 checked.0 described (told_value Check _ checked.0 checked.1) in
+    subst IsValid (sym (without_components_same checked.0 d checked.2)) is_valid
+
+-- The description of these parts is accepted, and so is their script.
+pub record AcceptedParts (parts : Parts) (d : Document) : Type 0 where
+  pub description : accepted_description parts.description ≡ Ok d.description
+  pub script : accepted_script parts.lines parts.script ≡ Ok d.script
+
+-- from a reading that came to a document, its parts
+joined : (description : Result Description DescProblem) (script : Result Script ScriptFault) (d : Document)
+    → (told_as fault.Description description >>= λ x. told_as fault.Script script >>= λ y. Ok (record { description = x; script = y })) ≡ Ok d
+    → (description ≡ Ok d.description) × (script ≡ Ok d.script)
+joined (Err p) script d e = cc
+joined (Ok x) (Err f) d e = cc
+joined (Ok x) (Ok y) d e = (cc, cc)
+
+document_of-AcceptedParts : (parts : Parts) (d : Document) → document_of parts ≡ Ok d → AcceptedParts parts d
+unfolding document_of
+document_of-AcceptedParts parts d e =
+    let both = joined (accepted_description parts.description) (accepted_script parts.lines parts.script) d e in
+    record { description = both.0; script = both.1 }
+
+-- the parts of an accepted document are accepted
+pub document-AcceptedParts : (bytes : List ℕ) (d : Document) → document bytes ≡ Ok d → AcceptedParts (parts_of bytes) d
+document-AcceptedParts bytes d e = document_of-AcceptedParts (parts_of bytes) d e
+
+-- the description of an accepted document is valid
+pub document-IsValid : (bytes : List ℕ) (d : Document) → document bytes ≡ Ok d → IsValid d.description
+document-IsValid bytes d e = accepted_description-IsValid (parts_of bytes).description d.description (document-AcceptedParts bytes d e).description

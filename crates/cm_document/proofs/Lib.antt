@@ -1,0 +1,18 @@
+pub mod ReadingLemmas
+pub mod FormLemmas
+pub mod DescribedLemmas
+pub mod DocumentLemmas
+pub mod LineLemmas
+pub mod DistinctLemmas
+pub mod GivenLemmas
+pub mod KindLemmas
+pub mod PlaceLemmas
+pub mod ValidLemmas
+pub mod RouteLemmas
+pub mod ChainLemmas
+mod Rows
+mod DescribedRows
+mod ValidRows
+mod PlaceRows
+mod ScriptRows
+mod ScriptLawRows

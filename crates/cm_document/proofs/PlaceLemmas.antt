@@ -1,0 +1,146 @@
+-- Each interface of a valid description stands at one place.
+use Rattle.std.proofs.Common.{◌≡◌, ℕ, Bool, true, false, List, [], ◌∷◌, ◌++◌, map, Option, Some, None, Result, Ok, Err, refl, sym}
+use Rattle.std.specs.Prelude.{◌&&◌, not, flat_map}
+use Rattle.std.specs.Cmp.{IsEquivalence}
+use Rattle.std.specs.List.{AllByRecursion, IsDistinct}
+use Rattle.std.proofs.lemmas.Bool.{and_left, and_right}
+use Rattle.std.proofs.lemmas.Cmp.{nat_list_eq_equiv}
+use Rattle.iface_names.specs.Interfaces.{same_kind, same_interface}
+use Rattle.iface_names.specs.Names.{same_name}
+use Rattle.iface_names.specs.Sameness.{same_interface-IsEquivalence}
+use Rattle.iface_names.specs.declared.interface.IfaceName.{IfaceName}
+use Rattle.iface_names.specs.declared.interface.IfaceName.TheVariants.{Joint, Reference}
+use Rattle.iface_names.specs.declared.kind.Kind.{Kind}
+use Rattle.cm_document.specs.Described.{states_of}
+use Rattle.cm_document.specs.Links.{joints_of, commands_of, commands_of_joint, reference_for, exported_for, refs_of, references_of}
+use Rattle.cm_document.specs.Places.{Interface, a_state, a_command, interfaces_of, EachStandsOnce}
+use Rattle.cm_document.specs.Valid.{repeated_after, apart, names_apart, interfaces_apart, few_enough, named_apart, valid, IsValid}
+use Rattle.cm_document.specs.declared.description.CompDesc.{CompDesc}
+use Rattle.cm_document.specs.declared.description.CtlDesc.{CtlDesc}
+use Rattle.cm_document.specs.declared.description.Description.{Description}
+use Rattle.cm_document.specs.declared.description.JointDesc.{JointDesc}
+use Rattle.cm_document.specs.declared.faults.CheckFault.{CheckFault}
+use Rattle.cm_document.specs.declared.faults.CheckFault.TheVariants.{NameTwice}
+use Rattle.sequence.proofs.ListLemmas.{all_append}
+use Rattle.cm_document.proofs.DistinctLemmas.{AreApart, all_of, all_so, all_map, all_flat_map, IsDistinct-append, IsDistinct-map, flat_map-flat_map, repeated_after-IsDistinct, one_place}
+use Rattle.cm_document.proofs.KindLemmas.{KindsOnce, IsDescribed-DescribesOnce}
+use Rattle.cm_document.proofs.ReadingLemmas.{bind_Ok}
+
+-- ---- Names differ
+
+-- where no repeat is told, none was found
+found_none : {A : Type 0} (text : A → List ℕ) (found : Option A) (u : Unit {0})
+    → ◌≡◌ {A = Result (Unit {0}) CheckFault} (elim found [ None ↦ Ok tt | Some x ↦ Err (NameTwice (text x)) ]) (Ok u) → found ≡ None
+found_none text None u e = refl
+found_none text (Some x) u e = cc
+
+-- what was found apart is distinct
+apart-IsDistinct : {A : Type 0} (same : A → A → Bool) → IsEquivalence same → (text : A → List ℕ) (xs : List A) (u : Unit {0}) → apart same text xs ≡ Ok u → IsDistinct same xs
+unfolding IsDistinct
+apart-IsDistinct same laws text xs u e = repeated_after-IsDistinct same laws [] xs (found_none text (repeated_after same [] xs) u e) tt
+
+-- what the check of names says of interfaces
+record NamesDiffer (d : Description) : Type 0 where
+  joints : IsDistinct same_name (map (λ j. j.name) (joints_of d.components))
+  references : IsDistinct same_interface (references_of d.controllers)
+
+-- where names are apart, they differ
+named_apart-NamesDiffer : (d : Description) (u : Unit {0}) → named_apart d ≡ Ok u → NamesDiffer d
+named_apart-NamesDiffer d u e =
+    let components = bind_Ok (names_apart (map (λ c. c.name) d.components)) _ u e in
+    let joints = bind_Ok (names_apart (map (λ j. j.name) (joints_of d.components))) _ u components.2 in
+    let controllers = bind_Ok (names_apart (map (λ c. c.name) d.controllers)) _ u joints.2 in
+    let references = bind_Ok (interfaces_apart (references_of d.controllers)) _ u controllers.2 in
+    record {
+      joints = apart-IsDistinct same_name nat_list_eq_equiv _ _ joints.0 joints.1;
+      references = apart-IsDistinct same_interface same_interface-IsEquivalence _ _ references.0 references.1;
+    }
+
+-- names of a valid description differ
+valid-NamesDiffer : (d : Description) → valid d ≡ Ok d → NamesDiffer d
+unfolding valid
+valid-NamesDiffer d e =
+    let counted = bind_Ok (few_enough d) _ d e in
+    let named = bind_Ok (named_apart d) _ d counted.2 in
+    named_apart-NamesDiffer d named.0 named.1
+
+-- ---- Interfaces of joints
+
+module _ (kinds : JointDesc → List Kind) where
+  -- the interfaces of a joint, one of each of these kinds
+  abbrev of_joint : JointDesc → List IfaceName
+  of_joint j = map (Joint j.name) (kinds j)
+
+  -- an interface is none of a joint of another name
+  other_joints : (name : List ℕ) (kind : Kind) (js : List JointDesc) → AllByRecursion (λ n. same_name name n ≡ false) (map (λ j. j.name) js)
+      → AllByRecursion (λ y. same_interface (Joint name kind) y ≡ false) (flat_map of_joint js)
+  other_joints name kind [] differ = tt
+  other_joints name kind (j ∷ js) differ =
+      all_append _ (of_joint j) (flat_map of_joint js) (all_map _ (Joint j.name) (kinds j) (all_of _ (λ k. and_left _ _ differ.0) (kinds j))) (other_joints name kind js differ.1)
+
+  -- joints whose names differ, each of kinds that differ, have interfaces that differ
+  of_joints : (js : List JointDesc) → IsDistinct same_name (map (λ j. j.name) js) → AllByRecursion (λ j. IsDistinct same_kind (kinds j)) js
+      → IsDistinct same_interface (flat_map of_joint js)
+  unfolding IsDistinct
+  of_joints [] differ once = tt
+  of_joints (j ∷ js) differ once = IsDistinct-append same_interface (of_joint j) (flat_map of_joint js)
+      (IsDistinct-map same_kind same_interface (Joint j.name) (λ k l apart. and_right (same_name j.name j.name) _ apart) (kinds j) once.0)
+      (of_joints js differ.1 once.1)
+      (all_map _ (Joint j.name) (kinds j) (all_of _ (λ kind. other_joints j.name kind js differ.0) (kinds j)))
+
+  -- so for all joints of components
+  of_components : (cs : List CompDesc) → IsDistinct same_name (map (λ j. j.name) (joints_of cs)) → AllByRecursion (λ j. IsDistinct same_kind (kinds j)) (joints_of cs)
+      → IsDistinct same_interface (flat_map (λ c. flat_map of_joint c.joints) cs)
+  of_components cs differ once = rw (sym (flat_map-flat_map of_joint (λ (c : CompDesc). c.joints) cs)) (of_joints (joints_of cs) differ once)
+
+-- ---- All interfaces
+
+-- a joint's interface is none of the references for an interface
+no_reference : (joint controller : List ℕ) (kind : Kind) (i : IfaceName) → same_interface (Joint joint kind) (reference_for controller i) ≡ false
+no_reference joint controller kind (Joint _ _) = refl
+no_reference joint controller kind (Reference _ _ _) = refl
+
+-- nor is it one of the references of controllers
+no_references : (joint : List ℕ) (kind : Kind) (cs : List CtlDesc) → AllByRecursion (λ y. same_interface (Joint joint kind) y ≡ false) (references_of cs)
+no_references joint kind cs = all_flat_map _ refs_of cs (all_of _ (λ c. all_map _ (reference_for c.name) (exported_for c.params c) (all_of _ (no_reference joint c.name kind) _)) cs)
+
+-- so commands of joints are no references
+commands_apart : (components : List CompDesc) (controllers : List CtlDesc) → AreApart same_interface (commands_of components) (references_of controllers)
+commands_apart components controllers =
+    all_flat_map _ _ components (all_of _ (λ c. all_flat_map _ commands_of_joint c.joints (all_of _ (λ j.
+    all_map _ (Joint j.name) j.commands (all_of _ (λ kind. no_references j.name kind controllers) j.commands)) c.joints)) components)
+
+-- both are states, or both commands
+abbrev same_side : Bool → Bool → Bool
+same_side false b = not b
+same_side true b = b
+
+-- the same of a state or of a command
+abbrev same_listed : Interface → Interface → Bool
+same_listed i j = same_side i.is_command j.is_command && same_interface i.name j.name
+
+-- states are no commands
+sides_apart : (states commands : List IfaceName) → AreApart same_listed (map a_state states) (map a_command commands)
+sides_apart states commands = all_map _ a_state states (all_of _ (λ x. all_map _ a_command commands (all_of _ (λ y. refl) commands)) states)
+
+-- an interface is the same as itself
+same_itself : (is_command : Bool) (name : IfaceName) → (same_side is_command is_command && same_interface name name) ≡ true
+same_itself false name = same_interface-IsEquivalence.refl name
+same_itself true name = same_interface-IsEquivalence.refl name
+
+-- the interfaces of a valid description differ
+interfaces-IsDistinct : (d : Description) → IsValid d → IsDistinct same_listed (interfaces_of d)
+interfaces-IsDistinct d ok =
+    let names = valid-NamesDiffer d ok.no_fault in
+    let once = all_flat_map KindsOnce (λ (c : CompDesc). c.joints) d.components (IsDescribed-DescribesOnce d ok.described) in
+    let states = of_components (λ j. j.states) d.components names.joints (all_so _ _ (λ j h. h.states) _ once) in
+    let commands = of_components (λ j. j.commands) d.components names.joints (all_so _ _ (λ j h. h.commands) _ once) in
+    let claimable = IsDistinct-append same_interface (commands_of d.components) (references_of d.controllers) commands names.references (commands_apart d.components d.controllers) in
+    IsDistinct-append same_listed (map a_state (states_of d.components)) (map a_command (commands_of d.components ++ references_of d.controllers))
+    (IsDistinct-map same_interface same_listed a_state (λ x y differ. differ) _ states)
+    (IsDistinct-map same_interface same_listed a_command (λ x y differ. differ) _ claimable)
+    (sides_apart (states_of d.components) (commands_of d.components ++ references_of d.controllers))
+
+-- Each interface of a valid description stands at one place.
+pub IsValid-EachStandsOnce : (d : Description) → IsValid d → EachStandsOnce d
+IsValid-EachStandsOnce d ok p q i = one_place same_listed (λ i. same_itself i.is_command i.name) (interfaces_of d) (interfaces-IsDistinct d ok) i p q

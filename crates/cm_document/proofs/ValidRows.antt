@@ -1,0 +1,75 @@
+-- Descriptions that were written down by hand, and what is wrong with each: computed from the definitions.
+use Rattle.std.proofs.Common.{◌≡◌, refl, List, ℕ, [], ◌∷◌, Ok, Err, pos}
+use Rattle.std.specs.Prelude.{codes}
+use Rattle.std.specs.Fmt.{digits}
+use Rattle.iface_names.specs.declared.interface.IfaceName.TheVariants as interface
+use Rattle.iface_names.specs.declared.kind.Kind.TheVariants.{Position, Effort}
+use Rattle.cm_document.specs.Described.{a_controller, a_description, a_joint, a_component}
+use Rattle.cm_document.specs.Valid.{valid}
+use Rattle.cm_document.specs.declared.description.CompDesc.{CompDesc}
+use Rattle.cm_document.specs.declared.description.CompKind.{CompKind}
+use Rattle.cm_document.specs.declared.description.CompKind.TheVariants.{Sensor, Actuator}
+use Rattle.cm_document.specs.declared.description.CtlDesc.{CtlDesc}
+use Rattle.cm_document.specs.declared.description.Description.{Description}
+use Rattle.cm_document.specs.declared.description.Params.TheVariants.{Forward, Passthrough}
+use Rattle.cm_document.specs.declared.faults.CheckFault.TheVariants.{NameTwice, BadRange, NoInterface, ChainLoop}
+use Rattle.cm_document.specs.declared.life.Life.TheVariants.{Unconfigured, Active}
+
+-- a passthrough that claims the reference of another
+abbrev passes_to : List ℕ → List ℕ → CtlDesc
+passes_to name other = a_controller name 0 (interface.Reference other (codes "j1") Position ∷ []) [] (Passthrough 1)
+
+-- controllers alone, without components
+abbrev controllers_alone : List CtlDesc → Description
+controllers_alone controllers = a_description 1 100 2 [] controllers
+
+-- a component of one joint with a position command
+abbrev one_joint : CompKind → CompDesc
+one_joint kind = a_component (codes "arm") kind Active Unconfigured [] [] (a_joint (codes "j1") (pos 1000000) (pos 1000000) (pos 0) (pos 0) (pos 0) (Position ∷ []) (Position ∷ []) ∷ [])
+
+-- two passthroughs that claim each other's reference: the first is told
+loop_of_two : valid (controllers_alone (passes_to (codes "p") (codes "q") ∷ passes_to (codes "q") (codes "p") ∷ [])) ≡ Err (ChainLoop (codes "p"))
+unfolding valid digits
+loop_of_two = refl
+
+-- one that claims its own reference
+loop_of_one : valid (controllers_alone (passes_to (codes "p") (codes "p") ∷ [])) ≡ Err (ChainLoop (codes "p"))
+unfolding valid digits
+loop_of_one = refl
+
+-- a loop of three behind a controller that leads into it: the first in the loop is told
+loop_of_three : valid (controllers_alone (passes_to (codes "a") (codes "b") ∷ passes_to (codes "b") (codes "c") ∷ passes_to (codes "c") (codes "d") ∷ passes_to (codes "d") (codes "b") ∷ [])) ≡ Err (ChainLoop (codes "b"))
+unfolding valid digits
+loop_of_three = refl
+
+-- a claim that nobody exports
+no_interface : valid (controllers_alone (passes_to (codes "p") (codes "q") ∷ [])) ≡ Err (NoInterface (codes "p") (interface.Reference (codes "q") (codes "j1") Position))
+unfolding valid digits
+no_interface = refl
+
+-- a sensor with a command
+commanded_sensor : valid (a_description 1 100 2 (one_joint Sensor ∷ []) []) ≡ Err (BadRange (codes "component[0].joint[0].command"))
+unfolding valid digits
+commanded_sensor = refl
+
+-- a chain of three on a joint, without a fault
+chain_of_three : valid (a_description 1 100 2 (one_joint Actuator ∷ []) (
+    a_controller (codes "a") 0 (interface.Reference (codes "b") (codes "j1") Position ∷ []) [] (Passthrough 1)
+    ∷ a_controller (codes "b") 0 (interface.Reference (codes "c") (codes "j1") Position ∷ []) [] (Passthrough 1)
+    ∷ a_controller (codes "c") 0 (interface.Joint (codes "j1") Position ∷ []) [] (Passthrough 1) ∷ []))
+    ≡ Ok (a_description 1 100 2 (one_joint Actuator ∷ []) (
+    a_controller (codes "a") 0 (interface.Reference (codes "b") (codes "j1") Position ∷ []) [] (Passthrough 1)
+    ∷ a_controller (codes "b") 0 (interface.Reference (codes "c") (codes "j1") Position ∷ []) [] (Passthrough 1)
+    ∷ a_controller (codes "c") 0 (interface.Joint (codes "j1") Position ∷ []) [] (Passthrough 1) ∷ []))
+unfolding valid digits
+chain_of_three = refl
+
+-- two controllers of one name
+named_twice : valid (controllers_alone (passes_to (codes "p") (codes "p") ∷ passes_to (codes "p") (codes "q") ∷ [])) ≡ Err (NameTwice (codes "p"))
+unfolding valid digits
+named_twice = refl
+
+-- a claim that stands twice in one controller, told as its text
+claimed_twice : valid (controllers_alone (a_controller (codes "f") 0 (interface.Joint (codes "j1") Effort ∷ interface.Joint (codes "j1") Effort ∷ []) [] (Forward 2) ∷ [])) ≡ Err (NameTwice (codes "j1/effort"))
+unfolding valid digits
+claimed_twice = refl

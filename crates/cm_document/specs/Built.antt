@@ -1,0 +1,43 @@
+-- Which forms of a script's lines are accepted today: the first session, loads, and the list of controllers.
+use Rattle.std.specs.Prelude.{true, false}
+use Rattle.cm_document.specs.declared.script.Forms.{Forms}
+
+-- the forms that are accepted today
+abbrev pub built : Forms
+built = record {
+  first_session = true;
+  further_session = false;
+  load = true;
+  configure = false;
+  cleanup = false;
+  unload = false;
+  rate = false;
+  send = false;
+  switch = false;
+  hardware = false;
+  await_cycles = false;
+  list_controllers = true;
+  list_interfaces = false;
+  list_components = false;
+  schedule = false;
+}
+
+-- every form
+abbrev pub every_form : Forms
+every_form = record {
+  first_session = true;
+  further_session = true;
+  load = true;
+  configure = true;
+  cleanup = true;
+  unload = true;
+  rate = true;
+  send = true;
+  switch = true;
+  hardware = true;
+  await_cycles = true;
+  list_controllers = true;
+  list_interfaces = true;
+  list_components = true;
+  schedule = true;
+}

@@ -1,0 +1,96 @@
+-- How calls and scripts print: single spaces, each number in its one spelling.
+use Rattle.std.specs.Prelude.{ℕ, ℤ, Bool, true, false, List, [], ◌∷◌, ◌++◌, flat_map, slice_get, codes, decimal, option_map, unwrap_or}
+use Rattle.fixed_num.specs.Text.{spelled}
+use Rattle.cm_document.specs.declared.call.Call.{Call}
+use Rattle.cm_document.specs.declared.call.Call.TheVariants as call
+use Rattle.cm_document.specs.declared.call.Mail.{Mail}
+use Rattle.cm_document.specs.declared.call.Mail.TheVariants.{Values, Points}
+use Rattle.cm_document.specs.declared.call.Point2.{Point2}
+use Rattle.cm_document.specs.declared.call.SwitchRequest.{SwitchRequest}
+use Rattle.cm_document.specs.declared.life.Life.{Life}
+use Rattle.cm_document.specs.declared.life.Life.TheVariants as life
+use Rattle.cm_document.specs.declared.script.Script.{Script}
+use Rattle.cm_document.specs.declared.script.SessionText.{SessionText}
+use Rattle.cm_document.specs.declared.script.Turn.{Turn}
+use Rattle.cm_document.specs.declared.script.Turn.TheVariants as turn
+
+-- ---- Words
+
+-- a lifecycle state
+abbrev pub life_word : Life → List ℕ
+life_word life.Unconfigured = codes "unconfigured"
+life_word life.Inactive = codes "inactive"
+life_word life.Active = codes "active"
+life_word life.Finalized = codes "finalized"
+
+-- all or nothing, or what can be done
+abbrev pub strictness_word : Bool → List ℕ
+strictness_word true = codes "strict"
+strictness_word false = codes "best"
+
+-- ---- Calls
+
+-- values, each after a space
+abbrev pub values_text : List ℤ → List ℕ
+values_text values = flat_map (λ v. codes " " ++ spelled v) values
+
+-- a timed point: its time after an `@`, then its values
+abbrev pub point_text : Point2 → List ℕ
+point_text p = codes " @" ++ decimal p.at_us ++ values_text p.values
+
+-- what is sent
+abbrev pub mail_text : Mail → List ℕ
+mail_text (Values values) = values_text values
+mail_text (Points points) = flat_map point_text points
+
+-- names, each after a space and this sign
+abbrev pub signed_text : List ℕ → List (List ℕ) → List ℕ
+signed_text sign names = flat_map (λ name. codes " " ++ sign ++ name) names
+
+-- a switch: those to deactivate before those to activate
+abbrev pub switch_text : SwitchRequest → List ℕ
+switch_text r = codes "switch " ++ strictness_word r.strict ++ signed_text (codes "-") r.off ++ signed_text (codes "+") r.on
+
+-- a call, as a line of a script says it; and the loop's calls with the number of the cycle
+abbrev pub call_text : Call → List ℕ
+call_text (call.Load name) = codes "load " ++ name
+call_text (call.Configure name) = codes "configure " ++ name
+call_text (call.Cleanup name) = codes "cleanup " ++ name
+call_text (call.Unload name) = codes "unload " ++ name
+call_text (call.Rate name hz) = codes "rate " ++ name ++ codes " " ++ decimal hz
+call_text (call.Send name mail) = codes "send " ++ name ++ mail_text mail
+call_text (call.Switch request) = switch_text request
+call_text (call.Hardware component target) = codes "hw " ++ component ++ codes " " ++ life_word target
+call_text (call.Told ticket) = codes "told " ++ decimal ticket
+call_text (call.Await n) = codes "await " ++ decimal n
+call_text call.ListControllers = codes "list controllers"
+call_text call.ListInterfaces = codes "list interfaces"
+call_text call.ListComponents = codes "list components"
+call_text (call.Begin n) = codes "begin " ++ decimal n
+call_text (call.End n) = codes "end " ++ decimal n
+call_text call.Close = codes "close"
+
+-- ---- Scripts
+
+-- a session's line, then a line for each call
+abbrev pub session_text : SessionText → List ℕ
+session_text s = codes "session " ++ s.name ++ codes "\n" ++ flat_map (λ c. call_text c ++ codes "\n") s.lines
+
+-- the name of a session by its number
+abbrev pub session_name : List SessionText → ℕ → List ℕ
+session_name sessions who = unwrap_or (option_map (λ s. s.name) (slice_get sessions who)) []
+
+-- a turn's line
+abbrev pub turn_text : List SessionText → Turn → List ℕ
+turn_text sessions (turn.Step who) = codes "step " ++ session_name sessions who ++ codes "\n"
+turn_text sessions turn.Begin = codes "begin\n"
+turn_text sessions turn.End = codes "end\n"
+
+-- the schedule, where there are turns
+abbrev pub schedule_text : List SessionText → List Turn → List ℕ
+schedule_text sessions [] = []
+schedule_text sessions (t ∷ ts) = codes "schedule\n" ++ flat_map (turn_text sessions) (t ∷ ts)
+
+-- a script: its sessions, then its schedule
+unfoldable pub script_text : Script → List ℕ
+script_text s = flat_map session_text s.sessions ++ schedule_text s.sessions s.schedule

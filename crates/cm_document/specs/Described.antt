@@ -1,0 +1,241 @@
+-- The tables of a description, one line a key, in the order in which the keys are visited, and the walk over the whole.
+use Rattle.std.specs.Prelude.{ℕ, ◌-◌, ◌^◌, min, ℤ, pos, Bool, false, if◌then◌else◌, List, [], ◌∷◌, ◌++◌, length, map, flat_map, codes, Option, Some, None, Result, Ok, Err}
+use Rattle.std.specs.Str.{is_utf8}
+use Rattle.toml.specs.Data.{Members, get_member}
+use Rattle.toml.specs.Parse.{parse_document}
+use Rattle.iface_names.specs.declared.interface.IfaceName.{IfaceName}
+use Rattle.iface_names.specs.declared.interface.IfaceName.TheVariants.{Joint}
+use Rattle.iface_names.specs.declared.kind.Kind.{Kind}
+use Rattle.cm_document.specs.Reading.{◌>>=◌}
+use Rattle.cm_document.specs.Forms.{Form, one, list_of, list_after, tables_of, all_or_list, whole_in, quantity_in, boolean_in, name_in, word_in, interface_in, state_in, kind_in}
+use Rattle.cm_document.specs.Tables.{Table, filled, required, required_read, defaulted, ◌&◌, walk}
+use Rattle.cm_document.specs.declared.description.CompDesc.{CompDesc}
+use Rattle.cm_document.specs.declared.description.CompKind.{CompKind}
+use Rattle.cm_document.specs.declared.description.CompKind.TheVariants.{Sensor, Actuator, System}
+use Rattle.cm_document.specs.declared.description.CtlDesc.{CtlDesc}
+use Rattle.cm_document.specs.declared.description.CtlKind.{CtlKind}
+use Rattle.cm_document.specs.declared.description.CtlKind.TheVariants.{Forward, Passthrough, Pid, Trajectory, Broadcaster, Mock}
+use Rattle.cm_document.specs.declared.description.Description.{Description}
+use Rattle.cm_document.specs.declared.description.JointDesc.{JointDesc}
+use Rattle.cm_document.specs.declared.description.Params.{Params}
+use Rattle.cm_document.specs.declared.description.Params.TheVariants as params
+use Rattle.cm_document.specs.declared.faults.DescFault.{DescFault}
+use Rattle.cm_document.specs.declared.faults.DescFault.TheVariants.{NotToml}
+use Rattle.cm_document.specs.declared.life.Life.{Life}
+use Rattle.cm_document.specs.declared.life.Life.TheVariants.{Unconfigured, Inactive, Active, Finalized}
+
+-- ---- The tree
+
+-- the table that the grammar of TOML 1.1 gives to the bytes; bytes that are not UTF-8 have none
+unfoldable pub tree_of : List ℕ → Option Members
+tree_of bytes = if is_utf8 bytes then parse_document bytes else None
+
+-- ---- Joints
+
+-- one unit, in micro-units
+abbrev pub one_unit : ℤ
+one_unit = pos 1000000
+
+-- a joint of these values
+abbrev pub a_joint : List ℕ → ℤ → ℤ → ℤ → ℤ → ℤ → List Kind → List Kind → JointDesc
+a_joint name vmax gain damping position velocity commands states = record {
+  name = name;
+  vmax = vmax;
+  gain = gain;
+  damping = damping;
+  position = position;
+  velocity = velocity;
+  commands = commands;
+  states = states;
+}
+
+-- the keys of a joint
+unfoldable pub joint_table : Table JointDesc
+joint_table = filled a_joint
+    & required (codes "name") (one name_in)
+    & required (codes "vmax") (one quantity_in)
+    & defaulted (codes "gain") (one quantity_in) one_unit
+    & defaulted (codes "damping") (one quantity_in) (pos 0)
+    & defaulted (codes "position") (one quantity_in) (pos 0)
+    & defaulted (codes "velocity") (one quantity_in) (pos 0)
+    & defaulted (codes "command") (list_after kind_in) []
+    & defaulted (codes "state") (list_after kind_in) []
+
+-- ---- Components
+
+-- the words for what a component is for
+abbrev pub component_kinds : List (List ℕ × CompKind)
+component_kinds = (codes "sensor", Sensor) ∷ (codes "actuator", Actuator) ∷ (codes "system", System) ∷ []
+
+-- the words for a state at start
+abbrev pub states_at_start : List (List ℕ × Life)
+states_at_start = (codes "unconfigured", Unconfigured) ∷ (codes "inactive", Inactive) ∷ (codes "active", Active) ∷ (codes "finalized", Finalized) ∷ []
+
+-- the words for a state after a failure
+abbrev pub states_on_error : List (List ℕ × Life)
+states_on_error = (codes "unconfigured", Unconfigured) ∷ (codes "finalized", Finalized) ∷ []
+
+-- a component of these values
+abbrev pub a_component : List ℕ → CompKind → Life → Life → List ℕ → List ℕ → List JointDesc → CompDesc
+a_component name kind initial on_error fail_read fail_write joints = record {
+  name = name;
+  kind = kind;
+  initial = initial;
+  on_error = on_error;
+  fail_read = fail_read;
+  fail_write = fail_write;
+  joints = joints;
+}
+
+-- the keys of a component
+unfoldable pub component_table : Table CompDesc
+component_table = filled a_component
+    & required (codes "name") (one name_in)
+    & required (codes "kind") (one (word_in component_kinds))
+    & defaulted (codes "initial") (one (word_in states_at_start)) Active
+    & defaulted (codes "on_error") (one (word_in states_on_error)) Unconfigured
+    & defaulted (codes "fail_read") (list_of whole_in) []
+    & defaulted (codes "fail_write") (list_of whole_in) []
+    & required (codes "joint") (tables_of (walk joint_table))
+
+-- the state interfaces of a joint, in the order of its list
+abbrev pub states_of_joint : JointDesc → List IfaceName
+states_of_joint j = map (Joint j.name) j.states
+
+-- every state interface that these components have, in order
+abbrev pub states_of : List CompDesc → List IfaceName
+states_of components = flat_map (λ c. flat_map states_of_joint c.joints) components
+
+-- ---- Controllers
+
+-- the words for the types of controllers
+abbrev pub controller_types : List (List ℕ × CtlKind)
+controller_types =
+    (codes "forward", Forward) ∷ (codes "passthrough", Passthrough) ∷ (codes "pid", Pid) ∷
+    (codes "trajectory", Trajectory) ∷ (codes "broadcaster", Broadcaster) ∷ (codes "mock", Mock) ∷ []
+
+-- how many, in 32 bits
+abbrev pub count : List IfaceName → ℕ
+count interfaces = min (length interfaces) (2 ^ 32 - 1)
+
+-- a controller of these values
+abbrev pub a_controller : List ℕ → ℕ → List IfaceName → List IfaceName → Params → CtlDesc
+a_controller name rate claims reads params = record { name = name; rate = rate; claims = claims; reads = reads; params = params }
+
+-- the keys that a controller of every type has come first: its type says which others follow
+abbrev pub common : {A : Type 0} → (List ℕ → ℕ → A) → Table A
+common make = filled (λ name type rate. make name rate)
+    & required (codes "name") (one name_in)
+    & required (codes "type") (one (word_in controller_types))
+    & defaulted (codes "update_rate") (one whole_in) 0
+
+-- the keys of a forward, or of another type that has claims alone
+abbrev pub claiming_table : (ℕ → Params) → Table CtlDesc
+claiming_table make = common (λ name rate claims. a_controller name rate claims [] (make (count claims)))
+    & required (codes "claims") (list_of interface_in)
+
+-- the keys of a pid
+abbrev pub pid_table : Table CtlDesc
+pid_table = common (λ name rate claims reads kp ki kd imax omax. a_controller name rate claims reads (params.Pid kp ki kd imax omax))
+    & required (codes "claims") (list_of interface_in)
+    & required (codes "reads") (list_of state_in)
+    & defaulted (codes "kp") (one quantity_in) (pos 0)
+    & defaulted (codes "ki") (one quantity_in) (pos 0)
+    & defaulted (codes "kd") (one quantity_in) (pos 0)
+    & defaulted (codes "imax") (one quantity_in) (pos 0)
+    & defaulted (codes "omax") (one quantity_in) (pos 1000000000000000)
+
+-- the keys of a trajectory
+abbrev pub trajectory_table : Table CtlDesc
+trajectory_table = common (λ name rate claims reads. a_controller name rate claims reads (params.Trajectory (count claims)))
+    & required (codes "claims") (list_of interface_in)
+    & required (codes "reads") (list_of state_in)
+
+-- the keys of a broadcaster; `all` stands for these states
+abbrev pub broadcaster_table : List IfaceName → Table CtlDesc
+broadcaster_table states = common (λ name rate reads. a_controller name rate [] reads (params.Broadcaster (count reads)))
+    & required (codes "reads") (all_or_list states)
+
+-- the keys of a mock
+abbrev pub mock_table : Table CtlDesc
+mock_table = common (λ name rate claims reads refuse_config not_ready fail_update.
+    a_controller name rate claims reads (params.Mock (count claims) refuse_config not_ready fail_update))
+    & defaulted (codes "claims") (list_of interface_in) []
+    & defaulted (codes "reads") (list_of state_in) []
+    & defaulted (codes "refuse_config") (one boolean_in) false
+    & defaulted (codes "not_ready") (list_of whole_in) []
+    & defaulted (codes "fail_update") (list_of whole_in) []
+
+-- the keys of a controller by its type
+unfoldable pub controller_table : List IfaceName → CtlKind → Table CtlDesc
+controller_table states Forward = claiming_table params.Forward
+controller_table states Passthrough = claiming_table params.Passthrough
+controller_table states Pid = pid_table
+controller_table states Trajectory = trajectory_table
+controller_table states Broadcaster = broadcaster_table states
+controller_table states Mock = mock_table
+
+-- the type of a controller, at its key
+abbrev pub type_of : List ℕ → Members → Result CtlKind DescFault
+type_of prefix ms = required_read (one (word_in controller_types)) (prefix ++ codes "type") (get_member (codes "type") ms)
+
+-- Which keys a controller may have depends on its type, so that is looked at before all else: where it is missing or no listed
+-- word, that is the controller's one fault.
+abbrev pub controller_form : List IfaceName → Form Members CtlDesc
+controller_form states = record {
+  read = λ prefix ms. type_of prefix ms >>= λ kind. (walk (controller_table states kind)).read prefix ms;
+  faults = λ prefix ms. elim (type_of prefix ms) [ Ok kind ↦ (walk (controller_table states kind)).faults prefix ms | Err e ↦ e ∷ [] ];
+  fits = λ ms. elim (type_of [] ms) [ Ok kind ↦ (walk (controller_table states kind)).fits ms | Err e ↦ false ];
+}
+
+-- ---- The top
+
+-- the key of the components
+abbrev pub component_key : Table (List CompDesc)
+component_key = defaulted (codes "component") (tables_of (walk component_table)) []
+
+-- a description of these values
+abbrev pub a_description : ℕ → ℕ → ℕ → List CompDesc → List CtlDesc → Description
+a_description version update_rate cycles components controllers = record {
+  version = version;
+  update_rate = update_rate;
+  cycles = cycles;
+  components = components;
+  controllers = controllers;
+}
+
+-- the keys of the top table; `all` stands for these states
+unfoldable pub top_table : List IfaceName → Table Description
+top_table states = filled a_description
+    & required (codes "version") (one whole_in)
+    & required (codes "update_rate") (one whole_in)
+    & required (codes "cycles") (one whole_in)
+    & component_key
+    & defaulted (codes "controller") (tables_of (controller_form states)) []
+
+-- every state interface that a tree describes: those of its components, where these are read
+unfoldable pub described_states : Members → List IfaceName
+described_states ms = elim (component_key.form.read [] ms) [ Ok components ↦ states_of components | Err e ↦ [] ]
+
+-- the form of the whole tree
+unfoldable pub description_form : Form Members Description
+description_form = record {
+  read = λ prefix ms. (walk (top_table (described_states ms))).read prefix ms;
+  faults = λ prefix ms. (walk (top_table (described_states ms))).faults prefix ms;
+  fits = λ ms. (walk (top_table (described_states ms))).fits ms;
+}
+
+-- the description that a tree is, or its first fault; no tree is no TOML
+abbrev pub description_in : Option Members → Result Description DescFault
+description_in None = Err NotToml
+description_in (Some ms) = description_form.read [] ms
+
+-- ---- What is wrong with a tree
+
+-- all faults of a tree, in the order in which its keys are visited
+abbrev pub all_faults : Members → List DescFault
+all_faults ms = description_form.faults [] ms
+
+-- whether a tree has the form of a description: no unlisted key, each required key, and at every key a value of the form that is asked there
+abbrev pub has_form : Members → Bool
+has_form ms = description_form.fits ms

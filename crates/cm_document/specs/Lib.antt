@@ -1,0 +1,16 @@
+-- In reading order: how a description is read and checked, then how a script is, then both together.
+pub mod Reading
+pub mod Params
+pub mod Forms
+pub mod Tables
+pub mod Described
+pub mod Links
+pub mod Valid
+pub mod Places
+pub mod Lines
+pub mod Built
+pub mod CallText
+pub mod LineForms
+pub mod ScriptRules
+pub mod ScriptLaws
+pub mod Document

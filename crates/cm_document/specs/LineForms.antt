@@ -1,0 +1,205 @@
+-- The forms that a line of a script can have: what its words say. Each form is one equation of `said`.
+use Rattle.std.specs.Prelude.{ℕ, ℤ, Bool, true, false, ◌&&◌, ◌||◌, ◌==◌, nat_lt, nat_le, if◌then◌else◌, List, [], ◌∷◌, length, codes, Option, Some, None, option_map, is_some, filter_map, Ok, Err}
+use Rattle.std.specs.List.{list_all}
+use Rattle.std.specs.Option.{option_and_then}
+use Rattle.std.specs.Char.{is_ascii_digit}
+use Rattle.std.specs.Str.Parse.{digits_value}
+use Rattle.fixed_num.specs.Text.{number_of}
+use Rattle.iface_names.specs.Names.{is_name, same_name}
+use Rattle.cm_document.specs.declared.call.Call.{Call}
+use Rattle.cm_document.specs.declared.call.Call.TheVariants as call
+use Rattle.cm_document.specs.declared.call.Mail.{Mail}
+use Rattle.cm_document.specs.declared.call.Mail.TheVariants.{Values, Points}
+use Rattle.cm_document.specs.declared.call.Point2.{Point2}
+use Rattle.cm_document.specs.declared.call.SwitchRequest.{SwitchRequest}
+use Rattle.cm_document.specs.declared.life.Life.{Life}
+use Rattle.cm_document.specs.declared.life.Life.TheVariants as life
+use Rattle.cm_document.specs.declared.script.Forms.{Forms}
+use Rattle.cm_document.specs.declared.script.ScriptLine.{ScriptLine}
+use Rattle.cm_document.specs.declared.script.ScriptLine.TheVariants as line
+use Rattle.cm_document.specs.declared.script.Verb.{Verb}
+use Rattle.cm_document.specs.declared.script.Verb.TheVariants as verb
+
+-- ---- Words
+
+-- what a word stands for, where it is one of the listed
+abbrev pub listed : {A : Type 0} → List (List ℕ × A) → List ℕ → Option A
+listed [] word = None
+listed ((w, meaning) ∷ ws) word = if same_name word w then Some meaning else listed ws word
+
+-- the words that a line can begin with
+abbrev pub verbs : List (List ℕ × Verb)
+verbs =
+    (codes "session", verb.Session) ∷ (codes "load", verb.Load) ∷ (codes "configure", verb.Configure) ∷ (codes "cleanup", verb.Cleanup) ∷
+    (codes "unload", verb.Unload) ∷ (codes "rate", verb.Rate) ∷ (codes "send", verb.Send) ∷ (codes "switch", verb.Switch) ∷
+    (codes "hw", verb.Hardware) ∷ (codes "await", verb.Await) ∷ (codes "list", verb.List) ∷
+    (codes "schedule", verb.Schedule) ∷ (codes "step", verb.Step) ∷ (codes "begin", verb.Begin) ∷ (codes "end", verb.End) ∷ []
+
+-- a name is a word by the naming rule
+abbrev pub name_word : List ℕ → Option (List ℕ)
+name_word word = if is_name word then Some word else None
+
+-- a whole number has 1 to 9 digits
+abbrev pub whole_word : List ℕ → Option ℕ
+whole_word word = if (nat_le 1 (length word) && nat_le (length word) 9) && list_all is_ascii_digit word then Some (digits_value 10 word) else None
+
+-- a whole number of at most so much
+abbrev pub at_most : ℕ → Option ℕ → Option ℕ
+at_most limit None = None
+at_most limit (Some n) = if nat_le n limit then Some n else None
+
+-- a value is a word that is a number
+abbrev pub value_word : List ℕ → Option ℤ
+value_word word = elim (number_of word) [ Ok n ↦ Some n | Err _ ↦ None ]
+
+-- the four lifecycle states
+abbrev pub lives : List (List ℕ × Life)
+lives = (codes "unconfigured", life.Unconfigured) ∷ (codes "inactive", life.Inactive) ∷ (codes "active", life.Active) ∷ (codes "finalized", life.Finalized) ∷ []
+
+-- one more in front, where both are there
+abbrev pub in_front : {A : Type 0} → Option A → Option (List A) → Option (List A)
+in_front None xs = None
+in_front (Some x) xs = option_map (λ more. x ∷ more) xs
+
+-- what all words stand for, where each stands for something
+abbrev pub all_words : {A : Type 0} → (List ℕ → Option A) → List (List ℕ) → Option (List A)
+all_words read [] = Some []
+all_words read (word ∷ words) = in_front (read word) (all_words read words)
+
+-- ---- What is sent
+
+-- one or more values
+abbrev pub values_in : List (List ℕ) → Option (List ℤ)
+values_in [] = None
+values_in (word ∷ words) = all_words value_word (word ∷ words)
+
+-- a word that begins with `@`
+abbrev pub is_time : List ℕ → Bool
+is_time [] = false
+is_time (b ∷ bs) = b == 64
+
+-- the words before the first time
+abbrev pub untimed : List (List ℕ) → List (List ℕ)
+untimed [] = []
+untimed (word ∷ words) = if is_time word then [] else word ∷ untimed words
+
+-- each time with the words after it, up to the next
+abbrev pub timed : List (List ℕ) → List (List ℕ × List (List ℕ))
+timed [] = []
+timed (word ∷ words) = if is_time word then (word, untimed words) ∷ timed words else timed words
+
+-- `@T` is T microseconds
+abbrev pub time_word : List ℕ → Option ℕ
+time_word [] = None
+time_word (b ∷ bs) = if b == 64 then whole_word bs else None
+
+-- the point at this time with these values
+abbrev pub point_at : Option ℕ → Option (List ℤ) → Option Point2
+point_at None values = None
+point_at (Some t) values = option_map (λ vs. record { at_us = t; values = vs }) values
+
+-- a point after this time: its own time is later, and it has one or more values
+abbrev pub later : ℕ → Option Point2 → Option Point2
+later before None = None
+later before (Some p) = if nat_lt before p.at_us then Some p else None
+
+-- the points of these times and words, each later than the one before it
+abbrev pub points_after : ℕ → List (List ℕ × List (List ℕ)) → Option (List Point2)
+points_after before [] = Some []
+points_after before (group ∷ groups) =
+    option_and_then (λ p. option_map (λ ps. p ∷ ps) (points_after p.at_us groups)) (later before (point_at (time_word group.0) (values_in group.1)))
+
+-- Values alone, or, where the first word is a time, points: the first is at 1 microsecond or later.
+abbrev pub mail_in : List (List ℕ) → Option Mail
+mail_in [] = None
+mail_in (word ∷ words) =
+    if is_time word then option_map Points (points_after 0 (timed (word ∷ words)))
+    else option_map Values (values_in (word ∷ words))
+
+-- ---- Switches
+
+-- the name behind this sign
+abbrev pub behind : ℕ → List ℕ → Option (List ℕ)
+behind sign [] = None
+behind sign (b ∷ bs) = if b == sign then name_word bs else None
+
+-- a name to activate, `+NAME`, or to deactivate, `-NAME`
+abbrev pub is_signed : List ℕ → Bool
+is_signed word = is_some (behind 43 word) || is_some (behind 45 word)
+
+-- which of two strictnesses
+abbrev pub strictnesses : List (List ℕ × Bool)
+strictnesses = (codes "strict", true) ∷ (codes "best", false) ∷ []
+
+-- a switch of these words, where each is a signed name; each list keeps its order
+abbrev pub switch_in : Option Bool → List (List ℕ) → Option SwitchRequest
+switch_in None words = None
+switch_in (Some strict) words =
+    if list_all is_signed words then Some (record { on = filter_map (behind 43) words; off = filter_map (behind 45) words; strict = strict }) else None
+
+-- ---- Forms
+
+-- what a line says where its form is accepted
+abbrev pub where_accepted : Bool → Option ScriptLine → Option ScriptLine
+where_accepted accepted says = if accepted then says else None
+
+-- a call that is there
+abbrev pub a_call : Option Call → Option ScriptLine
+a_call made = option_map line.Call made
+
+-- a call on one name
+abbrev pub on_name : (List ℕ → Call) → List (List ℕ) → Option ScriptLine
+on_name make (name ∷ []) = a_call (option_map make (name_word name))
+on_name make _ = None
+
+-- `rate NAME HZ`: at most 10,000 hertz
+abbrev pub rate_in : List (List ℕ) → Option Call
+rate_in (name ∷ hz ∷ []) = option_and_then (λ n. option_map (call.Rate n) (at_most 10000 (whole_word hz))) (name_word name)
+rate_in _ = None
+
+-- `send NAME ..`
+abbrev pub send_in : List (List ℕ) → Option Call
+send_in (name ∷ words) = option_and_then (λ n. option_map (call.Send n) (mail_in words)) (name_word name)
+send_in _ = None
+
+-- `hw NAME STATE`
+abbrev pub hardware_in : List (List ℕ) → Option Call
+hardware_in (name ∷ state ∷ []) = option_and_then (λ n. option_map (call.Hardware n) (listed lives state)) (name_word name)
+hardware_in _ = None
+
+-- the lists, each where its form is accepted
+abbrev pub lists : Forms → List (List ℕ × (Bool × Call))
+lists forms =
+    (codes "controllers", (forms.list_controllers, call.ListControllers)) ∷
+    (codes "interfaces", (forms.list_interfaces, call.ListInterfaces)) ∷
+    (codes "components", (forms.list_components, call.ListComponents)) ∷ []
+
+-- `list controllers`, `list interfaces`, `list components`
+abbrev pub list_in : Forms → List (List ℕ) → Option ScriptLine
+list_in forms (word ∷ []) = option_and_then (λ row. where_accepted row.0 (Some (line.Call row.1))) (listed (lists forms) word)
+list_in forms _ = None
+
+-- What a line says that begins with this verb and goes on with these words. Whether a session's line is accepted depends on the
+-- sessions before it, so that is asked later.
+abbrev pub said : Forms → Verb → List (List ℕ) → Option ScriptLine
+said forms verb.Session (name ∷ []) = option_map line.Session (name_word name)
+said forms verb.Load words = where_accepted forms.load (on_name call.Load words)
+said forms verb.Configure words = where_accepted forms.configure (on_name call.Configure words)
+said forms verb.Cleanup words = where_accepted forms.cleanup (on_name call.Cleanup words)
+said forms verb.Unload words = where_accepted forms.unload (on_name call.Unload words)
+said forms verb.Rate words = where_accepted forms.rate (a_call (rate_in words))
+said forms verb.Send words = where_accepted forms.send (a_call (send_in words))
+said forms verb.Switch (strictness ∷ words) = where_accepted forms.switch (a_call (option_map call.Switch (switch_in (listed strictnesses strictness) words)))
+said forms verb.Hardware words = where_accepted forms.hardware (a_call (hardware_in words))
+said forms verb.Await (n ∷ []) = where_accepted forms.await_cycles (a_call (option_map call.Await (whole_word n)))
+said forms verb.List words = list_in forms words
+said forms verb.Schedule [] = where_accepted forms.schedule (Some line.Schedule)
+said forms verb.Step (name ∷ []) = where_accepted forms.schedule (option_map line.Step (name_word name))
+said forms verb.Begin [] = where_accepted forms.schedule (Some line.Begin)
+said forms verb.End [] = where_accepted forms.schedule (Some line.End)
+said forms _ _ = None
+
+-- what a line of these words says; other words have no form
+abbrev pub line_of : Forms → List (List ℕ) → Option ScriptLine
+line_of forms [] = None
+line_of forms (first ∷ words) = option_and_then (λ v. said forms v words) (listed verbs first)

@@ -1,0 +1,134 @@
+-- What every script keeps that was read; and a script that keeps it reads back from its text.
+use Rattle.std.specs.Prelude.{◌≡◌, ℕ, ℤ, ◌+◌, ◌<◌, ◌≤◌, Bool, false, IsTrue, Ok, List, [], ◌∷◌, length, sum_by, codes}
+use Rattle.std.specs.List.{AllByRecursion}
+use Rattle.fixed_num.specs.Micro.{IsInRange}
+use Rattle.iface_names.specs.Names.{is_name, same_name}
+use Rattle.cm_document.specs.ScriptRules.{script_with}
+use Rattle.cm_document.specs.declared.call.Call.{Call}
+use Rattle.cm_document.specs.declared.call.Call.TheVariants as call
+use Rattle.cm_document.specs.declared.call.Mail.{Mail}
+use Rattle.cm_document.specs.declared.call.Mail.TheVariants.{Values, Points}
+use Rattle.cm_document.specs.declared.call.Point2.{Point2}
+use Rattle.cm_document.specs.declared.call.SwitchRequest.{SwitchRequest}
+use Rattle.cm_document.specs.declared.script.Forms.{Forms}
+use Rattle.cm_document.specs.declared.script.Script.{Script}
+use Rattle.cm_document.specs.declared.script.SessionText.{SessionText}
+use Rattle.cm_document.specs.declared.script.Turn.{Turn}
+use Rattle.cm_document.specs.declared.script.Turn.TheVariants as turn
+
+-- ---- Calls
+
+-- a text is a name
+abbrev pub IsName : List ℕ → Type 0
+IsName name = IsTrue (is_name name)
+
+-- values for one controller: 1 to 32 numbers in the range
+pub record AreValues (values : List ℤ) : Type 0 where
+  pub some : 1 ≤ length values
+  pub few : length values ≤ 32
+  pub in_range : AllByRecursion IsInRange values
+
+-- a point after this time: its own is later and has at most nine digits, and it has values
+pub record IsPointAfter (before : ℕ) (p : Point2) : Type 0 where
+  pub later : before < p.at_us
+  pub soon : p.at_us ≤ 999999999
+  pub valued : AreValues p.values
+
+-- points after this time, each after the one before it
+abbrev pub ArePointsAfter : ℕ → List Point2 → Type 0
+ArePointsAfter before [] = Unit {0}
+ArePointsAfter before (p ∷ ps) = IsPointAfter before p × ArePointsAfter p.at_us ps
+
+-- 1 to 64 points, the first at 1 microsecond or later
+pub record ArePoints (points : List Point2) : Type 0 where
+  pub some : 1 ≤ length points
+  pub few : length points ≤ 64
+  pub rising : ArePointsAfter 0 points
+
+-- values or points that can be sent
+abbrev pub CanBeSent : Mail → Type 0
+CanBeSent (Values values) = AreValues values
+CanBeSent (Points points) = ArePoints points
+
+-- a switch of at most 128 names
+pub record CanBeAsked (request : SwitchRequest) : Type 0 where
+  pub few : length request.on + length request.off ≤ 128
+  pub on : AllByRecursion IsName request.on
+  pub off : AllByRecursion IsName request.off
+
+-- A call that a line of a script can say, within its limits. What a session is told and the loop's calls have no line.
+abbrev pub CanBeWritten : Call → Type 0
+CanBeWritten (call.Load name) = IsName name
+CanBeWritten (call.Configure name) = IsName name
+CanBeWritten (call.Cleanup name) = IsName name
+CanBeWritten (call.Unload name) = IsName name
+CanBeWritten (call.Rate name hz) = IsName name × (hz ≤ 10000)
+CanBeWritten (call.Send name mail) = IsName name × CanBeSent mail
+CanBeWritten (call.Switch request) = CanBeAsked request
+CanBeWritten (call.Hardware component target) = IsName component
+CanBeWritten (call.Await n) = n ≤ 999999999
+CanBeWritten call.ListControllers = Unit {0}
+CanBeWritten call.ListInterfaces = Unit {0}
+CanBeWritten call.ListComponents = Unit {0}
+CanBeWritten _ = ⊥
+
+-- ---- Scripts
+
+-- a session's name is a name, and not the loop's
+pub record IsSession (s : SessionText) : Type 0 where
+  pub named : IsName s.name
+  pub not_loop : same_name s.name (codes "loop") ≡ false
+  pub written : AllByRecursion CanBeWritten s.lines
+
+-- no later session has the name of an earlier one
+abbrev pub AreApart : List SessionText → Type 0
+AreApart [] = Unit {0}
+AreApart (s ∷ ss) = AllByRecursion (λ later. same_name later.name s.name ≡ false) ss × AreApart ss
+
+-- a step is one of these sessions'
+abbrev pub IsTurnAmong : ℕ → Turn → Type 0
+IsTurnAmong sessions (turn.Step who) = who < sessions
+IsTurnAmong sessions turn.Begin = Unit {0}
+IsTurnAmong sessions turn.End = Unit {0}
+
+-- how many calls and turns a script has
+abbrev pub calls_and_turns : Script → ℕ
+calls_and_turns s = sum_by (λ t. length t.lines) s.sessions + length s.schedule
+
+-- A script has at most 8 sessions of different names, at most 10,000 calls and turns, calls that a line can say, and steps of
+-- its own sessions.
+pub record MeetsRules (s : Script) : Type 0 where
+  pub few_sessions : length s.sessions ≤ 8
+  pub few_calls : calls_and_turns s ≤ 10000
+  pub sessions : AllByRecursion IsSession s.sessions
+  pub apart : AreApart s.sessions
+  pub turns : AllByRecursion (IsTurnAmong (length s.sessions)) s.schedule
+
+-- ---- Forms
+
+-- the form of the call's line is accepted
+abbrev pub has_form : Forms → Call → Bool
+has_form forms (call.Load name) = forms.load
+has_form forms (call.Configure name) = forms.configure
+has_form forms (call.Cleanup name) = forms.cleanup
+has_form forms (call.Unload name) = forms.unload
+has_form forms (call.Rate name hz) = forms.rate
+has_form forms (call.Send name mail) = forms.send
+has_form forms (call.Switch request) = forms.switch
+has_form forms (call.Hardware component target) = forms.hardware
+has_form forms (call.Await n) = forms.await_cycles
+has_form forms call.ListControllers = forms.list_controllers
+has_form forms call.ListInterfaces = forms.list_interfaces
+has_form forms call.ListComponents = forms.list_components
+has_form forms _ = false
+
+-- A script has sessions, further sessions, calls and turns only where their forms are accepted.
+pub record UsesForms (forms : Forms) (s : Script) : Type 0 where
+  pub first : 0 < length s.sessions → IsTrue forms.first_session
+  pub further : 1 < length s.sessions → IsTrue forms.further_session
+  pub calls : AllByRecursion (λ t. AllByRecursion (λ c. IsTrue (has_form forms c)) t.lines) s.sessions
+  pub turns : 0 < length s.schedule → IsTrue forms.schedule
+
+-- A text reads back as the script, at whatever line it begins, where the script meets the rules and its forms are accepted.
+abbrev pub ReadsBack : Script → List ℕ → Type 0
+ReadsBack s text = (forms : Forms) (n : ℕ) → MeetsRules s → UsesForms forms s → script_with forms n text ≡ Ok s

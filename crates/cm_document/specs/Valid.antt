@@ -1,0 +1,200 @@
+-- What a description must meet besides its form, in the order in which a fault counts: counts, names, ranges, interfaces, loops.
+use Rattle.std.specs.Prelude.{◌≡◌, ℕ, ◌+◌, ℤ, pos, int_le, Bool, true, not, ◌&&◌, nat_lt, nat_le, ◌==◌, if◌then◌else◌, List, [], ◌∷◌, ◌++◌, length, sum_by, map, codes, slice_get, Option, Some, None, Result, Ok, Err}
+use Rattle.std.specs.List.{list_any, find}
+use Rattle.toml.specs.Data.{Members}
+use Rattle.iface_names.specs.Names.{same_name}
+use Rattle.iface_names.specs.Interfaces.{same_interface, interface_text}
+use Rattle.iface_names.specs.declared.interface.IfaceName.{IfaceName}
+use Rattle.cm_document.specs.Reading.{◌>>=◌}
+use Rattle.cm_document.specs.Forms.{item_path, inside}
+use Rattle.cm_document.specs.Described.{states_of, description_form}
+use Rattle.cm_document.specs.Links.{joints_of, commands_of, references_of, is_among, first_in_loop}
+use Rattle.cm_document.specs.declared.description.CompDesc.{CompDesc}
+use Rattle.cm_document.specs.declared.description.CompKind.{CompKind}
+use Rattle.cm_document.specs.declared.description.CompKind.TheVariants.{Sensor, Actuator}
+use Rattle.cm_document.specs.declared.description.CtlDesc.{CtlDesc}
+use Rattle.cm_document.specs.declared.description.Description.{Description}
+use Rattle.cm_document.specs.declared.description.JointDesc.{JointDesc}
+use Rattle.cm_document.specs.declared.description.Params.{Params}
+use Rattle.cm_document.specs.declared.description.Params.TheVariants.{Pid, Trajectory, Broadcaster, Mock}
+use Rattle.cm_document.specs.declared.faults.CheckFault.{CheckFault}
+use Rattle.cm_document.specs.declared.faults.CheckFault.TheVariants.{TooMany, NameTwice, BadRange, NoInterface, ChainLoop}
+use Rattle.cm_document.specs.declared.faults.What.{What}
+use Rattle.cm_document.specs.declared.faults.What.TheVariants.{Components, Joints, States, Commands, Controllers, References, Claims, Reads}
+
+-- ---- Counts
+
+-- how many of these there are, and how many there may be
+abbrev pub limited : What → ℕ → ℕ → Result (Unit {0}) CheckFault
+limited what number limit = if nat_lt limit number then Err (TooMany what) else Ok tt
+
+-- none of the counts is above its limit
+abbrev pub few_enough : Description → Result (Unit {0}) CheckFault
+few_enough d =
+    limited Components (length d.components) 16 >>= λ _.
+    limited Joints (length (joints_of d.components)) 32 >>= λ _.
+    limited States (length (states_of d.components)) 96 >>= λ _.
+    limited Commands (length (commands_of d.components)) 96 >>= λ _.
+    limited Controllers (length d.controllers) 64 >>= λ _.
+    limited References (length (references_of d.controllers)) 96 >>= λ _.
+    limited Claims (sum_by (λ c. length c.claims) d.controllers) 192 >>= λ _.
+    limited Reads (sum_by (λ c. length c.reads) d.controllers) 256
+
+-- ---- Names
+
+-- the first of these that stands among those seen or earlier in the list
+abbrev pub repeated_after : {A : Type 0} → (A → A → Bool) → List A → List A → Option A
+repeated_after same seen [] = None
+repeated_after same seen (x ∷ xs) = if list_any (same x) seen then Some x else repeated_after same (seen ++ x ∷ []) xs
+
+-- none of these stands twice: else the first that does is told by its text
+abbrev pub apart : {A : Type 0} → (A → A → Bool) → (A → List ℕ) → List A → Result (Unit {0}) CheckFault
+apart same text xs = elim (repeated_after same [] xs) [ None ↦ Ok tt | Some x ↦ Err (NameTwice (text x)) ]
+
+-- names that differ
+abbrev pub names_apart : List (List ℕ) → Result (Unit {0}) CheckFault
+names_apart names = apart same_name (λ name. name) names
+
+-- interfaces that differ
+abbrev pub interfaces_apart : List IfaceName → Result (Unit {0}) CheckFault
+interfaces_apart interfaces = apart same_interface interface_text interfaces
+
+-- no controller claims an interface twice, or reads one twice
+abbrev pub links_apart : List CtlDesc → Result (Unit {0}) CheckFault
+links_apart [] = Ok tt
+links_apart (c ∷ cs) = interfaces_apart c.claims >>= λ _. interfaces_apart c.reads >>= λ _. links_apart cs
+
+-- Components, joints and controllers are each named in a space of their own; references and the links of a controller differ too.
+abbrev pub named_apart : Description → Result (Unit {0}) CheckFault
+named_apart d =
+    names_apart (map (λ c. c.name) d.components) >>= λ _.
+    names_apart (map (λ j. j.name) (joints_of d.components)) >>= λ _.
+    names_apart (map (λ c. c.name) d.controllers) >>= λ _.
+    interfaces_apart (references_of d.controllers) >>= λ _.
+    links_apart d.controllers
+
+-- ---- Ranges, in the order of the walk
+
+-- what stands at this path is within its range
+abbrev pub ranged : Bool → List ℕ → Result (Unit {0}) CheckFault
+ranged fits path = if fits then Ok tt else Err (BadRange path)
+
+-- not below 0
+abbrev pub not_negative : ℤ → Bool
+not_negative z = int_le (pos 0) z
+
+-- the ranges of each item of a list, at its path
+abbrev pub each_ranged : {A : Type 0} → (List ℕ → A → Result (Unit {0}) CheckFault) → List ℕ → ℕ → List A → Result (Unit {0}) CheckFault
+each_ranged rule key k [] = Ok tt
+each_ranged rule key k (x ∷ xs) = rule (inside (item_path key k)) x >>= λ _. each_ranged rule key (k + 1) xs
+
+-- a sensor takes no command
+abbrev pub may_have : CompKind → JointDesc → Bool
+may_have Sensor j = length j.commands == 0
+may_have _ j = true
+
+-- vmax, gain and damping are not negative
+abbrev pub joint_ranged : CompKind → List ℕ → JointDesc → Result (Unit {0}) CheckFault
+joint_ranged kind prefix j =
+    ranged (not_negative j.vmax) (prefix ++ codes "vmax") >>= λ _.
+    ranged (not_negative j.gain) (prefix ++ codes "gain") >>= λ _.
+    ranged (not_negative j.damping) (prefix ++ codes "damping") >>= λ _.
+    ranged (may_have kind j) (prefix ++ codes "command")
+
+-- one joint at least, and of an actuator one at most
+abbrev pub joint_count_fits : CompKind → ℕ → Bool
+joint_count_fits Actuator n = n == 1
+joint_count_fits _ n = nat_le 1 n
+
+-- the number of joints, then each joint
+abbrev pub component_ranged : List ℕ → CompDesc → Result (Unit {0}) CheckFault
+component_ranged prefix c =
+    ranged (joint_count_fits c.kind (length c.joints)) (prefix ++ codes "joint") >>= λ _.
+    each_ranged (joint_ranged c.kind) (prefix ++ codes "joint") 0 c.joints
+
+-- how many claims a controller of this kind may have
+abbrev pub claims_fit : Params → ℕ → Bool
+claims_fit (Pid kp ki kd imax omax) n = n == 1
+claims_fit (Broadcaster ins) n = true
+claims_fit (Mock outs refuse_config not_ready fail_update) n = nat_le n 32
+claims_fit _ n = nat_le 1 n && nat_le n 32
+
+-- how many reads beside so many claims: a pid has one, a trajectory as many as claims
+abbrev pub reads_fit : Params → ℕ → ℕ → Bool
+reads_fit (Pid kp ki kd imax omax) claims n = n == 1
+reads_fit (Trajectory outs) claims n = n == claims
+reads_fit _ claims n = true
+
+-- the limits of a pid are not negative
+abbrev pub limits_ranged : List ℕ → Params → Result (Unit {0}) CheckFault
+limits_ranged prefix (Pid kp ki kd imax omax) =
+    ranged (not_negative imax) (prefix ++ codes "imax") >>= λ _.
+    ranged (not_negative omax) (prefix ++ codes "omax")
+limits_ranged prefix _ = Ok tt
+
+-- at most 10,000 hertz, then the numbers of claims and reads, then the limits
+abbrev pub controller_ranged : List ℕ → CtlDesc → Result (Unit {0}) CheckFault
+controller_ranged prefix c =
+    ranged (nat_le c.rate 10000) (prefix ++ codes "update_rate") >>= λ _.
+    ranged (claims_fit c.params (length c.claims)) (prefix ++ codes "claims") >>= λ _.
+    ranged (reads_fit c.params (length c.claims) (length c.reads)) (prefix ++ codes "reads") >>= λ _.
+    limits_ranged prefix c.params
+
+-- version 1; 1 to 10,000 hertz; at most 100,000 cycles; then the components and the controllers
+abbrev pub in_range : Description → Result (Unit {0}) CheckFault
+in_range d =
+    ranged (d.version == 1) (codes "version") >>= λ _.
+    ranged (nat_le 1 d.update_rate && nat_le d.update_rate 10000) (codes "update_rate") >>= λ _.
+    ranged (nat_le d.cycles 100000) (codes "cycles") >>= λ _.
+    each_ranged component_ranged (codes "component") 0 d.components >>= λ _.
+    each_ranged controller_ranged (codes "controller") 0 d.controllers
+
+-- ---- Interfaces
+
+-- what a controller may claim: the command interfaces of components, and the references of controllers
+abbrev pub claimable : Description → List IfaceName
+claimable d = commands_of d.components ++ references_of d.controllers
+
+-- these are all among those that there are: else the first that is not is told with its controller
+abbrev pub all_among : List IfaceName → List ℕ → List IfaceName → Result (Unit {0}) CheckFault
+all_among there controller interfaces =
+    elim (find (λ i. not (is_among i there)) interfaces) [ None ↦ Ok tt | Some i ↦ Err (NoInterface controller i) ]
+
+-- controllers in order, of each its claims and then its reads
+abbrev pub links_exist : List IfaceName → List IfaceName → List CtlDesc → Result (Unit {0}) CheckFault
+links_exist commands states [] = Ok tt
+links_exist commands states (c ∷ cs) =
+    all_among commands c.name c.claims >>= λ _.
+    all_among states c.name c.reads >>= λ _.
+    links_exist commands states cs
+
+-- ---- Loops
+
+-- the name of the controller at a place
+abbrev pub name_at : List CtlDesc → ℕ → List ℕ
+name_at controllers place = elim (slice_get controllers place) [ Some c ↦ c.name | None ↦ [] ]
+
+-- no controller precedes itself at some distance: else the first that does is told
+abbrev pub loop_free : List CtlDesc → Result (Unit {0}) CheckFault
+loop_free controllers = elim (first_in_loop controllers) [ None ↦ Ok tt | Some place ↦ Err (ChainLoop (name_at controllers place)) ]
+
+-- ---- All of them
+
+-- the description, where it is valid, or its first fault
+unfoldable pub valid : Description → Result Description CheckFault
+valid d =
+    few_enough d >>= λ _.
+    named_apart d >>= λ _.
+    in_range d >>= λ _.
+    links_exist (claimable d) (states_of d.components) d.controllers >>= λ _.
+    loop_free d.controllers >>= λ _.
+    Ok d
+
+-- a tree stands for the description
+abbrev pub IsDescribed : Description → Type 0
+IsDescribed d = (ms : Members) × (description_form.read [] ms ≡ Ok d)
+
+-- A valid description is one that a tree stands for, and that has no fault.
+pub record IsValid (d : Description) : Type 0 where
+  pub described : IsDescribed d
+  pub no_fault : valid d ≡ Ok d

@@ -1,0 +1,193 @@
+//! The description of a robot: its components with their joints, and its controllers.
+
+ghost use Rattle.std.specs.Prelude.{◌≡◌, take};
+ghost use Rattle.cm_document.specs.Links.{exported_for};
+ghost use Rattle.cm_document.specs.Params.{kind_of};
+
+use crate::life::Life;
+use fixed_num::Fx;
+use iface_names::{IfaceName, Kind, Name};
+use sequence::Seq;
+
+/// What is described: the manager's rate, how long it runs, the components and the controllers.
+#[derive(Clone, Debug, PartialEq, Eq, Drop)]
+pub struct Description {
+    /// The version of the format, 1.
+    pub version: u32,
+    /// The manager's update rate, 1 to 10,000 hertz.
+    pub update_rate: u32,
+    /// How many cycles the loop runs, at most 100,000.
+    pub cycles: u64,
+    /// The components, at most 16, in written order.
+    pub components: Seq<CompDesc>,
+    /// The controllers, at most 64, in written order: the place of each is its number here.
+    pub controllers: Seq<CtlDesc>,
+}
+
+/// What a hardware component is for.
+#[derive(Clone, Copy, Debug, PartialEq, Eq)]
+pub enum CompKind {
+    /// It measures, and takes no command.
+    Sensor,
+    /// It drives one joint.
+    Actuator,
+    /// It drives and measures one or more joints.
+    System,
+}
+
+/// A described hardware component.
+#[derive(Clone, Debug, PartialEq, Eq, Drop)]
+pub struct CompDesc {
+    /// Its name, which no other component has.
+    pub name: Name,
+    /// What it is for.
+    pub kind: CompKind,
+    /// Its lifecycle state at start.
+    pub initial: Life,
+    /// Its lifecycle state after a read or write that failed.
+    pub on_error: Life,
+    /// The cycles in which its read fails.
+    pub fail_read: Seq<u64>,
+    /// The cycles in which its write fails.
+    pub fail_write: Seq<u64>,
+    /// Its joints, in written order.
+    pub joints: Seq<JointDesc>,
+}
+
+/// A described joint. Quantities are in units: a position, units a second, and so on.
+#[derive(Clone, Debug, PartialEq, Eq, Drop)]
+pub struct JointDesc {
+    /// Its name, which no other joint has.
+    pub name: Name,
+    /// The largest velocity, not negative.
+    pub vmax: Fx,
+    /// How much an effort accelerates it, not negative.
+    pub gain: Fx,
+    /// How much its velocity slows it, not negative.
+    pub damping: Fx,
+    /// Its position at start.
+    pub position: Fx,
+    /// Its velocity at start.
+    pub velocity: Fx,
+    /// The kinds of its command interfaces, in written order.
+    pub commands: Seq<Kind>,
+    /// The kinds of its state interfaces, in written order.
+    pub states: Seq<Kind>,
+}
+
+/// What a controller computes.
+#[derive(Clone, Copy, Debug, PartialEq, Eq)]
+pub enum CtlKind {
+    /// Passes set values on.
+    Forward,
+    /// Passes set values, or its references, on to claims of the same shape.
+    Passthrough,
+    /// Closes a loop round one joint.
+    Pid,
+    /// Follows timed points.
+    Trajectory,
+    /// Publishes states.
+    Broadcaster,
+    /// Stands in for a controller in tests of the manager.
+    Mock,
+}
+
+/// A described controller.
+#[derive(Clone, Debug, PartialEq, Eq, Drop)]
+pub struct CtlDesc {
+    /// Its name, which no other controller has.
+    pub name: Name,
+    /// Its update rate in hertz, at most 10,000; 0 is the manager's.
+    pub rate: u32,
+    /// The command interfaces that it claims, in written order.
+    pub claims: Seq<IfaceName>,
+    /// The state interfaces that it reads, in written order. `reads = "all"` stands here as its list.
+    pub reads: Seq<IfaceName>,
+    /// What it computes, with its parameters.
+    pub params: Params,
+}
+
+impl CtlDesc {
+    /// The interfaces for which it exports references, one for each: a passthrough its claims, a pid what it reads first.
+    pub fn exported_for(&self) -> &[IfaceName]
+        ensures { result.now ≡ exported_for self.now.params self.now }
+    {
+        match &self.params {
+            Params::Passthrough { .. } => self.claims.as_slice(),
+            Params::Pid { .. } => first(self.reads.as_slice()),
+            _ => &[],
+        }
+    }
+}
+
+/// The first of these alone, or none where there is none.
+fn first(interfaces: &[IfaceName]) -> &[IfaceName]
+    ensures { result.now ≡ take 1 interfaces.now }
+{
+    &interfaces[..interfaces.len().min(1)]
+}
+
+/// A controller's parameters, by its kind. A count of claims or reads is their number, or 4,294,967,295 where that is smaller.
+#[derive(Clone, Debug, PartialEq, Eq, Drop)]
+pub enum Params {
+    /// A forward.
+    Forward {
+        /// How many claims it has.
+        outs: u32,
+    },
+    /// A passthrough.
+    Passthrough {
+        /// How many claims it has.
+        outs: u32,
+    },
+    /// A pid.
+    Pid {
+        /// The gain of the error.
+        kp: Fx,
+        /// The gain of the error's integral.
+        ki: Fx,
+        /// The gain of the error's rate.
+        kd: Fx,
+        /// The integral stays within this limit, which is not negative.
+        imax: Fx,
+        /// The output stays within this limit, which is not negative.
+        omax: Fx,
+    },
+    /// A trajectory.
+    Trajectory {
+        /// How many claims it has.
+        outs: u32,
+    },
+    /// A broadcaster.
+    Broadcaster {
+        /// How many states it reads.
+        ins: u32,
+    },
+    /// A mock.
+    Mock {
+        /// How many claims it has.
+        outs: u32,
+        /// Whether it refuses to be configured.
+        refuse_config: bool,
+        /// The cycles before which it is not ready to be activated.
+        not_ready: Seq<u64>,
+        /// The cycles in which its update gives an error.
+        fail_update: Seq<u64>,
+    },
+}
+
+impl Params {
+    /// The kind of controller that has these parameters.
+    pub fn kind(&self) -> CtlKind
+        ensures { result ≡ kind_of self.now }
+    {
+        match self {
+            Params::Forward { .. } => CtlKind::Forward,
+            Params::Passthrough { .. } => CtlKind::Passthrough,
+            Params::Pid { .. } => CtlKind::Pid,
+            Params::Trajectory { .. } => CtlKind::Trajectory,
+            Params::Broadcaster { .. } => CtlKind::Broadcaster,
+            Params::Mock { .. } => CtlKind::Mock,
+        }
+    }
+}

@@ -1,0 +1,143 @@
+//! How kinds, lifecycle states and calls print.
+
+ghost use Rattle.std.specs.Prelude.{Some, flat_map};
+ghost use Rattle.std.specs.Fmt.{DisplaysOnOk};
+ghost use Rattle.cm_document.specs.CallText.{values_text, point_text, signed_text};
+
+use crate::call::{Call, Mail, Point2, SwitchRequest};
+use crate::description::CtlKind;
+use crate::life::Life;
+use fixed_num::Fx;
+use iface_names::Name;
+use std::fmt;
+use std::fmt::{Display, Formatter, Write};
+
+impl Display for CtlKind {
+    ghost use Rattle.std.specs.Prelude.{Some};
+    ghost use Rattle.cm_document.specs.Params.{kind_word};
+
+    ghost output = { λ kind. Some (kind_word kind) };
+
+    fn fmt<W: Write>(&self, f: &mut Formatter<W>) -> fmt::Result {
+        match self {
+            CtlKind::Forward => f.write_str("forward"),
+            CtlKind::Passthrough => f.write_str("passthrough"),
+            CtlKind::Pid => f.write_str("pid"),
+            CtlKind::Trajectory => f.write_str("trajectory"),
+            CtlKind::Broadcaster => f.write_str("broadcaster"),
+            CtlKind::Mock => f.write_str("mock"),
+        }
+    }
+}
+
+impl Display for Life {
+    ghost use Rattle.std.specs.Prelude.{Some};
+    ghost use Rattle.cm_document.specs.CallText.{life_word};
+
+    ghost output = { λ life. Some (life_word life) };
+
+    fn fmt<W: Write>(&self, f: &mut Formatter<W>) -> fmt::Result {
+        match self {
+            Life::Unconfigured => f.write_str("unconfigured"),
+            Life::Inactive => f.write_str("inactive"),
+            Life::Active => f.write_str("active"),
+            Life::Finalized => f.write_str("finalized"),
+        }
+    }
+}
+
+impl Display for Point2 {
+    ghost use Rattle.std.specs.Prelude.{Some};
+    ghost use Rattle.cm_document.specs.CallText.{point_text};
+
+    ghost output = { λ point. Some (point_text point) };
+
+    fn fmt<W: Write>(&self, f: &mut Formatter<W>) -> fmt::Result {
+        let at_us = self.at_us;
+        write!(f, " @{at_us}")?;
+        write_values(self.values.as_slice(), f)
+    }
+}
+
+impl Display for Mail {
+    ghost use Rattle.std.specs.Prelude.{Some};
+    ghost use Rattle.cm_document.specs.CallText.{mail_text};
+
+    ghost output = { λ mail. Some (mail_text mail) };
+
+    fn fmt<W: Write>(&self, f: &mut Formatter<W>) -> fmt::Result {
+        match self {
+            Mail::Values(values) => write_values(values.as_slice(), f),
+            Mail::Points(points) => write_points(points.as_slice(), f),
+        }
+    }
+}
+
+impl Display for SwitchRequest {
+    ghost use Rattle.std.specs.Prelude.{Some};
+    ghost use Rattle.cm_document.specs.CallText.{switch_text};
+
+    ghost output = { λ request. Some (switch_text request) };
+
+    fn fmt<W: Write>(&self, f: &mut Formatter<W>) -> fmt::Result {
+        f.write_str("switch ")?;
+        f.write_str(if self.strict { "strict" } else { "best" })?;
+        write_signed("-", self.off.as_slice(), f)?;
+        write_signed("+", self.on.as_slice(), f)
+    }
+}
+
+impl Display for Call {
+    ghost use Rattle.std.specs.Prelude.{Some};
+    ghost use Rattle.cm_document.specs.CallText.{call_text};
+
+    ghost output = { λ call. Some (call_text call) };
+
+    fn fmt<W: Write>(&self, f: &mut Formatter<W>) -> fmt::Result {
+        match self {
+            Call::Load(name) => write!(f, "load {name}"),
+            Call::Configure(name) => write!(f, "configure {name}"),
+            Call::Cleanup(name) => write!(f, "cleanup {name}"),
+            Call::Unload(name) => write!(f, "unload {name}"),
+            Call::Rate { name, hz } => write!(f, "rate {name} {hz}"),
+            Call::Send { name, mail } => write!(f, "send {name}{mail}"),
+            Call::Switch(request) => write!(f, "{request}"),
+            Call::Hardware { component, target } => write!(f, "hw {component} {target}"),
+            Call::Told(ticket) => write!(f, "told {ticket}"),
+            Call::Await(cycles) => write!(f, "await {cycles}"),
+            Call::ListControllers => f.write_str("list controllers"),
+            Call::ListInterfaces => f.write_str("list interfaces"),
+            Call::ListComponents => f.write_str("list components"),
+            Call::Begin(cycle) => write!(f, "begin {cycle}"),
+            Call::End(cycle) => write!(f, "end {cycle}"),
+            Call::Close => f.write_str("close"),
+        }
+    }
+}
+
+fn write_values<W: Write>(values: &[Fx], f: &mut Formatter<W>) -> fmt::Result
+    ensures { DisplaysOnOk W.write_str_gives f.old result (Some (values_text values.now)) f.new }
+{
+    for value in values {
+        write!(f, " {value}")?;
+    }
+    Ok(())
+}
+
+fn write_points<W: Write>(points: &[Point2], f: &mut Formatter<W>) -> fmt::Result
+    ensures { DisplaysOnOk W.write_str_gives f.old result (Some (flat_map point_text points.now)) f.new }
+{
+    for point in points {
+        write!(f, "{point}")?;
+    }
+    Ok(())
+}
+
+fn write_signed<W: Write>(sign: &str, names: &[Name], f: &mut Formatter<W>) -> fmt::Result
+    ensures { DisplaysOnOk W.write_str_gives f.old result (Some (signed_text sign.now names.now)) f.new }
+{
+    for name in names {
+        write!(f, " {sign}{name}")?;
+    }
+    Ok(())
+}

@@ -1,0 +1,26 @@
+//! What descriptions and scripts are: their types, how each is read and checked, and the first fault of a document.
+//! Nothing here reads a byte. Read `specs/` first, in the order of `specs/Lib.antt`.
+#![tactic(auto)]
+
+pub use call::{Call, Mail, Point2, SwitchRequest};
+pub use checked::Checked;
+pub use description::{CompDesc, CompKind, CtlDesc, CtlKind, Description, JointDesc, Params};
+pub use document::Document;
+pub use faults::{CheckFault, DescFault, DescProblem, DocumentFault, ScriptFault, What, Wrong};
+pub use fixed_num::{Fx, Memory};
+pub use iface_names::{IfaceName, Kind, Name, NameFault};
+pub use life::Life;
+pub use script::{Forms, Script, ScriptLine, SessionText, Turn, Verb, built, every_form};
+pub use sequence::Seq;
+pub use text::Text;
+
+mod call;
+mod checked;
+mod description;
+mod display;
+mod document;
+mod faults;
+pub mod laws;
+mod life;
+mod script;
+mod text;

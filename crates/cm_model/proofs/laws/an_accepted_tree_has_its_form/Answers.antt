@@ -1,5 +1,0 @@
-use Rattle.cm_model.proofs.DescribedLemmas.{description-fits}
-use Rattle.cm_model.proofs.laws.an_accepted_tree_has_its_form.Goals as goal
-
-pub returns : goal.returns
-returns c = description-fits

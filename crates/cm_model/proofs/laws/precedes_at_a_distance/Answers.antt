@@ -1,5 +1,0 @@
-use Rattle.cm_model.proofs.ChainLemmas.{far_iff_HasChain}
-use Rattle.cm_model.proofs.laws.precedes_at_a_distance.Goals as goal
-
-pub returns : goal.returns
-returns c = far_iff_HasChain

@@ -1,5 +1,0 @@
-use Rattle.cm_model.proofs.DescribedLemmas.{description-first}
-use Rattle.cm_model.proofs.laws.the_first_of_all_faults_is_told.Goals as goal
-
-pub returns : goal.returns
-returns c = description-first
