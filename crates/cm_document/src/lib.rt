@@ -11,7 +11,7 @@ pub use fixed_num::{Fx, Memory};
 pub use iface_names::{IfaceName, Kind, Name, NameFault};
 pub use life::Life;
 pub use script::{Forms, Script, ScriptLine, SessionText, Turn, Verb, built, every_form};
-pub use sequence::Seq;
+pub use sequence::{Seq, Shared};
 pub use text::Text;
 
 mod call;

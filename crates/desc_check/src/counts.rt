@@ -119,7 +119,7 @@ fn reads(controllers: &[CtlDesc]) -> usize
 {
     let mut count = 0usize;
     for controller in controllers {
-        count = count.saturating_add(controller.reads.as_slice().len());
+        count = count.saturating_add(controller.reads().len());
     }
     count
 }

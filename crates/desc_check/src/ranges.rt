@@ -114,7 +114,7 @@ fn controller_ranged(alloc: Global, prefix: &str, controller: &CtlDesc) -> Resul
 {
     let params = &controller.params;
     let claims = controller.claims.as_slice().len();
-    let reads = controller.reads.as_slice().len();
+    let reads = controller.reads().len();
     ranged(alloc, controller.rate <= 10_000, prefix, "update_rate")?;
     ranged(alloc, claims_fit(params, claims), prefix, "claims")?;
     ranged(alloc, reads_fit(params, claims, reads), prefix, "reads")?;

@@ -3,5 +3,7 @@
 #![tactic(auto)]
 
 pub use seq::Seq;
+pub use shared::Shared;
 
 mod seq;
+mod shared;
