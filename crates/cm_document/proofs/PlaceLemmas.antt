@@ -1,5 +1,7 @@
 -- Each interface of a valid description stands at one place.
-use Rattle.std.proofs.Common.{◌≡◌, ℕ, Bool, true, false, List, [], ◌∷◌, ◌++◌, map, Option, Some, None, Result, Ok, Err, refl, sym}
+use Rattle.std.proofs.Common.{◌≡◌, ℕ, ◌+◌, Bool, true, false, List, [], ◌∷◌, ◌++◌, length, map, Option, Some, None, Result, Ok, Err, refl, sym, ap₂, ◌∙◌}
+use Rattle.std.proofs.lemmas.List.{map-append}
+use Rattle.std.proofs.lemmas.Simd.{map-map}
 use Rattle.std.specs.Prelude.{◌&&◌, not, flat_map}
 use Rattle.std.specs.Cmp.{IsEquivalence}
 use Rattle.std.specs.List.{AllByRecursion, IsDistinct}
@@ -13,7 +15,7 @@ use Rattle.iface_names.specs.declared.interface.IfaceName.TheVariants.{Joint, Re
 use Rattle.iface_names.specs.declared.kind.Kind.{Kind}
 use Rattle.cm_document.specs.Described.{states_of}
 use Rattle.cm_document.specs.Links.{joints_of, commands_of, commands_of_joint, reference_for, exported_for, refs_of, references_of}
-use Rattle.cm_document.specs.Places.{Interface, a_state, a_command, interfaces_of, EachStandsOnce}
+use Rattle.cm_document.specs.Places.{Called, a_state, a_command, Whose, of_joint, of_controller, Interface, at_joint, at_joints, at_components, at_controllers, interfaces_of, called_in, EachStandsOnce}
 use Rattle.cm_document.specs.Valid.{repeated_after, apart, names_apart, interfaces_apart, few_enough, named_apart, valid, IsValid}
 use Rattle.cm_document.specs.declared.description.CompDesc.{CompDesc}
 use Rattle.cm_document.specs.declared.description.CtlDesc.{CtlDesc}
@@ -67,31 +69,31 @@ valid-NamesDiffer d e =
 -- ---- Interfaces of joints
 
 module _ (kinds : JointDesc → List Kind) where
-  -- the interfaces of a joint, one of each of these kinds
-  abbrev of_joint : JointDesc → List IfaceName
-  of_joint j = map (Joint j.name) (kinds j)
+  -- the names of the interfaces of a joint, one of each of these kinds
+  abbrev names_of_joint : JointDesc → List IfaceName
+  names_of_joint j = map (Joint j.name) (kinds j)
 
   -- an interface is none of a joint of another name
   other_joints : (name : List ℕ) (kind : Kind) (js : List JointDesc) → AllByRecursion (λ n. same_name name n ≡ false) (map (λ j. j.name) js)
-      → AllByRecursion (λ y. same_interface (Joint name kind) y ≡ false) (flat_map of_joint js)
+      → AllByRecursion (λ y. same_interface (Joint name kind) y ≡ false) (flat_map names_of_joint js)
   other_joints name kind [] differ = tt
   other_joints name kind (j ∷ js) differ =
-      all_append _ (of_joint j) (flat_map of_joint js) (all_map _ (Joint j.name) (kinds j) (all_of _ (λ k. and_left _ _ differ.0) (kinds j))) (other_joints name kind js differ.1)
+      all_append _ (names_of_joint j) (flat_map names_of_joint js) (all_map _ (Joint j.name) (kinds j) (all_of _ (λ k. and_left _ _ differ.0) (kinds j))) (other_joints name kind js differ.1)
 
   -- joints whose names differ, each of kinds that differ, have interfaces that differ
   of_joints : (js : List JointDesc) → IsDistinct same_name (map (λ j. j.name) js) → AllByRecursion (λ j. IsDistinct same_kind (kinds j)) js
-      → IsDistinct same_interface (flat_map of_joint js)
+      → IsDistinct same_interface (flat_map names_of_joint js)
   unfolding IsDistinct
   of_joints [] differ once = tt
-  of_joints (j ∷ js) differ once = IsDistinct-append same_interface (of_joint j) (flat_map of_joint js)
+  of_joints (j ∷ js) differ once = IsDistinct-append same_interface (names_of_joint j) (flat_map names_of_joint js)
       (IsDistinct-map same_kind same_interface (Joint j.name) (λ k l apart. and_right (same_name j.name j.name) _ apart) (kinds j) once.0)
       (of_joints js differ.1 once.1)
       (all_map _ (Joint j.name) (kinds j) (all_of _ (λ kind. other_joints j.name kind js differ.0) (kinds j)))
 
   -- so for all joints of components
   of_components : (cs : List CompDesc) → IsDistinct same_name (map (λ j. j.name) (joints_of cs)) → AllByRecursion (λ j. IsDistinct same_kind (kinds j)) (joints_of cs)
-      → IsDistinct same_interface (flat_map (λ c. flat_map of_joint c.joints) cs)
-  of_components cs differ once = rw (sym (flat_map-flat_map of_joint (λ (c : CompDesc). c.joints) cs)) (of_joints (joints_of cs) differ once)
+      → IsDistinct same_interface (flat_map (λ c. flat_map names_of_joint c.joints) cs)
+  of_components cs differ once = rw (sym (flat_map-flat_map names_of_joint (λ (c : CompDesc). c.joints) cs)) (of_joints (joints_of cs) differ once)
 
 -- ---- All interfaces
 
@@ -116,7 +118,7 @@ same_side false b = not b
 same_side true b = b
 
 -- the same of a state or of a command
-abbrev same_listed : Interface → Interface → Bool
+abbrev same_listed : Called → Called → Bool
 same_listed i j = same_side i.is_command j.is_command && same_interface i.name j.name
 
 -- states are no commands
@@ -128,19 +130,60 @@ same_itself : (is_command : Bool) (name : IfaceName) → (same_side is_command i
 same_itself false name = same_interface-IsEquivalence.refl name
 same_itself true name = same_interface-IsEquivalence.refl name
 
--- the interfaces of a valid description differ
-interfaces-IsDistinct : (d : Description) → IsValid d → IsDistinct same_listed (interfaces_of d)
+-- ---- What they are called
+
+module _ (call : IfaceName → Called) (kinds : JointDesc → List Kind) where
+  -- at a joint stand its interfaces, by their names
+  joint_called : (component place : ℕ) (j : JointDesc) → map (λ i. i.called) (at_joint call kinds component place j) ≡ map call (names_of_joint kinds j)
+  joint_called component place j = map-map (λ i. i.called) _ (kinds j) ∙ sym (map-map call (Joint j.name) (kinds j))
+
+  -- so at the joints of a component
+  joints_called : (component place : ℕ) (js : List JointDesc) → map (λ i. i.called) (at_joints call kinds component place js) ≡ map call (flat_map (names_of_joint kinds) js)
+  joints_called component place [] = refl
+  joints_called component place (j ∷ js) =
+      map-append (λ i. i.called) (at_joint call kinds component place j) (at_joints call kinds component (place + 1) js)
+      ∙ ap₂ (λ xs ys. xs ++ ys) (joint_called component place j) (joints_called component (place + 1) js)
+      ∙ sym (map-append call (names_of_joint kinds j) (flat_map (names_of_joint kinds) js))
+
+  -- and at those of all
+  components_called : (component place : ℕ) (cs : List CompDesc)
+      → map (λ i. i.called) (at_components call kinds component place cs) ≡ map call (flat_map (λ c. flat_map (names_of_joint kinds) c.joints) cs)
+  components_called component place [] = refl
+  components_called component place (c ∷ cs) =
+      map-append (λ i. i.called) (at_joints call kinds component place c.joints) (at_components call kinds (component + 1) (place + length c.joints) cs)
+      ∙ ap₂ (λ xs ys. xs ++ ys) (joints_called component place c.joints) (components_called (component + 1) (place + length c.joints) cs)
+      ∙ sym (map-append call (flat_map (names_of_joint kinds) c.joints) (flat_map (λ c. flat_map (names_of_joint kinds) c.joints) cs))
+
+-- controllers have their references
+controllers_called : (place : ℕ) (cs : List CtlDesc) → map (λ i. i.called) (at_controllers place cs) ≡ map a_command (references_of cs)
+controllers_called place [] = refl
+controllers_called place (c ∷ cs) =
+    map-append (λ i. i.called) (map (λ name. record { called = a_command name; whose = of_controller place }) (refs_of c)) (at_controllers (place + 1) cs)
+    ∙ ap₂ (λ xs ys. xs ++ ys) (map-map (λ i. i.called) _ (refs_of c)) (controllers_called (place + 1) cs)
+    ∙ sym (map-append a_command (refs_of c) (references_of cs))
+
+-- The states come first by their names, then the commands, then the references.
+called_by_names : (d : Description) → called_in d ≡ map a_state (states_of d.components) ++ map a_command (commands_of d.components ++ references_of d.controllers)
+called_by_names d =
+    map-append (λ i. i.called) (at_components a_state (λ j. j.states) 0 0 d.components) (at_components a_command (λ j. j.commands) 0 0 d.components ++ at_controllers 0 d.controllers)
+    ∙ ap₂ (λ xs ys. xs ++ ys) (components_called a_state (λ j. j.states) 0 0 d.components)
+    (map-append (λ i. i.called) (at_components a_command (λ j. j.commands) 0 0 d.components) (at_controllers 0 d.controllers)
+    ∙ ap₂ (λ xs ys. xs ++ ys) (components_called a_command (λ j. j.commands) 0 0 d.components) (controllers_called 0 d.controllers)
+    ∙ sym (map-append a_command (commands_of d.components) (references_of d.controllers)))
+
+-- what the interfaces of a valid description are called differs
+interfaces-IsDistinct : (d : Description) → IsValid d → IsDistinct same_listed (called_in d)
 interfaces-IsDistinct d ok =
     let names = valid-NamesDiffer d ok.no_fault in
     let once = all_flat_map KindsOnce (λ (c : CompDesc). c.joints) d.components (IsDescribed-DescribesOnce d ok.described) in
     let states = of_components (λ j. j.states) d.components names.joints (all_so _ _ (λ j h. h.states) _ once) in
     let commands = of_components (λ j. j.commands) d.components names.joints (all_so _ _ (λ j h. h.commands) _ once) in
     let claimable = IsDistinct-append same_interface (commands_of d.components) (references_of d.controllers) commands names.references (commands_apart d.components d.controllers) in
-    IsDistinct-append same_listed (map a_state (states_of d.components)) (map a_command (commands_of d.components ++ references_of d.controllers))
+    rw (called_by_names d) (IsDistinct-append same_listed (map a_state (states_of d.components)) (map a_command (commands_of d.components ++ references_of d.controllers))
     (IsDistinct-map same_interface same_listed a_state (λ x y differ. differ) _ states)
     (IsDistinct-map same_interface same_listed a_command (λ x y differ. differ) _ claimable)
-    (sides_apart (states_of d.components) (commands_of d.components ++ references_of d.controllers))
+    (sides_apart (states_of d.components) (commands_of d.components ++ references_of d.controllers)))
 
 -- Each interface of a valid description stands at one place.
 pub IsValid-EachStandsOnce : (d : Description) → IsValid d → EachStandsOnce d
-IsValid-EachStandsOnce d ok p q i = one_place same_listed (λ i. same_itself i.is_command i.name) (interfaces_of d) (interfaces-IsDistinct d ok) i p q
+IsValid-EachStandsOnce d ok p q c = one_place same_listed (λ i. same_itself i.is_command i.name) (called_in d) (interfaces-IsDistinct d ok) c p q

@@ -5,7 +5,7 @@ use Rattle.iface_names.specs.declared.interface.IfaceName.TheVariants.{Joint, Re
 use Rattle.iface_names.specs.declared.kind.Kind.{Kind}
 use Rattle.iface_names.specs.declared.kind.Kind.TheVariants.{Position, Velocity, Effort}
 use Rattle.cm_document.specs.Described.{a_controller, a_description, a_joint, a_component}
-use Rattle.cm_document.specs.Places.{a_state, a_command, interfaces_of}
+use Rattle.cm_document.specs.Places.{a_state, a_command, of_joint, of_controller, interfaces_of}
 use Rattle.cm_document.specs.declared.description.CompKind.TheVariants.{System}
 use Rattle.cm_document.specs.declared.description.JointDesc.{JointDesc}
 use Rattle.cm_document.specs.declared.description.Params.TheVariants.{Forward, Passthrough}
@@ -21,7 +21,10 @@ in_order : interfaces_of (a_description 1 100 2
     joint_with (codes "j1") (Effort ∷ []) (Velocity ∷ Position ∷ []) ∷ joint_with (codes "j2") (Position ∷ []) (Position ∷ []) ∷ []) ∷ [])
     (a_controller (codes "p") 0 (Joint (codes "j1") Effort ∷ []) [] (Passthrough 1)
     ∷ a_controller (codes "f") 0 (Reference (codes "p") (codes "j1") Effort ∷ []) [] (Forward 1) ∷ []))
-    ≡ a_state (Joint (codes "j1") Velocity) ∷ a_state (Joint (codes "j1") Position) ∷ a_state (Joint (codes "j2") Position)
-    ∷ a_command (Joint (codes "j1") Effort) ∷ a_command (Joint (codes "j2") Position)
-    ∷ a_command (Reference (codes "p") (codes "j1") Effort) ∷ []
+    ≡ record { called = a_state (Joint (codes "j1") Velocity); whose = of_joint 0 0 }
+    ∷ record { called = a_state (Joint (codes "j1") Position); whose = of_joint 0 0 }
+    ∷ record { called = a_state (Joint (codes "j2") Position); whose = of_joint 0 1 }
+    ∷ record { called = a_command (Joint (codes "j1") Effort); whose = of_joint 0 0 }
+    ∷ record { called = a_command (Joint (codes "j2") Position); whose = of_joint 0 1 }
+    ∷ record { called = a_command (Reference (codes "p") (codes "j1") Effort); whose = of_controller 0 } ∷ []
 in_order = refl
