@@ -3,9 +3,10 @@ use Rattle.std.proofs.Common.{◌≡◌, List, [], ◌++◌, Some, is_ok, take}
 use Rattle.std.specs.Prelude.{codes}
 use Rattle.toml.specs.Data.{Members, get_member}
 use Rattle.iface_names.specs.declared.interface.IfaceName.{IfaceName}
+use Rattle.cm_document.specs.Vocabulary.{controller_kinds}
 use Rattle.cm_document.specs.Forms.{fault_in, word_in}
 use Rattle.cm_document.specs.Tables.{walk}
-use Rattle.cm_document.specs.Described.{joint_table, component_table, controller_types, controller_table, controller_form, top_table, described_states, description_form, description_in, all_faults, has_form}
+use Rattle.cm_document.specs.Described.{joint_table, component_table, controller_table, controller_form, top_table, described_states, description_form, description_in, all_faults, has_form}
 use Rattle.cm_document.specs.declared.description.CtlKind.{CtlKind}
 use Rattle.cm_document.specs.declared.description.CtlKind.TheVariants.{Forward, Passthrough, Pid, Trajectory, Broadcaster, Mock}
 use Rattle.cm_document.proofs.FormLemmas.{Tells, Tells-first, Tells-fits, IsSound, IsSoundTable, sound_parts, walk-IsSound, chosen-Tells}
@@ -30,7 +31,7 @@ controller_table-IsSound states Mock = search sound_parts depth 20
 -- a controller: its type says which table
 controller-IsSound : (states : List IfaceName) → IsSound (controller_form states)
 controller-IsSound states = record {
-  tells = λ prefix ms. chosen-Tells (word_in controller_types) (prefix ++ codes "type") (codes "type") (get_member (codes "type") ms)
+  tells = λ prefix ms. chosen-Tells (word_in controller_kinds) (prefix ++ codes "type") (codes "type") (get_member (codes "type") ms)
       (λ kind. walk (controller_table states kind)) (λ kind. walk-IsSound (controller_table-IsSound states kind)) prefix ms;
 }
 

@@ -1,4 +1,5 @@
 pub mod ReadingLemmas
+pub mod VocabularyLemmas
 pub mod FormLemmas
 pub mod DescribedLemmas
 pub mod DocumentLemmas

@@ -1,27 +1,19 @@
 -- How calls and scripts print: single spaces, each number in its one spelling.
 use Rattle.std.specs.Prelude.{ℕ, ℤ, Bool, true, false, List, [], ◌∷◌, ◌++◌, flat_map, slice_get, codes, decimal, option_map, unwrap_or}
 use Rattle.fixed_num.specs.Text.{spelled}
+use Rattle.cm_document.specs.Vocabulary.{life_word}
 use Rattle.cm_document.specs.declared.call.Call.{Call}
 use Rattle.cm_document.specs.declared.call.Call.TheVariants as call
 use Rattle.cm_document.specs.declared.call.Mail.{Mail}
 use Rattle.cm_document.specs.declared.call.Mail.TheVariants.{Values, Points}
 use Rattle.cm_document.specs.declared.call.Point2.{Point2}
 use Rattle.cm_document.specs.declared.call.SwitchRequest.{SwitchRequest}
-use Rattle.cm_document.specs.declared.life.Life.{Life}
-use Rattle.cm_document.specs.declared.life.Life.TheVariants as life
 use Rattle.cm_document.specs.declared.script.Script.{Script}
 use Rattle.cm_document.specs.declared.script.SessionText.{SessionText}
 use Rattle.cm_document.specs.declared.script.Turn.{Turn}
 use Rattle.cm_document.specs.declared.script.Turn.TheVariants as turn
 
 -- ---- Words
-
--- a lifecycle state
-abbrev pub life_word : Life → List ℕ
-life_word life.Unconfigured = codes "unconfigured"
-life_word life.Inactive = codes "inactive"
-life_word life.Active = codes "active"
-life_word life.Finalized = codes "finalized"
 
 -- all or nothing, or what can be done
 abbrev pub strictness_word : Bool → List ℕ

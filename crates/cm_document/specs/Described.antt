@@ -7,11 +7,11 @@ use Rattle.iface_names.specs.declared.interface.IfaceName.{IfaceName}
 use Rattle.iface_names.specs.declared.interface.IfaceName.TheVariants.{Joint}
 use Rattle.iface_names.specs.declared.kind.Kind.{Kind}
 use Rattle.cm_document.specs.Reading.{◌>>=◌}
+use Rattle.cm_document.specs.Vocabulary.{component_kinds, lives, lives_on_error, controller_kinds}
 use Rattle.cm_document.specs.Forms.{Form, one, list_of, list_after, tables_of, all_or_list, whole_in, quantity_in, boolean_in, name_in, word_in, interface_in, state_in, kind_in}
 use Rattle.cm_document.specs.Tables.{Table, filled, required, required_read, defaulted, ◌&◌, walk}
 use Rattle.cm_document.specs.declared.description.CompDesc.{CompDesc}
 use Rattle.cm_document.specs.declared.description.CompKind.{CompKind}
-use Rattle.cm_document.specs.declared.description.CompKind.TheVariants.{Sensor, Actuator, System}
 use Rattle.cm_document.specs.declared.description.CtlDesc.{CtlDesc}
 use Rattle.cm_document.specs.declared.description.CtlKind.{CtlKind}
 use Rattle.cm_document.specs.declared.description.CtlKind.TheVariants.{Forward, Passthrough, Pid, Trajectory, Broadcaster, Mock}
@@ -22,7 +22,7 @@ use Rattle.cm_document.specs.declared.description.Params.TheVariants as params
 use Rattle.cm_document.specs.declared.faults.DescFault.{DescFault}
 use Rattle.cm_document.specs.declared.faults.DescFault.TheVariants.{NotToml}
 use Rattle.cm_document.specs.declared.life.Life.{Life}
-use Rattle.cm_document.specs.declared.life.Life.TheVariants.{Unconfigured, Inactive, Active, Finalized}
+use Rattle.cm_document.specs.declared.life.Life.TheVariants.{Unconfigured, Active}
 
 -- ---- The tree
 
@@ -63,18 +63,6 @@ joint_table = filled a_joint
 
 -- ---- Components
 
--- the words for what a component is for
-abbrev pub component_kinds : List (List ℕ × CompKind)
-component_kinds = (codes "sensor", Sensor) ∷ (codes "actuator", Actuator) ∷ (codes "system", System) ∷ []
-
--- the words for a state at start
-abbrev pub states_at_start : List (List ℕ × Life)
-states_at_start = (codes "unconfigured", Unconfigured) ∷ (codes "inactive", Inactive) ∷ (codes "active", Active) ∷ (codes "finalized", Finalized) ∷ []
-
--- the words for a state after a failure
-abbrev pub states_on_error : List (List ℕ × Life)
-states_on_error = (codes "unconfigured", Unconfigured) ∷ (codes "finalized", Finalized) ∷ []
-
 -- a component of these values
 abbrev pub a_component : List ℕ → CompKind → Life → Life → List ℕ → List ℕ → List JointDesc → CompDesc
 a_component name kind initial on_error fail_read fail_write joints = record {
@@ -92,8 +80,8 @@ unfoldable pub component_table : Table CompDesc
 component_table = filled a_component
     & required (codes "name") (one name_in)
     & required (codes "kind") (one (word_in component_kinds))
-    & defaulted (codes "initial") (one (word_in states_at_start)) Active
-    & defaulted (codes "on_error") (one (word_in states_on_error)) Unconfigured
+    & defaulted (codes "initial") (one (word_in lives)) Active
+    & defaulted (codes "on_error") (one (word_in lives_on_error)) Unconfigured
     & defaulted (codes "fail_read") (list_of whole_in) []
     & defaulted (codes "fail_write") (list_of whole_in) []
     & required (codes "joint") (tables_of (walk joint_table))
@@ -108,12 +96,6 @@ states_of components = flat_map (λ c. flat_map states_of_joint c.joints) compon
 
 -- ---- Controllers
 
--- the words for the types of controllers
-abbrev pub controller_types : List (List ℕ × CtlKind)
-controller_types =
-    (codes "forward", Forward) ∷ (codes "passthrough", Passthrough) ∷ (codes "pid", Pid) ∷
-    (codes "trajectory", Trajectory) ∷ (codes "broadcaster", Broadcaster) ∷ (codes "mock", Mock) ∷ []
-
 -- how many, in 32 bits
 abbrev pub count : List IfaceName → ℕ
 count interfaces = min (length interfaces) (2 ^ 32 - 1)
@@ -126,7 +108,7 @@ a_controller name rate claims reads params = record { name = name; rate = rate; 
 abbrev pub common : {A : Type 0} → (List ℕ → ℕ → A) → Table A
 common make = filled (λ name type rate. make name rate)
     & required (codes "name") (one name_in)
-    & required (codes "type") (one (word_in controller_types))
+    & required (codes "type") (one (word_in controller_kinds))
     & defaulted (codes "update_rate") (one whole_in) 0
 
 -- the keys of a forward, or of another type that has claims alone
@@ -177,7 +159,7 @@ controller_table states Mock = mock_table
 
 -- the type of a controller, at its key
 abbrev pub type_of : List ℕ → Members → Result CtlKind DescFault
-type_of prefix ms = required_read (one (word_in controller_types)) (prefix ++ codes "type") (get_member (codes "type") ms)
+type_of prefix ms = required_read (one (word_in controller_kinds)) (prefix ++ codes "type") (get_member (codes "type") ms)
 
 -- Which keys a controller may have depends on its type, so that is looked at before all else: where it is missing or no listed
 -- word, that is the controller's one fault.

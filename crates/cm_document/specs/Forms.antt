@@ -9,6 +9,7 @@ use Rattle.iface_names.specs.declared.kind.Kind.{Kind}
 use Rattle.iface_names.specs.declared.interface.IfaceName.{IfaceName}
 use Rattle.iface_names.specs.declared.interface.IfaceName.TheVariants.{Joint, Reference}
 use Rattle.cm_document.specs.Reading.{◌>>=◌}
+use Rattle.cm_document.specs.Vocabulary.{listed}
 use Rattle.cm_document.specs.declared.faults.Wrong.{Wrong}
 use Rattle.cm_document.specs.declared.faults.Wrong.TheVariants as wrong
 use Rattle.cm_document.specs.declared.faults.DescFault.{DescFault}
@@ -50,8 +51,7 @@ name_in _ = Err wrong.Value
 
 -- what a word stands for, where it is one of the listed
 abbrev pub meaning_of : {A : Type 0} → List (List ℕ × A) → List ℕ → Result A Wrong
-meaning_of [] text = Err wrong.Value
-meaning_of ((word, meaning) ∷ words) text = if same_key text word then Ok meaning else meaning_of words text
+meaning_of words text = elim (listed words text) [ Some meaning ↦ Ok meaning | None ↦ Err wrong.Value ]
 
 -- a word is a text of the listed ones
 abbrev pub word_in : {A : Type 0} → List (List ℕ × A) → Data → Result A Wrong

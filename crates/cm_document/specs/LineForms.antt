@@ -6,6 +6,7 @@ use Rattle.std.specs.Char.{is_ascii_digit}
 use Rattle.std.specs.Str.Parse.{digits_value}
 use Rattle.fixed_num.specs.Text.{number_of}
 use Rattle.iface_names.specs.Names.{is_name, same_name}
+use Rattle.cm_document.specs.Vocabulary.{listed, verbs, lives, strictnesses}
 use Rattle.cm_document.specs.declared.limits.TheConstants.{HIGHEST_RATE, MOST_DIGITS}
 use Rattle.cm_document.specs.declared.call.Call.{Call}
 use Rattle.cm_document.specs.declared.call.Call.TheVariants as call
@@ -13,8 +14,6 @@ use Rattle.cm_document.specs.declared.call.Mail.{Mail}
 use Rattle.cm_document.specs.declared.call.Mail.TheVariants.{Values, Points}
 use Rattle.cm_document.specs.declared.call.Point2.{Point2}
 use Rattle.cm_document.specs.declared.call.SwitchRequest.{SwitchRequest}
-use Rattle.cm_document.specs.declared.life.Life.{Life}
-use Rattle.cm_document.specs.declared.life.Life.TheVariants as life
 use Rattle.cm_document.specs.declared.script.Forms.{Forms}
 use Rattle.cm_document.specs.declared.script.ScriptLine.{ScriptLine}
 use Rattle.cm_document.specs.declared.script.ScriptLine.TheVariants as line
@@ -22,19 +21,6 @@ use Rattle.cm_document.specs.declared.script.Verb.{Verb}
 use Rattle.cm_document.specs.declared.script.Verb.TheVariants as verb
 
 -- ---- Words
-
--- what a word stands for, where it is one of the listed
-abbrev pub listed : {A : Type 0} → List (List ℕ × A) → List ℕ → Option A
-listed [] word = None
-listed ((w, meaning) ∷ ws) word = if same_name word w then Some meaning else listed ws word
-
--- the words that a line can begin with
-abbrev pub verbs : List (List ℕ × Verb)
-verbs =
-    (codes "session", verb.Session) ∷ (codes "load", verb.Load) ∷ (codes "configure", verb.Configure) ∷ (codes "cleanup", verb.Cleanup) ∷
-    (codes "unload", verb.Unload) ∷ (codes "rate", verb.Rate) ∷ (codes "send", verb.Send) ∷ (codes "switch", verb.Switch) ∷
-    (codes "hw", verb.Hardware) ∷ (codes "await", verb.Await) ∷ (codes "list", verb.List) ∷
-    (codes "schedule", verb.Schedule) ∷ (codes "step", verb.Step) ∷ (codes "begin", verb.Begin) ∷ (codes "end", verb.End) ∷ []
 
 -- a name is a word by the naming rule
 abbrev pub name_word : List ℕ → Option (List ℕ)
@@ -52,10 +38,6 @@ at_most limit (Some n) = if nat_le n limit then Some n else None
 -- a value is a word that is a number
 abbrev pub value_word : List ℕ → Option ℤ
 value_word word = elim (number_of word) [ Ok n ↦ Some n | Err _ ↦ None ]
-
--- the four lifecycle states
-abbrev pub lives : List (List ℕ × Life)
-lives = (codes "unconfigured", life.Unconfigured) ∷ (codes "inactive", life.Inactive) ∷ (codes "active", life.Active) ∷ (codes "finalized", life.Finalized) ∷ []
 
 -- one more in front, where both are there
 abbrev pub in_front : {A : Type 0} → Option A → Option (List A) → Option (List A)
@@ -127,10 +109,6 @@ behind sign (b ∷ bs) = if b == sign then name_word bs else None
 -- a name to activate, `+NAME`, or to deactivate, `-NAME`
 abbrev pub is_signed : List ℕ → Bool
 is_signed word = is_some (behind 43 word) || is_some (behind 45 word)
-
--- which of two strictnesses
-abbrev pub strictnesses : List (List ℕ × Bool)
-strictnesses = (codes "strict", true) ∷ (codes "best", false) ∷ []
 
 -- a switch of these words, where each is a signed name; each list keeps its order
 abbrev pub switch_in : Option Bool → List (List ℕ) → Option SwitchRequest

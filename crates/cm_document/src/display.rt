@@ -14,35 +14,23 @@ use std::fmt::{Display, Formatter, Write};
 
 impl Display for CtlKind {
     ghost use Rattle.std.specs.Prelude.{Some};
-    ghost use Rattle.cm_document.specs.Params.{kind_word};
+    ghost use Rattle.cm_document.specs.Vocabulary.{kind_word};
 
     ghost output = { λ kind. Some (kind_word kind) };
 
     fn fmt<W: Write>(&self, f: &mut Formatter<W>) -> fmt::Result {
-        match self {
-            CtlKind::Forward => f.write_str("forward"),
-            CtlKind::Passthrough => f.write_str("passthrough"),
-            CtlKind::Pid => f.write_str("pid"),
-            CtlKind::Trajectory => f.write_str("trajectory"),
-            CtlKind::Broadcaster => f.write_str("broadcaster"),
-            CtlKind::Mock => f.write_str("mock"),
-        }
+        f.write_str(self.word())
     }
 }
 
 impl Display for Life {
     ghost use Rattle.std.specs.Prelude.{Some};
-    ghost use Rattle.cm_document.specs.CallText.{life_word};
+    ghost use Rattle.cm_document.specs.Vocabulary.{life_word};
 
     ghost output = { λ life. Some (life_word life) };
 
     fn fmt<W: Write>(&self, f: &mut Formatter<W>) -> fmt::Result {
-        match self {
-            Life::Unconfigured => f.write_str("unconfigured"),
-            Life::Inactive => f.write_str("inactive"),
-            Life::Active => f.write_str("active"),
-            Life::Finalized => f.write_str("finalized"),
-        }
+        f.write_str(self.word())
     }
 }
 

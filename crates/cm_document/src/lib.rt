@@ -19,6 +19,9 @@ pub use limits::{
 pub use script::{Forms, Script, ScriptLine, SessionText, Turn, Verb, built, every_form};
 pub use sequence::{Seq, Shared};
 pub use text::Text;
+pub use vocabulary::{
+    COMPONENT_KINDS, CONTROLLER_KINDS, LIVES, LIVES_ON_ERROR, STRICTNESSES, VERBS, meaning_of,
+};
 
 mod call;
 mod checked;
@@ -31,3 +34,4 @@ mod life;
 mod limits;
 mod script;
 mod text;
+mod vocabulary;

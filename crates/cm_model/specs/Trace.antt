@@ -1,7 +1,7 @@
 -- The trace: one line for each entry of a history.
 use Rattle.std.specs.Prelude.{ℕ, List, [], ◌∷◌, ◌++◌, flat_map, codes, decimal, slice_get, option_map, unwrap_or}
-use Rattle.cm_document.specs.Params.{kind_word}
-use Rattle.cm_document.specs.CallText.{life_word, call_text}
+use Rattle.cm_document.specs.Vocabulary.{kind_word, life_word}
+use Rattle.cm_document.specs.CallText.{call_text}
 use Rattle.cm_model.specs.Scheduled.{scheduled}
 use Rattle.cm_model.specs.declared.entry.Entry.{Entry}
 use Rattle.cm_document.specs.declared.document.Document.{Document}

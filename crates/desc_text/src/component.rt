@@ -7,7 +7,7 @@ use crate::forms::{ListOf, One, TableForm, TablesOf};
 use crate::joint::Joint;
 use crate::keys::Keys;
 use crate::values::{Cycle, Named};
-use crate::words::{ComponentKinds, StatesAtStart, StatesOnError, WordOf};
+use crate::words::{ComponentKinds, LivesAtStart, LivesOnError, WordOf};
 use cm_document::{CompDesc, DescFault, Life, Seq};
 
 /// The keys that a component may have.
@@ -35,8 +35,8 @@ impl TableForm for Component {
         keys.none_but(&KEYS)?;
         let name = keys.required("name", &One(Named))?;
         let kind = keys.required("kind", &One(WordOf(ComponentKinds)))?;
-        let initial = keys.defaulted("initial", &One(WordOf(StatesAtStart)), Life::Active)?;
-        let on_error = keys.defaulted("on_error", &One(WordOf(StatesOnError)), Life::Unconfigured)?;
+        let initial = keys.defaulted("initial", &One(WordOf(LivesAtStart)), Life::Active)?;
+        let on_error = keys.defaulted("on_error", &One(WordOf(LivesOnError)), Life::Unconfigured)?;
         let fail_read = keys.defaulted("fail_read", &ListOf(Cycle), Seq::new(keys.alloc))?;
         let fail_write = keys.defaulted("fail_write", &ListOf(Cycle), Seq::new(keys.alloc))?;
         let joints = keys.required("joint", &TablesOf(Joint))?;

@@ -13,7 +13,7 @@ use crate::states::{AllOrList, ReadList};
 use crate::values::{
     Boolean, Cycle, Interface, Named, Quantity, Whole, most_units, no_units,
 };
-use crate::words::{ControllerTypes, WordOf};
+use crate::words::{ControllerKinds, WordOf};
 use cm_document::{CtlDesc, CtlKind, DescFault, IfaceName, Params, Seq, Shared};
 use std::alloc::{AllocError, Global};
 
@@ -66,7 +66,7 @@ impl TableForm for Controller {
 
     #[tactic(auto, unfolding(cm_document::specs::Described::controller_table))]
     fn read(&self, keys: &Keys<'_>) -> Result<CtlDesc, DescFault> {
-        match keys.required("type", &One(WordOf(ControllerTypes)))? {
+        match keys.required("type", &One(WordOf(ControllerKinds)))? {
             CtlKind::Forward => forward(keys),
             CtlKind::Passthrough => passthrough(keys),
             CtlKind::Pid => pid(keys),
@@ -82,7 +82,7 @@ fn forward(keys: &Keys<'_>) -> Result<CtlDesc, DescFault>
 {
     keys.none_but(&CLAIMING)?;
     let name = keys.required("name", &One(Named))?;
-    keys.required("type", &One(WordOf(ControllerTypes)))?;
+    keys.required("type", &One(WordOf(ControllerKinds)))?;
     let rate = keys.defaulted("update_rate", &One(Whole), 0)?;
     let claims = keys.required("claims", &ListOf(Interface))?;
     Ok(CtlDesc {
@@ -101,7 +101,7 @@ fn passthrough(keys: &Keys<'_>) -> Result<CtlDesc, DescFault>
 {
     keys.none_but(&CLAIMING)?;
     let name = keys.required("name", &One(Named))?;
-    keys.required("type", &One(WordOf(ControllerTypes)))?;
+    keys.required("type", &One(WordOf(ControllerKinds)))?;
     let rate = keys.defaulted("update_rate", &One(Whole), 0)?;
     let claims = keys.required("claims", &ListOf(Interface))?;
     Ok(CtlDesc {
@@ -120,7 +120,7 @@ fn pid(keys: &Keys<'_>) -> Result<CtlDesc, DescFault>
 {
     keys.none_but(&PID)?;
     let name = keys.required("name", &One(Named))?;
-    keys.required("type", &One(WordOf(ControllerTypes)))?;
+    keys.required("type", &One(WordOf(ControllerKinds)))?;
     let rate = keys.defaulted("update_rate", &One(Whole), 0)?;
     let claims = keys.required("claims", &ListOf(Interface))?;
     let reads = keys.required("reads", &ReadList)?;
@@ -149,7 +149,7 @@ fn trajectory(keys: &Keys<'_>) -> Result<CtlDesc, DescFault>
 {
     keys.none_but(&TRAJECTORY)?;
     let name = keys.required("name", &One(Named))?;
-    keys.required("type", &One(WordOf(ControllerTypes)))?;
+    keys.required("type", &One(WordOf(ControllerKinds)))?;
     let rate = keys.defaulted("update_rate", &One(Whole), 0)?;
     let claims = keys.required("claims", &ListOf(Interface))?;
     let reads = keys.required("reads", &ReadList)?;
@@ -169,7 +169,7 @@ fn broadcaster(keys: &Keys<'_>, all: &Shared<Seq<IfaceName>>) -> Result<CtlDesc,
 {
     keys.none_but(&BROADCASTER)?;
     let name = keys.required("name", &One(Named))?;
-    keys.required("type", &One(WordOf(ControllerTypes)))?;
+    keys.required("type", &One(WordOf(ControllerKinds)))?;
     let rate = keys.defaulted("update_rate", &One(Whole), 0)?;
     let reads = keys.required("reads", &AllOrList { all })?;
     Ok(CtlDesc {
@@ -188,7 +188,7 @@ fn mock(keys: &Keys<'_>) -> Result<CtlDesc, DescFault>
 {
     keys.none_but(&MOCK)?;
     let name = keys.required("name", &One(Named))?;
-    keys.required("type", &One(WordOf(ControllerTypes)))?;
+    keys.required("type", &One(WordOf(ControllerKinds)))?;
     let rate = keys.defaulted("update_rate", &One(Whole), 0)?;
     let claims = keys.defaulted("claims", &ListOf(Interface), Seq::new(keys.alloc))?;
     let reads = keys.defaulted("reads", &ReadList, no_reads(keys.alloc)?)?;

@@ -1,15 +1,17 @@
 //! The words that stand for something, and what they stand for.
 
-ghost use Rattle.std.specs.Prelude.{◌≡◌, List, ℕ};
+ghost use Rattle.std.specs.Prelude.{◌≡◌, List, ℕ, Some, None, Ok, Err};
 ghost use Rattle.sequence.specs.Answers.{Answers};
 ghost use Rattle.toml.specs.View.{view};
+ghost use Rattle.cm_document.specs.Vocabulary.{component_kinds, lives, lives_on_error, controller_kinds};
 ghost use Rattle.cm_document.specs.Forms.{word_in, meaning_of};
-ghost use Rattle.cm_document.specs.Described.{component_kinds, states_at_start, states_on_error, controller_types};
 
 use crate::faults::Refused;
 use crate::forms::Rule;
-use crate::keys::same_key;
-use cm_document::{CompKind, CtlKind, Life, Wrong};
+use cm_document::{
+    COMPONENT_KINDS, CONTROLLER_KINDS, CompKind, CtlKind, LIVES, LIVES_ON_ERROR, Life, Wrong,
+    meaning_of,
+};
 use std::alloc::Global;
 use toml::Value;
 
@@ -52,86 +54,58 @@ impl Words for ComponentKinds {
     ghost words = { component_kinds };
 
     fn meaning(word: &str) -> Result<CompKind, Wrong> {
-        if same_key(word, "sensor") {
-            Ok(CompKind::Sensor)
-        } else if same_key(word, "actuator") {
-            Ok(CompKind::Actuator)
-        } else if same_key(word, "system") {
-            Ok(CompKind::System)
-        } else {
-            Err(Wrong::Value)
-        }
+        meant(meaning_of(&COMPONENT_KINDS, word.as_bytes()))
     }
 }
 
 /// The state of a component at start.
 #[derive(Drop)]
-pub struct StatesAtStart;
+pub struct LivesAtStart;
 
-impl Words for StatesAtStart {
+impl Words for LivesAtStart {
     type Meaning = Life;
 
-    ghost words = { states_at_start };
+    ghost words = { lives };
 
     fn meaning(word: &str) -> Result<Life, Wrong> {
-        if same_key(word, "unconfigured") {
-            Ok(Life::Unconfigured)
-        } else if same_key(word, "inactive") {
-            Ok(Life::Inactive)
-        } else if same_key(word, "active") {
-            Ok(Life::Active)
-        } else if same_key(word, "finalized") {
-            Ok(Life::Finalized)
-        } else {
-            Err(Wrong::Value)
-        }
+        meant(meaning_of(&LIVES, word.as_bytes()))
     }
 }
 
 /// The state of a component after a failure.
 #[derive(Drop)]
-pub struct StatesOnError;
+pub struct LivesOnError;
 
-impl Words for StatesOnError {
+impl Words for LivesOnError {
     type Meaning = Life;
 
-    ghost words = { states_on_error };
+    ghost words = { lives_on_error };
 
     fn meaning(word: &str) -> Result<Life, Wrong> {
-        if same_key(word, "unconfigured") {
-            Ok(Life::Unconfigured)
-        } else if same_key(word, "finalized") {
-            Ok(Life::Finalized)
-        } else {
-            Err(Wrong::Value)
-        }
+        meant(meaning_of(&LIVES_ON_ERROR, word.as_bytes()))
     }
 }
 
 /// The type of a controller.
 #[derive(Drop)]
-pub struct ControllerTypes;
+pub struct ControllerKinds;
 
-impl Words for ControllerTypes {
+impl Words for ControllerKinds {
     type Meaning = CtlKind;
 
-    ghost words = { controller_types };
+    ghost words = { controller_kinds };
 
     fn meaning(word: &str) -> Result<CtlKind, Wrong> {
-        if same_key(word, "forward") {
-            Ok(CtlKind::Forward)
-        } else if same_key(word, "passthrough") {
-            Ok(CtlKind::Passthrough)
-        } else if same_key(word, "pid") {
-            Ok(CtlKind::Pid)
-        } else if same_key(word, "trajectory") {
-            Ok(CtlKind::Trajectory)
-        } else if same_key(word, "broadcaster") {
-            Ok(CtlKind::Broadcaster)
-        } else if same_key(word, "mock") {
-            Ok(CtlKind::Mock)
-        } else {
-            Err(Wrong::Value)
-        }
+        meant(meaning_of(&CONTROLLER_KINDS, word.as_bytes()))
+    }
+}
+
+/// What a word stands for, or that the value is not of the form.
+fn meant<T: Copy>(meaning: Option<T>) -> Result<T, Wrong>
+    ensures { result ≡ elim meaning [ Some m ↦ Ok m | None ↦ Err Wrong.Value ] }
+{
+    match meaning {
+        Some(meaning) => Ok(meaning),
+        None => Err(Wrong::Value),
     }
 }

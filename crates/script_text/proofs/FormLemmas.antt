@@ -2,7 +2,8 @@
 use Rattle.std.proofs.Common.{◌≡◌, ℕ, Bool, true, false, List, [], ◌∷◌, Some, None, refl}
 use Rattle.std.specs.Prelude.{option_map}
 use Rattle.std.specs.Option.{option_and_then}
-use Rattle.cm_document.specs.LineForms.{listed, lives, lists, name_word, whole_word, at_most, where_accepted, a_call, on_name, rate_in, hardware_in, list_in, said}
+use Rattle.cm_document.specs.Vocabulary.{listed, lives}
+use Rattle.cm_document.specs.LineForms.{lists, name_word, whole_word, at_most, where_accepted, a_call, on_name, rate_in, hardware_in, list_in, said}
 use Rattle.cm_document.specs.declared.call.Call.{Call}
 use Rattle.cm_document.specs.declared.call.Call.TheVariants as call
 use Rattle.cm_document.specs.declared.script.Forms.{Forms}

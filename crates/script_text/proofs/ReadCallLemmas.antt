@@ -17,7 +17,8 @@ use Rattle.fixed_num.specs.declared.read.FxFault.{FxFault}
 use Rattle.fixed_num.proofs.DigitLemmas.{own}
 use Rattle.fixed_num.proofs.ReadBackLemmas.{number_of_small}
 use Rattle.iface_names.specs.Names.{is_name, same_name}
-use Rattle.cm_document.specs.LineForms.{listed, verbs, name_word, whole_word, at_most, value_word, lives, in_front, all_words, values_in, is_time, untimed, timed, time_word, point_at, later, points_after, mail_in, behind, is_signed, strictnesses, switch_in, where_accepted, a_call, on_name, rate_in, send_in, hardware_in, lists, list_in, said, line_of}
+use Rattle.cm_document.specs.Vocabulary.{listed, lives, strictnesses, verbs}
+use Rattle.cm_document.specs.LineForms.{name_word, whole_word, at_most, value_word, in_front, all_words, values_in, is_time, untimed, timed, time_word, point_at, later, points_after, mail_in, behind, is_signed, switch_in, where_accepted, a_call, on_name, rate_in, send_in, hardware_in, lists, list_in, said, line_of}
 use Rattle.cm_document.specs.ScriptRules.{mail_fits, call_fits}
 use Rattle.cm_document.specs.ScriptLaws.{IsName, AreValues, ArePointsAfter, CanBeSent, CanBeAsked, CanBeWritten, has_form}
 use Rattle.cm_document.specs.declared.call.Call.{Call}

@@ -1,0 +1,72 @@
+-- Vocabularies: tables of words, each with what it stands for. A reader looks up a word, a printer what it stands for.
+use Rattle.std.specs.Prelude.{ℕ, Bool, true, false, if◌then◌else◌, List, [], ◌∷◌, map, find, Option, Some, None}
+use Rattle.std.specs.Option.{option_map_or}
+use Rattle.iface_names.specs.Names.{same_name}
+use Rattle.cm_document.specs.declared.description.CompKind.{CompKind}
+use Rattle.cm_document.specs.declared.description.CtlKind.{CtlKind}
+use Rattle.cm_document.specs.declared.description.CtlKind.TheVariants.{Forward, Passthrough, Pid, Trajectory, Broadcaster, Mock}
+use Rattle.cm_document.specs.declared.life.Life.{Life}
+use Rattle.cm_document.specs.declared.life.Life.TheVariants.{Unconfigured, Inactive, Active, Finalized}
+use Rattle.cm_document.specs.declared.script.Verb.{Verb}
+use Rattle.cm_document.specs.declared.vocabulary.TheConstants.{COMPONENT_KINDS, LIVES, LIVES_ON_ERROR, CONTROLLER_KINDS, VERBS, STRICTNESSES}
+
+-- ---- Looking up
+
+-- what a word stands for, where it is one of the listed
+abbrev pub listed : {A : Type 0} → List (List ℕ × A) → List ℕ → Option A
+listed [] word = None
+listed ((w, meaning) ∷ ws) word = if same_name word w then Some meaning else listed ws word
+
+-- ---- The tables
+
+-- the words for what a component is for
+abbrev pub component_kinds : List (List ℕ × CompKind)
+component_kinds = map (λ row. (row.0.now, row.1)) COMPONENT_KINDS
+
+-- the words for the lifecycle states
+abbrev pub lives : List (List ℕ × Life)
+lives = map (λ row. (row.0.now, row.1)) LIVES
+
+-- those for a component's state after a failure
+abbrev pub lives_on_error : List (List ℕ × Life)
+lives_on_error = map (λ row. (row.0.now, row.1)) LIVES_ON_ERROR
+
+-- the words for the kinds of controllers
+abbrev pub controller_kinds : List (List ℕ × CtlKind)
+controller_kinds = map (λ row. (row.0.now, row.1)) CONTROLLER_KINDS
+
+-- the words that a line of a script can begin with
+abbrev pub verbs : List (List ℕ × Verb)
+verbs = map (λ row. (row.0.now, row.1)) VERBS
+
+-- the words for whether a switch is strict
+abbrev pub strictnesses : List (List ℕ × Bool)
+strictnesses = map (λ row. (row.0.now, row.1)) STRICTNESSES
+
+-- ---- Words
+
+-- the two kinds are one
+abbrev pub same_controller_kind : CtlKind → CtlKind → Bool
+same_controller_kind Forward Forward = true
+same_controller_kind Passthrough Passthrough = true
+same_controller_kind Pid Pid = true
+same_controller_kind Trajectory Trajectory = true
+same_controller_kind Broadcaster Broadcaster = true
+same_controller_kind Mock Mock = true
+same_controller_kind _ _ = false
+
+-- the word beside a kind of controller
+abbrev pub kind_word : CtlKind → List ℕ
+kind_word kind = option_map_or (λ row. row.0.now) (find (λ row. same_controller_kind row.1 kind) CONTROLLER_KINDS) []
+
+-- the two states are one
+abbrev pub same_life : Life → Life → Bool
+same_life Unconfigured Unconfigured = true
+same_life Inactive Inactive = true
+same_life Active Active = true
+same_life Finalized Finalized = true
+same_life _ _ = false
+
+-- the word beside a lifecycle state
+abbrev pub life_word : Life → List ℕ
+life_word life = option_map_or (λ row. row.0.now) (find (λ row. same_life row.1 life) LIVES) []

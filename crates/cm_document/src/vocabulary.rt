@@ -1,0 +1,134 @@
+//! Vocabularies: tables of words, each with what it stands for. Readers look a word up, printers what it stands for.
+
+ghost use Rattle.std.specs.Prelude.{◌≡◌, map, find, option_copied};
+ghost use Rattle.iface_names.specs.Names.{same_name};
+ghost use Rattle.cm_document.specs.Vocabulary.{listed, same_controller_kind, kind_word, same_life, life_word};
+
+use crate::description::{CompKind, CtlKind};
+use crate::life::Life;
+use crate::script::Verb;
+
+/// What a component is for.
+pub const COMPONENT_KINDS: [(&str, CompKind); 3] = [
+    ("sensor", CompKind::Sensor),
+    ("actuator", CompKind::Actuator),
+    ("system", CompKind::System),
+];
+
+/// Lifecycle states.
+pub const LIVES: [(&str, Life); 4] = [
+    ("unconfigured", Life::Unconfigured),
+    ("inactive", Life::Inactive),
+    ("active", Life::Active),
+    ("finalized", Life::Finalized),
+];
+
+/// The lifecycle states that a component may have after a failure.
+pub const LIVES_ON_ERROR: [(&str, Life); 2] = [
+    ("unconfigured", Life::Unconfigured),
+    ("finalized", Life::Finalized),
+];
+
+/// What a controller computes.
+pub const CONTROLLER_KINDS: [(&str, CtlKind); 6] = [
+    ("forward", CtlKind::Forward),
+    ("passthrough", CtlKind::Passthrough),
+    ("pid", CtlKind::Pid),
+    ("trajectory", CtlKind::Trajectory),
+    ("broadcaster", CtlKind::Broadcaster),
+    ("mock", CtlKind::Mock),
+];
+
+/// The words that a line of a script can begin with.
+pub const VERBS: [(&str, Verb); 15] = [
+    ("session", Verb::Session),
+    ("load", Verb::Load),
+    ("configure", Verb::Configure),
+    ("cleanup", Verb::Cleanup),
+    ("unload", Verb::Unload),
+    ("rate", Verb::Rate),
+    ("send", Verb::Send),
+    ("switch", Verb::Switch),
+    ("hw", Verb::Hardware),
+    ("await", Verb::Await),
+    ("list", Verb::List),
+    ("schedule", Verb::Schedule),
+    ("step", Verb::Step),
+    ("begin", Verb::Begin),
+    ("end", Verb::End),
+];
+
+/// Whether a switch is strict: all of it or nothing, or else what can be done.
+pub const STRICTNESSES: [(&str, bool); 2] = [("strict", true), ("best", false)];
+
+/// What a word stands for, where the table has it.
+#[tactic(auto, using(crate::proofs::VocabularyLemmas::found_is_listed))]
+pub fn meaning_of<T: Copy>(table: &[(&str, T)], word: &[u8]) -> Option<T>
+    ensures { result ≡ listed (map (λ row. (row.0.now, row.1)) table.now) word.now }
+{
+    match row_of(table, word) {
+        Some(row) => Some(row.1),
+        None => None,
+    }
+}
+
+/// The row of this word.
+fn row_of<'a, 'b, T>(table: &'a [(&'b str, T)], word: &[u8]) -> Option<&'a (&'b str, T)>
+    ensures { option_copied result ≡ find (λ row. same_name word.now row.0.now) table.now }
+{
+    table.iter().find(|row| is_word(row.0, word))
+}
+
+fn is_word(text: &str, word: &[u8]) -> bool
+    ensures { result ≡ same_name word.now text.now }
+{
+    word == text.as_bytes()
+}
+
+impl CtlKind {
+    /// The word for the kind, as a description's `type` says it.
+    pub fn word(self) -> &'static str
+        ensures { result.now ≡ kind_word self }
+    {
+        match kind_row(&CONTROLLER_KINDS, self) {
+            Some(row) => row.0,
+            None => "",
+        }
+    }
+}
+
+fn kind_row<'a, 'b>(table: &'a [(&'b str, CtlKind)], kind: CtlKind) -> Option<&'a (&'b str, CtlKind)>
+    ensures { option_copied result ≡ find (λ row. same_controller_kind row.1 kind) table.now }
+{
+    table.iter().find(|row| is_kind(row.1, kind))
+}
+
+fn is_kind(kind: CtlKind, other: CtlKind) -> bool
+    ensures { result ≡ same_controller_kind kind other }
+{
+    kind == other
+}
+
+impl Life {
+    /// The word for the state.
+    pub fn word(self) -> &'static str
+        ensures { result.now ≡ life_word self }
+    {
+        match life_row(&LIVES, self) {
+            Some(row) => row.0,
+            None => "",
+        }
+    }
+}
+
+fn life_row<'a, 'b>(table: &'a [(&'b str, Life)], life: Life) -> Option<&'a (&'b str, Life)>
+    ensures { option_copied result ≡ find (λ row. same_life row.1 life) table.now }
+{
+    table.iter().find(|row| is_life(row.1, life))
+}
+
+fn is_life(life: Life, other: Life) -> bool
+    ensures { result ≡ same_life life other }
+{
+    life == other
+}
