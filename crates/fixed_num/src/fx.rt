@@ -1,10 +1,14 @@
 //! `Fx`: a number with six decimals, from minus to plus a thousand million.
 
 ghost use Rattle.std.specs.Prelude.{◌≡◌, pos, ◌*ℤ◌, ◌<ℤ◌, ◌≤ℤ◌};
-ghost use Rattle.fixed_num.specs.Micro.{IsInRange, clamped};
+ghost use Rattle.fixed_num.specs.Micro.{IsInRange, clamped, units};
 ghost use Rattle.fixed_num.specs.Arithmetic.{added, subtracted, multiplied, ratio, within, floor_div};
 
+use crate::{LARGEST, MICRO, MOST_UNITS};
 use std::marker::Model;
+
+/// The largest number, in micro-units.
+const TOP: i64 = LARGEST as i64;
 
 /// A whole number of micro-units (millionths) from -10^15 to 10^15. Contracts see that whole number.
 #[derive(Clone, Copy, Debug, PartialEq, Eq)]
@@ -26,14 +30,39 @@ impl Model for Fx {
 }
 
 impl Fx {
+    /// Nothing.
+    pub const ZERO: Fx = Fx { micro: 0 };
+
+    /// One unit.
+    pub const ONE: Fx = Fx {
+        micro: MICRO as i64,
+    };
+
+    /// The largest number: a thousand million units.
+    pub const MAX: Fx = Fx { micro: TOP };
+
     /// The number of `n` micro-units; past either end of the range it is that end.
     #[tactic(auto, unfolding(crate::specs::Micro::clamped))]
     pub fn from_micro(n: i64) -> Fx
         ensures { result ≡ clamped n }
     {
         Fx {
-            micro: n.max(-LARGEST).min(LARGEST),
+            micro: n.max(-TOP).min(TOP),
         }
+    }
+
+    /// The number of `n` whole units; None exactly where that is past an end of the range.
+    #[tactic(auto, unfolding(crate::specs::Micro::clamped))]
+    pub fn from_units(n: i64) -> Option<Fx>
+        ensures { result ≡ units n }
+    {
+        let most = i64::from(MOST_UNITS);
+        if n < -most || n > most {
+            return None;
+        }
+        Some(Fx {
+            micro: n * i64::from(MICRO),
+        })
     }
 
     /// How many micro-units it is.
@@ -63,8 +92,8 @@ impl Fx {
         ensures { result ≡ multiplied self other }
     {
         match self.micro.checked_mul(other.micro) {
-            Some(product) => Fx::from_micro(floor(product, MILLION)),
-            None => Fx::from_wide(wide_ratio(self.micro, other.micro, MILLION)),
+            Some(product) => Fx::from_micro(floor(product, i64::from(MICRO))),
+            None => Fx::from_wide(wide_ratio(self.micro, other.micro, i64::from(MICRO))),
         }
     }
 
@@ -97,7 +126,7 @@ impl Fx {
         ensures { result ≡ clamped n }
     {
         Fx {
-            micro: n.max(-LARGEST as i128).min(LARGEST as i128) as i64,
+            micro: n.max(-i128::from(TOP)).min(i128::from(TOP)) as i64,
         }
     }
 }
@@ -126,19 +155,11 @@ fn wide_ratio(a: i64, num: i64, den: i64) -> i128
     wide_floor(a as i128 * num as i128, den as i128)
 }
 
-/// The largest number, in micro-units: a thousand million units.
-const LARGEST: i64 = 1_000_000_000_000_000;
-
-/// How many micro-units are a unit.
-const MILLION: i64 = 1_000_000;
-
 #[cfg(test)]
 mod tests {
     use super::*;
 
-    const BOTTOM: i64 = -1_000_000_000_000_000;
-
-    const TOP: i64 = 1_000_000_000_000_000;
+    const BOTTOM: i64 = -TOP;
 
     #[test]
     fn ends_of_the_range(rt: HostRuntime) {

@@ -3,7 +3,8 @@
 ghost use Rattle.std.specs.Prelude.{◌≡◌};
 ghost use Rattle.fixed_num.specs.Text.{number_in_range, number_of};
 
-use crate::cut::{Cut, DECIMALS};
+use crate::DECIMALS;
+use crate::cut::Cut;
 use crate::fx::Fx;
 use thiserror::Error;
 
