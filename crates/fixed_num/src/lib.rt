@@ -12,6 +12,8 @@ mod fx;
 pub mod laws;
 mod memory;
 mod read;
+#[cfg(test)]
+mod tests;
 mod text;
 mod value;
 
