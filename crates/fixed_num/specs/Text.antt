@@ -4,6 +4,7 @@ use Rattle.std.specs.List.{prefix_len, take_while}
 use Rattle.std.specs.Char.{is_ascii_digit}
 use Rattle.std.specs.Fmt.{decimal}
 use Rattle.std.specs.Str.Parse.{digits_value}
+use Rattle.fixed_num.specs.declared.TheConstants.{DECIMALS, MICRO, LARGEST}
 use Rattle.fixed_num.specs.declared.read.FxFault.{FxFault}
 use Rattle.fixed_num.specs.declared.read.FxFault.TheVariants.{Empty, BadByte, TooManyDecimals, TooLarge}
 
@@ -63,11 +64,11 @@ decimal_count (Some ds) = length ds
 -- what the decimals add, in micro-units: the first of six counts a hundred thousand
 abbrev pub micro_of_decimals : Option (List ℕ) → ℕ
 micro_of_decimals None = 0
-micro_of_decimals (Some ds) = digits_value 10 ds * 10 ^ (6 - length ds)
+micro_of_decimals (Some ds) = digits_value 10 ds * 10 ^ (DECIMALS - length ds)
 
 -- the number without its sign, in micro-units
 abbrev pub size_of : Parts → ℕ
-size_of p = digits_value 10 p.whole * 1000000 + micro_of_decimals p.decimals
+size_of p = digits_value 10 p.whole * MICRO + micro_of_decimals p.decimals
 
 -- the number in micro-units
 abbrev pub micro_of : Parts → ℤ
@@ -76,8 +77,8 @@ micro_of p = if p.negative then neg_ℤ (pos (size_of p)) else pos (size_of p)
 -- the number of these parts, where its decimals are six at most and it lies in the range
 abbrev pub number_in_range : Parts → Result ℤ FxFault
 number_in_range p =
-    if nat_lt 6 (decimal_count p.decimals) then Err TooManyDecimals
-    else if nat_lt 1000000000000000 (size_of p) then Err TooLarge
+    if nat_lt DECIMALS (decimal_count p.decimals) then Err TooManyDecimals
+    else if nat_lt LARGEST (size_of p) then Err TooLarge
     else Ok (micro_of p)
 
 -- The number that a text stands for, or the first fault: no bytes, a bad byte, seven or more decimals, outside the range.
@@ -95,8 +96,8 @@ sign_text (negsuc n) = codes "-"
 
 -- six digits, with zeros in front
 abbrev pub six_digits : ℕ → List ℕ
-six_digits n = replicate (6 - length (decimal n)) 48 ++ decimal n
+six_digits n = replicate (DECIMALS - length (decimal n)) 48 ++ decimal n
 
 -- The one spelling of so many micro-units: the sign, the whole part, a point, six decimals.
 unfoldable pub spelled : ℤ → List ℕ
-spelled n = sign_text n ++ decimal (nat_abs n / 1000000) ++ codes "." ++ six_digits (nat_abs n % 1000000)
+spelled n = sign_text n ++ decimal (nat_abs n / MICRO) ++ codes "." ++ six_digits (nat_abs n % MICRO)

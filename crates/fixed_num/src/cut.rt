@@ -1,22 +1,14 @@
 //! A text cut into the parts of a number, and what the parts write.
 
-ghost use Rattle.std.specs.Prelude.{◌≡◌, ◌<◌, ◌≤◌, length, min, nat_lt, if◌then◌else◌, None, Some, pos, IsTrue};
+ghost use Rattle.std.specs.Prelude.{◌≡◌, ◌+◌, ◌<◌, ◌≤◌, length, min, nat_lt, if◌then◌else◌, None, Some, pos, IsTrue};
 ghost use Rattle.std.specs.Str.{all_ascii_digits};
 ghost use Rattle.std.specs.List.{prefix_len};
 ghost use Rattle.std.specs.Char.{is_ascii_digit};
 ghost use Rattle.std.specs.Str.Parse.{digits_value};
 ghost use Rattle.fixed_num.specs.Text.{front_digits, after_digits, unsigned_parts, parts_of, is_broken, is_bare_point, decimal_count, micro_of_decimals, size_of};
 
+use crate::{DECIMALS, LARGEST, MICRO, MOST_UNITS};
 use std::marker::Model;
-
-/// How many units the largest number has.
-const MOST_UNITS: u64 = 1_000_000_000;
-
-/// How many decimals a number has.
-pub(crate) const DECIMALS: usize = 6;
-
-/// How many micro-units a unit has.
-pub(crate) const MICRO: u64 = 1_000_000;
 
 /// A text cut into the parts of a number, and what a number can't have.
 #[derive(Drop)]
@@ -101,18 +93,18 @@ impl<'a> Cut<'a> {
 
     /// The micro-units without the sign, where they are in the range.
     pub(crate) fn size(&self) -> Option<i64>
-        requires { decimal_count self.now.decimals ≤ 6 }
-        ensures { result ≡ (if nat_lt 1000000000000000 (size_of self.now) then None else Some (pos (size_of self.now))) }
+        requires { decimal_count self.now.decimals ≤ DECIMALS }
+        ensures { result ≡ (if nat_lt LARGEST (size_of self.now) then None else Some (pos (size_of self.now))) }
     {
-        let size = read_digits(self.whole) * MICRO + self.micro_of_decimals();
-        (size <= MOST_UNITS * MICRO).then_some(size as i64)
+        let size = read_digits(self.whole) * u64::from(MICRO) + self.micro_of_decimals();
+        (size <= LARGEST).then_some(size as i64)
     }
 
     #[tactic(auto, using(crate::proofs::DigitLemmas::decimals_below_unit, crate::proofs::DigitLemmas::six_digits_below))]
     fn micro_of_decimals(&self) -> u64
-        requires { decimal_count self.now.decimals ≤ 6 }
+        requires { decimal_count self.now.decimals ≤ DECIMALS }
         ensures value { result ≡ micro_of_decimals self.now.decimals }
-        ensures small { result < 1000000 }
+        ensures small { result < MICRO }
     {
         match self.decimals {
             Some(digits) => read_digits(digits) * 10u64.pow((DECIMALS - digits.len()) as u32),
@@ -143,11 +135,11 @@ fn count_digits(text: &[u8]) -> usize
 #[tactic(auto, using(crate::proofs::DigitLemmas::number_more, crate::proofs::DigitLemmas::is_digit))]
 fn read_digits(digits: &[u8]) -> u64
     requires { IsTrue (all_ascii_digits digits.now) }
-    ensures { result ≡ min (digits_value 10 digits.now) 1000000001 }
+    ensures { result ≡ min (digits_value 10 digits.now) (MOST_UNITS + 1) }
 {
     let mut number = 0;
     for digit in digits {
-        number = (number * 10 + u64::from(digit - b'0')).min(MOST_UNITS + 1);
+        number = (number * 10 + u64::from(digit - b'0')).min(u64::from(MOST_UNITS) + 1);
     }
     number
 }

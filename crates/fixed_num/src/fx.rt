@@ -1,10 +1,14 @@
 //! `Fx`: a number with six decimals, from minus to plus a thousand million.
 
 ghost use Rattle.std.specs.Prelude.{◌≡◌, pos, ◌*ℤ◌, ◌<ℤ◌, ◌≤ℤ◌};
-ghost use Rattle.fixed_num.specs.Micro.{IsInRange, clamped};
+ghost use Rattle.fixed_num.specs.Micro.{IsInRange, clamped, units};
 ghost use Rattle.fixed_num.specs.Arithmetic.{added, subtracted, multiplied, ratio, within, floor_div};
 
+use crate::{LARGEST, MICRO, MOST_UNITS};
 use std::marker::Model;
+
+/// The largest number, in micro-units.
+const TOP: i64 = LARGEST as i64;
 
 /// A whole number of micro-units (millionths) from -10^15 to 10^15. Contracts see that whole number.
 #[derive(Clone, Copy, Debug, PartialEq, Eq)]
@@ -26,14 +30,39 @@ impl Model for Fx {
 }
 
 impl Fx {
+    /// Nothing.
+    pub const ZERO: Fx = Fx { micro: 0 };
+
+    /// One unit.
+    pub const ONE: Fx = Fx {
+        micro: MICRO as i64,
+    };
+
+    /// The largest number: a thousand million units.
+    pub const MAX: Fx = Fx { micro: TOP };
+
     /// The number of `n` micro-units; past either end of the range it is that end.
     #[tactic(auto, unfolding(crate::specs::Micro::clamped))]
     pub fn from_micro(n: i64) -> Fx
         ensures { result ≡ clamped n }
     {
         Fx {
-            micro: n.max(-LARGEST).min(LARGEST),
+            micro: n.max(-TOP).min(TOP),
         }
+    }
+
+    /// The number of `n` whole units; None exactly where that is past an end of the range.
+    #[tactic(auto, unfolding(crate::specs::Micro::clamped))]
+    pub fn from_units(n: i64) -> Option<Fx>
+        ensures { result ≡ units n }
+    {
+        let most = i64::from(MOST_UNITS);
+        if n < -most || n > most {
+            return None;
+        }
+        Some(Fx {
+            micro: n * i64::from(MICRO),
+        })
     }
 
     /// How many micro-units it is.
@@ -63,8 +92,8 @@ impl Fx {
         ensures { result ≡ multiplied self other }
     {
         match self.micro.checked_mul(other.micro) {
-            Some(product) => Fx::from_micro(floor(product, MILLION)),
-            None => Fx::from_wide(wide_ratio(self.micro, other.micro, MILLION)),
+            Some(product) => Fx::from_micro(floor(product, i64::from(MICRO))),
+            None => Fx::from_wide(wide_ratio(self.micro, other.micro, i64::from(MICRO))),
         }
     }
 
@@ -97,7 +126,7 @@ impl Fx {
         ensures { result ≡ clamped n }
     {
         Fx {
-            micro: n.max(-LARGEST as i128).min(LARGEST as i128) as i64,
+            micro: n.max(-i128::from(TOP)).min(i128::from(TOP)) as i64,
         }
     }
 }
@@ -124,110 +153,4 @@ fn wide_ratio(a: i64, num: i64, den: i64) -> i128
     ensures { result ≡ floor_div (a *ℤ num) den }
 {
     wide_floor(a as i128 * num as i128, den as i128)
-}
-
-/// The largest number, in micro-units: a thousand million units.
-const LARGEST: i64 = 1_000_000_000_000_000;
-
-/// How many micro-units are a unit.
-const MILLION: i64 = 1_000_000;
-
-#[cfg(test)]
-mod tests {
-    use super::*;
-
-    const BOTTOM: i64 = -1_000_000_000_000_000;
-
-    const TOP: i64 = 1_000_000_000_000_000;
-
-    #[test]
-    fn ends_of_the_range(rt: HostRuntime) {
-        for (given, kept) in [
-            (0, 0),
-            (-500_000, -500_000),
-            (TOP, TOP),
-            (TOP + 1, TOP),
-            (BOTTOM - 1, BOTTOM),
-            (i64::MAX, TOP),
-            (i64::MIN, BOTTOM),
-        ] {
-            assert_eq!(rt; Fx::from_micro(given).micro(), kept, "at {given}");
-        }
-    }
-
-    #[test]
-    fn sums_and_differences(rt: HostRuntime) {
-        for (a, b, sum, difference) in [
-            (-500_000, 250_000, -250_000, -750_000),
-            (TOP, 1, TOP, TOP - 1),
-            (TOP, BOTTOM, 0, TOP),
-            (BOTTOM, 1, BOTTOM + 1, BOTTOM),
-            (BOTTOM, TOP, 0, BOTTOM),
-        ] {
-            let (left, right) = (Fx::from_micro(a), Fx::from_micro(b));
-            assert_eq!(rt; left.add(right).micro(), sum, "{a} and {b}");
-            assert_eq!(rt; left.sub(right).micro(), difference, "{a} less {b}");
-        }
-    }
-
-    #[test]
-    fn products(rt: HostRuntime) {
-        for (a, b, product) in [
-            (1_500_000, 2_000_000, 3_000_000),
-            (-1, 1, -1),
-            (1, 1, 0),
-            (-1, -1, 0),
-            (TOP, 1, 1_000_000_000),
-            (TOP, 999_999, 999_999_000_000_000),
-            (TOP, 1_000_001, TOP),
-            (TOP, TOP, TOP),
-            (TOP, BOTTOM, BOTTOM),
-            (BOTTOM, BOTTOM, TOP),
-            // The first square fits 64 bits, the others do not.
-            (3_037_000_499, 3_037_000_499, 9_223_372_030_926),
-            (3_037_000_500, 3_037_000_500, 9_223_372_037_000),
-            (-3_037_000_500, 3_037_000_500, -9_223_372_037_001),
-        ] {
-            let found = Fx::from_micro(a).mul(Fx::from_micro(b)).micro();
-            assert_eq!(rt; found, product, "{a} by {b}");
-        }
-    }
-
-    #[test]
-    fn ratios(rt: HostRuntime) {
-        for (a, num, den, ratio) in [
-            (7, 1, 2, 3),
-            (-7, 1, 2, -4),
-            (7, -1, 2, -4),
-            (-7, -1, 2, 3),
-            (-6, 1, 2, -3),
-            (0, 5, 3, 0),
-            (1, 1, i64::MAX, 0),
-            (-1, 1, i64::MAX, -1),
-            (TOP, i64::MAX, 1, TOP),
-            (TOP, i64::MIN, 1, BOTTOM),
-            (TOP, i64::MAX, i64::MAX, TOP),
-            (TOP, i64::MAX - 1, i64::MAX, TOP - 1),
-        ] {
-            let found = Fx::from_micro(a).over(num, den).micro();
-            assert_eq!(rt; found, ratio, "{a} times {num} over {den}");
-        }
-    }
-
-    #[tactic(auto, unfolding(crate::specs::Micro::clamped))]
-    fn kept(a: i64, limit: i64) -> i64
-        requires not_negative { pos 0 ≤ℤ limit }
-    {
-        Fx::from_micro(a).clamp(Fx::from_micro(limit)).micro()
-    }
-
-    #[test]
-    fn limits(rt: HostRuntime) {
-        assert_eq!(rt; kept(2, 3), 2);
-        assert_eq!(rt; kept(5, 3), 3);
-        assert_eq!(rt; kept(-5, 3), -3);
-        assert_eq!(rt; kept(-3, 3), -3);
-        assert_eq!(rt; kept(7, 0), 0);
-        assert_eq!(rt; kept(BOTTOM, TOP), BOTTOM);
-    }
 }

@@ -25,5 +25,5 @@ pub fn spelling_keeps_the_number(text: &[u8])
 
 /// No number in the range has a text of more than 18 bytes.
 pub fn texts_are_short()
-    ensures { (n : ℤ) → IsInRange n → length (spelled n) ≤ 18 }
+    ensures { (n : ℤ) → IsInRange n → length (spelled n) ≤ Fx.LONGEST_TEXT }
 {}

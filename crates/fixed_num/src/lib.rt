@@ -5,12 +5,29 @@
 pub use fx::Fx;
 pub use memory::Memory;
 pub use read::FxFault;
-pub use value::{JointMode, Value};
+pub use value::{BodyState, JointMode, Value};
 
 mod cut;
 mod fx;
 pub mod laws;
 mod memory;
 mod read;
+#[cfg(test)]
+mod tests;
 mod text;
 mod value;
+
+/// How many decimals a number has.
+pub const DECIMALS: usize = 6;
+
+/// How many micro-units are a unit: as many as six decimals can tell apart.
+pub const MICRO: u32 = 1_000_000;
+
+/// How many units the largest number has, and the smallest has below zero: a thousand million.
+pub const MOST_UNITS: u32 = 1_000_000_000;
+
+/// How many micro-units these are.
+pub const LARGEST: u64 = MOST_UNITS as u64 * MICRO as u64;
+
+/// How many digits the whole part of a number's text has at most: those of the most units.
+pub const MOST_DIGITS: usize = 10;

@@ -4,9 +4,9 @@ ghost use Rattle.std.specs.Prelude.{◌≡◌, ◌+◌, ◌*◌, ◌^◌, ◌<�
 ghost use Rattle.std.specs.Fmt.{decimal, DisplaysOnOk};
 ghost use Rattle.fixed_num.specs.Text.{spelled, six_digits};
 
-use crate::cut::{DECIMALS, MICRO};
 use crate::fx::Fx;
 use crate::memory::Memory;
+use crate::{DECIMALS, MICRO, MOST_DIGITS, MOST_UNITS};
 use std::alloc::Global;
 use std::fmt;
 use std::fmt::{Display, Formatter, Write};
@@ -14,7 +14,7 @@ use std::marker::Model;
 
 impl Fx {
     /// No number's text is longer: a sign, ten digits, the point and six decimals.
-    pub const LONGEST_TEXT: usize = 18;
+    pub const LONGEST_TEXT: usize = 1 + MOST_DIGITS + 1 + DECIMALS;
 
     /// The number's text: `-` where negative, the whole part, a point and six decimals.
     #[tactic(auto, using(crate::proofs::SpellingLemmas::spelled_IsUtf8))]
@@ -35,7 +35,7 @@ impl Fx {
         ensures err { OnErr result (text.new.items ≡ text.old.items) }
         ensures room { vec_len text.old + length (spelled self) ≤ vec_capacity text.old → IsOk result }
         ensures capacity { vec_capacity text.old ≤ vec_capacity text.new }
-        ensures longest { length (spelled self) ≤ 18 }
+        ensures longest { length (spelled self) ≤ Self.LONGEST_TEXT }
     {
         let mut spelling = Spelling::new();
         spelling.put_number(self);
@@ -75,12 +75,13 @@ struct Spelling {
 
 impl Model for Spelling {
     ghost use Rattle.std.specs.Prelude.{List, ℕ, drop, ◌≤◌};
+    ghost use Rattle.fixed_num.specs.declared.fx.TheConstants.Fx.{LONGEST_TEXT};
 
     ghost Value = { List ℕ };
 
     ghost view = { λ s. drop s.start s.bytes };
 
-    ghost invariant = { λ s. s.start ≤ 18 };
+    ghost invariant = { λ s. s.start ≤ LONGEST_TEXT };
 }
 
 impl Spelling {
@@ -100,16 +101,16 @@ impl Spelling {
     {
         let micro = number.micro();
         let size = micro.unsigned_abs();
-        self.put_decimals(size % MICRO);
+        self.put_decimals(size % u64::from(MICRO));
         self.put(b'.');
-        self.put_whole(size / MICRO);
+        self.put_whole(size / u64::from(MICRO));
         if micro < 0 {
             self.put(b'-');
         }
     }
 
     fn put(&mut self, byte: u8)
-        requires { length self.old < 18 }
+        requires { length self.old < Fx.LONGEST_TEXT }
         ensures bytes { self.new ≡ byte ∷ self.old }
         ensures longer { length self.new ≡ length self.old + 1 }
     {
@@ -119,10 +120,10 @@ impl Spelling {
 
     #[tactic(auto, using(crate::proofs::SpellingLemmas::low_put, crate::proofs::SpellingLemmas::six_digits_are))]
     fn put_decimals(&mut self, decimals: u64)
-        requires below_unit { decimals < 1000000 }
-        requires room { length self.old + 6 ≤ 18 }
+        requires below_unit { decimals < MICRO }
+        requires room { length self.old + DECIMALS ≤ Fx.LONGEST_TEXT }
         ensures bytes { self.new ≡ six_digits decimals ++ self.old }
-        ensures longer { length self.new ≡ length self.old + 6 }
+        ensures longer { length self.new ≡ length self.old + DECIMALS }
     {
         let mut left = decimals;
         'places: for _place in 0..DECIMALS {
@@ -133,10 +134,10 @@ impl Spelling {
 
     #[tactic(auto, using(crate::proofs::SpellingLemmas::decimal_put, crate::proofs::SpellingLemmas::decimal_shorter, std::proofs::lemmas::Fmt::decimal_digit, std::proofs::lemmas::Fmt::decimal_nonempty, crate::proofs::SpellingLemmas::ten_digits))]
     fn put_whole(&mut self, whole: u64)
-        requires in_range { whole ≤ 10 ^ 9 }
-        requires room { length self.old + 10 ≤ 18 }
+        requires in_range { whole ≤ MOST_UNITS }
+        requires room { length self.old + MOST_DIGITS ≤ Fx.LONGEST_TEXT }
         ensures bytes { self.new ≡ decimal whole ++ self.old }
-        ensures longer { length self.new ≤ length self.old + 10 }
+        ensures longer { length self.new ≤ length self.old + MOST_DIGITS }
     {
         let mut left = whole;
         while left >= 10 {
@@ -148,49 +149,8 @@ impl Spelling {
 
     fn bytes(&self) -> &[u8]
         ensures bytes { result.now ≡ self.now }
-        ensures longest { length result.now ≤ 18 }
+        ensures longest { length result.now ≤ Fx.LONGEST_TEXT }
     {
         &self.bytes[self.start..]
-    }
-}
-
-#[cfg(test)]
-mod tests {
-    use super::*;
-    use std::test::Fail;
-
-    #[test]
-    fn how_numbers_are_spelled(rt: HostRuntime) -> Result<(), Fail> {
-        for (micro, text) in [
-            (0, "0.000000"),
-            (1, "0.000001"),
-            (-1, "-0.000001"),
-            (-500_000, "-0.500000"),
-            (1_000_000, "1.000000"),
-            (-12_034_001, "-12.034001"),
-            (100_000_000, "100.000000"),
-            (999_999_999_999_999, "999999999.999999"),
-            (1_000_000_000_000_000, "1000000000.000000"),
-            (-1_000_000_000_000_000, "-1000000000.000000"),
-        ] {
-            let number = Fx::from_micro(micro);
-            assert_eq!(rt; number.text(rt.alloc())?.as_str(), text);
-            assert_eq!(rt; format!(in rt.alloc(); "{number}")?.as_str(), text);
-
-            let mut bytes = Vec::with_capacity(rt.alloc(), Fx::LONGEST_TEXT)?;
-            number.push_text(&mut bytes)?;
-            assert_eq!(rt; bytes.as_slice(), text.as_bytes());
-        }
-        Ok(())
-    }
-
-    #[test]
-    fn a_text_comes_after_what_stands_there(rt: HostRuntime) -> Result<(), Fail> {
-        let mut bytes = Vec::from_slice(rt.alloc(), b"at ")?;
-        Fx::from_micro(-1_500_000).push_text(&mut bytes)?;
-        bytes.extend_from_slice(b" and ")?;
-        Fx::from_micro(7).push_text(&mut bytes)?;
-        assert_eq!(rt; bytes.as_slice(), b"at -1.500000 and 0.000007".as_slice());
-        Ok(())
     }
 }

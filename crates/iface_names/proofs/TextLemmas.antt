@@ -1,17 +1,18 @@
 -- An interface's text and its parts, both ways.
-use Rattle.std.proofs.Common.{◌≡◌, ℕ, Bool, true, false, List, [], ◌∷◌, ◌++◌, Option, Some, None, Ok, Err, refl, sym, ap, ◌∙◌, arith, append_assoc, true≢false}
-use Rattle.std.specs.Prelude.{if◌then◌else◌, ◌&&◌, ◌==◌, codes}
-use Rattle.std.specs.Bool.{Decides}
-use Rattle.std.specs.List.{list_all, All, join_with_byte}
-use Rattle.std.proofs.lemmas.Bool.{and_parts}
+use Rattle.std.proofs.Common.{◌≡◌, ℕ, Bool, true, false, List, [], ◌∷◌, ◌++◌, Option, Some, None, Ok, Err, refl, sym, ap, ◌∙◌, arith, append_assoc, true≢false, inl, inr}
+use Rattle.std.specs.Prelude.{if◌then◌else◌, ◌&&◌, ◌==◌, codes, find}
+use Rattle.std.specs.List.{list_all, All, AllByRecursion, join_with_byte}
+use Rattle.std.specs.Option.{option_map}
+use Rattle.std.proofs.lemmas.Bool.{and_parts, cases_Bool}
 use Rattle.std.proofs.lemmas.Bool.Decides.{nat_tests}
 use Rattle.std.proofs.lemmas.List.Elements.{All-nil, All-cons}
 use Rattle.std.proofs.lemmas.List.Splits.{slice_split_at, join_with_byte-slice_split}
 use Rattle.std.proofs.lemmas.Slice.Eq.{bytes_eq-Decides}
-use Rattle.iface_names.specs.Names.{is_name, is_name_byte}
+use Rattle.iface_names.specs.Names.{is_name, is_name_byte, same_name}
 use Rattle.iface_names.specs.Interfaces.{kind_word, kind_of, interface_parts, joint_of, reference_of, interface_of_parts, interface_of, interface_text}
 use Rattle.iface_names.specs.declared.interface.IfaceName.{IfaceName}
 use Rattle.iface_names.specs.declared.interface.IfaceName.TheVariants.{Joint, Reference}
+use Rattle.iface_names.specs.declared.kind.TheConstants.{KINDS}
 use Rattle.iface_names.specs.declared.kind.Kind.{Kind}
 use Rattle.iface_names.specs.declared.kind.Kind.TheVariants.{Position, Velocity, Effort}
 use Rattle.iface_names.specs.declared.name.NameFault.TheVariants.{BadName}
@@ -74,17 +75,19 @@ pub ruleset reading_back = (joint_reads_back, reference_reads_back)
 
 -- ---- From a text to its interface and back
 
--- the word that chose a kind is its word
-chosen_word : (p v e : Bool) (word : List ℕ) (kind : Kind) → Decides p (word ≡ codes "position") → Decides v (word ≡ codes "velocity") → Decides e (word ≡ codes "effort")
-    → (if p then Some Position else if v then Some Velocity else if e then Some Effort else None) ≡ Some kind → kind_word kind ≡ word
-chosen_word true v e word kind is_p is_v is_e h = let k : kind ≡ Position = cc in rw k (sym (is_p.0 refl))
-chosen_word false true e word kind is_p is_v is_e h = let k : kind ≡ Velocity = cc in rw k (sym (is_v.0 refl))
-chosen_word false false true word kind is_p is_v is_e h = let k : kind ≡ Effort = cc in rw k (sym (is_e.0 refl))
-chosen_word false false false word kind is_p is_v is_e h = cc
+-- a word that was found in a table whose kinds have their words is the word of its kind
+word_of_found : {R : Type 0} (rows : List R) (text : R → List ℕ) (meaning : R → Kind) (word : List ℕ) (kind : Kind) → AllByRecursion (λ row. kind_word (meaning row) ≡ text row) rows
+    → option_map meaning (find (λ row. same_name (text row) word) rows) ≡ Some kind → kind_word kind ≡ word
+word_of_found [] text meaning word kind named h = cc
+word_of_found (row ∷ rows) text meaning word kind named h = elim (cases_Bool (same_name (text row) word)) [
+  | inl this ↦ let found : meaning row ≡ kind = (let k = rw this at h in cc) in
+      rw (← found) (named.0 ∙ (bytes_eq-Decides (text row) word).0 this)
+  | inr other ↦ word_of_found rows text meaning word kind named.1 (rw other at h)
+]
 
 -- the word of a kind that was read
 word_of_kind : (word : List ℕ) (kind : Kind) → kind_of word ≡ Some kind → kind_word kind ≡ word
-word_of_kind word kind h = chosen_word _ _ _ word kind (bytes_eq-Decides word (codes "position")) (bytes_eq-Decides word (codes "velocity")) (bytes_eq-Decides word (codes "effort")) h
+word_of_kind word kind h = word_of_found KINDS (λ row. row.0.now) (λ row. row.1) word kind (refl, (refl, (refl, tt))) h
 
 -- what two parts name prints as them
 joint_prints_back : (v : Bool) (joint word : List ℕ) (kind : Kind) (interface : IfaceName) → kind_of word ≡ Some kind → (if v then Ok (Joint joint kind) else Err BadName) ≡ Ok interface

@@ -1,29 +1,32 @@
 -- Names of interfaces: a joint's, or a controller's reference.
-use Rattle.std.specs.Prelude.{ℕ, Bool, true, false, ◌&&◌, ◌==◌, if◌then◌else◌, List, [], ◌∷◌, ◌++◌, codes, Option, Some, None, Result, Ok, Err}
+use Rattle.std.specs.Prelude.{ℕ, Bool, true, false, ◌&&◌, ◌==◌, if◌then◌else◌, List, [], ◌∷◌, ◌++◌, codes, find, Option, Some, None, Result, Ok, Err}
 use Rattle.std.specs.List.{slice_split}
+use Rattle.std.specs.Option.{option_map, option_map_or}
 use Rattle.iface_names.specs.Names.{is_name, same_name}
 use Rattle.iface_names.specs.declared.interface.IfaceName.{IfaceName}
 use Rattle.iface_names.specs.declared.interface.IfaceName.TheVariants.{Joint, Reference}
 use Rattle.iface_names.specs.declared.kind.Kind.{Kind}
+use Rattle.iface_names.specs.declared.kind.TheConstants.{KINDS}
 use Rattle.iface_names.specs.declared.kind.Kind.TheVariants.{Position, Velocity, Effort}
 use Rattle.iface_names.specs.declared.name.NameFault.{NameFault}
 use Rattle.iface_names.specs.declared.name.NameFault.TheVariants.{BadName}
 
 -- ---- Kinds
 
--- the word of a kind
-abbrev pub kind_word : Kind → List ℕ
-kind_word Position = codes "position"
-kind_word Velocity = codes "velocity"
-kind_word Effort = codes "effort"
+-- the two kinds are one
+abbrev pub same_kind : Kind → Kind → Bool
+same_kind Position Position = true
+same_kind Velocity Velocity = true
+same_kind Effort Effort = true
+same_kind _ _ = false
 
--- the kind whose word this is
+-- the word that stands beside a kind in the table of kinds
+abbrev pub kind_word : Kind → List ℕ
+kind_word kind = option_map_or (λ row. row.0.now) (find (λ row. same_kind row.1 kind) KINDS) []
+
+-- the kind that stands beside a word there
 abbrev pub kind_of : List ℕ → Option Kind
-kind_of word =
-    if same_name word (codes "position") then Some Position
-    else if same_name word (codes "velocity") then Some Velocity
-    else if same_name word (codes "effort") then Some Effort
-    else None
+kind_of word = option_map (λ row. row.1) (find (λ row. same_name row.0.now word) KINDS)
 
 -- ---- Text
 
@@ -57,13 +60,6 @@ interface_text (Joint joint kind) = joint ++ codes "/" ++ kind_word kind
 interface_text (Reference controller joint kind) = controller ++ codes "/" ++ joint ++ codes "/" ++ kind_word kind
 
 -- ---- Sameness
-
--- the two kinds are one
-abbrev pub same_kind : Kind → Kind → Bool
-same_kind Position Position = true
-same_kind Velocity Velocity = true
-same_kind Effort Effort = true
-same_kind _ _ = false
 
 -- the two interfaces are of one form, and have the same names and the same kind
 abbrev pub same_interface : IfaceName → IfaceName → Bool

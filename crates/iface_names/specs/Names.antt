@@ -2,6 +2,7 @@
 use Rattle.std.specs.Prelude.{ℕ, Bool, false, ◌&&◌, ◌||◌, ◌==◌, nat_le, if◌then◌else◌, List, [], ◌∷◌, length, nat_eq, Result, Ok, Err}
 use Rattle.std.specs.List.{list_all}
 use Rattle.std.specs.Cmp.Lexicographic.{pointwise}
+use Rattle.iface_names.specs.declared.TheConstants.{LONGEST_NAME}
 use Rattle.iface_names.specs.declared.name.NameFault.{NameFault}
 use Rattle.iface_names.specs.declared.name.NameFault.TheVariants.{BadName}
 
@@ -13,10 +14,10 @@ is_letter b = (nat_le 65 b && nat_le b 90) || (nat_le 97 b && nat_le b 122)
 abbrev pub is_name_byte : ℕ → Bool
 is_name_byte b = (is_letter b || (nat_le 48 b && nat_le b 57)) || b == 95
 
--- A name has 1 to 64 bytes of letters, digits and `_`, and begins with a letter.
+-- A name has a byte at least and no more than the longest, of letters, digits and `_`, and begins with a letter.
 abbrev pub is_name : List ℕ → Bool
 is_name [] = false
-is_name (b ∷ bs) = (is_letter b && nat_le (length (b ∷ bs)) 64) && list_all is_name_byte (b ∷ bs)
+is_name (b ∷ bs) = (is_letter b && nat_le (length (b ∷ bs)) LONGEST_NAME) && list_all is_name_byte (b ∷ bs)
 
 -- the name of these bytes, where they are one
 abbrev pub name_of : List ℕ → Result (List ℕ) NameFault

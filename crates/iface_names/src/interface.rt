@@ -2,7 +2,7 @@
 
 ghost use Rattle.std.specs.Prelude.{◌≡◌, ◌==◌, ◌∷◌, [], position};
 ghost use Rattle.std.specs.Option.{option_map_or};
-ghost use Rattle.sequence.specs.Answers.{Answers};
+ghost use Rattle.iface_names.specs.Answers.{Answers};
 ghost use Rattle.iface_names.specs.Interfaces.{kind_of, interface_parts, joint_of, reference_of, interface_of};
 
 use crate::kind::Kind;

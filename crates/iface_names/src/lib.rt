@@ -12,3 +12,6 @@ mod kind;
 pub mod laws;
 mod name;
 mod registry;
+
+/// The longest name, in bytes.
+pub const LONGEST_NAME: usize = 64;

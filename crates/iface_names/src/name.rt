@@ -2,9 +2,10 @@
 
 ghost use Rattle.std.specs.Prelude.{◌≡◌, IsTrue};
 ghost use Rattle.std.specs.List.{list_all};
-ghost use Rattle.sequence.specs.Answers.{Answers};
+ghost use Rattle.iface_names.specs.Answers.{Answers};
 ghost use Rattle.iface_names.specs.Names.{is_name, is_letter, is_name_byte, name_of};
 
+use crate::LONGEST_NAME;
 use std::alloc::{AllocError, Global};
 use std::fmt;
 use std::fmt::{Display, Formatter, Write};
@@ -12,7 +13,7 @@ use std::hash::{Hash, Hasher};
 use std::marker::Model;
 use thiserror::Error;
 
-/// 1 to 64 bytes of A to Z, a to z, 0 to 9 and `_`, of which the first is a letter. Contracts see the bytes.
+/// 1 to 64 bytes (`LONGEST_NAME`) of A to Z, a to z, 0 to 9 and `_`, of which the first is a letter. Contracts see the bytes.
 #[derive(Debug, Drop)]
 pub struct Name {
     text: String,
@@ -89,7 +90,7 @@ fn follows_the_rule(text: &[u8]) -> bool
     let Some(first) = text.first() else {
         return false;
     };
-    is_letter(*first) && text.len() <= 64 && all_name_bytes(text)
+    is_letter(*first) && text.len() <= LONGEST_NAME && all_name_bytes(text)
 }
 
 fn is_letter(byte: u8) -> bool

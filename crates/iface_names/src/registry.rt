@@ -1,7 +1,7 @@
 //! Interfaces, numbered in the order in which they are first seen.
 
 ghost use Rattle.std.specs.Prelude.{◌≡◌, ◌↔◌, IsTrue, OnOk, OnErr, length, slice_get, option_copied};
-ghost use Rattle.sequence.specs.Answers.{Answers};
+ghost use Rattle.iface_names.specs.Answers.{Answers};
 ghost use Rattle.iface_names.specs.Registry.{added, interface_place, IsNumbered};
 
 use crate::interface::IfaceName;
