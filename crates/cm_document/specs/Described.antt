@@ -3,6 +3,8 @@ use Rattle.std.specs.Prelude.{ℕ, ◌-◌, ◌^◌, min, ℤ, pos, Bool, false,
 use Rattle.std.specs.Str.{is_utf8}
 use Rattle.toml.specs.Data.{Members, get_member}
 use Rattle.toml.specs.Parse.{parse_document}
+use Rattle.fixed_num.specs.Micro.{largest}
+use Rattle.fixed_num.specs.declared.TheConstants.{MICRO}
 use Rattle.iface_names.specs.declared.interface.IfaceName.{IfaceName}
 use Rattle.iface_names.specs.declared.interface.IfaceName.TheVariants.{Joint}
 use Rattle.iface_names.specs.declared.kind.Kind.{Kind}
@@ -32,10 +34,6 @@ tree_of bytes = if is_utf8 bytes then parse_document bytes else None
 
 -- ---- Joints
 
--- one unit, in micro-units
-abbrev pub one_unit : ℤ
-one_unit = pos 1000000
-
 -- a joint of these values
 abbrev pub a_joint : List ℕ → ℤ → ℤ → ℤ → ℤ → ℤ → List Kind → List Kind → JointDesc
 a_joint name vmax gain damping position velocity commands states = record {
@@ -54,7 +52,7 @@ unfoldable pub joint_table : Table JointDesc
 joint_table = filled a_joint
     & required (codes "name") (one name_in)
     & required (codes "vmax") (one quantity_in)
-    & defaulted (codes "gain") (one quantity_in) one_unit
+    & defaulted (codes "gain") (one quantity_in) (pos MICRO)
     & defaulted (codes "damping") (one quantity_in) (pos 0)
     & defaulted (codes "position") (one quantity_in) (pos 0)
     & defaulted (codes "velocity") (one quantity_in) (pos 0)
@@ -125,7 +123,7 @@ pid_table = common (λ name rate claims reads kp ki kd imax omax. a_controller n
     & defaulted (codes "ki") (one quantity_in) (pos 0)
     & defaulted (codes "kd") (one quantity_in) (pos 0)
     & defaulted (codes "imax") (one quantity_in) (pos 0)
-    & defaulted (codes "omax") (one quantity_in) (pos 1000000000000000)
+    & defaulted (codes "omax") (one quantity_in) largest
 
 -- the keys of a trajectory
 abbrev pub trajectory_table : Table CtlDesc

@@ -2,6 +2,7 @@
 use Rattle.std.specs.Prelude.{ℕ, ◌+◌, ◌^◌, ℤ, pos, negsuc, ◌*ℤ◌, int_le, Bool, true, false, ◌&&◌, nat_lt, if◌then◌else◌, List, [], ◌∷◌, ◌++◌, codes, decimal, Option, Some, None, Result, Ok, Err, is_ok}
 use Rattle.std.specs.List.{list_any}
 use Rattle.toml.specs.Data.{Data, string, integer, float, boolean, array, table, Items, no_items, item, Members, same_key}
+use Rattle.fixed_num.specs.Micro.{units}
 use Rattle.fixed_num.specs.Text.{number_of}
 use Rattle.iface_names.specs.Names.{is_name}
 use Rattle.iface_names.specs.Interfaces.{kind_of, same_kind, interface_of}
@@ -23,9 +24,10 @@ whole_in (integer (pos n)) = if nat_lt n (2 ^ 32) then Ok n else Err wrong.Value
 whole_in (float x) = Err wrong.Float
 whole_in _ = Err wrong.Value
 
--- so many whole units, in micro-units: a thousand million is the most, on both sides
-abbrev pub units : ℤ → Result ℤ Wrong
-units z = if int_le (negsuc 999999999) z && int_le z (pos 1000000000) then Ok (z *ℤ pos 1000000) else Err wrong.Value
+-- a value that is there, or none of the form
+abbrev pub where_some : {A : Type 0} → Option A → Result A Wrong
+where_some (Some x) = Ok x
+where_some None = Err wrong.Value
 
 -- a reading whose fault is that the value is not of the form
 abbrev pub or_bad : {A E : Type 0} → Result A E → Result A Wrong
@@ -34,7 +36,7 @@ or_bad (Err e) = Err wrong.Value
 
 -- A quantity is an integer of whole units, or the text of a number.
 abbrev pub quantity_in : Data → Result ℤ Wrong
-quantity_in (integer z) = units z
+quantity_in (integer z) = where_some (units z)
 quantity_in (string text) = or_bad (number_of text)
 quantity_in (float x) = Err wrong.Float
 quantity_in _ = Err wrong.Value
@@ -51,7 +53,7 @@ name_in _ = Err wrong.Value
 
 -- what a word stands for, where it is one of the listed
 abbrev pub meaning_of : {A : Type 0} → List (List ℕ × A) → List ℕ → Result A Wrong
-meaning_of words text = elim (listed words text) [ Some meaning ↦ Ok meaning | None ↦ Err wrong.Value ]
+meaning_of words text = where_some (listed words text)
 
 -- a word is a text of the listed ones
 abbrev pub word_in : {A : Type 0} → List (List ℕ × A) → Data → Result A Wrong

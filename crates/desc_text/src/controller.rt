@@ -11,10 +11,10 @@ use crate::forms::{ListOf, One, TableForm};
 use crate::keys::Keys;
 use crate::states::{AllOrList, ReadList};
 use crate::values::{
-    Boolean, Cycle, Interface, Named, Quantity, Whole, most_units, no_units,
+    Boolean, Cycle, Interface, Named, Quantity, Whole,
 };
 use crate::words::{ControllerKinds, WordOf};
-use cm_document::{CtlDesc, CtlKind, DescFault, IfaceName, Params, Seq, Shared};
+use cm_document::{CtlDesc, CtlKind, DescFault, Fx, IfaceName, Params, Seq, Shared};
 use std::alloc::{AllocError, Global};
 
 /// The keys that a forward or a passthrough may have.
@@ -124,11 +124,11 @@ fn pid(keys: &Keys<'_>) -> Result<CtlDesc, DescFault>
     let rate = keys.defaulted("update_rate", &One(Whole), 0)?;
     let claims = keys.required("claims", &ListOf(Interface))?;
     let reads = keys.required("reads", &ReadList)?;
-    let kp = keys.defaulted("kp", &One(Quantity), no_units())?;
-    let ki = keys.defaulted("ki", &One(Quantity), no_units())?;
-    let kd = keys.defaulted("kd", &One(Quantity), no_units())?;
-    let imax = keys.defaulted("imax", &One(Quantity), no_units())?;
-    let omax = keys.defaulted("omax", &One(Quantity), most_units())?;
+    let kp = keys.defaulted("kp", &One(Quantity), Fx::ZERO)?;
+    let ki = keys.defaulted("ki", &One(Quantity), Fx::ZERO)?;
+    let kd = keys.defaulted("kd", &One(Quantity), Fx::ZERO)?;
+    let imax = keys.defaulted("imax", &One(Quantity), Fx::ZERO)?;
+    let omax = keys.defaulted("omax", &One(Quantity), Fx::MAX)?;
     Ok(CtlDesc {
         name,
         rate,

@@ -5,8 +5,8 @@ ghost use Rattle.cm_document.specs.Tables.{walk};
 
 use crate::forms::{ListOf, One, TableForm};
 use crate::keys::Keys;
-use crate::values::{Named, NewKind, Quantity, no_units, one_unit};
-use cm_document::{DescFault, JointDesc, Seq};
+use crate::values::{Named, NewKind, Quantity};
+use cm_document::{DescFault, Fx, JointDesc, Seq};
 
 /// The keys that a joint may have.
 const KEYS: [&str; 8] = [
@@ -27,10 +27,10 @@ impl TableForm for Joint {
         keys.none_but(&KEYS)?;
         let name = keys.required("name", &One(Named))?;
         let vmax = keys.required("vmax", &One(Quantity))?;
-        let gain = keys.defaulted("gain", &One(Quantity), one_unit())?;
-        let damping = keys.defaulted("damping", &One(Quantity), no_units())?;
-        let position = keys.defaulted("position", &One(Quantity), no_units())?;
-        let velocity = keys.defaulted("velocity", &One(Quantity), no_units())?;
+        let gain = keys.defaulted("gain", &One(Quantity), Fx::ONE)?;
+        let damping = keys.defaulted("damping", &One(Quantity), Fx::ZERO)?;
+        let position = keys.defaulted("position", &One(Quantity), Fx::ZERO)?;
+        let velocity = keys.defaulted("velocity", &One(Quantity), Fx::ZERO)?;
         let commands = keys.defaulted("command", &ListOf(NewKind), Seq::new(keys.alloc))?;
         let states = keys.defaulted("state", &ListOf(NewKind), Seq::new(keys.alloc))?;
         Ok(JointDesc {

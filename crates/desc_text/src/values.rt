@@ -1,11 +1,10 @@
 //! The rules for one value, by what it is read as.
 
-ghost use Rattle.std.specs.Prelude.{◌≡◌, pos};
+ghost use Rattle.std.specs.Prelude.{◌≡◌};
 ghost use Rattle.std.specs.List.{list_any};
 ghost use Rattle.sequence.specs.Answers.{Answers};
 ghost use Rattle.toml.specs.View.{view};
-ghost use Rattle.cm_document.specs.Forms.{whole_in, units, quantity_in, boolean_in, name_in, interface_in, state_in, new_kind, kind_in};
-ghost use Rattle.cm_document.specs.Described.{one_unit};
+ghost use Rattle.cm_document.specs.Forms.{whole_in, where_some, quantity_in, boolean_in, name_in, interface_in, state_in, new_kind, kind_in};
 ghost use Rattle.cm_document.specs.Reading.{told_as};
 ghost use Rattle.iface_names.specs.Interfaces.{same_kind};
 
@@ -74,7 +73,7 @@ fn quantity_of(value: &Value) -> Result<Fx, Wrong>
     ensures { result ≡ quantity_in (view value.now) }
 {
     match value {
-        Value::Integer(number) => units(*number),
+        Value::Integer(number) => where_some(Fx::from_units(*number)),
         Value::String(text) => match Fx::read(text.as_bytes()) {
             Ok(number) => Ok(number),
             Err(_) => Err(Wrong::Value),
@@ -84,47 +83,15 @@ fn quantity_of(value: &Value) -> Result<Fx, Wrong>
     }
 }
 
-/// So many whole units.
-#[tactic(auto, unfolding(fixed_num::specs::Micro::clamped))]
-fn units(number: i64) -> Result<Fx, Wrong>
-    ensures { result ≡ units number }
+/// A value that is there; none is not of the form.
+pub fn where_some<T: Copy>(value: Option<T>) -> Result<T, Wrong>
+    ensures { result ≡ where_some value }
 {
-    if -MOST <= number && number <= MOST {
-        Ok(Fx::from_micro(number * MILLION))
-    } else {
-        Err(Wrong::Value)
+    match value {
+        Some(value) => Ok(value),
+        None => Err(Wrong::Value),
     }
 }
-
-/// No units.
-#[tactic(auto, unfolding(fixed_num::specs::Micro::clamped))]
-pub fn no_units() -> Fx
-    ensures { result ≡ pos 0 }
-{
-    Fx::from_micro(0)
-}
-
-/// One unit.
-#[tactic(auto, unfolding(fixed_num::specs::Micro::clamped))]
-pub fn one_unit() -> Fx
-    ensures { result ≡ one_unit }
-{
-    Fx::from_micro(MILLION)
-}
-
-/// As many units as a quantity can have.
-#[tactic(auto, unfolding(fixed_num::specs::Micro::clamped))]
-pub fn most_units() -> Fx
-    ensures { result ≡ pos 1000000000000000 }
-{
-    Fx::from_micro(MOST * MILLION)
-}
-
-/// The most whole units of a quantity, on both sides.
-const MOST: i64 = 1_000_000_000;
-
-/// How many micro-units are a unit.
-const MILLION: i64 = 1_000_000;
 
 /// `true` or `false`.
 #[derive(Drop)]

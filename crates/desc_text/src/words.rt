@@ -1,6 +1,6 @@
 //! The words that stand for something, and what they stand for.
 
-ghost use Rattle.std.specs.Prelude.{◌≡◌, List, ℕ, Some, None, Ok, Err};
+ghost use Rattle.std.specs.Prelude.{◌≡◌, List, ℕ};
 ghost use Rattle.sequence.specs.Answers.{Answers};
 ghost use Rattle.toml.specs.View.{view};
 ghost use Rattle.cm_document.specs.Vocabulary.{component_kinds, lives, lives_on_error, controller_kinds};
@@ -8,6 +8,7 @@ ghost use Rattle.cm_document.specs.Forms.{word_in, meaning_of};
 
 use crate::faults::Refused;
 use crate::forms::Rule;
+use crate::values::where_some;
 use cm_document::{
     COMPONENT_KINDS, CONTROLLER_KINDS, CompKind, CtlKind, LIVES, LIVES_ON_ERROR, Life, Wrong,
     meaning_of,
@@ -54,7 +55,7 @@ impl Words for ComponentKinds {
     ghost words = { component_kinds };
 
     fn meaning(word: &str) -> Result<CompKind, Wrong> {
-        meant(meaning_of(&COMPONENT_KINDS, word.as_bytes()))
+        where_some(meaning_of(&COMPONENT_KINDS, word.as_bytes()))
     }
 }
 
@@ -68,7 +69,7 @@ impl Words for LivesAtStart {
     ghost words = { lives };
 
     fn meaning(word: &str) -> Result<Life, Wrong> {
-        meant(meaning_of(&LIVES, word.as_bytes()))
+        where_some(meaning_of(&LIVES, word.as_bytes()))
     }
 }
 
@@ -82,7 +83,7 @@ impl Words for LivesOnError {
     ghost words = { lives_on_error };
 
     fn meaning(word: &str) -> Result<Life, Wrong> {
-        meant(meaning_of(&LIVES_ON_ERROR, word.as_bytes()))
+        where_some(meaning_of(&LIVES_ON_ERROR, word.as_bytes()))
     }
 }
 
@@ -96,16 +97,6 @@ impl Words for ControllerKinds {
     ghost words = { controller_kinds };
 
     fn meaning(word: &str) -> Result<CtlKind, Wrong> {
-        meant(meaning_of(&CONTROLLER_KINDS, word.as_bytes()))
-    }
-}
-
-/// What a word stands for, or that the value is not of the form.
-fn meant<T: Copy>(meaning: Option<T>) -> Result<T, Wrong>
-    ensures { result ≡ elim meaning [ Some m ↦ Ok m | None ↦ Err Wrong.Value ] }
-{
-    match meaning {
-        Some(meaning) => Ok(meaning),
-        None => Err(Wrong::Value),
+        where_some(meaning_of(&CONTROLLER_KINDS, word.as_bytes()))
     }
 }
