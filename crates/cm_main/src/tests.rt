@@ -1,15 +1,140 @@
-//! What the program tells of each status but `Ok`: its line on standard error, and the number it ends with.
+//! What becomes of the program's words, and what it tells of each status: the number that it ends with, and the line on standard
+//! error, with `Ok` none.
 
-use crate::Line;
+use crate::{run_words, told};
 use cm_model::{
     CheckFault, DescFault, DescProblem, IfaceName, Name, NameFault, ScriptFault, Text, What,
 };
 use cm_top::Status;
-use std::alloc::Global;
+use outside_io::{MemSink, MemSource};
+use std::alloc::{AllocError, Global};
+use std::cell::RefCell;
+use std::env::FillError;
+use std::fmt::Display;
+use std::io;
+use std::io::{Eprint, ErrorKind};
+use std::rt::Env;
 use std::test::Fail;
 
-/// The number and the line of each status below, in their order.
-const LINES: &str = "\
+/// A runtime that only hears what is told on standard error.
+#[derive(Drop)]
+struct Heard {
+    told: RefCell<String>,
+}
+
+impl Heard {
+    fn new(alloc: Global) -> Heard {
+        Heard {
+            told: RefCell::new(String::new(alloc)),
+        }
+    }
+}
+
+impl Eprint for Heard {
+    fn eprint<D: Display + Drop>(&self, value: D) -> io::Result<()> {
+        let Ok(mut told) = self.told.try_borrow_mut() else {
+            return Err(io::Error::from(ErrorKind::Other));
+        };
+        write!(told, "{value}")?;
+        Ok(())
+    }
+
+    fn eprintln<D: Display + Drop>(&self, value: D) -> io::Result<()> {
+        self.eprint(value)?;
+        self.eprint("\n")
+    }
+}
+
+/// A runtime that only has words, each as its bytes; the program's name is the first.
+#[derive(Drop)]
+struct Words {
+    words: Vec<Vec<u8>>,
+}
+
+impl Words {
+    /// The words of a row, behind the program's name. A word that ends with `\xFF` has that byte there, so it is not UTF-8.
+    fn of(alloc: Global, row: &str) -> Result<Words, AllocError> {
+        let mut words = vec![in alloc; b"cm".as_slice().to_vec(alloc)?]?;
+        for word in row.split_whitespace() {
+            let mut bytes = word.trim_end_matches(r"\xFF").as_bytes().to_vec(alloc)?;
+            if word.ends_with(r"\xFF") {
+                bytes.push(0xFF)?;
+            }
+            words.push(bytes)?;
+        }
+        Ok(Words { words })
+    }
+}
+
+impl Env for Words {
+    fn arg(&self, i: usize, buf: &mut [u8]) -> Result<usize, FillError> {
+        let Some(word) = self.words.get(i) else {
+            return Err(FillError::NotPresent);
+        };
+        let word = word.as_slice();
+        if buf.len() < word.len() {
+            return Err(FillError::TooLong);
+        }
+        buf[..word.len()].copy_from_slice(word);
+        Ok(word.len())
+    }
+
+    fn var(&self, _name: &str, _buf: &mut [u8]) -> Result<usize, FillError> {
+        Err(FillError::NotPresent)
+    }
+
+    fn var_at(&self, _i: usize, _buf: &mut [u8]) -> Result<usize, FillError> {
+        Err(FillError::NotPresent)
+    }
+}
+
+/// The least document, and its trace.
+const LEAST: &str = "version = 1\nupdate_rate = 1\ncycles = 0\n--- script ---\n";
+const LEAST_TRACE: &str = "loop close: none\n";
+
+/// `WORDS => END`, over the least document.
+const WORDS: &str = r"run => 0
+ => 2 cm: usage: cm run|steps|live [--make N]
+run run => 2 cm: usage: cm run|steps|live [--make N]
+run --make 5 => 2 cm: usage: cm run|steps|live [--make N]
+steps => 2 cm: usage: cm run|steps|live [--make N]
+Run => 2 cm: usage: cm run|steps|live [--make N]
+\xFF => 2 cm: usage: cm run|steps|live [--make N]
+run \xFF => 2 cm: usage: cm run|steps|live [--make N]
+run\xFF => 2 cm: usage: cm run|steps|live [--make N]";
+
+#[test]
+fn the_one_word_run_runs_and_others_are_refused(rt: HostRuntime) -> Result<(), Fail> {
+    let alloc = rt.alloc();
+    for row in WORDS.lines() {
+        let (words, want) = row.split_once(" => ").ok_or("a row without an arrow")?;
+        let words = (Words::of(alloc, words)?, alloc);
+        let document = LEAST.as_bytes().to_vec(alloc)?;
+        let mut source = MemSource::make(document, 100, vec![in alloc]?);
+        let mut sink = MemSink::make(alloc, 100, 100, vec![in alloc]?)?;
+        let status = run_words(&words, &rt, &mut source, &mut sink);
+        let end = end(alloc, &status)?;
+        assert_eq!(rt; end.as_str(), want, "{row}");
+        let trace = if status == Status::Ok { LEAST_TRACE } else { "" };
+        assert_eq!(rt; sink.bytes(), trace.as_bytes(), "{row}");
+    }
+    Ok(())
+}
+
+/// How a run ends by its status: the number, and what stands on standard error, without the end of its one line.
+fn end(alloc: Global, status: &Status) -> Result<String, Fail> {
+    let heard = Heard::new(alloc);
+    let code = told(&heard, status);
+    let told = heard.told.into_inner();
+    match told.strip_suffix("\n") {
+        Some(line) => Ok(format!(in alloc; "{code} {line}")?),
+        None => Ok(format!(in alloc; "{code}{told}")?),
+    }
+}
+
+/// How each status below ends, in their order.
+const ENDS: &str = "\
+0
 2 cm: usage: cm run|steps|live [--make N]
 3 cm: description: not_toml
 3 cm: description: bad_key controller[0].rate
@@ -37,18 +162,20 @@ const LINES: &str = "\
 ";
 
 #[test]
-fn each_status_has_its_line_and_number(rt: HostRuntime) -> Result<(), Fail> {
-    let mut told = String::new(rt.alloc());
-    for status in statuses(rt.alloc())?.as_slice() {
-        write!(told, "{} {}\n", status.code(), Line(status))?;
+fn each_status_ends_with_its_number_and_line(rt: HostRuntime) -> Result<(), Fail> {
+    let alloc = rt.alloc();
+    let mut ends = String::new(alloc);
+    for status in statuses(alloc)?.as_slice() {
+        let end = end(alloc, status)?;
+        write!(ends, "{end}\n")?;
     }
-    assert_eq!(rt; told.as_str(), LINES);
+    assert_eq!(rt; ends.as_str(), ENDS);
     Ok(())
 }
 
-/// Each status but `Ok`, with each fault that it can carry.
+/// Each status, with each fault that it can carry.
 fn statuses(alloc: Global) -> Result<Vec<Status>, Fail> {
-    let mut statuses = vec![in alloc; Status::BadWords]?;
+    let mut statuses = vec![in alloc; Status::Ok, Status::BadWords]?;
     push_texts(&mut statuses, alloc)?;
     push_counts(&mut statuses)?;
     push_checks(&mut statuses, alloc)?;

@@ -55,6 +55,8 @@ where
         (record { taken = K.taken sink.old; flushed = K.flushed sink.old; faults = K.faults sink.old }) (record { taken = K.taken sink.new; flushed = K.flushed sink.new; faults = K.faults sink.new }) result }
     // Statuses 2 to 6 leave the sink as it was.
     ensures untouched { ComesBeforeWriting result → sink.new ≡ sink.old }
+    // Nothing is paced.
+    ensures unpaced { pace.new ≡ pace.old }
 {
     if !asks_for_a_run(words) {
         return Status::BadWords;

@@ -8,6 +8,10 @@ AllFlushed None flushed = Unit {0}
 AllFlushed (Some taken) None = Unit {0}
 AllFlushed (Some taken) (Some flushed) = flushed ≡ length taken
 
+-- So many of these bytes: none only where there are none.
+abbrev pub IsSomeOf : List ℕ → ℕ → Type 0
+IsSomeOf bytes n = (n ≤ length bytes) × (0 < length bytes → 0 < n)
+
 -- The sink took some front of these bytes: none of them, all, or anything between.
 abbrev pub AppendsPrefix : Option (List ℕ) → Option (List ℕ) → List ℕ → Type 0
 AppendsPrefix old new bytes = (k : ℕ) × (k ≤ length bytes) × Appends old new (take k bytes)

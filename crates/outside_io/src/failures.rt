@@ -1,7 +1,8 @@
 //! Which calls of a source or a sink in memory fail.
 
 ghost use Rattle.std.specs.Prelude.{◌≡◌};
-ghost use Rattle.outside_io.specs.Failing.{is_listed, one_more};
+ghost use Rattle.outside_io.specs.Faults.{one_more};
+ghost use Rattle.outside_io.specs.Failing.{is_listed};
 
 /// The numbers of the calls that are to fail, counted from 0, and how many calls there were and failed.
 #[derive(Debug, Drop)]

@@ -1,10 +1,10 @@
 //! A sink in memory, for tests.
 
-ghost use Rattle.std.specs.Prelude.{◌≡◌, ◌+◌, ◌<◌, ◌≤◌, [], min, length, Some, IfOk, OnOk, OnErr, is_err, if◌then◌else◌};
+ghost use Rattle.std.specs.Prelude.{◌≡◌, ◌+◌, ◌<◌, ◌≤◌, [], length, Some, IfOk, MatchResult};
 ghost use Rattle.std.specs.Io.KnownBytes.{Keeps, WriteAppends};
-ghost use Rattle.outside_io.specs.Bytes.{AllFlushed};
+ghost use Rattle.outside_io.specs.Bytes.{AllFlushed, IsSomeOf};
 ghost use Rattle.outside_io.specs.Faults.{HasCause};
-ghost use Rattle.outside_io.specs.Failing.{is_listed, one_more};
+ghost use Rattle.outside_io.specs.Calls.MemorySink.{Takes, Flushes};
 
 use crate::failures::Failures;
 use crate::{Failed, Sink};
@@ -74,8 +74,6 @@ impl MemSink {
 }
 
 impl Sink for MemSink {
-    ghost use Rattle.outside_io.specs.InMemory.{write_fails};
-
     ghost taken = { λ s. Some s.taken };
 
     ghost flushed = { λ s. Some s.flushed };
@@ -85,18 +83,11 @@ impl Sink for MemSink {
     /// Takes as many bytes as the step, the piece and the room allow, and no memory. A listed write fails,
     /// and so does one of a byte or more where no room is left; it takes nothing then and is a fault.
     fn write(&mut self, piece: &[u8]) -> Result<usize, Failed>
-        ensures within { IfOk result (λ n. n ≤ length piece.now) }
-        ensures some { IfOk result (λ n. 0 < length piece.now → 0 < n) }
+        ensures some { IfOk result (IsSomeOf piece.now) }
         ensures bytes { WriteAppends (Some self.old.taken) (Some self.new.taken) result piece.now }
         ensures flushed { Some self.new.flushed ≡ Some self.old.flushed }
         ensures cause { HasCause self.old.faults self.new.faults result }
-        ensures fails_exactly { is_err result ≡ write_fails self.old piece.now }
-        ensures count { IfOk result (λ n. n ≡ min (min self.old.step (length piece.now)) self.old.room) }
-        ensures room { self.new.room + length self.new.taken ≡ self.old.room + length self.old.taken }
-        ensures counted { self.new.faults ≡ (if is_err result then one_more self.old.faults else self.old.faults) }
-        ensures step { self.new.step ≡ self.old.step }
-        ensures fails { self.new.fails ≡ self.old.fails }
-        ensures calls { self.new.calls ≡ one_more self.old.calls }
+        ensures takes { Takes self.old self.new piece.now result }
     {
         let is_listed = self.failures.next_is_listed();
         let count = self.step.min(piece.len()).min(self.room);
@@ -112,15 +103,9 @@ impl Sink for MemSink {
     /// Remembers how many bytes were taken; a listed flush fails, remembers nothing and is a fault.
     fn flush(&mut self) -> Result<(), Failed>
         ensures bytes { Keeps (Some self.old.taken) (Some self.new.taken) }
-        ensures flushed { OnOk result (AllFlushed (Some self.new.taken) (Some self.new.flushed)) }
-        ensures unflushed { OnErr result (Some self.new.flushed ≡ Some self.old.flushed) }
+        ensures flushed { MatchResult result (λ _. AllFlushed (Some self.new.taken) (Some self.new.flushed)) (λ _. Some self.new.flushed ≡ Some self.old.flushed) }
         ensures cause { HasCause self.old.faults self.new.faults result }
-        ensures fails_exactly { is_err result ≡ is_listed self.old.fails self.old.calls }
-        ensures room { self.new.room ≡ self.old.room }
-        ensures counted { self.new.faults ≡ (if is_err result then one_more self.old.faults else self.old.faults) }
-        ensures step { self.new.step ≡ self.old.step }
-        ensures fails { self.new.fails ≡ self.old.fails }
-        ensures calls { self.new.calls ≡ one_more self.old.calls }
+        ensures flushes { Flushes self.old self.new result }
     {
         if self.failures.next_is_listed() {
             self.failures.count();

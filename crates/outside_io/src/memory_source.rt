@@ -1,9 +1,9 @@
 //! A source in memory, for tests.
 
-ghost use Rattle.std.specs.Prelude.{◌≡◌, ◌<◌, ◌≤◌, [], min, length, Some, IfOk, IsOk, is_err, if◌then◌else◌};
+ghost use Rattle.std.specs.Prelude.{◌≡◌, ◌<◌, ◌≤◌, length, Some, IfOk};
 ghost use Rattle.std.specs.Io.KnownBytes.{ReadConsumes};
 ghost use Rattle.outside_io.specs.Faults.{HasCause};
-ghost use Rattle.outside_io.specs.Failing.{is_listed, one_more};
+ghost use Rattle.outside_io.specs.Calls.MemorySource.{Gives};
 
 use crate::failures::Failures;
 use crate::{Failed, Source};
@@ -59,18 +59,13 @@ impl Source for MemSource {
 
     ghost faults = { λ s. s.faults };
 
-    /// Gives as many bytes as the step, the buffer and what is left allow; a listed read fails, takes none and is a fault.
+    /// Gives as many bytes as the step, the buffer and what is left allow; behind them the buffer stays as it was. A listed read
+    /// fails, takes none and is a fault; it leaves all of the buffer as it was.
     fn read(&mut self, buf: &mut [u8]) -> Result<usize, Failed>
         ensures within { IfOk result (λ n. n ≤ length buf.new) }
         ensures bytes { ReadConsumes (Some self.old.left) (Some self.new.left) result buf.new }
         ensures cause { HasCause self.old.faults self.new.faults result }
-        ensures fails_exactly { is_err result ≡ is_listed self.old.fails self.old.calls }
-        ensures count { IfOk result (λ n. n ≡ min (min self.old.step (length buf.new)) (length self.old.left)) }
-        ensures counted { self.new.faults ≡ (if is_err result then one_more self.old.faults else self.old.faults) }
-        ensures never { self.old.fails ≡ [] → IsOk result × (self.new.faults ≡ self.old.faults) }
-        ensures step { self.new.step ≡ self.old.step }
-        ensures fails { self.new.fails ≡ self.old.fails }
-        ensures calls { self.new.calls ≡ one_more self.old.calls }
+        ensures gives { Gives self.old self.new buf.old buf.new result }
     {
         if self.failures.next_is_listed() {
             self.failures.count();

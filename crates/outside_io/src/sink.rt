@@ -1,8 +1,8 @@
 //! What takes bytes.
 
-ghost use Rattle.std.specs.Prelude.{◌≡◌, ℕ, List, Option, ◌<◌, ◌≤◌, length, IfOk, OnOk, OnErr};
+ghost use Rattle.std.specs.Prelude.{◌≡◌, ℕ, List, Option, IfOk, MatchResult};
 ghost use Rattle.std.specs.Io.KnownBytes.{Keeps, WriteAppends};
-ghost use Rattle.outside_io.specs.Bytes.{AllFlushed};
+ghost use Rattle.outside_io.specs.Bytes.{AllFlushed, IsSomeOf};
 ghost use Rattle.outside_io.specs.Faults.{HasCause};
 
 use crate::Failed;
@@ -19,19 +19,17 @@ pub trait Sink {
     ghost faults: { Self → ℕ };
 
     /// Takes a front of `piece`, at least one byte of a piece that has one, and answers how many.
-    /// `Failed` takes no byte, and comes only with a fault counted.
+    /// `Failed` takes no byte. It counts one fault, and a write that went well counts none.
     fn write(&mut self, piece: &[u8]) -> Result<usize, Failed>
-        ensures within { IfOk result (λ n. n ≤ length piece.now) }
-        ensures some { IfOk result (λ n. 0 < length piece.now → 0 < n) }
+        ensures some { IfOk result (IsSomeOf piece.now) }
         ensures bytes { WriteAppends (taken self.old) (taken self.new) result piece.now }
         ensures flushed { flushed self.new ≡ flushed self.old }
         ensures cause { HasCause (faults self.old) (faults self.new) result };
 
-    /// Passes on what was taken. `Failed` comes only with a fault counted.
+    /// Passes on what was taken. `Failed` counts one fault, and a flush that went well counts none.
     fn flush(&mut self) -> Result<(), Failed>
         // A flush takes no byte, whether it fails or not.
         ensures bytes { Keeps (taken self.old) (taken self.new) }
-        ensures flushed { OnOk result (AllFlushed (taken self.new) (flushed self.new)) }
-        ensures unflushed { OnErr result (flushed self.new ≡ flushed self.old) }
+        ensures flushed { MatchResult result (λ _. AllFlushed (taken self.new) (flushed self.new)) (λ _. flushed self.new ≡ flushed self.old) }
         ensures cause { HasCause (faults self.old) (faults self.new) result };
 }

@@ -2,7 +2,7 @@
 
 ghost use Rattle.std.specs.Prelude.{◌≡◌, None};
 
-use crate::{Failed, Sink, Source};
+use crate::{Failed, Sink, Source, retrying};
 use std::io::{Read, Write};
 
 /// A source over a reader of std, as standard input. It tells of the bytes what the reader tells.
@@ -27,10 +27,11 @@ impl<R: Read + Drop> Source for StdSource<R> {
 
     ghost faults = { λ s. s.faults };
 
+    /// A read that the system interrupts is tried again, `MOST_TRIES` times in all.
     fn read(&mut self, buf: &mut [u8]) -> Result<usize, Failed> {
-        match self.inner.read(buf) {
+        match retrying::read(&mut self.inner, buf) {
             Ok(count) => Ok(count),
-            Err(_) => {
+            Err(Failed) => {
                 self.faults = self.faults.saturating_add(1);
                 Err(Failed)
             }
@@ -62,9 +63,10 @@ impl<W: Write + Drop> Sink for StdSink<W> {
 
     ghost faults = { λ s. s.faults };
 
-    /// A writer that takes none of a piece counts as failed, so that no loop over it goes on for ever.
+    /// A writer that takes none of a piece counts as failed, so that no loop over it goes on for ever. A write that the system
+    /// interrupts is tried again, `MOST_TRIES` times in all.
     fn write(&mut self, piece: &[u8]) -> Result<usize, Failed> {
-        match self.inner.write(piece) {
+        match retrying::write(&mut self.inner, piece) {
             Ok(count) if count > 0 || piece.is_empty() => Ok(count),
             _ => {
                 self.faults = self.faults.saturating_add(1);
@@ -73,10 +75,11 @@ impl<W: Write + Drop> Sink for StdSink<W> {
         }
     }
 
+    /// A flush that the system interrupts is tried again, `MOST_TRIES` times in all.
     fn flush(&mut self) -> Result<(), Failed> {
-        match self.inner.flush() {
+        match retrying::flush(&mut self.inner) {
             Ok(()) => Ok(()),
-            Err(_) => {
+            Err(Failed) => {
                 self.faults = self.faults.saturating_add(1);
                 Err(Failed)
             }

@@ -1,9 +1,10 @@
 //! Reading a source to its end, and writing all of some bytes, so that nobody above loops over a source or a sink.
 
-ghost use Rattle.std.specs.Prelude.{◌≡◌, ◌+◌, ◌^◌, ◌<◌, ◌≤◌, length, IfOk, IfSome, OnOk, OnErr};
+ghost use Rattle.std.specs.Prelude.{◌≡◌, ◌+◌, ◌^◌, ◌<◌, ◌≤◌, length, IfOk, OnOk, OnErr};
 ghost use Rattle.std.specs.Io.KnownBytes.{Appends};
-ghost use Rattle.outside_io.specs.Bytes.{AppendsPrefix, IsLonger, GivesAll, TakesAtMost};
-ghost use Rattle.outside_io.specs.Faults.{HasCause, Rose};
+ghost use Rattle.outside_io.specs.Bytes.{AppendsPrefix, GivesAll, TakesAtMost};
+ghost use Rattle.outside_io.specs.Calls.ReadWhole.{ReadHasCause};
+ghost use Rattle.outside_io.specs.Faults.{HasCause};
 
 use crate::{Failed, Sink, Source};
 use std::alloc::{AllocError, Global};
@@ -28,8 +29,8 @@ pub enum ReadFault {
 
 /// Reads to the end of a source that has at most `limit` bytes left.
 ///
-/// `TooLong` comes as soon as it gives byte `limit + 1`, and no byte more is read then; `Failed` only where a read failed,
-/// `Memory` only for want of memory. What was read before a fault is lost.
+/// `TooLong` comes as soon as it gives byte `limit + 1`, and no byte more is read then; `Failed` exactly where a read failed, and
+/// no read follows that one; `Memory` only for want of memory. What was read before a fault is lost.
 pub fn read_whole<S: Source>(
     alloc: Global,
     source: &mut S,
@@ -38,10 +39,7 @@ pub fn read_whole<S: Source>(
     requires { limit + 1 < 2 ^ 64 }
     ensures whole { IfOk result (λ bytes. GivesAll (S.left source.old) (S.left source.new) bytes.items) }
     ensures within { IfOk result (λ bytes. length bytes.items ≤ limit) }
-    ensures fits { OnOk result (IfSome (S.left source.old) (λ left. length left ≤ limit)) }
-    ensures long { result ≡ Err ReadFault.TooLong → IsLonger (S.left source.old) limit }
-    ensures failed { result ≡ Err ReadFault.Failed → Rose (S.faults source.old) (S.faults source.new) }
-    ensures later { S.faults source.old ≤ S.faults source.new }
+    ensures cause { ReadHasCause (S.left source.old) limit (S.faults source.old) (S.faults source.new) result }
     ensures at_most { TakesAtMost (S.left source.old) (S.left source.new) (limit + 1) }
 {
     let mut bytes = Vec::new(alloc);

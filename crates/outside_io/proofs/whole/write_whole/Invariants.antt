@@ -8,6 +8,7 @@ invariant-loop-done g l = record {
   so_far : Appends (g.K.Sink.taken l.fn.sink) (g.K.Sink.taken l.sink) (take l.done l.bytes);
   flushed : g.K.Sink.flushed l.sink ≡ g.K.Sink.flushed l.fn.sink;
   later : g.K.Sink.faults l.fn.sink ≤ g.K.Sink.faults l.sink;
+  uncounted : g.K.Sink.faults l.sink ≡ g.K.Sink.faults l.fn.sink;
 }
 
 abbrev pub decreases-loop-done : goal.decreases-loop-done

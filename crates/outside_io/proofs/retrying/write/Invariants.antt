@@ -1,0 +1,6 @@
+-- an interrupted write took nothing
+use Rattle.std.specs.Io.KnownBytes.{Keeps}
+use Rattle.outside_io.proofs.retrying.write.Given as goal
+
+abbrev pub invariant-loop : goal.invariant-loop
+invariant-loop g l = Keeps (g.W.Write.contents l.fn.writer) (g.W.Write.contents l.writer)

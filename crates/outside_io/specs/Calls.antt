@@ -1,0 +1,3 @@
+pub mod ReadWhole
+pub mod MemorySource
+pub mod MemorySink
