@@ -1,7 +1,9 @@
 -- How calls and scripts print: single spaces, each number in its one spelling.
 use Rattle.std.specs.Prelude.{ℕ, ℤ, Bool, true, false, List, [], ◌∷◌, ◌++◌, flat_map, slice_get, codes, decimal, option_map, unwrap_or}
 use Rattle.fixed_num.specs.Text.{spelled}
-use Rattle.cm_document.specs.Vocabulary.{life_word}
+use Rattle.cm_document.specs.declared.script.Verb.{Verb}
+use Rattle.cm_document.specs.declared.script.Verb.TheVariants as verb
+use Rattle.cm_document.specs.Vocabulary.{life_word, verb_word, strictness_word}
 use Rattle.cm_document.specs.declared.call.Call.{Call}
 use Rattle.cm_document.specs.declared.call.Call.TheVariants as call
 use Rattle.cm_document.specs.declared.call.Mail.{Mail}
@@ -12,13 +14,6 @@ use Rattle.cm_document.specs.declared.script.Script.{Script}
 use Rattle.cm_document.specs.declared.script.SessionText.{SessionText}
 use Rattle.cm_document.specs.declared.script.Turn.{Turn}
 use Rattle.cm_document.specs.declared.script.Turn.TheVariants as turn
-
--- ---- Words
-
--- all or nothing, or what can be done
-abbrev pub strictness_word : Bool → List ℕ
-strictness_word true = codes "strict"
-strictness_word false = codes "best"
 
 -- ---- Calls
 
@@ -41,32 +36,36 @@ signed_text sign names = flat_map (λ name. codes " " ++ sign ++ name) names
 
 -- a switch: those to deactivate before those to activate
 abbrev pub switch_text : SwitchRequest → List ℕ
-switch_text r = codes "switch " ++ strictness_word r.strict ++ signed_text (codes "-") r.off ++ signed_text (codes "+") r.on
+switch_text r = verb_word verb.Switch ++ codes " " ++ strictness_word r.strict ++ signed_text (codes "-") r.off ++ signed_text (codes "+") r.on
+
+-- a verb and what it is asked of, with a space between
+abbrev pub asked : Verb → List ℕ → List ℕ
+asked v rest = verb_word v ++ codes " " ++ rest
 
 -- a call, as a line of a script says it; and the loop's calls with the number of the cycle
 abbrev pub call_text : Call → List ℕ
-call_text (call.Load name) = codes "load " ++ name
-call_text (call.Configure name) = codes "configure " ++ name
-call_text (call.Cleanup name) = codes "cleanup " ++ name
-call_text (call.Unload name) = codes "unload " ++ name
-call_text (call.Rate name hz) = codes "rate " ++ name ++ codes " " ++ decimal hz
-call_text (call.Send name mail) = codes "send " ++ name ++ mail_text mail
+call_text (call.Load name) = asked verb.Load name
+call_text (call.Configure name) = asked verb.Configure name
+call_text (call.Cleanup name) = asked verb.Cleanup name
+call_text (call.Unload name) = asked verb.Unload name
+call_text (call.Rate name hz) = asked verb.Rate (name ++ codes " " ++ decimal hz)
+call_text (call.Send name mail) = asked verb.Send (name ++ mail_text mail)
 call_text (call.Switch request) = switch_text request
-call_text (call.Hardware component target) = codes "hw " ++ component ++ codes " " ++ life_word target
+call_text (call.Hardware component target) = asked verb.Hardware (component ++ codes " " ++ life_word target)
 call_text (call.Told ticket) = codes "told " ++ decimal ticket
-call_text (call.Await n) = codes "await " ++ decimal n
-call_text call.ListControllers = codes "list controllers"
-call_text call.ListInterfaces = codes "list interfaces"
-call_text call.ListComponents = codes "list components"
-call_text (call.Begin n) = codes "begin " ++ decimal n
-call_text (call.End n) = codes "end " ++ decimal n
+call_text (call.Await n) = asked verb.Await (decimal n)
+call_text call.ListControllers = asked verb.List (codes "controllers")
+call_text call.ListInterfaces = asked verb.List (codes "interfaces")
+call_text call.ListComponents = asked verb.List (codes "components")
+call_text (call.Begin n) = asked verb.Begin (decimal n)
+call_text (call.End n) = asked verb.End (decimal n)
 call_text call.Close = codes "close"
 
 -- ---- Scripts
 
 -- a session's line, then a line for each call
 abbrev pub session_text : SessionText → List ℕ
-session_text s = codes "session " ++ s.name ++ codes "\n" ++ flat_map (λ c. call_text c ++ codes "\n") s.lines
+session_text s = asked verb.Session s.name ++ codes "\n" ++ flat_map (λ c. call_text c ++ codes "\n") s.lines
 
 -- the name of a session by its number
 abbrev pub session_name : List SessionText → ℕ → List ℕ
@@ -74,14 +73,14 @@ session_name sessions who = unwrap_or (option_map (λ s. s.name) (slice_get sess
 
 -- a turn's line
 abbrev pub turn_text : List SessionText → Turn → List ℕ
-turn_text sessions (turn.Step who) = codes "step " ++ session_name sessions who ++ codes "\n"
-turn_text sessions turn.Begin = codes "begin\n"
-turn_text sessions turn.End = codes "end\n"
+turn_text sessions (turn.Step who) = asked verb.Step (session_name sessions who) ++ codes "\n"
+turn_text sessions turn.Begin = verb_word verb.Begin ++ codes "\n"
+turn_text sessions turn.End = verb_word verb.End ++ codes "\n"
 
 -- the schedule, where there are turns
 abbrev pub schedule_text : List SessionText → List Turn → List ℕ
 schedule_text sessions [] = []
-schedule_text sessions (t ∷ ts) = codes "schedule\n" ++ flat_map (turn_text sessions) (t ∷ ts)
+schedule_text sessions (t ∷ ts) = verb_word verb.Schedule ++ codes "\n" ++ flat_map (turn_text sessions) (t ∷ ts)
 
 -- a script: its sessions, then its schedule
 unfoldable pub script_text : Script → List ℕ

@@ -1,5 +1,5 @@
 -- Vocabularies: tables of words, each with what it stands for. A reader looks up a word, a printer what it stands for.
-use Rattle.std.specs.Prelude.{ℕ, Bool, true, false, if◌then◌else◌, List, [], ◌∷◌, map, find, Option, Some, None}
+use Rattle.std.specs.Prelude.{ℕ, Bool, true, false, not, if◌then◌else◌, List, [], ◌∷◌, map, find, Option, Some, None}
 use Rattle.std.specs.Option.{option_map_or}
 use Rattle.iface_names.specs.Names.{same_name}
 use Rattle.cm_document.specs.declared.description.CompKind.{CompKind}
@@ -8,6 +8,7 @@ use Rattle.cm_document.specs.declared.description.CtlKind.TheVariants.{Forward, 
 use Rattle.cm_document.specs.declared.life.Life.{Life}
 use Rattle.cm_document.specs.declared.life.Life.TheVariants.{Unconfigured, Inactive, Active, Finalized}
 use Rattle.cm_document.specs.declared.script.Verb.{Verb}
+use Rattle.cm_document.specs.declared.script.Verb.TheVariants as verb
 use Rattle.cm_document.specs.declared.vocabulary.TheConstants.{COMPONENT_KINDS, LIVES, LIVES_ON_ERROR, CONTROLLER_KINDS, VERBS, STRICTNESSES}
 
 -- ---- Looking up
@@ -70,3 +71,35 @@ same_life _ _ = false
 -- the word beside a lifecycle state
 abbrev pub life_word : Life → List ℕ
 life_word life = option_map_or (λ row. row.0.now) (find (λ row. same_life row.1 life) LIVES) []
+
+-- the two verbs are one
+abbrev pub same_verb : Verb → Verb → Bool
+same_verb verb.Session verb.Session = true
+same_verb verb.Load verb.Load = true
+same_verb verb.Configure verb.Configure = true
+same_verb verb.Cleanup verb.Cleanup = true
+same_verb verb.Unload verb.Unload = true
+same_verb verb.Rate verb.Rate = true
+same_verb verb.Send verb.Send = true
+same_verb verb.Switch verb.Switch = true
+same_verb verb.Hardware verb.Hardware = true
+same_verb verb.Await verb.Await = true
+same_verb verb.List verb.List = true
+same_verb verb.Schedule verb.Schedule = true
+same_verb verb.Step verb.Step = true
+same_verb verb.Begin verb.Begin = true
+same_verb verb.End verb.End = true
+same_verb _ _ = false
+
+-- the word beside a verb
+abbrev pub verb_word : Verb → List ℕ
+verb_word v = option_map_or (λ row. row.0.now) (find (λ row. same_verb row.1 v) VERBS) []
+
+-- both are so, or neither is
+abbrev pub bool_eq : Bool → Bool → Bool
+bool_eq true b = b
+bool_eq false b = not b
+
+-- the word beside a strictness
+abbrev pub strictness_word : Bool → List ℕ
+strictness_word strict = option_map_or (λ row. row.0.now) (find (λ row. bool_eq row.1 strict) STRICTNESSES) []

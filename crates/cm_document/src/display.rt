@@ -1,4 +1,4 @@
-//! How kinds, lifecycle states and calls print.
+//! How kinds, lifecycle states, verbs and calls print.
 
 ghost use Rattle.std.specs.Prelude.{Some, flat_map};
 ghost use Rattle.std.specs.Fmt.{DisplaysOnOk};
@@ -7,6 +7,8 @@ ghost use Rattle.cm_document.specs.CallText.{values_text, point_text, signed_tex
 use crate::call::{Call, Mail, Point2, SwitchRequest};
 use crate::description::CtlKind;
 use crate::life::Life;
+use crate::script::Verb;
+use crate::vocabulary::strictness_word;
 use fixed_num::Fx;
 use iface_names::Name;
 use std::fmt;
@@ -28,6 +30,17 @@ impl Display for Life {
     ghost use Rattle.cm_document.specs.Vocabulary.{life_word};
 
     ghost output = { λ life. Some (life_word life) };
+
+    fn fmt<W: Write>(&self, f: &mut Formatter<W>) -> fmt::Result {
+        f.write_str(self.word())
+    }
+}
+
+impl Display for Verb {
+    ghost use Rattle.std.specs.Prelude.{Some};
+    ghost use Rattle.cm_document.specs.Vocabulary.{verb_word};
+
+    ghost output = { λ verb. Some (verb_word verb) };
 
     fn fmt<W: Write>(&self, f: &mut Formatter<W>) -> fmt::Result {
         f.write_str(self.word())
@@ -68,8 +81,8 @@ impl Display for SwitchRequest {
     ghost output = { λ request. Some (switch_text request) };
 
     fn fmt<W: Write>(&self, f: &mut Formatter<W>) -> fmt::Result {
-        f.write_str("switch ")?;
-        f.write_str(if self.strict { "strict" } else { "best" })?;
+        let strictness = strictness_word(self.strict);
+        write!(f, "{} {strictness}", Verb::Switch)?;
         write_signed("-", self.off.as_slice(), f)?;
         write_signed("+", self.on.as_slice(), f)
     }
@@ -83,21 +96,21 @@ impl Display for Call {
 
     fn fmt<W: Write>(&self, f: &mut Formatter<W>) -> fmt::Result {
         match self {
-            Call::Load(name) => write!(f, "load {name}"),
-            Call::Configure(name) => write!(f, "configure {name}"),
-            Call::Cleanup(name) => write!(f, "cleanup {name}"),
-            Call::Unload(name) => write!(f, "unload {name}"),
-            Call::Rate { name, hz } => write!(f, "rate {name} {hz}"),
-            Call::Send { name, mail } => write!(f, "send {name}{mail}"),
+            Call::Load(name) => write!(f, "{} {name}", Verb::Load),
+            Call::Configure(name) => write!(f, "{} {name}", Verb::Configure),
+            Call::Cleanup(name) => write!(f, "{} {name}", Verb::Cleanup),
+            Call::Unload(name) => write!(f, "{} {name}", Verb::Unload),
+            Call::Rate { name, hz } => write!(f, "{} {name} {hz}", Verb::Rate),
+            Call::Send { name, mail } => write!(f, "{} {name}{mail}", Verb::Send),
             Call::Switch(request) => write!(f, "{request}"),
-            Call::Hardware { component, target } => write!(f, "hw {component} {target}"),
+            Call::Hardware { component, target } => write!(f, "{} {component} {target}", Verb::Hardware),
             Call::Told(ticket) => write!(f, "told {ticket}"),
-            Call::Await(cycles) => write!(f, "await {cycles}"),
-            Call::ListControllers => f.write_str("list controllers"),
-            Call::ListInterfaces => f.write_str("list interfaces"),
-            Call::ListComponents => f.write_str("list components"),
-            Call::Begin(cycle) => write!(f, "begin {cycle}"),
-            Call::End(cycle) => write!(f, "end {cycle}"),
+            Call::Await(cycles) => write!(f, "{} {cycles}", Verb::Await),
+            Call::ListControllers => write!(f, "{} controllers", Verb::List),
+            Call::ListInterfaces => write!(f, "{} interfaces", Verb::List),
+            Call::ListComponents => write!(f, "{} components", Verb::List),
+            Call::Begin(cycle) => write!(f, "{} {cycle}", Verb::Begin),
+            Call::End(cycle) => write!(f, "{} {cycle}", Verb::End),
             Call::Close => f.write_str("close"),
         }
     }

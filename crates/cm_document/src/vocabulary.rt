@@ -2,7 +2,7 @@
 
 ghost use Rattle.std.specs.Prelude.{◌≡◌, map, find, option_copied};
 ghost use Rattle.iface_names.specs.Names.{same_name};
-ghost use Rattle.cm_document.specs.Vocabulary.{listed, same_controller_kind, kind_word, same_life, life_word};
+ghost use Rattle.cm_document.specs.Vocabulary.{listed, same_controller_kind, kind_word, same_life, life_word, same_verb, verb_word, bool_eq, strictness_word};
 
 use crate::description::{CompKind, CtlKind};
 use crate::life::Life;
@@ -119,6 +119,52 @@ impl Life {
             None => "",
         }
     }
+}
+
+impl Verb {
+    /// The word that the line begins with.
+    pub fn word(self) -> &'static str
+        ensures { result.now ≡ verb_word self }
+    {
+        match verb_row(&VERBS, self) {
+            Some(row) => row.0,
+            None => "",
+        }
+    }
+}
+
+fn verb_row<'a, 'b>(table: &'a [(&'b str, Verb)], verb: Verb) -> Option<&'a (&'b str, Verb)>
+    ensures { option_copied result ≡ find (λ row. same_verb row.1 verb) table.now }
+{
+    table.iter().find(|row| is_verb(row.1, verb))
+}
+
+fn is_verb(verb: Verb, other: Verb) -> bool
+    ensures { result ≡ same_verb verb other }
+{
+    verb == other
+}
+
+/// The word for whether a switch is strict.
+pub fn strictness_word(strict: bool) -> &'static str
+    ensures { result.now ≡ strictness_word strict }
+{
+    match strictness_row(&STRICTNESSES, strict) {
+        Some(row) => row.0,
+        None => "",
+    }
+}
+
+fn strictness_row<'a, 'b>(table: &'a [(&'b str, bool)], strict: bool) -> Option<&'a (&'b str, bool)>
+    ensures { option_copied result ≡ find (λ row. bool_eq row.1 strict) table.now }
+{
+    table.iter().find(|row| is_as_strict(row.1, strict))
+}
+
+fn is_as_strict(strict: bool, other: bool) -> bool
+    ensures { result ≡ bool_eq strict other }
+{
+    strict == other
 }
 
 fn life_row<'a, 'b>(table: &'a [(&'b str, Life)], life: Life) -> Option<&'a (&'b str, Life)>

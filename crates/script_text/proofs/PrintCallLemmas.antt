@@ -4,9 +4,9 @@ use Rattle.std.specs.Prelude.{nat_le, codes}
 use Rattle.std.specs.Fmt.{decimal}
 use Rattle.std.proofs.lemmas.Bool.Decides.{nat_tests}
 use Rattle.std.proofs.lemmas.List.{append-nil}
-use Rattle.cm_document.specs.Vocabulary.{life_word, listed, lives}
+use Rattle.cm_document.specs.Vocabulary.{life_word, listed, lives, strictness_word}
 use Rattle.cm_document.specs.Lines.{is_comment}
-use Rattle.cm_document.specs.CallText.{strictness_word, call_text}
+use Rattle.cm_document.specs.CallText.{call_text}
 use Rattle.cm_document.specs.LineForms.{line_of}
 use Rattle.cm_document.specs.ScriptLaws.{IsName, CanBeSent, CanBeAsked, CanBeWritten, has_form}
 use Rattle.cm_document.specs.declared.call.Call.{Call}

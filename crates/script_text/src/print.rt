@@ -4,7 +4,7 @@ ghost use Rattle.std.specs.Prelude.{◌≡◌, ◌++◌, OnOk, IfOk, flat_map, c
 ghost use Rattle.cm_document.specs.CallText.{call_text, session_text, session_name, turn_text, schedule_text, script_text};
 ghost use Rattle.cm_document.specs.ScriptLaws.{ReadsBack};
 
-use cm_document::{Call, Memory, Script, SessionText, Turn};
+use cm_document::{Call, Memory, Script, SessionText, Turn, Verb};
 use std::alloc::Global;
 
 /// The text of a script: each session's line with its calls behind it, and `schedule` with the turns where there are some.
@@ -43,7 +43,7 @@ fn push_session(text: &mut String, session: &SessionText) -> Result<(), Memory>
     ensures { OnOk result (string_bytes text.new ≡ string_bytes text.old ++ session_text session.now) }
 {
     let name = &session.name;
-    write!(text, "session {name}\n")?;
+    write!(text, "{} {name}\n", Verb::Session)?;
     push_calls(text, session.lines.as_slice())
 }
 
@@ -63,7 +63,7 @@ fn push_schedule(text: &mut String, sessions: &[SessionText], turns: &[Turn]) ->
     if turns.is_empty() {
         return Ok(());
     }
-    text.push_str("schedule\n")?;
+    write!(text, "{}\n", Verb::Schedule)?;
     push_turns(text, sessions, turns)
 }
 
@@ -82,10 +82,10 @@ fn push_turn(text: &mut String, sessions: &[SessionText], turn: &Turn) -> Result
     match turn {
         Turn::Step(who) => {
             let name = name_of(sessions, *who);
-            write!(text, "step {name}\n")?;
+            write!(text, "{} {name}\n", Verb::Step)?;
         }
-        Turn::Begin => text.push_str("begin\n")?,
-        Turn::End => text.push_str("end\n")?,
+        Turn::Begin => write!(text, "{}\n", Verb::Begin)?,
+        Turn::End => write!(text, "{}\n", Verb::End)?,
     }
     Ok(())
 }
