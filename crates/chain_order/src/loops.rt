@@ -30,6 +30,3 @@ fn first_back(alloc: Global, links: &Links) -> Result<Option<u32>, Memory>
     }
     Ok(None)
 }
-
-#[cfg(test)]
-mod tests;

@@ -1,6 +1,8 @@
 //! What becomes of the program's words, and what it tells of each status: the number that it ends with, and the line on standard
 //! error, with `Ok` none.
 
+mod memory;
+
 use crate::{run_words, told};
 use cm_model::{
     CheckFault, DescFault, DescProblem, IfaceName, Name, NameFault, ScriptFault, Text, What,

@@ -12,5 +12,3 @@ mod session;
 mod status;
 mod top;
 mod trace;
-#[cfg(test)]
-mod whole_tests;

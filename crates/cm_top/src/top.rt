@@ -20,9 +20,6 @@ use std::alloc::Global;
 use std::sync::Wait;
 use std::thread::Threads;
 
-#[cfg(test)]
-mod tests;
-
 /// The longest document, in bytes.
 const LONGEST_DOCUMENT: usize = 1_048_576;
 

@@ -13,7 +13,5 @@ mod keys;
 mod paths;
 mod read;
 mod states;
-#[cfg(test)]
-mod tests;
 mod values;
 mod words;

@@ -23,6 +23,4 @@ mod retrying;
 mod sink;
 mod source;
 mod std_edge;
-#[cfg(test)]
-mod tests;
 mod whole;

@@ -17,7 +17,5 @@ mod print;
 mod reading;
 mod rules;
 mod switches;
-#[cfg(test)]
-mod tests;
 mod verbs;
 mod words;

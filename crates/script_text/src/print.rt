@@ -99,6 +99,3 @@ fn name_of(sessions: &[SessionText], who: u32) -> &str
         None => "",
     }
 }
-
-#[cfg(test)]
-mod tests;

@@ -1,0 +1,101 @@
+//! Whole runs between a source and a sink in memory: how each ends and what is printed, by the documents' rules.
+
+mod outside;
+mod pages;
+mod words;
+
+use crate::pages::{Teller, differences};
+use cm_model::Blanks;
+use cm_top::run_alone;
+use outside_io::{MemSink, MemSource};
+use pages::{DESCRIPTIONS, SCRIPTS, SEPARATORS};
+use std::alloc::Global;
+use std::str;
+use std::test::Fail;
+
+/// A mock, asked for by one session, whose lines are 8 to 12 of the document.
+pub const FIRST: &str = r#"version = 1
+update_rate = 100
+cycles = 2
+[[controller]]
+name = "mk"
+type = "mock"
+--- script ---
+session a
+load mk
+list controllers
+load nosuch
+load mk
+"#;
+
+/// What a run of `FIRST` prints.
+pub const FIRST_TRACE: &str = "a load mk: ok 0
+a list controllers: mk mock unconfigured 0
+a load nosuch: not_described
+a load mk: loaded
+loop begin 0: none
+loop end 0: none
+loop begin 1: none
+loop end 1: none
+loop close: none
+";
+
+/// More bytes than any trace of these tests has.
+pub const AMPLE: usize = 4096;
+
+
+/// A stock of so many mocks.
+pub fn mocks(mock: u32) -> Blanks {
+    Blanks {
+        forward: 0,
+        passthrough: 0,
+        pid: 0,
+        trajectory: 0,
+        broadcaster: 0,
+        mock,
+    }
+}
+
+/// Tells how the run of a document ends, and what it prints, behind one another. The source gives so many bytes a read.
+#[derive(Clone, Copy)]
+struct Runs {
+    step: usize,
+}
+
+impl Teller for Runs {
+    fn told(&self, alloc: Global, text: &str) -> Result<String, Fail> {
+        if self.step == 0 {
+            return Err(Fail::from("a step of none"));
+        }
+        let bytes = text.as_bytes().to_vec(alloc)?;
+        let mut source = MemSource::make(bytes, self.step, vec![in alloc]?);
+        let mut sink = MemSink::make(alloc, AMPLE, AMPLE, vec![in alloc]?)?;
+        let status = run_alone(alloc, &mut source, &mut sink, mocks(32));
+        let printed = str::from_utf8(sink.bytes())?;
+        let told = format!(in alloc; "{status}\n{printed}")?;
+        match told.strip_suffix("\n") {
+            Some(lines) => Ok(String::from_str(alloc, lines)?),
+            None => Ok(format!(in alloc; "{told}, without an end")?),
+        }
+    }
+}
+
+#[test]
+fn each_document_is_printed_or_refused(rt: HostRuntime) -> Result<(), Fail> {
+    let alloc = rt.alloc();
+    for page in [DESCRIPTIONS, SEPARATORS, SCRIPTS] {
+        assert_eq!(rt;
+            differences(alloc, &Runs { step: 1000 }, "", page)?.as_str(),
+            ""
+        );
+    }
+    let nothing = "version = 1\nupdate_rate = 100\ncycles = 0\n--- script ---\n";
+    for (document, trace) in [(FIRST, FIRST_TRACE), (nothing, "loop close: none\n")] {
+        let want = format!(in alloc; "ok\n{trace}")?;
+        for step in [1, 7, 1000] {
+            let told = format!(in alloc; "{}\n", Runs { step }.told(alloc, document)?)?;
+            assert_eq!(rt; told.as_str(), want.as_str(), "{step} bytes a read");
+        }
+    }
+    Ok(())
+}

@@ -1,0 +1,234 @@
+//! Whole documents, each with how its run ends and what is printed.
+
+/// Faults of the text, then of the checks, then a component, and all of them before those of the script.
+pub const DESCRIPTIONS: &str = r#"=> description: bad_key version
+
+version = 1
+update_rate = 100
+=> description: bad_key cycles
+
+version =\
+=> description: not_toml
+
+version = 1
+update_rate = 100
+cycles = 3
+[[component]]
+name = "arm"
+kind = "actuator"
+[[component.joint]]
+name = "j1"
+vmax = 1.5
+--- script ---
+jump
+=> description: float_given component[0].joint[0].vmax
+
+version = 1
+update_rate = 100
+cycles = 2
+[[controller]]
+name = "p"
+type = "passthrough"
+claims = ["q/j1/position"]
+[[controller]]
+name = "q"
+type = "passthrough"
+claims = ["p/j1/position"]
+--- script ---
+jump
+=> description: chain_loop p
+
+version = 1
+update_rate = 100
+cycles = 0
+[[controller]]
+name = "mk"
+type = "mock"
+rate = 5
+--- script ---
+=> description: bad_key controller[0].rate
+
+version = 1
+update_rate = 100
+cycles = 0
+[[controller]]
+name = "f"
+type = "forward"
+claims = ["j1/effort"]
+--- script ---
+=> description: no_interface f j1/effort
+
+version = 1
+update_rate = 100
+cycles = 0
+[[component]]
+name = "arm"
+kind = "actuator"
+[[component.joint]]
+name = "j1"
+vmax = 1
+--- script ---
+jump
+=> description: bad_key component
+
+version = 1
+update_rate = 100
+cycles = 0
+[[component]]
+name = "arm"
+kind = "actuator"
+[[component.joint]]
+name = "j1"
+vmax = -1
+--- script ---
+=> description: bad_range component[0].joint[0].vmax
+
+version = 1
+update_rate = 100
+cycles = 0
+component = []
+--- script ---
+=> ok
+loop close: none"#;
+
+/// Where the script begins, behind three lines of description.
+pub const SEPARATORS: &str = r"version = 1
+update_rate = 100
+cycles = 0
+=> script: bad_line 4
+
+version = 1
+update_rate = 100
+cycles = 0\
+=> script: bad_line 4
+
+version = 1
+update_rate = 100
+cycles = 0
+--- script ---\
+=> ok
+loop close: none
+
+version = 1
+update_rate = 100
+cycles = 0
+--- script ---\r
+session a
+=> ok
+loop close: none
+
+version = 1
+update_rate = 100
+cycles = 0
+--- script ---
+session a
+--- script ---
+=> script: bad_line 6
+
+version = 1
+update_rate = 100
+cycles = 0
+--- script ---\r\r
+session a
+=> description: not_toml
+
+version = 1
+update_rate = 100
+cycles = 0
+#\s
+--- script ---\s
+session a
+=> description: not_toml
+
+version = 1
+update_rate = 100
+cycles = 0
+\n\
+\n\
+--- script ---
+jump
+=> script: bad_line 7";
+
+/// A mock or another controller, and scripts.
+pub const SCRIPTS: &str = r#"version = 1
+update_rate = 100
+cycles = 0
+[[controller]]
+name = "mk"
+type = "broadcaster"
+reads = "all"
+--- script ---
+session a
+load mk
+=> ok
+a load mk: stock_empty
+loop close: none
+
+version = 1
+update_rate = 100
+cycles = 2
+[[controller]]
+name = "mk"
+type = "mock"
+=> script: bad_line 7
+
+version = 1
+update_rate = 100
+cycles = 2
+[[controller]]
+name = "mk"
+type = "mock"
+--- script ---
+load mk
+load mk
+=> script: no_session 8
+
+version = 1
+update_rate = 100
+cycles = 2
+[[controller]]
+name = "mk"
+type = "mock"
+--- script ---
+session a
+load mk
+list controllers
+load nosuch
+jump mk
+=> script: bad_line 12
+
+version = 1
+update_rate = 100
+cycles = 2
+[[controller]]
+name = "mk"
+type = "mock"
+--- script ---
+session a
+\n\
+# x
+session b
+=> script: bad_line 11
+
+version = 1
+update_rate = 100
+cycles = 2
+[[controller]]
+name = "mk"
+type = "mock"
+--- script ---
+schedule
+=> script: bad_line 8
+
+version = 1
+update_rate = 100
+cycles = 0
+[[controller]]
+name = "mk"
+type = "mock"
+--- script ---\r
+\tsession \t a\r
+load  mk\t\
+=> ok
+a load mk: ok 0
+loop close: none"#;
