@@ -103,7 +103,11 @@ impl Display for Call {
             Call::Rate { name, hz } => write!(f, "{} {name} {hz}", Verb::Rate),
             Call::Send { name, mail } => write!(f, "{} {name}{mail}", Verb::Send),
             Call::Switch(request) => write!(f, "{request}"),
-            Call::Hardware { component, target } => write!(f, "{} {component} {target}", Verb::Hardware),
+            Call::Hardware { component, target } => write!(
+                f,
+                "{} {component} {target}",
+                Verb::Hardware
+            ),
             Call::Told(ticket) => write!(f, "told {ticket}"),
             Call::Await(cycles) => write!(f, "{} {cycles}", Verb::Await),
             Call::ListControllers => write!(f, "{} controllers", Verb::List),

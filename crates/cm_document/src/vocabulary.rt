@@ -97,7 +97,10 @@ impl CtlKind {
     }
 }
 
-fn kind_row<'a, 'b>(table: &'a [(&'b str, CtlKind)], kind: CtlKind) -> Option<&'a (&'b str, CtlKind)>
+fn kind_row<'a, 'b>(
+    table: &'a [(&'b str, CtlKind)],
+    kind: CtlKind,
+) -> Option<&'a (&'b str, CtlKind)>
     ensures { option_copied result ≡ find (λ row. same_controller_kind row.1 kind) table.now }
 {
     table.iter().find(|row| is_kind(row.1, kind))

@@ -43,7 +43,6 @@ loop close: none
 /// More bytes than any trace of these tests has.
 pub const AMPLE: usize = 4096;
 
-
 /// A stock of so many mocks.
 pub fn mocks(mock: u32) -> Blanks {
     Blanks {

@@ -118,7 +118,12 @@ fn controller_ranged(alloc: Global, prefix: &str, controller: &CtlDesc) -> Resul
     let params = &controller.params;
     let claims = controller.claims.as_slice().len();
     let reads = controller.reads().len();
-    ranged(alloc, controller.rate <= HIGHEST_RATE, prefix, "update_rate")?;
+    ranged(
+        alloc,
+        controller.rate <= HIGHEST_RATE,
+        prefix,
+        "update_rate",
+    )?;
     ranged(alloc, claims_fit(params, claims), prefix, "claims")?;
     ranged(alloc, reads_fit(params, claims, reads), prefix, "reads")?;
     limits_ranged(alloc, prefix, params)

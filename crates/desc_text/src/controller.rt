@@ -10,9 +10,7 @@ ghost use Rattle.cm_document.specs.declared.description.Params.TheVariants as pa
 use crate::forms::{ListOf, One, TableForm};
 use crate::keys::Keys;
 use crate::states::{AllOrList, ReadList};
-use crate::values::{
-    Boolean, Cycle, Interface, Named, Quantity, Whole,
-};
+use crate::values::{Boolean, Cycle, Interface, Named, Quantity, Whole};
 use crate::words::{ControllerKinds, WordOf};
 use cm_document::{CtlDesc, CtlKind, DescFault, Fx, IfaceName, Params, Seq, Shared};
 use std::alloc::{AllocError, Global};

@@ -10,8 +10,8 @@ ghost use Rattle.cm_document.specs.ScriptRules.{nothing, with_session, with_call
 use crate::limits::call_fits;
 use crate::rules::sessions::closed;
 use cm_document::{
-    Call, Forms, MOST_CALLS, MOST_SESSIONS, Name, Script, ScriptFault, ScriptLine, Seq, SessionText,
-    Turn,
+    Call, Forms, MOST_CALLS, MOST_SESSIONS, Name, Script, ScriptFault, ScriptLine, Seq,
+    SessionText, Turn,
 };
 use std::alloc::Global;
 use std::marker::Model;

@@ -4,9 +4,7 @@ ghost use Rattle.std.specs.Prelude.{◌≡◌};
 ghost use Rattle.cm_document.specs.Vocabulary.{listed, lives, strictnesses, verbs};
 ghost use Rattle.cm_document.specs.LineForms.{lists};
 
-use cm_document::{
-    Call, Forms, LIVES, Life, STRICTNESSES, VERBS, Verb, meaning_of,
-};
+use cm_document::{Call, Forms, LIVES, Life, STRICTNESSES, VERBS, Verb, meaning_of};
 
 /// What this word says as the first of a line.
 pub fn verb(word: &[u8]) -> Option<Verb>
