@@ -15,7 +15,7 @@ use Rattle.iface_names.specs.declared.interface.IfaceName.TheVariants.{Joint, Re
 use Rattle.iface_names.specs.declared.kind.Kind.{Kind}
 use Rattle.cm_document.specs.Described.{states_of}
 use Rattle.cm_document.specs.Links.{joints_of, commands_of, commands_of_joint, reference_for, exported_for, refs_of, references_of}
-use Rattle.cm_document.specs.Places.{Called, a_state, a_command, Whose, of_joint, of_controller, Interface, at_joint, at_joints, at_components, at_controllers, interfaces_of, called_in, EachStandsOnce}
+use Rattle.cm_document.specs.Places.{Called, a_state, a_command, of_controller, at_joint, at_joints, at_components, at_controllers, called_in, EachStandsOnce}
 use Rattle.cm_document.specs.Valid.{repeated_after, apart, names_apart, interfaces_apart, few_enough, named_apart, valid, IsValid}
 use Rattle.cm_document.specs.declared.description.CompDesc.{CompDesc}
 use Rattle.cm_document.specs.declared.description.CtlDesc.{CtlDesc}

@@ -1,6 +1,6 @@
 -- Worked rows of documents that are refused, computed from the definitions alone.
-use Rattle.std.proofs.Common.{◌≡◌, ℕ, List, Ok, Err, refl}
-use Rattle.std.specs.Prelude.{codes, Result}
+use Rattle.std.proofs.Common.{◌≡◌, Err, refl}
+use Rattle.std.specs.Prelude.{codes}
 use Rattle.std.specs.Fmt.{digits}
 use Rattle.std.specs.Str.{is_utf8, chars}
 use Rattle.toml.proofs.OnLiterals.{toml_on_literals}
@@ -15,9 +15,7 @@ use Rattle.cm_document.specs.declared.faults.CheckFault.TheVariants.{ChainLoop}
 use Rattle.cm_document.specs.declared.faults.DescFault.TheVariants.{BadKey, FloatGiven}
 use Rattle.cm_document.specs.declared.faults.DescProblem.TheVariants.{Text, Check}
 use Rattle.cm_document.specs.declared.faults.ScriptFault.TheVariants.{BadLine, NoSession}
-use Rattle.cm_document.specs.declared.faults.DocumentFault.{DocumentFault}
 use Rattle.cm_document.specs.declared.faults.DocumentFault.TheVariants as fault
-use Rattle.cm_document.specs.declared.document.Document.{Document}
 
 -- a last line without a form
 a_line_without_a_form : document (codes "version = 1\nupdate_rate = 100\ncycles = 2\n[[controller]]\nname = \"mk\"\ntype = \"mock\"\n--- script ---\nsession a\nload mk\nlist controllers\nload nosuch\njump mk\n")

@@ -1,5 +1,5 @@
 -- How calls and scripts print: single spaces, each number in its one spelling.
-use Rattle.std.specs.Prelude.{ℕ, ℤ, Bool, true, false, List, [], ◌∷◌, ◌++◌, flat_map, slice_get, codes, decimal, option_map, unwrap_or}
+use Rattle.std.specs.Prelude.{ℕ, ℤ, List, [], ◌∷◌, ◌++◌, flat_map, slice_get, codes, decimal, option_map, unwrap_or}
 use Rattle.fixed_num.specs.Text.{spelled}
 use Rattle.cm_document.specs.declared.script.Verb.{Verb}
 use Rattle.cm_document.specs.declared.script.Verb.TheVariants as verb

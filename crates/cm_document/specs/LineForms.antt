@@ -1,11 +1,11 @@
 -- The forms that a line of a script can have: what its words say. Each form is one equation of `said`.
-use Rattle.std.specs.Prelude.{ℕ, ℤ, Bool, true, false, ◌&&◌, ◌||◌, ◌==◌, nat_lt, nat_le, if◌then◌else◌, List, [], ◌∷◌, length, codes, Option, Some, None, option_map, is_some, filter_map, Ok, Err}
+use Rattle.std.specs.Prelude.{ℕ, ℤ, Bool, false, ◌&&◌, ◌||◌, ◌==◌, nat_lt, nat_le, if◌then◌else◌, List, [], ◌∷◌, length, codes, Option, Some, None, option_map, is_some, filter_map, Ok, Err}
 use Rattle.std.specs.List.{list_all}
 use Rattle.std.specs.Option.{option_and_then}
 use Rattle.std.specs.Char.{is_ascii_digit}
 use Rattle.std.specs.Str.Parse.{digits_value}
 use Rattle.fixed_num.specs.Text.{number_of}
-use Rattle.iface_names.specs.Names.{is_name, same_name}
+use Rattle.iface_names.specs.Names.{is_name}
 use Rattle.cm_document.specs.Vocabulary.{listed, verbs, lives, strictnesses}
 use Rattle.cm_document.specs.declared.limits.TheConstants.{HIGHEST_RATE, MOST_DIGITS}
 use Rattle.cm_document.specs.declared.call.Call.{Call}
