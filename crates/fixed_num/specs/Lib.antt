@@ -1,3 +1,4 @@
 pub mod Micro
 pub mod Arithmetic
 pub mod Text
+pub mod Stored

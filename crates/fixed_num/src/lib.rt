@@ -5,12 +5,14 @@
 pub use fx::Fx;
 pub use memory::Memory;
 pub use read::FxFault;
-pub use value::{JointMode, Value};
+pub use stored::StoredValue;
+pub use value::{BodyState, JointMode, Value};
 
 mod cut;
 mod fx;
 pub mod laws;
 mod memory;
 mod read;
+mod stored;
 mod text;
 mod value;

@@ -1,4 +1,4 @@
-//! What an interface holds, and how a joint is driven.
+//! What an interface holds, how a joint is driven, and where its body is.
 
 use crate::fx::Fx;
 
@@ -22,4 +22,15 @@ pub enum JointMode {
     Velocity,
     /// Its effort is commanded.
     Effort,
+}
+
+/// Where the body of a joint is: what its three state interfaces hold.
+#[derive(Clone, Copy, Debug, PartialEq, Eq)]
+pub struct BodyState {
+    /// Its position, in units.
+    pub x: Fx,
+    /// Its velocity, in units a second.
+    pub v: Fx,
+    /// The effort that was applied last.
+    pub f: Fx,
 }
