@@ -6,6 +6,7 @@ use Rattle.std.specs.Char.{is_ascii_digit}
 use Rattle.std.specs.Str.Parse.{digits_value}
 use Rattle.fixed_num.specs.Text.{number_of}
 use Rattle.iface_names.specs.Names.{is_name, same_name}
+use Rattle.cm_document.specs.declared.limits.TheConstants.{HIGHEST_RATE, MOST_DIGITS}
 use Rattle.cm_document.specs.declared.call.Call.{Call}
 use Rattle.cm_document.specs.declared.call.Call.TheVariants as call
 use Rattle.cm_document.specs.declared.call.Mail.{Mail}
@@ -41,7 +42,7 @@ name_word word = if is_name word then Some word else None
 
 -- a whole number has 1 to 9 digits
 abbrev pub whole_word : List ℕ → Option ℕ
-whole_word word = if (nat_le 1 (length word) && nat_le (length word) 9) && list_all is_ascii_digit word then Some (digits_value 10 word) else None
+whole_word word = if (nat_le 1 (length word) && nat_le (length word) MOST_DIGITS) && list_all is_ascii_digit word then Some (digits_value 10 word) else None
 
 -- a whole number of at most so much
 abbrev pub at_most : ℕ → Option ℕ → Option ℕ
@@ -154,7 +155,7 @@ on_name make _ = None
 
 -- `rate NAME HZ`: at most 10,000 hertz
 abbrev pub rate_in : List (List ℕ) → Option Call
-rate_in (name ∷ hz ∷ []) = option_and_then (λ n. option_map (call.Rate n) (at_most 10000 (whole_word hz))) (name_word name)
+rate_in (name ∷ hz ∷ []) = option_and_then (λ n. option_map (call.Rate n) (at_most HIGHEST_RATE (whole_word hz))) (name_word name)
 rate_in _ = None
 
 -- `send NAME ..`

@@ -3,6 +3,7 @@ use Rattle.std.specs.Prelude.{◌≡◌, ℕ, ℤ, ◌+◌, ◌<◌, ◌≤◌, 
 use Rattle.std.specs.List.{AllByRecursion}
 use Rattle.fixed_num.specs.Micro.{IsInRange}
 use Rattle.iface_names.specs.Names.{is_name, same_name}
+use Rattle.cm_document.specs.declared.limits.TheConstants.{HIGHEST_RATE, MOST_SESSIONS, MOST_CALLS, MOST_NAMES, MOST_POINTS, MOST_VALUES}
 use Rattle.cm_document.specs.ScriptRules.{script_with}
 use Rattle.cm_document.specs.declared.call.Call.{Call}
 use Rattle.cm_document.specs.declared.call.Call.TheVariants as call
@@ -25,7 +26,7 @@ IsName name = IsTrue (is_name name)
 -- values for one controller: 1 to 32 numbers in the range
 pub record AreValues (values : List ℤ) : Type 0 where
   pub some : 1 ≤ length values
-  pub few : length values ≤ 32
+  pub few : length values ≤ MOST_VALUES
   pub in_range : AllByRecursion IsInRange values
 
 -- a point after this time: its own is later and has at most nine digits, and it has values
@@ -42,7 +43,7 @@ ArePointsAfter before (p ∷ ps) = IsPointAfter before p × ArePointsAfter p.at_
 -- 1 to 64 points, the first at 1 microsecond or later
 pub record ArePoints (points : List Point2) : Type 0 where
   pub some : 1 ≤ length points
-  pub few : length points ≤ 64
+  pub few : length points ≤ MOST_POINTS
   pub rising : ArePointsAfter 0 points
 
 -- values or points that can be sent
@@ -52,7 +53,7 @@ CanBeSent (Points points) = ArePoints points
 
 -- a switch of at most 128 names
 pub record CanBeAsked (request : SwitchRequest) : Type 0 where
-  pub few : length request.on + length request.off ≤ 128
+  pub few : length request.on + length request.off ≤ MOST_NAMES
   pub on : AllByRecursion IsName request.on
   pub off : AllByRecursion IsName request.off
 
@@ -62,7 +63,7 @@ CanBeWritten (call.Load name) = IsName name
 CanBeWritten (call.Configure name) = IsName name
 CanBeWritten (call.Cleanup name) = IsName name
 CanBeWritten (call.Unload name) = IsName name
-CanBeWritten (call.Rate name hz) = IsName name × (hz ≤ 10000)
+CanBeWritten (call.Rate name hz) = IsName name × (hz ≤ HIGHEST_RATE)
 CanBeWritten (call.Send name mail) = IsName name × CanBeSent mail
 CanBeWritten (call.Switch request) = CanBeAsked request
 CanBeWritten (call.Hardware component target) = IsName component
@@ -98,8 +99,8 @@ calls_and_turns s = sum_by (λ t. length t.lines) s.sessions + length s.schedule
 -- A script has at most 8 sessions of different names, at most 10,000 calls and turns, calls that a line can say, and steps of
 -- its own sessions.
 pub record MeetsRules (s : Script) : Type 0 where
-  pub few_sessions : length s.sessions ≤ 8
-  pub few_calls : calls_and_turns s ≤ 10000
+  pub few_sessions : length s.sessions ≤ MOST_SESSIONS
+  pub few_calls : calls_and_turns s ≤ MOST_CALLS
   pub sessions : AllByRecursion IsSession s.sessions
   pub apart : AreApart s.sessions
   pub turns : AllByRecursion (IsTurnAmong (length s.sessions)) s.schedule

@@ -2,6 +2,7 @@
 use Rattle.std.specs.Prelude.{ℕ, ◌+◌, Bool, true, not, ◌&&◌, nat_lt, nat_le, if◌then◌else◌, List, [], ◌∷◌, ◌++◌, length, position, codes, Option, Some, None, is_some, unwrap_or, option_to_list, Result, Ok, Err}
 use Rattle.std.specs.List.{list_any, list_all}
 use Rattle.iface_names.specs.Names.{same_name}
+use Rattle.cm_document.specs.declared.limits.TheConstants.{LONGEST_LINE, MOST_SESSIONS, MOST_CALLS, MOST_NAMES, MOST_POINTS, MOST_VALUES}
 use Rattle.cm_document.specs.Reading.{◌>>=◌}
 use Rattle.cm_document.specs.Lines.{raw_lines, bare, words, is_skipped}
 use Rattle.cm_document.specs.LineForms.{line_of}
@@ -51,31 +52,31 @@ abbrev pub is_session_line : Forms → Standing → List ℕ → Bool
 is_session_line forms w name =
     ((session_accepted forms w.current && not (is_some w.turns)) && not (same_name name (codes "loop"))) && not (is_used name w)
 
--- a session begins; 8 are the most
+-- a session begins, where there are not the most that there may be
 abbrev pub with_session : Forms → ℕ → Standing → List ℕ → Result Standing ScriptFault
 with_session forms n w name =
     if not (is_session_line forms w name) then Err (BadLine n)
-    else if nat_le 8 (length (sessions_in w)) then Err (TooMany n)
+    else if nat_le MOST_SESSIONS (length (sessions_in w)) then Err (TooMany n)
     else Ok (record w { finished = sessions_in w; current = Some (record { name = name; lines = [] }) })
 
 -- ---- Calls
 
--- a plain list has at most 32 values; there are at most 64 points, each with at most 32 values
+-- a plain list, and each point, has only so many values, and there are only so many points
 abbrev pub mail_fits : Mail → Bool
-mail_fits (Values values) = nat_le (length values) 32
-mail_fits (Points points) = nat_le (length points) 64 && list_all (λ p. nat_le (length p.values) 32) points
+mail_fits (Values values) = nat_le (length values) MOST_VALUES
+mail_fits (Points points) = nat_le (length points) MOST_POINTS && list_all (λ p. nat_le (length p.values) MOST_VALUES) points
 
--- a switch has at most 128 names
+-- a switch has only so many names
 abbrev pub call_fits : Call → Bool
 call_fits (call.Send name mail) = mail_fits mail
-call_fits (call.Switch request) = nat_le (length request.on + length request.off) 128
+call_fits (call.Switch request) = nat_le (length request.on + length request.off) MOST_NAMES
 call_fits _ = true
 
--- one call more in the session that is being written; 10,000 calls and turns are the most
+-- one call more in the session that is being written, where calls and turns are not the most that there may be
 abbrev pub with_call_in : ℕ → Standing → Option SessionText → Call → Result Standing ScriptFault
 with_call_in n w None made = Err (NoSession n)
 with_call_in n w (Some s) made =
-    if nat_lt w.count 10000 && call_fits made
+    if nat_lt w.count MOST_CALLS && call_fits made
     then Ok (record w { current = Some (record s { lines = s.lines ++ made ∷ [] }); count = w.count + 1 })
     else Err (TooMany n)
 
@@ -93,7 +94,7 @@ with_schedule n w = if is_some w.turns then Err (BadLine n) else Ok (record w { 
 abbrev pub with_turn_in : ℕ → Standing → Option (List Turn) → Turn → Result Standing ScriptFault
 with_turn_in n w None t = Err (BadLine n)
 with_turn_in n w (Some ts) t =
-    if nat_lt w.count 10000 then Ok (record w { turns = Some (ts ++ t ∷ []); count = w.count + 1 }) else Err (TooMany n)
+    if nat_lt w.count MOST_CALLS then Ok (record w { turns = Some (ts ++ t ∷ []); count = w.count + 1 }) else Err (TooMany n)
 
 -- a turn stands behind `schedule`
 abbrev pub with_turn : ℕ → Standing → Turn → Result Standing ScriptFault
@@ -121,12 +122,12 @@ with_said forms n w (Some (line.Step name)) = with_step n w name
 with_said forms n w (Some line.Begin) = with_turn n w turn.Begin
 with_said forms n w (Some line.End) = with_turn n w turn.End
 
--- What stands after a line of this number: a skipped line changes nothing; one of more than 65,536 bytes is bad.
+-- What stands after a line of this number: a skipped line changes nothing; one that is longer than a line may be is bad.
 unfoldable pub with_line : Forms → ℕ → Standing → List ℕ → Result Standing ScriptFault
 with_line forms n w text =
     let said = words (bare text) in
     if is_skipped said then Ok w
-    else if nat_lt 65536 (length (bare text)) then Err (BadLine n)
+    else if nat_lt LONGEST_LINE (length (bare text)) then Err (BadLine n)
     else with_said forms n w (line_of forms said)
 
 -- what stands after all lines, of which the first has this number; the first bad one ends the reading

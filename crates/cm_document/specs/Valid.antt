@@ -5,6 +5,7 @@ use Rattle.toml.specs.Data.{Members}
 use Rattle.iface_names.specs.Names.{same_name}
 use Rattle.iface_names.specs.Interfaces.{same_interface, interface_text}
 use Rattle.iface_names.specs.declared.interface.IfaceName.{IfaceName}
+use Rattle.cm_document.specs.declared.limits.TheConstants.{VERSION, HIGHEST_RATE, MOST_CYCLES, MOST_COMPONENTS, MOST_JOINTS, MOST_STATES, MOST_COMMANDS, MOST_CONTROLLERS, MOST_REFERENCES, MOST_CLAIMS_OF_ONE, MOST_CLAIMS, MOST_READS}
 use Rattle.cm_document.specs.Reading.{◌>>=◌}
 use Rattle.cm_document.specs.Forms.{item_path, inside}
 use Rattle.cm_document.specs.Described.{states_of, description_form}
@@ -31,14 +32,14 @@ limited what number limit = if nat_lt limit number then Err (TooMany what) else 
 -- none of the counts is above its limit
 abbrev pub few_enough : Description → Result (Unit {0}) CheckFault
 few_enough d =
-    limited Components (length d.components) 16 >>= λ _.
-    limited Joints (length (joints_of d.components)) 32 >>= λ _.
-    limited States (length (states_of d.components)) 96 >>= λ _.
-    limited Commands (length (commands_of d.components)) 96 >>= λ _.
-    limited Controllers (length d.controllers) 64 >>= λ _.
-    limited References (length (references_of d.controllers)) 96 >>= λ _.
-    limited Claims (sum_by (λ c. length c.claims) d.controllers) 192 >>= λ _.
-    limited Reads (sum_by (λ c. length c.reads) d.controllers) 256
+    limited Components (length d.components) MOST_COMPONENTS >>= λ _.
+    limited Joints (length (joints_of d.components)) MOST_JOINTS >>= λ _.
+    limited States (length (states_of d.components)) MOST_STATES >>= λ _.
+    limited Commands (length (commands_of d.components)) MOST_COMMANDS >>= λ _.
+    limited Controllers (length d.controllers) MOST_CONTROLLERS >>= λ _.
+    limited References (length (references_of d.controllers)) MOST_REFERENCES >>= λ _.
+    limited Claims (sum_by (λ c. length c.claims) d.controllers) MOST_CLAIMS >>= λ _.
+    limited Reads (sum_by (λ c. length c.reads) d.controllers) MOST_READS
 
 -- ---- Names
 
@@ -116,8 +117,8 @@ component_ranged prefix c =
 abbrev pub claims_fit : Params → ℕ → Bool
 claims_fit (Pid kp ki kd imax omax) n = n == 1
 claims_fit (Broadcaster ins) n = true
-claims_fit (Mock outs refuse_config not_ready fail_update) n = nat_le n 32
-claims_fit _ n = nat_le 1 n && nat_le n 32
+claims_fit (Mock outs refuse_config not_ready fail_update) n = nat_le n MOST_CLAIMS_OF_ONE
+claims_fit _ n = nat_le 1 n && nat_le n MOST_CLAIMS_OF_ONE
 
 -- how many reads beside so many claims: a pid has one, a trajectory as many as claims
 abbrev pub reads_fit : Params → ℕ → ℕ → Bool
@@ -132,20 +133,20 @@ limits_ranged prefix (Pid kp ki kd imax omax) =
     ranged (not_negative omax) (prefix ++ codes "omax")
 limits_ranged prefix _ = Ok tt
 
--- at most 10,000 hertz, then the numbers of claims and reads, then the limits
+-- the rate, then the numbers of claims and reads, then the limits
 abbrev pub controller_ranged : List ℕ → CtlDesc → Result (Unit {0}) CheckFault
 controller_ranged prefix c =
-    ranged (nat_le c.rate 10000) (prefix ++ codes "update_rate") >>= λ _.
+    ranged (nat_le c.rate HIGHEST_RATE) (prefix ++ codes "update_rate") >>= λ _.
     ranged (claims_fit c.params (length c.claims)) (prefix ++ codes "claims") >>= λ _.
     ranged (reads_fit c.params (length c.claims) (length c.reads)) (prefix ++ codes "reads") >>= λ _.
     limits_ranged prefix c.params
 
--- version 1; 1 to 10,000 hertz; at most 100,000 cycles; then the components and the controllers
+-- the version, the rate, which is not 0, and the cycles; then the components and the controllers
 abbrev pub in_range : Description → Result (Unit {0}) CheckFault
 in_range d =
-    ranged (d.version == 1) (codes "version") >>= λ _.
-    ranged (nat_le 1 d.update_rate && nat_le d.update_rate 10000) (codes "update_rate") >>= λ _.
-    ranged (nat_le d.cycles 100000) (codes "cycles") >>= λ _.
+    ranged (d.version == VERSION) (codes "version") >>= λ _.
+    ranged (nat_le 1 d.update_rate && nat_le d.update_rate HIGHEST_RATE) (codes "update_rate") >>= λ _.
+    ranged (nat_le d.cycles MOST_CYCLES) (codes "cycles") >>= λ _.
     each_ranged component_ranged (codes "component") 0 d.components >>= λ _.
     each_ranged controller_ranged (codes "controller") 0 d.controllers
 

@@ -7,7 +7,7 @@ ghost use Rattle.cm_document.specs.Params.{kind_of};
 use crate::life::Life;
 use fixed_num::Fx;
 use iface_names::{IfaceName, Kind, Name};
-use sequence::Seq;
+use sequence::{Seq, Shared};
 
 /// What is described: the manager's rate, how long it runs, the components and the controllers.
 #[derive(Clone, Debug, PartialEq, Eq, Drop)]
@@ -101,20 +101,27 @@ pub struct CtlDesc {
     pub rate: u32,
     /// The command interfaces that it claims, in written order.
     pub claims: Seq<IfaceName>,
-    /// The state interfaces that it reads, in written order. `reads = "all"` stands here as its list.
-    pub reads: Seq<IfaceName>,
+    /// The state interfaces that it reads, in written order. `reads = "all"` stands here as its list, which all such controllers share.
+    pub reads: Shared<Seq<IfaceName>>,
     /// What it computes, with its parameters.
     pub params: Params,
 }
 
 impl CtlDesc {
+    /// The state interfaces that it reads, in written order.
+    pub fn reads(&self) -> &[IfaceName]
+        ensures { result.now ≡ self.now.reads }
+    {
+        self.reads.get().as_slice()
+    }
+
     /// The interfaces for which it exports references, one for each: a passthrough its claims, a pid what it reads first.
     pub fn exported_for(&self) -> &[IfaceName]
         ensures { result.now ≡ exported_for self.now.params self.now }
     {
         match &self.params {
             Params::Passthrough { .. } => self.claims.as_slice(),
-            Params::Pid { .. } => first(self.reads.as_slice()),
+            Params::Pid { .. } => first(self.reads()),
             _ => &[],
         }
     }

@@ -10,8 +10,14 @@ pub use faults::{CheckFault, DescFault, DescProblem, DocumentFault, ScriptFault,
 pub use fixed_num::{Fx, Memory};
 pub use iface_names::{IfaceName, Kind, Name, NameFault};
 pub use life::Life;
+pub use limits::{
+    HIGHEST_RATE, LONGEST_DOCUMENT, LONGEST_LINE, MOST_CALLS, MOST_CLAIMS, MOST_CLAIMS_OF_ONE,
+    MOST_COMMANDS, MOST_COMPONENTS, MOST_CONTROLLERS, MOST_CYCLES, MOST_DIGITS, MOST_JOINTS,
+    MOST_NAMES, MOST_POINTS, MOST_READS, MOST_REFERENCES, MOST_SESSIONS, MOST_STATES, MOST_VALUES,
+    VERSION,
+};
 pub use script::{Forms, Script, ScriptLine, SessionText, Turn, Verb, built, every_form};
-pub use sequence::Seq;
+pub use sequence::{Seq, Shared};
 pub use text::Text;
 
 mod call;
@@ -22,5 +28,6 @@ mod document;
 mod faults;
 pub mod laws;
 mod life;
+mod limits;
 mod script;
 mod text;

@@ -57,12 +57,17 @@ impl Eq for Text {
     ghost laws = { Prim.search (comparing, rules) };
 }
 
+/// Control characters print as TOML writes them, a `\u` and four hexadecimal digits: the text stays one line, and tells a terminal
+/// nothing. All others print as they are.
 impl fmt::Display for Text {
-    ghost use Rattle.std.specs.Prelude.{Some};
-
-    ghost output = { λ text. Some text };
-
     fn fmt<W: fmt::Write>(&self, f: &mut fmt::Formatter<W>) -> fmt::Result {
-        write!(f, "{}", self.text)
+        for c in self.text.chars() {
+            if c.is_control() {
+                write!(f, "\\u{:04X}", u32::from(c))?;
+            } else {
+                f.write_char(c)?;
+            }
+        }
+        Ok(())
     }
 }

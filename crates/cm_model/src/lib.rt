@@ -8,7 +8,7 @@ pub use cm_document::{
     Call, CheckFault, Checked, CompDesc, CompKind, CtlDesc, CtlKind, DescFault, DescProblem,
     Description, Document, DocumentFault, Forms, Fx, IfaceName, JointDesc, Kind, Life, Mail,
     Memory, Name, NameFault, Params, Point2, Script, ScriptFault, ScriptLine, Seq, SessionText,
-    SwitchRequest, Text, Turn, Verb, What, Wrong, built, every_form,
+    Shared, SwitchRequest, Text, Turn, Verb, What, Wrong, built, every_form,
 };
 pub use data::{CtlData, RunData};
 pub use entry::{Entry, KeptCall};

@@ -4,7 +4,7 @@ use Rattle.std.specs.Prelude.{slice_get, nat_lt, not, ◌==◌, ◌&&◌}
 use Rattle.std.proofs.lemmas.Option.{cond_some}
 use Rattle.std.proofs.lemmas.Bool.{and_parts}
 use Rattle.std.proofs.lemmas.Bool.Decides.{nat_tests}
-use Rattle.cm_model.proofs.LegalLemmas.{cases_Option, chosen}
+use Rattle.cm_document.proofs.ReadingLemmas.{cases_Option, chosen}
 use Rattle.cm_model.proofs.WholeLemmas.{load_from-SameLoop}
 use Rattle.cm_document.specs.Params.{kind_of}
 use Rattle.cm_model.specs.State.{blanks_of}

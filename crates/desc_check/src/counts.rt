@@ -6,7 +6,10 @@ ghost use Rattle.cm_document.specs.Links.{joints_of, commands_of, commands_of_jo
 ghost use Rattle.cm_document.specs.Valid.{limited, few_enough};
 ghost use Rattle.desc_check.specs.Counts.{counted};
 
-use cm_document::{CheckFault, CompDesc, CtlDesc, Description, JointDesc, What};
+use cm_document::{
+    CheckFault, CompDesc, CtlDesc, Description, JointDesc, MOST_CLAIMS, MOST_COMMANDS,
+    MOST_COMPONENTS, MOST_CONTROLLERS, MOST_JOINTS, MOST_READS, MOST_REFERENCES, MOST_STATES, What,
+};
 
 /// None of the counts is above its limit: else TooMany of the first that is.
 #[tactic(auto, using(crate::proofs::CountLemmas::limited_counted))]
@@ -16,14 +19,14 @@ pub fn few_enough(description: &Description) -> Result<(), CheckFault>
 {
     let components = description.components.as_slice();
     let controllers = description.controllers.as_slice();
-    limited(What::Components, components.len(), 16)?;
-    limited(What::Joints, joints(components), 32)?;
-    limited(What::States, states(components), 96)?;
-    limited(What::Commands, commands(components), 96)?;
-    limited(What::Controllers, controllers.len(), 64)?;
-    limited(What::References, references(controllers), 96)?;
-    limited(What::Claims, claims(controllers), 192)?;
-    limited(What::Reads, reads(controllers), 256)
+    limited(What::Components, components.len(), MOST_COMPONENTS)?;
+    limited(What::Joints, joints(components), MOST_JOINTS)?;
+    limited(What::States, states(components), MOST_STATES)?;
+    limited(What::Commands, commands(components), MOST_COMMANDS)?;
+    limited(What::Controllers, controllers.len(), MOST_CONTROLLERS)?;
+    limited(What::References, references(controllers), MOST_REFERENCES)?;
+    limited(What::Claims, claims(controllers), MOST_CLAIMS)?;
+    limited(What::Reads, reads(controllers), MOST_READS)
 }
 
 /// There are no more of these than the limit.
@@ -119,7 +122,7 @@ fn reads(controllers: &[CtlDesc]) -> usize
 {
     let mut count = 0usize;
     for controller in controllers {
-        count = count.saturating_add(controller.reads.as_slice().len());
+        count = count.saturating_add(controller.reads().len());
     }
     count
 }

@@ -59,7 +59,7 @@ fn claims_exist(
 fn reads_exist(components: &[CompDesc], controller: &CtlDesc) -> Result<(), CheckFault>
     ensures { Answers CheckFault.Memory (all_among (states_of components.now) controller.now.name controller.now.reads) result }
 {
-    match missing_read(components, controller.reads.as_slice()) {
+    match missing_read(components, controller.reads()) {
         Some(missing) => Err(no_interface(controller, missing)?),
         None => Ok(()),
     }

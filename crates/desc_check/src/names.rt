@@ -32,7 +32,7 @@ fn links_apart(alloc: Global, controllers: &[CtlDesc]) -> Result<(), CheckFault>
 {
     for controller in controllers {
         interfaces_apart(alloc, controller.claims.as_slice())?;
-        interfaces_apart(alloc, controller.reads.as_slice())?;
+        interfaces_apart(alloc, controller.reads())?;
     }
     Ok(())
 }

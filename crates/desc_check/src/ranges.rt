@@ -5,7 +5,10 @@ ghost use Rattle.sequence.specs.Answers.{Answers};
 ghost use Rattle.cm_document.specs.Forms.{item_path, inside};
 ghost use Rattle.cm_document.specs.Valid.{ranged, not_negative, each_ranged, may_have, joint_ranged, joint_count_fits, component_ranged, claims_fit, reads_fit, limits_ranged, controller_ranged, in_range};
 
-use cm_document::{CheckFault, CompDesc, CompKind, CtlDesc, Description, Fx, JointDesc, Params, Text};
+use cm_document::{
+    CheckFault, CompDesc, CompKind, CtlDesc, Description, Fx, HIGHEST_RATE, JointDesc,
+    MOST_CLAIMS_OF_ONE, MOST_CYCLES, Params, Text, VERSION,
+};
 use std::alloc::{AllocError, Global};
 
 /// Every number is within its range: else BadRange of the first that is not, with its path.
@@ -13,9 +16,9 @@ pub fn in_range(alloc: Global, description: &Description) -> Result<(), CheckFau
     ensures { Answers CheckFault.Memory (in_range description.now) result }
 {
     let rate = description.update_rate;
-    ranged(alloc, description.version == 1, "", "version")?;
-    ranged(alloc, 1 <= rate && rate <= 10_000, "", "update_rate")?;
-    ranged(alloc, description.cycles <= 100_000, "", "cycles")?;
+    ranged(alloc, description.version == VERSION, "", "version")?;
+    ranged(alloc, 1 <= rate && rate <= HIGHEST_RATE, "", "update_rate")?;
+    ranged(alloc, description.cycles <= MOST_CYCLES, "", "cycles")?;
     components_ranged(alloc, description.components.as_slice())?;
     controllers_ranged(alloc, description.controllers.as_slice())
 }
@@ -108,14 +111,14 @@ fn controllers_ranged(alloc: Global, controllers: &[CtlDesc]) -> Result<(), Chec
     Ok(())
 }
 
-/// At most 10,000 hertz, then the numbers of claims and reads, then the limits.
+/// The rate, then the numbers of claims and reads, then the limits.
 fn controller_ranged(alloc: Global, prefix: &str, controller: &CtlDesc) -> Result<(), CheckFault>
     ensures { Answers CheckFault.Memory (controller_ranged prefix.now controller.now) result }
 {
     let params = &controller.params;
     let claims = controller.claims.as_slice().len();
-    let reads = controller.reads.as_slice().len();
-    ranged(alloc, controller.rate <= 10_000, prefix, "update_rate")?;
+    let reads = controller.reads().len();
+    ranged(alloc, controller.rate <= HIGHEST_RATE, prefix, "update_rate")?;
     ranged(alloc, claims_fit(params, claims), prefix, "claims")?;
     ranged(alloc, reads_fit(params, claims, reads), prefix, "reads")?;
     limits_ranged(alloc, prefix, params)
@@ -128,8 +131,8 @@ fn claims_fit(params: &Params, count: usize) -> bool
     match params {
         Params::Pid { .. } => count == 1,
         Params::Broadcaster { .. } => true,
-        Params::Mock { .. } => count <= 32,
-        _ => 1 <= count && count <= 32,
+        Params::Mock { .. } => count <= MOST_CLAIMS_OF_ONE,
+        _ => 1 <= count && count <= MOST_CLAIMS_OF_ONE,
     }
 }
 

@@ -1,20 +1,21 @@
 //! The table of a controller: its type says which keys it may have.
 
-ghost use Rattle.std.specs.Prelude.{◌≡◌};
+ghost use Rattle.std.specs.Prelude.{◌≡◌, [], IfOk};
 ghost use Rattle.sequence.specs.Answers.{Answers};
 ghost use Rattle.toml.specs.View.{table_view};
-ghost use Rattle.cm_document.specs.Described.{controller_form, claiming_table, pid_table, trajectory_table, broadcaster_table, mock_table, states_of, count};
+ghost use Rattle.cm_document.specs.Described.{controller_form, claiming_table, pid_table, trajectory_table, broadcaster_table, mock_table, count};
 ghost use Rattle.cm_document.specs.Tables.{walk};
 ghost use Rattle.cm_document.specs.declared.description.Params.TheVariants as params;
 
 use crate::forms::{ListOf, One, TableForm};
 use crate::keys::Keys;
-use crate::states::AllOrList;
+use crate::states::{AllOrList, ReadList};
 use crate::values::{
-    Boolean, Cycle, Interface, Named, Quantity, State, Whole, most_units, no_units,
+    Boolean, Cycle, Interface, Named, Quantity, Whole, most_units, no_units,
 };
 use crate::words::{ControllerTypes, WordOf};
-use cm_document::{CompDesc, CtlDesc, CtlKind, DescFault, IfaceName, Params, Seq};
+use cm_document::{CtlDesc, CtlKind, DescFault, IfaceName, Params, Seq, Shared};
+use std::alloc::{AllocError, Global};
 
 /// The keys that a forward or a passthrough may have.
 const CLAIMING: [&str; 4] = ["name", "type", "update_rate", "claims"];
@@ -53,15 +54,15 @@ const MOCK: [&str; 8] = [
 
 /// The table of a controller.
 #[derive(Drop)]
-pub struct Controller<'a> {
-    /// The components that are described, whose states are `all` that can be read.
-    pub components: &'a [CompDesc],
+pub struct Controller {
+    /// Every state that is described: `all` that can be read.
+    pub all: Shared<Seq<IfaceName>>,
 }
 
-impl TableForm for Controller<'_> {
+impl TableForm for Controller {
     type Read = CtlDesc;
 
-    ghost table_form = { λ s. controller_form (states_of s.components.now) };
+    ghost table_form = { λ s. controller_form s.all };
 
     #[tactic(auto, unfolding(cm_document::specs::Described::controller_table))]
     fn read(&self, keys: &Keys<'_>) -> Result<CtlDesc, DescFault> {
@@ -70,7 +71,7 @@ impl TableForm for Controller<'_> {
             CtlKind::Passthrough => passthrough(keys),
             CtlKind::Pid => pid(keys),
             CtlKind::Trajectory => trajectory(keys),
-            CtlKind::Broadcaster => broadcaster(keys, self.components),
+            CtlKind::Broadcaster => broadcaster(keys, &self.all),
             CtlKind::Mock => mock(keys),
         }
     }
@@ -91,7 +92,7 @@ fn forward(keys: &Keys<'_>) -> Result<CtlDesc, DescFault>
             outs: count(&claims),
         },
         claims,
-        reads: Seq::new(keys.alloc),
+        reads: no_reads(keys.alloc)?,
     })
 }
 
@@ -110,7 +111,7 @@ fn passthrough(keys: &Keys<'_>) -> Result<CtlDesc, DescFault>
             outs: count(&claims),
         },
         claims,
-        reads: Seq::new(keys.alloc),
+        reads: no_reads(keys.alloc)?,
     })
 }
 
@@ -122,7 +123,7 @@ fn pid(keys: &Keys<'_>) -> Result<CtlDesc, DescFault>
     keys.required("type", &One(WordOf(ControllerTypes)))?;
     let rate = keys.defaulted("update_rate", &One(Whole), 0)?;
     let claims = keys.required("claims", &ListOf(Interface))?;
-    let reads = keys.required("reads", &ListOf(State))?;
+    let reads = keys.required("reads", &ReadList)?;
     let kp = keys.defaulted("kp", &One(Quantity), no_units())?;
     let ki = keys.defaulted("ki", &One(Quantity), no_units())?;
     let kd = keys.defaulted("kd", &One(Quantity), no_units())?;
@@ -151,7 +152,7 @@ fn trajectory(keys: &Keys<'_>) -> Result<CtlDesc, DescFault>
     keys.required("type", &One(WordOf(ControllerTypes)))?;
     let rate = keys.defaulted("update_rate", &One(Whole), 0)?;
     let claims = keys.required("claims", &ListOf(Interface))?;
-    let reads = keys.required("reads", &ListOf(State))?;
+    let reads = keys.required("reads", &ReadList)?;
     Ok(CtlDesc {
         name,
         rate,
@@ -163,19 +164,21 @@ fn trajectory(keys: &Keys<'_>) -> Result<CtlDesc, DescFault>
     })
 }
 
-fn broadcaster(keys: &Keys<'_>, components: &[CompDesc]) -> Result<CtlDesc, DescFault>
-    ensures { Answers DescFault.Memory ((walk (broadcaster_table (states_of components.now))).read keys.now.prefix.now (table_view keys.now.table.now)) result }
+fn broadcaster(keys: &Keys<'_>, all: &Shared<Seq<IfaceName>>) -> Result<CtlDesc, DescFault>
+    ensures { Answers DescFault.Memory ((walk (broadcaster_table all.now)).read keys.now.prefix.now (table_view keys.now.table.now)) result }
 {
     keys.none_but(&BROADCASTER)?;
     let name = keys.required("name", &One(Named))?;
     keys.required("type", &One(WordOf(ControllerTypes)))?;
     let rate = keys.defaulted("update_rate", &One(Whole), 0)?;
-    let reads = keys.required("reads", &AllOrList { components })?;
+    let reads = keys.required("reads", &AllOrList { all })?;
     Ok(CtlDesc {
         name,
         rate,
         claims: Seq::new(keys.alloc),
-        params: Params::Broadcaster { ins: count(&reads) },
+        params: Params::Broadcaster {
+            ins: count(reads.get()),
+        },
         reads,
     })
 }
@@ -188,7 +191,7 @@ fn mock(keys: &Keys<'_>) -> Result<CtlDesc, DescFault>
     keys.required("type", &One(WordOf(ControllerTypes)))?;
     let rate = keys.defaulted("update_rate", &One(Whole), 0)?;
     let claims = keys.defaulted("claims", &ListOf(Interface), Seq::new(keys.alloc))?;
-    let reads = keys.defaulted("reads", &ListOf(State), Seq::new(keys.alloc))?;
+    let reads = keys.defaulted("reads", &ReadList, no_reads(keys.alloc)?)?;
     let refuse_config = keys.defaulted("refuse_config", &One(Boolean), false)?;
     let not_ready = keys.defaulted("not_ready", &ListOf(Cycle), Seq::new(keys.alloc))?;
     let fail_update = keys.defaulted("fail_update", &ListOf(Cycle), Seq::new(keys.alloc))?;
@@ -204,6 +207,13 @@ fn mock(keys: &Keys<'_>) -> Result<CtlDesc, DescFault>
         claims,
         reads,
     })
+}
+
+/// A controller that reads nothing.
+fn no_reads(alloc: Global) -> Result<Shared<Seq<IfaceName>>, AllocError>
+    ensures { IfOk result (λ reads. reads ≡ []) }
+{
+    Shared::new(alloc, Seq::new(alloc))
 }
 
 /// How many, or the most that 32 bits hold.

@@ -13,6 +13,7 @@ use crate::component::Component;
 use crate::controller::Controller;
 use crate::forms::{One, TablesOf};
 use crate::keys::Keys;
+use crate::states::every_state;
 use crate::values::{Cycle, Whole};
 use cm_document::{CompDesc, CtlDesc, DescFault, Description, Seq};
 use std::alloc::Global;
@@ -77,6 +78,7 @@ fn top(alloc: Global, table: &Table) -> Result<Description, DescFault>
 fn controllers(keys: &Keys<'_>, components: &[CompDesc]) -> Result<Seq<CtlDesc>, DescFault>
     ensures { Answers DescFault.Memory (defaulted_read (tables_of (controller_form (states_of components.now))) [] (keys.now.prefix.now ++ codes "controller") (get_member (codes "controller") (table_view keys.now.table.now))) result }
 {
-    let form = TablesOf(Controller { components });
+    let all = every_state(keys.alloc, components)?;
+    let form = TablesOf(Controller { all });
     keys.defaulted("controller", &form, Seq::new(keys.alloc))
 }

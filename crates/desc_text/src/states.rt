@@ -2,36 +2,69 @@
 
 ghost use Rattle.std.specs.Prelude.{◌≡◌, ◌++◌, flat_map, map, IfOk, OnOk};
 ghost use Rattle.cm_document.specs.Described.{states_of, states_of_joint};
-ghost use Rattle.cm_document.specs.Forms.{all_or_list};
+ghost use Rattle.cm_document.specs.Forms.{all_or_list, list_of, state_in};
 ghost use Rattle.iface_names.specs.declared.interface.IfaceName.TheVariants as interface;
 
 use crate::forms::{Form, ListOf};
 use crate::keys::same_key;
 use crate::values::State;
-use cm_document::{CompDesc, DescFault, IfaceName, Kind, Name, Seq};
+use cm_document::{CompDesc, DescFault, IfaceName, Kind, Name, Seq, Shared};
 use std::alloc::{AllocError, Global};
 use toml::Value;
 
-/// A list of states; or the text `all`, for every state of these components.
+/// A list of states; or the text `all`, for these.
 #[derive(Drop)]
 pub struct AllOrList<'a> {
-    /// The components that are described.
-    pub components: &'a [CompDesc],
+    /// Every state that is described. Those who read all share it.
+    pub all: &'a Shared<Seq<IfaceName>>,
 }
 
 impl Form for AllOrList<'_> {
-    type Read = Seq<IfaceName>;
+    type Read = Shared<Seq<IfaceName>>;
 
-    ghost form = { λ s. all_or_list (states_of s.components.now) };
+    ghost form = { λ s. all_or_list s.all.now };
 
-    fn read(&self, alloc: Global, path: &str, value: &Value) -> Result<Seq<IfaceName>, DescFault> {
+    fn read(
+        &self,
+        alloc: Global,
+        path: &str,
+        value: &Value,
+    ) -> Result<Shared<Seq<IfaceName>>, DescFault> {
         match value {
-            Value::String(word) if same_key(word.as_str(), "all") => {
-                Ok(states_of(alloc, self.components)?)
-            }
-            _ => ListOf(State).read(alloc, path, value),
+            Value::String(word) if same_key(word.as_str(), "all") => Ok(self.all.share()?),
+            _ => ReadList.read(alloc, path, value),
         }
     }
+}
+
+/// A list of states.
+#[derive(Drop)]
+pub struct ReadList;
+
+impl Form for ReadList {
+    type Read = Shared<Seq<IfaceName>>;
+
+    ghost form = { λ _. list_of state_in };
+
+    fn read(
+        &self,
+        alloc: Global,
+        path: &str,
+        value: &Value,
+    ) -> Result<Shared<Seq<IfaceName>>, DescFault> {
+        let states = ListOf(State).read(alloc, path, value)?;
+        Ok(Shared::new(alloc, states)?)
+    }
+}
+
+/// Every state that the components have, in written order, to be shared by those who read all.
+pub fn every_state(
+    alloc: Global,
+    components: &[CompDesc],
+) -> Result<Shared<Seq<IfaceName>>, AllocError>
+    ensures { IfOk result (λ all. all ≡ states_of components.now) }
+{
+    Shared::new(alloc, states_of(alloc, components)?)
 }
 
 /// Every state that the components have, in written order.

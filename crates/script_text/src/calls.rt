@@ -14,11 +14,8 @@ use crate::numbers::{whole, whole_up_to};
 use crate::switches::{name, switch};
 use crate::verbs::{life, strictness};
 use crate::words::{next_word, only_word, two_words};
-use cm_document::{Call, Name, ScriptFault};
+use cm_document::{Call, HIGHEST_RATE, Name, ScriptFault};
 use std::alloc::Global;
-
-/// The largest rate, in hertz.
-const MOST_HERTZ: u32 = 10_000;
 
 /// The one name of a line like `load NAME`.
 pub fn one_name(alloc: Global, rest: &[u8]) -> Result<Option<Name>, ScriptFault>
@@ -30,7 +27,7 @@ pub fn one_name(alloc: Global, rest: &[u8]) -> Result<Option<Name>, ScriptFault>
     }
 }
 
-/// `rate NAME HZ`: at most 10,000 hertz.
+/// `rate NAME HZ`, of at most the highest rate.
 #[tactic(auto, using(crate::proofs::FormLemmas::rate_pair))]
 pub fn rate(alloc: Global, rest: &[u8]) -> Result<Option<Call>, ScriptFault>
     ensures { Answers ScriptFault.Memory (Ok (rate_in (words rest.now))) result }
@@ -41,7 +38,7 @@ pub fn rate(alloc: Global, rest: &[u8]) -> Result<Option<Call>, ScriptFault>
     let Some(name) = name(alloc, word)? else {
         return Ok(None);
     };
-    Ok(whole_up_to(MOST_HERTZ, hertz).map(|hz| Call::Rate { name, hz }))
+    Ok(whole_up_to(HIGHEST_RATE, hertz).map(|hz| Call::Rate { name, hz }))
 }
 
 /// `send NAME ..`, values or points.

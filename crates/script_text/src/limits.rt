@@ -2,18 +2,10 @@
 
 ghost use Rattle.std.specs.Prelude.{◌≡◌, ◌+◌, length, nat_le};
 ghost use Rattle.std.specs.List.{list_all};
+ghost use Rattle.cm_document.specs.declared.limits.TheConstants.{MOST_VALUES, MOST_NAMES};
 ghost use Rattle.cm_document.specs.ScriptRules.{mail_fits, call_fits};
 
-use cm_document::{Call, Mail, Point2, SwitchRequest};
-
-/// The values that a plain list or a point may have.
-const MOST_VALUES: usize = 32;
-
-/// The points that may be sent together.
-const MOST_POINTS: usize = 64;
-
-/// The names that a switch may have.
-const MOST_NAMES: usize = 128;
+use cm_document::{Call, MOST_NAMES, MOST_POINTS, MOST_VALUES, Mail, Point2, SwitchRequest};
 
 /// Whether a call has no more than it may.
 pub fn call_fits(call: &Call) -> bool
@@ -26,7 +18,7 @@ pub fn call_fits(call: &Call) -> bool
     }
 }
 
-/// At most 32 values, or at most 64 points of at most 32 values each.
+/// No more values than there may be; or no more points, and none with more values.
 fn mail_fits(mail: &Mail) -> bool
     ensures { result ≡ mail_fits mail.now }
 {
@@ -38,18 +30,18 @@ fn mail_fits(mail: &Mail) -> bool
     }
 }
 
-/// Each point has at most 32 values.
+/// No point has more values than it may.
 fn points_fit(points: &[Point2]) -> bool
-    ensures { result ≡ list_all (λ p. nat_le (length p.values) 32) points.now }
+    ensures { result ≡ list_all (λ p. nat_le (length p.values) MOST_VALUES) points.now }
 {
     points
         .iter()
         .all(|point| point.values.as_slice().len() <= MOST_VALUES)
 }
 
-/// At most 128 names, those to activate and those to deactivate together.
+/// No more names than a switch may have.
 fn switch_fits(request: &SwitchRequest) -> bool
-    ensures { result ≡ nat_le (length request.now.on + length request.now.off) 128 }
+    ensures { result ≡ nat_le (length request.now.on + length request.now.off) MOST_NAMES }
 {
     let on = request.on.as_slice().len();
     let off = request.off.as_slice().len();

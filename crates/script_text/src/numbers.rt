@@ -1,17 +1,15 @@
-//! Numbers in a line: whole ones of 1 to 9 digits, and values.
+//! Numbers in a line: whole ones of a few digits, and values.
 
 ghost use Rattle.std.specs.Prelude.{◌≡◌, ◌≤◌, ◌<◌, length, IfSome, IsTrue};
 ghost use Rattle.std.specs.List.{list_all};
 ghost use Rattle.std.specs.Char.{is_ascii_digit};
 ghost use Rattle.std.specs.Str.Parse.{digits_value};
+ghost use Rattle.cm_document.specs.declared.limits.TheConstants.{MOST_DIGITS};
 ghost use Rattle.cm_document.specs.LineForms.{whole_word, at_most, value_word, is_time, time_word};
 
-use cm_document::Fx;
+use cm_document::{Fx, MOST_DIGITS};
 
-/// The digits that a whole number may have.
-const MOST_DIGITS: usize = 9;
-
-/// The whole number that a word of 1 to 9 digits writes.
+/// The whole number that a word writes, of one digit at least and no more than there may be.
 pub fn whole(word: &[u8]) -> Option<u32>
     ensures { result ≡ whole_word word.now }
 {
@@ -67,10 +65,10 @@ fn are_digits(word: &[u8]) -> bool
     word.iter().all(|byte| byte.is_ascii_digit())
 }
 
-/// The number that up to nine digits write.
+/// The number that some digits write.
 #[tactic(auto, using(crate::proofs::NumberLemmas::digits_so_far))]
 fn digits(digits: &[u8]) -> u32
-    requires short { length digits.now ≤ 9 }
+    requires short { length digits.now ≤ MOST_DIGITS }
     requires digits { IsTrue (list_all is_ascii_digit digits.now) }
     ensures { result ≡ digits_value 10 digits.now }
 {

@@ -10,11 +10,8 @@ use crate::forms::line_of;
 use crate::lines::{bare_line, first_line};
 use crate::rules::Draft;
 use crate::words::{begins_comment, next_word};
-use cm_document::{Forms, Script, ScriptFault, built};
+use cm_document::{Forms, LONGEST_LINE, Script, ScriptFault, built};
 use std::alloc::Global;
-
-/// The bytes that a line may have without its line feed and the carriage return before it.
-const LONGEST_LINE: usize = 65_536;
 
 /// The script of this text, whose first line has this number in its document; or the first bad line. `Memory` where
 /// memory ran out.

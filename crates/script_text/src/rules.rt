@@ -9,15 +9,12 @@ ghost use Rattle.cm_document.specs.ScriptRules.{nothing, with_session, with_call
 
 use crate::limits::call_fits;
 use crate::rules::sessions::closed;
-use cm_document::{Call, Forms, Name, Script, ScriptFault, ScriptLine, Seq, SessionText, Turn};
+use cm_document::{
+    Call, Forms, MOST_CALLS, MOST_SESSIONS, Name, Script, ScriptFault, ScriptLine, Seq, SessionText,
+    Turn,
+};
 use std::alloc::Global;
 use std::marker::Model;
-
-/// The sessions that a script may have.
-const MOST_SESSIONS: usize = 8;
-
-/// The calls and turns that a script may have together.
-const MOST_CALLS: u32 = 10_000;
 
 /// What stands after some lines. Contracts see it as `Standing`.
 #[derive(Debug, Drop)]
@@ -29,14 +26,15 @@ pub struct Draft {
 }
 
 impl Model for Draft {
-    ghost use Rattle.std.specs.Prelude.{◌≤◌, length};
+    ghost use Rattle.std.specs.Prelude.{◌≤◌, ◌<◌, length};
+    ghost use Rattle.cm_document.specs.declared.limits.TheConstants.{MOST_SESSIONS, MOST_CALLS};
     ghost use Rattle.cm_document.specs.ScriptRules.{Standing};
 
     ghost Value = { Standing };
 
     ghost view = { λ s. record { finished = s.finished; current = s.current; turns = s.turns; count = s.count } };
 
-    ghost invariant = { λ s. (length s.finished ≤ 7) × (s.count ≤ 10000) };
+    ghost invariant = { λ s. (length s.finished < MOST_SESSIONS) × (s.count ≤ MOST_CALLS) };
 }
 
 impl Draft {

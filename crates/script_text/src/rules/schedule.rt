@@ -4,8 +4,8 @@ ghost use Rattle.std.specs.Prelude.{◌≡◌};
 ghost use Rattle.sequence.specs.Answers.{Answers};
 ghost use Rattle.cm_document.specs.ScriptRules.{with_schedule, with_turn, with_step};
 
-use crate::rules::{Draft, MOST_CALLS};
-use cm_document::{Name, ScriptFault, Seq, Turn};
+use crate::rules::Draft;
+use cm_document::{MOST_CALLS, Name, ScriptFault, Seq, Turn};
 use std::alloc::Global;
 
 impl Draft {
