@@ -11,20 +11,23 @@ use Rattle.cm_document.specs.declared.document.Document.{Document}
 use Rattle.cm_document.specs.declared.script.SessionText.{SessionText}
 use Rattle.cm_model.specs.Causes.{outcome_text, decision_text}
 use Rattle.cm_model.specs.Items.{Names, controller_text, iface_text, component_text, record_items}
-use Rattle.cm_model.specs.Scheduled.{scheduled}
 use Rattle.cm_model.specs.declared.entry.Entry.{Entry}
 use Rattle.cm_model.specs.declared.reply.Reply.{Reply}
 use Rattle.cm_model.specs.declared.reply.Reply.TheVariants as reply
 use Rattle.cm_model.specs.declared.reply.Why.{Why}
 use Rattle.cm_model.specs.declared.reply.Why.TheVariants as why
-use Rattle.cm_model.specs.declared.blanks.Blanks.{Blanks}
 
 -- ---- Names
 
+-- the controller that a load is of
+abbrev pub load_name : Call → Option (List ℕ)
+load_name (Load name) = Some name
+load_name _ = None
+
 -- the name of the controller that a call loaded with this answer
 abbrev pub loaded_by : Call → Reply → Option (List ℕ)
-loaded_by (Load name) (reply.Serial n) = Some name
-loaded_by _ _ = None
+loaded_by call (reply.Serial n) = load_name call
+loaded_by call _ = None
 
 -- The names of the controllers by serial: each load that was given one is of the next.
 abbrev pub names_of : List Entry → List (List ℕ)
@@ -89,6 +92,6 @@ line_text sessions names e = caller_text sessions e.who ++ codes " " ++ call_tex
 abbrev pub trace : Description → List SessionText → List Entry → List ℕ
 trace d sessions history = flat_map (line_text sessions (names_in d history)) history
 
--- what the job `run` prints of a document
-unfoldable pub output : Document → Blanks → List ℕ
-output d blanks = trace d.description d.script.sessions (scheduled d blanks)
+-- what is printed of the run of a document with this history
+unfoldable pub output : Document → List Entry → List ℕ
+output d history = trace d.description d.script.sessions history

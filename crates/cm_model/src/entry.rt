@@ -1,10 +1,12 @@
 //! Entries: what a history keeps of a call.
 
-ghost use Rattle.std.specs.Prelude.{◌≡◌, IfOk, IfSome};
+ghost use Rattle.std.specs.Prelude.{◌≡◌, IfOk, IfSome, option_map};
+ghost use Rattle.cm_model.specs.Trace.{load_name};
 ghost use Rattle.cm_model.specs.Kept.{kept_call};
 
 use crate::reply::Reply;
 use cm_document::Call;
+use iface_names::Name;
 use sequence::Boxed;
 use std::alloc::{AllocError, Global};
 use std::fmt;
@@ -101,6 +103,31 @@ impl KeptCall {
         ensures { result ≡ Call.Close }
     {
         KeptCall { kept: Short::Close }
+    }
+}
+
+impl KeptCall {
+    ghost use Rattle.std.specs.Prelude.{option_map};
+    ghost use Rattle.cm_model.specs.Trace.{load_name};
+
+    /// The controller that a load is of.
+    pub fn load_name(&self) -> Option<&Name>
+        ensures { option_map (λ name. name.now) result ≡ load_name self.now }
+    {
+        match &self.kept {
+            Short::Long(call) => load_name(call.get()),
+            _ => None,
+        }
+    }
+}
+
+/// The controller that a load is of.
+fn load_name(call: &Call) -> Option<&Name>
+    ensures { option_map (λ name. name.now) result ≡ load_name call.now }
+{
+    match call {
+        Call::Load(name) => Some(name),
+        _ => None,
     }
 }
 

@@ -18,7 +18,7 @@ pub use ran::{Done, RanList, RanRef, Rans};
 pub use ran_room::RanRoom;
 pub use record::{CycleParts, CycleRecord, FailedPart};
 pub use reply::{Reply, Why};
-pub use sequence::{Boxed, ListRoom, Rare, Shared};
+pub use sequence::{Boxed, ListRoom, Rare};
 
 mod blanks;
 mod cause;

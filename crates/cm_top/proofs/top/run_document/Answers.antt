@@ -1,10 +1,14 @@
 use Rattle.cm_model.specs.Trace.{output}
-use Rattle.cm_top.proofs.TopLemmas.{rules_room, flush-Wrote}
+use Rattle.cm_top.proofs.TopLemmas.{rules_room, rules_few, flush-Wrote}
 use Rattle.cm_top.proofs.top.run_document.Goals as goal
 
 -- a script that meets the rules leaves room for each of its loads
-pub history-requires : goal.history-requires
-history-requires g c = rules_room _ c.requires
+pub history-requires-room : goal.history-requires-room
+history-requires-room g c = rules_room _ c.requires
+
+-- and for the numbers of its sessions
+pub history-requires-few : goal.history-requires-few
+history-requires-few g c = rules_few _ c.requires
 
 -- the trace of the scheduled history was taken, and then flushed
 pub returns-in-Ok-write_trace-clause-wrote : goal.returns-in-Ok-write_trace-clause-wrote
