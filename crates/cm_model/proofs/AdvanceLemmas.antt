@@ -39,12 +39,12 @@ advance-Made who a b made = called_on-Made who a b (next_call a.session.ticket a
 -- ---- How many advances are left
 
 -- a ticket is one Told
-abbrev ticket_count : Option ℕ → ℕ
+abbrev pub ticket_count : Option ℕ → ℕ
 ticket_count None = 0
 ticket_count (Some t) = 1
 
 -- each line makes two entries at most, its own and its Told
-abbrev entries_left : Option ℕ → List Call → ℕ
+abbrev pub entries_left : Option ℕ → List Call → ℕ
 entries_left t lines = length lines + length lines + ticket_count t
 
 few_tickets : (t : Option ℕ) → ticket_count t ≤ 1
@@ -64,10 +64,10 @@ nothing_left (Some t) lines none = absurd (omega (arith, none))
 nothing_left None [] none = refl
 nothing_left None (c ∷ lines) none = absurd (omega (arith, none))
 
-abbrev left_of : Advanced → ℕ
+abbrev pub left_of : Advanced → ℕ
 left_of a = entries_left a.session.ticket a.session.lines
 
-advance-less : (who : ℕ) (a b : Advanced) → advance who a ≡ Some b → suc (left_of b) ≤ left_of a
+pub advance-less : (who : ℕ) (a b : Advanced) → advance who a ≡ Some b → suc (left_of b) ≤ left_of a
 advance-less who a b made =
     let m = advance-Made who a b made in rw m.session (after-less a.session.ticket a.session.lines m.call m.reply m.next)
 

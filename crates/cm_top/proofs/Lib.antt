@@ -2,6 +2,7 @@ pub mod ListLemmas
 pub mod PartsLemmas
 pub mod DeskLemmas
 pub mod NameLemmas
+pub mod JoinLemmas
 pub mod RoomLemmas
 pub mod SettleLemmas
 pub mod StreamLemmas

@@ -1,5 +1,5 @@
 -- A step takes one serial at most, and none but for a load.
-use Rattle.std.proofs.Common.{◌≡◌, ℕ, zero, suc, ◌+◌, ◌<◌, ◌≤◌, List, [], ◌∷◌, ◌++◌, length, get_or, take, drop, slice_set, Option, Some, None, Bool, true, false, refl, sym, ap, ◌∙◌, inl, inr, arith, add-one, drop-cons}
+use Rattle.std.proofs.Common.{◌≡◌, ℕ, zero, suc, ◌+◌, ◌<◌, ◌≤◌, List, [], ◌∷◌, length, get_or, slice_set, Option, Some, None, Bool, true, false, refl, arith}
 use Rattle.std.specs.Prelude.{slice_get, option_map, if◌then◌else◌}
 use Rattle.std.proofs.lemmas.Option.{cond_some, same_Some}
 use Rattle.cm_document.specs.declared.call.Call.{Call}
@@ -53,14 +53,15 @@ loops-none _ loops = refl
 
 -- ---- Lines left
 
-pub lines_left-set : (xs : List Session) (i : ℕ) (x y : Session) → i < length xs → get_or xs i x ≡ x
-    → lines_left (slice_set xs i y) + length x.lines ≡ lines_left xs + length y.lines
-lines_left-set [] i x y less here = absurd (omega arith)
-lines_left-set (z ∷ xs) zero x y less here = let same : length z.lines ≡ length x.lines = ap (λ (w : Session). length w.lines) here in omega (arith, same)
-lines_left-set (z ∷ xs) (suc i) x y less here = omega (arith, lines_left-set xs i x y (omega arith) here)
+-- a session that has other lines
+pub lines_left-set : (xs : List Session) (i : ℕ) (d y : Session) → i < length xs
+    → lines_left (slice_set xs i y) + length (get_or xs i d).lines ≡ lines_left xs + length y.lines
+lines_left-set [] i d y less = absurd (omega arith)
+lines_left-set (z ∷ xs) zero d y less = omega arith
+lines_left-set (z ∷ xs) (suc i) d y less = omega (arith, lines_left-set xs i d y (omega arith))
 
 -- a session has no more than all
-pub lines_left-one : (xs : List Session) (i : ℕ) (x : Session) → i < length xs → get_or xs i x ≡ x → length x.lines ≤ lines_left xs
-lines_left-one [] i x less here = absurd (omega arith)
-lines_left-one (z ∷ xs) zero x less here = let same : length z.lines ≡ length x.lines = ap (λ (w : Session). length w.lines) here in omega (arith, same)
-lines_left-one (z ∷ xs) (suc i) x less here = omega (arith, lines_left-one xs i x (omega arith) here)
+pub lines_left-one : (xs : List Session) (i : ℕ) (d : Session) → i < length xs → length (get_or xs i d).lines ≤ lines_left xs
+lines_left-one [] i d less = absurd (omega arith)
+lines_left-one (z ∷ xs) zero d less = omega arith
+lines_left-one (z ∷ xs) (suc i) d less = omega (arith, lines_left-one xs i d (omega arith))

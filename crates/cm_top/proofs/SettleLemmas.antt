@@ -16,9 +16,9 @@ drop-set (z ∷ xs) zero y = refl
 drop-set (z ∷ xs) (suc i) y = drop-set xs i y
 
 -- the next session settles, and then the sessions after it
-pub settle_from_next : (xs : List Session) (i : ℕ) (x y : Session) (s next : State) (made more : List Entry) → i < length xs → get_or xs i x ≡ x
-    → settle i (at s made x) ≡ at next more y
-    → settle_from (i + 1) (drop (i + 1) (slice_set xs i y)) next more (take (i + 1) (slice_set xs i y)) ≡ settle_from i (drop i xs) s made (take i xs)
-settle_from_next xs i x y s next made more less here settled =
+pub settle_from_next : (who : ℕ) (xs : List Session) (i : ℕ) (d y : Session) (s next : State) (made more : List Entry) → i < length xs
+    → settle who (at s made (get_or xs i d)) ≡ at next more y
+    → settle_from (who + 1) (drop (i + 1) (slice_set xs i y)) next more (take (i + 1) (slice_set xs i y)) ≡ settle_from who (drop i xs) s made (take i xs)
+settle_from_next who xs i d y s next made more less settled =
     let next_place : i + 1 ≡ suc i = omega arith in
-    rw (next_place, take-set xs i y less, drop-set xs i y, drop-cons xs i x less, here) (rw (settled) refl)
+    rw (next_place, take-set xs i y less, drop-set xs i y, drop-cons xs i d less) (rw (settled, settle_from) refl)

@@ -132,11 +132,11 @@ impl<'a> Desk<'a> {
     fn end(&mut self, cycle: u64) -> Option<Reply>
         ensures { Makes (step self.old self.old.sessions (call.End cycle)) self.old self.new result }
     {
-        if !(self.aloft && self.ended == cycle) {
+        if !self.aloft || self.ended != cycle {
             return None;
         }
+        self.ended = one_more(self.ended, self.description.cycles);
         self.aloft = false;
-        self.ended += 1;
         Some(Reply::Cycle(CycleRecord::quiet(cycle)))
     }
 
@@ -250,6 +250,14 @@ impl<'a> Desk<'a> {
     {
         Ok(Reply::Controllers(Boxed::new(alloc, self.lines(alloc)?)?))
     }
+}
+
+/// The next number, which a greater one leaves room for.
+fn one_more(number: u64, greater: u64) -> u64
+    requires { number < greater }
+    ensures { result ≡ number + 1 }
+{
+    number + 1
 }
 
 fn push_if_some(lines: &mut Seq<CtlLine>, line: Option<CtlLine>) -> Result<(), Memory>

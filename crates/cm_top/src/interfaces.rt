@@ -63,9 +63,16 @@ fn push_kinds(alloc: Global, texts: &mut Vec<String>, joint: &Name, kinds: &[Kin
     ensures { OnOk result (map string_bytes texts.new.items ≡ map string_bytes texts.old.items ++ map interface_text (map (interface.Joint joint.now) kinds.now)) }
 {
     for kind in kinds {
-        texts.push(format!(in alloc; "{joint}/{kind}")?)?;
+        texts.push(joint_interface(alloc, joint, *kind)?)?;
     }
     Ok(())
+}
+
+/// The text of the interface of this kind on a joint.
+fn joint_interface(alloc: Global, joint: &Name, kind: Kind) -> Result<String, Memory>
+    ensures { IfOk result (λ text. string_bytes text ≡ interface_text (interface.Joint joint.now kind)) }
+{
+    Ok(format!(in alloc; "{joint}/{kind}")?)
 }
 
 fn push_references(alloc: Global, texts: &mut Vec<String>, controllers: &[CtlDesc]) -> Result<(), Memory>
@@ -91,8 +98,15 @@ fn push_references_of(alloc: Global, texts: &mut Vec<String>, controller: &Name,
 fn reference(alloc: Global, controller: &Name, interface: &IfaceName) -> Result<String, Memory>
     ensures { IfOk result (λ text. string_bytes text ≡ interface_text (reference_for controller.now interface.now)) }
 {
-    let (joint, kind) = match interface {
-        IfaceName::Joint { joint, kind } | IfaceName::Reference { joint, kind, .. } => (joint, *kind),
-    };
+    match interface {
+        IfaceName::Joint { joint, kind } => reference_text(alloc, controller, joint, *kind),
+        IfaceName::Reference { joint, kind, .. } => reference_text(alloc, controller, joint, *kind),
+    }
+}
+
+/// The text of the reference of this kind of a controller for a joint.
+fn reference_text(alloc: Global, controller: &Name, joint: &Name, kind: Kind) -> Result<String, Memory>
+    ensures { IfOk result (λ text. string_bytes text ≡ interface_text (interface.Reference controller.now joint.now kind)) }
+{
     Ok(format!(in alloc; "{controller}/{joint}/{kind}")?)
 }

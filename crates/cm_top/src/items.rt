@@ -47,12 +47,11 @@ fn push_items<T: Item>(text: &mut String, names: &Names<'_>, items: &[T]) -> Res
     ensures { OnOk result (string_bytes text.new ≡ string_bytes text.old ++ joined (map (T.item_text names.now) items.now)) }
 {
     let Some((first, others)) = items.split_first() else {
-        text.push_str("none")?;
-        return Ok(());
+        return push_none(text);
     };
     first.push_to(text, names)?;
     for item in others {
-        text.push_str("; ")?;
+        separate(text, true)?;
         item.push_to(text, names)?;
     }
     Ok(())
@@ -161,13 +160,21 @@ fn push_value(text: &mut String, value: StoredValue) -> Result<(), Memory>
 fn push_record(text: &mut String, names: &Names<'_>, record: &CycleRecord) -> Result<(), Memory>
     ensures { OnOk result (string_bytes text.new ≡ string_bytes text.old ++ joined (record_items names.now record.now)) }
 {
-    let started = push_failures(text, names, false, record.failed())?;
-    let started = push_rans(text, names, started, record.ran())?;
-    let started = push_bodies(text, names, started, record.bodies())?;
-    let started = push_stops(text, names, started, record.stops())?;
-    if !started {
-        text.push_str("none")?;
+    let failures = push_failures(text, names, false, record.failed())?;
+    let rans = push_rans(text, names, failures, record.ran())?;
+    let bodies = push_bodies(text, names, rans, record.bodies())?;
+    let stops = push_stops(text, names, bodies, record.stops())?;
+    if stops {
+        return Ok(());
     }
+    push_none(text)
+}
+
+/// What stands in place of no item.
+fn push_none(text: &mut String) -> Result<(), Memory>
+    ensures { OnOk result (string_bytes text.new ≡ string_bytes text.old ++ codes "none") }
+{
+    text.push_str("none")?;
     Ok(())
 }
 

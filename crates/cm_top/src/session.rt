@@ -1,6 +1,6 @@
 //! Sessions over the desk, and the order of the job `run`.
 
-ghost use Rattle.std.specs.Prelude.{◌≡◌, ◌+◌, ◌<◌, ◌≤◌, ◌^◌, [], None, length, map, IfOk, OnOk};
+ghost use Rattle.std.specs.Prelude.{◌≡◌, ◌+◌, ◌<◌, ◌≤◌, ◌^◌, [], None, length, map, IfOk, OnOk, OnErr};
 ghost use Rattle.cm_model.specs.Machine.{step};
 ghost use Rattle.cm_model.specs.Scheduled.{advance, settle, settle_from, start, scheduled, ticket_in};
 ghost use Rattle.cm_top.specs.Room.{lines_left, serials_of};
@@ -85,7 +85,7 @@ impl<'a> Job<'a> {
 
     /// The history, once no more is made.
     fn into_history(self) -> Vec<Entry>
-        ensures { result.items ≡ self.made }
+        ensures { result.items ≡ self.entry.made }
     {
         self.made
     }
@@ -248,6 +248,7 @@ fn ask(
     requires room { desk.old.loads + serials_of call.now < 2 ^ 32 }
     ensures made { IfOk result (Called (step desk.old who call.now) who call.now desk.old desk.new made.old.items made.new.items) }
     ensures room { desk.new.loads ≤ desk.old.loads + serials_of call.now }
+    ensures kept { OnErr result (desk.new ≡ desk.old) }
 {
     made.reserve(1)?;
     let kept = KeptCall::copy_of(alloc, call)?;
