@@ -163,7 +163,7 @@ controllers_called place (c ∷ cs) =
     ∙ sym (map-append a_command (refs_of c) (references_of cs))
 
 -- The states come first by their names, then the commands, then the references.
-called_by_names : (d : Description) → called_in d ≡ map a_state (states_of d.components) ++ map a_command (commands_of d.components ++ references_of d.controllers)
+pub called_by_names : (d : Description) → called_in d ≡ map a_state (states_of d.components) ++ map a_command (commands_of d.components ++ references_of d.controllers)
 called_by_names d =
     map-append (λ i. i.called) (at_components a_state (λ j. j.states) 0 0 d.components) (at_components a_command (λ j. j.commands) 0 0 d.components ++ at_controllers 0 d.controllers)
     ∙ ap₂ (λ xs ys. xs ++ ys) (components_called a_state (λ j. j.states) 0 0 d.components)

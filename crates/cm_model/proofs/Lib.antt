@@ -1,3 +1,5 @@
+pub mod RanLemmas
+pub mod AdvanceLemmas
 pub mod LegalLemmas
 pub mod WholeLemmas
 mod Rows

@@ -1,27 +1,31 @@
 -- A history that is scheduled for console calls is whole.
 use Rattle.std.proofs.Common.{◌≡◌, ℕ, zero, suc, ◌+◌, ◌<◌, ◌≤◌, List, [], ◌∷◌, ◌++◌, length, map, Option, Some, None, Bool, true, false, nat_lt, refl, sym, ap, ◌∙◌, append_assoc, append-nil, inl, inr, arith}
-use Rattle.std.specs.Prelude.{cond, slice_get, filter, ◌==◌, ◌&&◌}
+use Rattle.std.specs.Prelude.{cond, slice_get, filter, flat_map, ◌==◌, ◌&&◌, not, IsTrue}
 use Rattle.std.specs.List.{AllByRecursion}
 use Rattle.std.proofs.lemmas.List.{map-append, length-map}
 use Rattle.std.proofs.lemmas.List.Elements.{filter-append}
 use Rattle.std.proofs.lemmas.Bool.Decides.{nat_tests}
 use Rattle.std.proofs.lemmas.Option.{same_Some, slice_get-map, slice_get_within}
 use Rattle.cm_document.proofs.ReadingLemmas.{cases_Option, chosen}
-use Rattle.cm_model.specs.State.{boot, controller_lines}
-use Rattle.cm_model.specs.Machine.{step, load, load_from, load_at, place_of, is_loaded_at, can_begin, can_end, can_close}
-use Rattle.cm_model.specs.Scheduled.{Progress, Settled, with_entry, settle, settle_from, settle_all, looped, cycle, cycles, finish, start, scheduled}
-use Rattle.cm_model.specs.Sessions.{IsConsole, AllConsole, entries_by, calls_of, Follows, cycle_calls, loop_calls, IsWhole}
+use Rattle.cm_model.specs.Held.{nothing_in}
+use Rattle.cm_model.specs.State.{State, boot, controller_lines}
+use Rattle.cm_model.specs.Machine.{step, unless_refused, load_refusals, place_of, with_controller, with_loaded, load_effect, answered, can_begin, can_end, can_close}
+use Rattle.cm_model.specs.Scheduled.{Session, Advanced, Progress, with_entry, ticket_in, advance, advances, settle, settle_from, settle_all, looped, cycle, cycles, finish, start, scheduled}
+use Rattle.cm_document.specs.Built.{built}
+use Rattle.cm_document.specs.ScriptLaws.{has_form}
+use Rattle.cm_model.specs.Sessions.{entries_by, calls_of, is_told, told_after, with_its_told, asked, Follows, cycle_calls, loop_calls, IsWhole}
+use Rattle.cm_model.proofs.AdvanceLemmas.{settle-stays}
 use Rattle.cm_document.specs.declared.call.Call.{Call}
 use Rattle.cm_document.specs.declared.call.Call.TheVariants.{Load, ListControllers, Begin, End, Close}
 use Rattle.cm_model.specs.declared.entry.Entry.{Entry}
 use Rattle.cm_model.specs.declared.reply.Reply.{Reply}
 use Rattle.cm_model.specs.declared.reply.Reply.TheVariants as reply
+use Rattle.cm_model.specs.declared.reply.Why.{Why}
 use Rattle.cm_document.specs.declared.description.CtlDesc.{CtlDesc}
 use Rattle.cm_document.specs.declared.description.Description.{Description}
 use Rattle.cm_document.specs.declared.document.Document.{Document}
 use Rattle.cm_document.specs.declared.script.SessionText.{SessionText}
-use Rattle.cm_model.specs.declared.state.Blanks.{Blanks}
-use Rattle.cm_model.specs.declared.state.State.{State}
+use Rattle.cm_model.specs.declared.blanks.Blanks.{Blanks}
 
 -- ---- What console calls leave as it is
 
@@ -45,24 +49,58 @@ same-trans s t u p q = record {
   closed = q.closed ∙ p.closed;
 }
 
-load_at-SameLoop : (s : State) (place : ℕ) (c : Option CtlDesc) → SameLoop s (load_at s place c).0
-load_at-SameLoop s place None = same s
-load_at-SameLoop s place (Some c) =
-    chosen (λ (made : State × Reply). SameLoop s made.0) (is_loaded_at place s) _ _ (same s) (chosen (λ (made : State × Reply). SameLoop s made.0) _ _ _ (same s)
-    (record { sessions = refl; description = refl; ended = refl; aloft = refl; closed = refl }))
+with_controller-SameLoop : (s : State) (place : ℕ) (c : Option CtlDesc) → SameLoop s (with_controller s place c)
+with_controller-SameLoop s place None = same s
+with_controller-SameLoop s place (Some c) = record { sessions = refl; description = refl; ended = refl; aloft = refl; closed = refl }
+
+with_loaded-SameLoop : (s : State) (place : Option ℕ) → SameLoop s (with_loaded s place)
+with_loaded-SameLoop s None = same s
+with_loaded-SameLoop s (Some place) = with_controller-SameLoop s place (slice_get s.description.controllers place)
 
 -- a load leaves the loop as it is
-pub load_from-SameLoop : (s : State) (place : Option ℕ) → SameLoop s (load_from s place).0
-load_from-SameLoop s None = same s
-load_from-SameLoop s (Some place) = load_at-SameLoop s place (slice_get s.description.controllers place)
+pub load_effect-SameLoop : (s : State) (name : List ℕ) (r : Reply) → SameLoop s (load_effect s name r)
+load_effect-SameLoop s name (reply.Serial n) = with_loaded-SameLoop s (place_of s name)
+load_effect-SameLoop s name _ = same s
 
--- a console call of a session is enabled and leaves the loop as it is
-console-step : (s : State) (who : ℕ) (call : Call) → IsConsole call → nat_lt who s.sessions ≡ true
-    → (q : State × Reply) × (step s who call ≡ Some q) × SameLoop s q.0
+-- a load gives no ticket
+no_ticket : (refusals : List (Bool × Why)) (n : ℕ) → ticket_in (unless_refused refusals (reply.Serial n)) ≡ None
+no_ticket [] n = refl
+no_ticket (r ∷ refusals) n = chosen (λ (answer : Reply). ticket_in answer ≡ None) r.0 (reply.Not r.1) (unless_refused refusals (reply.Serial n)) refl (no_ticket refusals n)
+
+-- the form of this call is built
+abbrev IsBuilt : Call → Type 0
+IsBuilt c = IsTrue (has_form built c)
+
+-- What a call of a session whose form is built makes: it is enabled, leaves the loop as it is, is no Told, and gets no ticket.
+record Makes (s : State) (who : ℕ) (call : Call) : Type 0 where
+  next : State
+  answer : Reply
+  stepped : step s who call ≡ Some (next, answer)
+  loop : SameLoop s next
+  no_told : is_told call ≡ false
+  unqueued : ticket_in answer ≡ None
+
+built-step : (s : State) (who : ℕ) (call : Call) → IsBuilt call → nat_lt who s.sessions ≡ true → Makes s who call
 unfolding step
-console-step s who (Load name) asked known = (load s name, rw known refl, load_from-SameLoop s (place_of s name))
-console-step s who ListControllers asked known = ((s, reply.Controllers (controller_lines s)), rw known refl, same s)
-console-step s who _ asked known = let no : false ≡ true = asked in cc
+built-step s who (Load name) built known =
+    let answer = unless_refused (load_refusals s (place_of s name)) (reply.Serial s.loads) in
+    record {
+      next = load_effect s name answer;
+      answer = answer;
+      stepped = rw known refl;
+      loop = load_effect-SameLoop s name answer;
+      no_told = refl;
+      unqueued = no_ticket (load_refusals s (place_of s name)) s.loads;
+    }
+built-step s who ListControllers built known = record {
+  next = s;
+  answer = reply.Controllers (controller_lines s);
+  stepped = rw known refl;
+  loop = same s;
+  no_told = refl;
+  unqueued = refl;
+}
+built-step s who _ built known = let no : false ≡ true = built in cc
 
 -- ---- Who called what
 
@@ -79,76 +117,107 @@ abbrev by_sessions : ℕ → List (List Call) → List (ℕ × Call)
 by_sessions who [] = []
 by_sessions who (lines ∷ others) = by who lines ++ by_sessions (who + 1) others
 
+-- a session that stands before these lines
+abbrev waiting : List Call → Session
+waiting lines = record { lines = lines; ticket = None }
+
 -- each session has no line left
-abbrev AllMade : List (List Call) → Type 0
-AllMade rests = AllByRecursion (λ r. r ≡ []) rests
+abbrev AllMade : List Session → Type 0
+AllMade sessions = AllByRecursion (λ x. x ≡ waiting []) sessions
+
+-- no entry is a Told or gives a ticket
+abbrev IsPlain : Entry → Type 0
+IsPlain e = (is_told e.call ≡ false) × (ticket_in e.reply ≡ None)
+
+abbrev AllPlain : List Entry → Type 0
+AllPlain made = AllByRecursion IsPlain made
+
+plain_one_more : (made : List Entry) (who : ℕ) (call : Call) (r : Reply) → AllPlain made → is_told call ≡ false → ticket_in r ≡ None → AllPlain (with_entry made who call r)
+plain_one_more [] who call r plain no_told unqueued = ((no_told, unqueued), tt)
+plain_one_more (e ∷ made) who call r plain no_told unqueued = (plain.0, plain_one_more made who call r plain.1 no_told unqueued)
 
 -- ---- Settling
 
 -- what settling one session did
-record Settles (who : ℕ) (lines : List Call) (s : State) (made : List Entry) (q : Settled) : Type 0 where
-  rest : q.rest ≡ []
-  calls : callers q.made ≡ callers made ++ by who lines
-  loop : SameLoop s q.state
+record Settles (who : ℕ) (lines : List Call) (s : State) (made : List Entry) (a : Advanced) : Type 0 where
+  session : a.session ≡ waiting []
+  calls : callers a.made ≡ callers made ++ by who lines
+  plain : AllPlain a.made
+  loop : SameLoop s a.state
 
 callers-with_entry : (made : List Entry) (who : ℕ) (call : Call) (r : Reply) → callers (with_entry made who call r) ≡ callers made ++ (who, call) ∷ []
 callers-with_entry made who call r = map-append (λ (e : Entry). (e.who, e.call)) made (record { who = who; call = call; reply = r } ∷ [])
 
-settle-Settles : (who : ℕ) (lines : List Call) (s : State) (made : List Entry) → AllByRecursion IsConsole lines → nat_lt who s.sessions ≡ true
-    → Settles who lines s made (settle who lines s made)
-settle-Settles who [] s made asked known = record { rest = refl; calls = sym (append-nil (callers made)); loop = same s }
-settle-Settles who (call ∷ lines) s made asked known =
-    let first = console-step s who call asked.0 known in
-    let q = first.0 in
-    let still : nat_lt who q.0.sessions ≡ true = rw first.2.sessions known in
-    let others = settle-Settles who lines q.0 (with_entry made who call q.1) asked.1 still in
-    rw (first.1, settle) (record {
-      rest = others.rest;
-      calls = others.calls ∙ ap (λ l. l ++ by who lines) (callers-with_entry made who call q.1) ∙ append_assoc (callers made) ((who, call) ∷ []) (by who lines);
-      loop = same-trans s q.0 _ first.2 others.loop;
+-- one session before its lines
+abbrev before : State → List Entry → List Call → Advanced
+before s made lines = record { state = s; made = made; session = waiting lines }
+
+advance-line : (who : ℕ) (s : State) (made : List Entry) (call : Call) (lines : List Call) (m : Makes s who call)
+    → advance who (before s made (call ∷ lines)) ≡ Some (before m.next (with_entry made who call m.answer) lines)
+unfolding advance
+advance-line who s made call lines m = rw (m.stepped) (rw (m.unqueued) refl)
+
+advance-nothing : (who : ℕ) (s : State) (made : List Entry) → advance who (before s made []) ≡ None
+unfolding advance
+advance-nothing who s made = refl
+
+advances-Settles : (k who : ℕ) (lines : List Call) (s : State) (made : List Entry) → AllByRecursion IsBuilt lines → nat_lt who s.sessions ≡ true
+    → AllPlain made → length lines ≤ k → Settles who lines s made (advances k who (before s made lines))
+advances-Settles zero who [] s made built known plain few = record { session = refl; calls = sym (append-nil (callers made)); plain = plain; loop = same s }
+advances-Settles (suc k) who [] s made built known plain few =
+    rw (advance-nothing who s made, advances) (record { session = refl; calls = sym (append-nil (callers made)); plain = plain; loop = same s })
+advances-Settles zero who (call ∷ lines) s made built known plain few = absurd (omega (arith, few))
+advances-Settles (suc k) who (call ∷ lines) s made built known plain few =
+    let m = built-step s who call built.0 known in
+    let still : nat_lt who m.next.sessions ≡ true = rw m.loop.sessions known in
+    let others = advances-Settles k who lines m.next (with_entry made who call m.answer) built.1 still (plain_one_more made who call m.answer plain m.no_told m.unqueued) (omega (arith, few)) in
+    rw (advance-line who s made call lines m, advances) (record {
+      session = others.session;
+      calls = others.calls ∙ ap (λ l. l ++ by who lines) (callers-with_entry made who call m.answer) ∙ append_assoc (callers made) ((who, call) ∷ []) (by who lines);
+      plain = others.plain;
+      loop = same-trans s m.next _ m.loop others.loop;
     })
+
+settle-Settles : (who : ℕ) (lines : List Call) (s : State) (made : List Entry) → AllByRecursion IsBuilt lines → nat_lt who s.sessions ≡ true
+    → AllPlain made → Settles who lines s made (settle who (before s made lines))
+unfolding settle
+settle-Settles who lines s made built known plain = advances-Settles (suc (length lines + length lines)) who lines s made built known plain (omega arith)
 
 -- what settling the sessions from this number on did
 record SettlesFrom (who : ℕ) (sessions : List (List Call)) (s : State) (made : List Entry) (p : Progress) : Type 0 where
-  rests : AllMade p.rests
+  sessions_made : AllMade p.sessions
   calls : callers p.made ≡ callers made ++ by_sessions who sessions
+  plain : AllPlain p.made
   loop : SameLoop s p.state
 
-AllMade-push : (rests : List (List Call)) (r : List Call) → AllMade rests → r ≡ [] → AllMade (rests ++ r ∷ [])
-AllMade-push [] r made none = (none, tt)
-AllMade-push (x ∷ rests) r made none = (made.0, AllMade-push rests r made.1 none)
+AllMade-push : (settled : List Session) (x : Session) → AllMade settled → x ≡ waiting [] → AllMade (settled ++ x ∷ [])
+AllMade-push [] x made none = (none, tt)
+AllMade-push (y ∷ settled) x made none = (made.0, AllMade-push settled x made.1 none)
 
-settle_from-Settles : (who : ℕ) (sessions : List (List Call)) (s : State) (made : List Entry) (rests : List (List Call))
-    → AllByRecursion (λ lines. AllByRecursion IsConsole lines) sessions → who + length sessions ≤ s.sessions → AllMade rests
-    → SettlesFrom who sessions s made (settle_from who sessions s made rests)
-settle_from-Settles who [] s made rests asked fits done = record { rests = done; calls = sym (append-nil (callers made)); loop = same s }
-settle_from-Settles who (lines ∷ others) s made rests asked fits done =
+settle_from-Settles : (who : ℕ) (sessions : List (List Call)) (s : State) (made : List Entry) (settled : List Session)
+    → AllByRecursion (λ lines. AllByRecursion IsBuilt lines) sessions → who + length sessions ≤ s.sessions → AllPlain made → AllMade settled
+    → SettlesFrom who sessions s made (settle_from who (map waiting sessions) s made settled)
+settle_from-Settles who [] s made settled built fits plain done = record { sessions_made = done; calls = sym (append-nil (callers made)); plain = plain; loop = same s }
+settle_from-Settles who (lines ∷ others) s made settled built fits plain done =
     let known : nat_lt who s.sessions ≡ true = grind (arith, nat_tests) in
-    let one = settle who lines s made in
-    let first : Settles who lines s made one = settle-Settles who lines s made asked.0 known in
+    let one = settle who (before s made lines) in
+    let first : Settles who lines s made one = settle-Settles who lines s made built.0 known plain in
     let fits' : who + 1 + length others ≤ one.state.sessions = rw first.loop.sessions (omega arith) in
-    let rest = settle_from-Settles (who + 1) others one.state one.made (rests ++ one.rest ∷ []) asked.1 fits' (AllMade-push rests one.rest done first.rest) in
+    let rest = settle_from-Settles (who + 1) others one.state one.made (settled ++ one.session ∷ []) built.1 fits' first.plain (AllMade-push settled one.session done first.session) in
     record {
-      rests = rest.rests;
+      sessions_made = rest.sessions_made;
       calls = rest.calls ∙ ap (λ l. l ++ by_sessions (who + 1) others) first.calls ∙ append_assoc (callers made) (by who lines) (by_sessions (who + 1) others);
+      plain = rest.plain;
       loop = same-trans s one.state _ first.loop rest.loop;
     }
-
--- sessions without a line left settle at once
-by_sessions-AllMade : (who : ℕ) (rests : List (List Call)) → AllMade rests → by_sessions who rests ≡ []
-by_sessions-AllMade who [] done = refl
-by_sessions-AllMade who (r ∷ rests) done = rw done.0 (by_sessions-AllMade (who + 1) rests done.1)
-
-IsConsole-AllMade : (rests : List (List Call)) → AllMade rests → AllByRecursion (λ lines. AllByRecursion IsConsole lines) rests
-IsConsole-AllMade [] done = tt
-IsConsole-AllMade (r ∷ rests) done = (rw done.0 tt, IsConsole-AllMade rests done.1)
 
 -- ---- The loop
 
 -- a settled progress after n cycles of a document
 record Ran (n total who : ℕ) (sessions : List (List Call)) (p : Progress) : Type 0 where
-  rests : AllMade p.rests
+  settled : AllMade p.sessions
   calls : callers p.made ≡ by_sessions 0 sessions ++ by who (cycle_calls n)
+  plain : AllPlain p.made
   known : p.state.sessions ≡ who
   total_is : p.state.description.cycles ≡ total
   ended : p.state.ended ≡ n
@@ -165,17 +234,20 @@ looped-calls call p q enabled = rw (enabled, looped) refl
 record Stays (s : State) (made : List Entry) (p : Progress) : Type 0 where
   state_is : p.state ≡ s
   made_is : p.made ≡ made
-  rests : AllMade p.rests
+  settled : AllMade p.sessions
 
-settle_from-Stays : (who : ℕ) (sessions : List (List Call)) (s : State) (made : List Entry) (rests : List (List Call)) → AllMade sessions → AllMade rests
-    → Stays s made (settle_from who sessions s made rests)
-settle_from-Stays who [] s made rests none done = record { state_is = refl; made_is = refl; rests = done }
-settle_from-Stays who (r ∷ others) s made rests none done =
-    rw none.0 (settle_from-Stays (who + 1) others s made (rests ++ [] ∷ []) none.1 (AllMade-push rests [] done refl))
+settle-Stays : (who : ℕ) (s : State) (made : List Entry) → settle who (before s made []) ≡ before s made []
+settle-Stays who s made = settle-stays who (before s made []) (advance-nothing who s made)
 
-settle_all-Stays : (p : Progress) → AllMade p.rests → Stays p.state p.made (settle_all p)
+settle_from-Stays : (who : ℕ) (sessions : List Session) (s : State) (made : List Entry) (settled : List Session) → AllMade sessions → AllMade settled
+    → Stays s made (settle_from who sessions s made settled)
+settle_from-Stays who [] s made settled none done = record { state_is = refl; made_is = refl; settled = done }
+settle_from-Stays who (x ∷ others) s made settled none done =
+    rw (none.0, settle-Stays who s made) (settle_from-Stays (who + 1) others s made (settled ++ waiting [] ∷ []) none.1 (AllMade-push settled (waiting []) done refl))
+
+settle_all-Stays : (p : Progress) → AllMade p.sessions → Stays p.state p.made (settle_all p)
 unfolding settle_all
-settle_all-Stays p done = settle_from-Stays 0 p.rests p.state p.made [] done tt
+settle_all-Stays p done = settle_from-Stays 0 p.sessions p.state p.made [] done tt
 
 -- when the loop's calls are enabled
 begin-enabled : (s : State) (n : ℕ) → s.aloft ≡ false → s.closed ≡ false → s.ended ≡ n → n < s.description.cycles → (s.sessions == s.sessions && can_begin s n) ≡ true
@@ -192,7 +264,7 @@ abbrev begun : ℕ → Progress → Progress
 begun n p = record p { state = record p.state { aloft = true }; made = with_entry p.made p.state.sessions (Begin n) (reply.Decisions []) }
 
 abbrev ended_at : ℕ → Progress → Progress
-ended_at n p = record p { state = record p.state { aloft = false; ended = p.state.ended + 1 }; made = with_entry p.made p.state.sessions (End n) (reply.Cycle (record { cycle = n })) }
+ended_at n p = record p { state = record p.state { aloft = false; ended = p.state.ended + 1 }; made = with_entry p.made p.state.sessions (End n) (reply.Cycle (nothing_in n)) }
 
 abbrev closed_at : Progress → Progress
 closed_at p = record p { state = record p.state { closed = true }; made = with_entry p.made p.state.sessions Close (reply.Decisions []) }
@@ -205,7 +277,7 @@ looped-begun n p aloft closed ended more =
 looped-ended : (n : ℕ) (p : Progress) → p.state.aloft ≡ true → p.state.ended ≡ n → looped (End n) p ≡ ended_at n p
 unfolding step
 looped-ended n p aloft ended =
-    looped-calls (End n) p (record p.state { aloft = false; ended = p.state.ended + 1 }, reply.Cycle (record { cycle = n })) (rw (end-enabled p.state n aloft ended) refl)
+    looped-calls (End n) p (record p.state { aloft = false; ended = p.state.ended + 1 }, reply.Cycle (nothing_in n)) (rw (end-enabled p.state n aloft ended) refl)
 
 looped-closed : (p : Progress) → p.state.aloft ≡ false → p.state.closed ≡ false → looped Close p ≡ closed_at p
 unfolding step
@@ -233,10 +305,11 @@ cycle-Ran n total who sessions p ran more =
     let more' : n < p.state.description.cycles = rw ran.total_is more in
     let first = looped-begun n p ran.aloft ran.closed ran.ended more' in
     let second = looped-ended n (begun n p) refl ran.ended in
-    let last = settle_all-Stays (ended_at n (begun n p)) ran.rests in
+    let last = settle_all-Stays (ended_at n (begun n p)) ran.settled in
     rw (first, second) (record {
-      rests = last.rests;
+      settled = last.settled;
       calls = ap callers last.made_is ∙ two_calls p.made who p.state.sessions (Begin n) (End n) _ _ (by_sessions 0 sessions) (cycle_calls n) ran.known ran.calls;
+      plain = rw last.made_is (plain_one_more _ p.state.sessions (End n) (reply.Cycle (nothing_in n)) (plain_one_more p.made p.state.sessions (Begin n) (reply.Decisions []) ran.plain refl refl) refl refl);
       known = ap (λ (s : State). s.sessions) last.state_is ∙ ran.known;
       total_is = ap (λ (s : State). s.description.cycles) last.state_is ∙ ran.total_is;
       ended = ap (λ (s : State). s.ended) last.state_is ∙ rw ran.ended (omega arith);
@@ -252,47 +325,64 @@ cycles-Ran zero total who sessions p ran fits = ran
 cycles-Ran (suc n) total who sessions p ran fits =
     cycle-Ran n total who sessions (settle_all (cycles n p)) (cycles-Ran n total who sessions p ran (omega arith)) (omega arith)
 
--- all of it: every session's lines, then the loop's calls
-finish-calls : (total who : ℕ) (sessions : List (List Call)) (p : Progress) → Ran total total who sessions (settle_all p)
-    → callers (finish p).made ≡ by_sessions 0 sessions ++ by who (loop_calls total)
+-- what a whole run made: every session's lines, then the loop's calls, and no ticket
+record Finished (total who : ℕ) (sessions : List (List Call)) (history : List Entry) : Type 0 where
+  calls : callers history ≡ by_sessions 0 sessions ++ by who (loop_calls total)
+  plain : AllPlain history
+
+finish-Finished : (total who : ℕ) (sessions : List (List Call)) (p : Progress) → Ran total total who sessions (settle_all p)
+    → Finished total who sessions (finish p).made
 unfolding finish
-finish-calls total who sessions p ran =
+finish-Finished total who sessions p ran =
     let q = settle_all p in
     let closing = looped-closed q ran.aloft ran.closed in
-    let last = settle_all-Stays (closed_at q) ran.rests in
-    rw closing (ap callers last.made_is ∙ one_call q.made who q.state.sessions Close (reply.Decisions []) (by_sessions 0 sessions) (cycle_calls total) ran.known ran.calls)
+    let last = settle_all-Stays (closed_at q) ran.settled in
+    rw closing (record {
+      calls = ap callers last.made_is ∙ one_call q.made who q.state.sessions Close (reply.Decisions []) (by_sessions 0 sessions) (cycle_calls total) ran.known ran.calls;
+      plain = rw last.made_is (plain_one_more q.made q.state.sessions Close (reply.Decisions []) ran.plain refl refl);
+    })
 
 abbrev lines_of : List SessionText → List (List Call)
 lines_of sessions = map (λ s. s.lines) sessions
 
-asked_lines : (sessions : List SessionText) → AllConsole sessions → AllByRecursion (λ lines. AllByRecursion IsConsole lines) (lines_of sessions)
-asked_lines [] asked = tt
-asked_lines (s ∷ sessions) asked = (asked.0, asked_lines sessions asked.1)
+-- the sessions of a document before their lines
+waiting_lines : (sessions : List SessionText) → map (λ (t : SessionText). waiting t.lines) sessions ≡ map waiting (lines_of sessions)
+waiting_lines [] = refl
+waiting_lines (t ∷ sessions) = ap (λ l. waiting t.lines ∷ l) (waiting_lines sessions)
 
-start-Ran : (d : Document) (blanks : Blanks) → AllConsole d.script.sessions
+-- each line of each session has a form that is built
+abbrev pub AllBuilt : List SessionText → Type 0
+AllBuilt sessions = AllByRecursion (λ s. AllByRecursion (λ c. IsTrue (has_form built c)) s.lines) sessions
+
+built_lines : (sessions : List SessionText) → AllBuilt sessions → AllByRecursion (λ lines. AllByRecursion IsBuilt lines) (lines_of sessions)
+built_lines [] forms = tt
+built_lines (s ∷ sessions) forms = (forms.0, built_lines sessions forms.1)
+
+start-Ran : (d : Document) (blanks : Blanks) → AllBuilt d.script.sessions
     → Ran 0 d.description.cycles (length d.script.sessions) (lines_of d.script.sessions) (settle_all (start d blanks))
 unfolding start settle_all
-start-Ran d blanks asked =
+start-Ran d blanks built =
     let lines = lines_of d.script.sessions in
     let s = boot d.description blanks (length d.script.sessions) in
     let fits : 0 + length lines ≤ length d.script.sessions = omega (arith, length-map d.script.sessions (λ (t : SessionText). t.lines)) in
-    let settled = settle_from-Settles 0 lines s [] [] (asked_lines d.script.sessions asked) fits tt in
-    record {
-      rests = settled.rests;
+    let settled = settle_from-Settles 0 lines s [] [] (built_lines d.script.sessions built) fits tt tt in
+    rw (waiting_lines d.script.sessions) (record {
+      settled = settled.sessions_made;
       calls = settled.calls ∙ sym (append-nil (by_sessions 0 lines));
+      plain = settled.plain;
       known = settled.loop.sessions;
       total_is = ap (λ (t : Description). t.cycles) settled.loop.description;
       ended = settled.loop.ended;
       aloft = settled.loop.aloft;
       closed = settled.loop.closed;
-    }
+    })
 
 -- who called what in a scheduled history
-scheduled-callers : (d : Document) (blanks : Blanks) → AllConsole d.script.sessions
-    → callers (scheduled d blanks) ≡ by_sessions 0 (lines_of d.script.sessions) ++ by (length d.script.sessions) (loop_calls d.description.cycles)
+scheduled-Finished : (d : Document) (blanks : Blanks) → AllBuilt d.script.sessions
+    → Finished d.description.cycles (length d.script.sessions) (lines_of d.script.sessions) (scheduled d blanks)
 unfolding scheduled
-scheduled-callers d blanks asked =
-    finish-calls d.description.cycles _ _ _ (cycles-Ran d.description.cycles d.description.cycles _ _ (start d blanks) (start-Ran d blanks asked) (omega arith))
+scheduled-Finished d blanks built =
+    finish-Finished d.description.cycles _ _ _ (cycles-Ran d.description.cycles d.description.cycles _ _ (start d blanks) (start-Ran d blanks built) (omega arith))
 
 -- ---- One caller's calls
 
@@ -370,9 +460,34 @@ Within-callers : (most : ℕ) (history : List Entry) → Within most (callers hi
 Within-callers most [] p = tt
 Within-callers most (e ∷ history) p = (p.0, Within-callers most history p.1)
 
+-- ---- Entries without a Told
+
+-- some of them are plain where all are
+plain_by : (who : ℕ) (history : List Entry) → AllPlain history → AllPlain (entries_by who history)
+plain_by who [] plain = tt
+plain_by who (e ∷ history) plain =
+    chosen (λ (es : List Entry). AllPlain es) (e.who == who) (e ∷ entries_by who history) (entries_by who history) (plain.0, plain_by who history plain.1) (plain_by who history plain.1)
+
+-- none of them is a Told
+asked-plain : (es : List Entry) → AllPlain es → asked es ≡ es
+asked-plain [] plain = refl
+asked-plain (e ∷ es) plain = rw (plain.0.0) (ap (λ l. e ∷ l) (asked-plain es plain.1))
+
+-- none has a Told after it
+told-plain : (es : List Entry) → AllPlain es → calls_of es ≡ flat_map with_its_told es
+told-plain [] plain = refl
+told-plain (e ∷ es) plain = rw (plain.0.1) (ap (λ l. e.call ∷ l) (told-plain es plain.1))
+
+-- entries that are plain follow their own calls
+plain-Follows : (lines : List Call) (es : List Entry) → AllPlain es → calls_of es ≡ lines → Follows lines es
+plain-Follows lines es plain calls = record {
+  in_order = rw (asked-plain es plain) calls;
+  each_told = rw (asked-plain es plain) (told-plain es plain);
+}
+
 -- the k-th session's entries are its lines
 session_follows : (sessions : List SessionText) (history : List Entry) (loop : List Call) (k : ℕ) (s : SessionText)
-    → callers history ≡ by_sessions 0 (lines_of sessions) ++ by (length sessions) loop → slice_get sessions k ≡ Some s → Follows s.lines (entries_by k history)
+    → callers history ≡ by_sessions 0 (lines_of sessions) ++ by (length sessions) loop → slice_get sessions k ≡ Some s → calls_of (entries_by k history) ≡ s.lines
 session_follows sessions history loop k s who_called found =
     let inside = slice_get_within sessions k s found in
     let lines : slice_get (lines_of sessions) k ≡ Some s.lines = slice_get-map (λ (t : SessionText). t.lines) sessions k ∙ rw found refl in
@@ -382,20 +497,20 @@ session_follows sessions history loop k s who_called found =
     picked-callers k history ∙ rw who_called (picked-append k (by_sessions 0 (lines_of sessions)) (by (length sessions) loop)
     ∙ rw (own, picked-other k (length sessions) loop differs) (append-nil s.lines))
 
--- a history that is scheduled for console calls is whole
-pub scheduled-IsWhole : (d : Document) (blanks : Blanks) → AllConsole d.script.sessions → IsWhole d (scheduled d blanks)
-scheduled-IsWhole d blanks asked =
+-- a history that is scheduled for lines whose forms are built is whole
+pub scheduled-IsWhole : (d : Document) (blanks : Blanks) → AllBuilt d.script.sessions → IsWhole d (scheduled d blanks)
+scheduled-IsWhole d blanks built =
     let sessions = d.script.sessions in
     let lines = lines_of sessions in
     let count = length sessions in
     let history = scheduled d blanks in
-    let who_called : callers history ≡ by_sessions 0 lines ++ by count (loop_calls d.description.cycles) = scheduled-callers d blanks asked in
+    let ran : Finished d.description.cycles count lines history = scheduled-Finished d blanks built in
     let fits : 0 + length lines ≤ count = omega (arith, length-map sessions (λ (t : SessionText). t.lines)) in
     record {
       sessions = λ k. elim (cases_Option (slice_get sessions k)) [
         | inl none ↦ rw none tt
-        | inr (s, found) ↦ rw found (session_follows sessions history (loop_calls d.description.cycles) k s who_called found)
+        | inr (s, found) ↦ rw found (plain-Follows s.lines (entries_by k history) (plain_by k history ran.plain) (session_follows sessions history (loop_calls d.description.cycles) k s ran.calls found))
       ];
-      cycles = picked-callers count history ∙ rw who_called (picked-append count (by_sessions 0 lines) _ ∙ rw (picked-beyond count 0 lines fits) (picked-same count (loop_calls d.description.cycles)));
-      nobody_else = Within-callers count history (rw who_called (Within-append count (by_sessions 0 lines) _ (Within-by_sessions count 0 lines fits) (Within-by count count _ (omega arith))));
+      cycles = picked-callers count history ∙ rw ran.calls (picked-append count (by_sessions 0 lines) _ ∙ rw (picked-beyond count 0 lines fits) (picked-same count (loop_calls d.description.cycles)));
+      nobody_else = Within-callers count history (rw ran.calls (Within-append count (by_sessions 0 lines) _ (Within-by_sessions count 0 lines fits) (Within-by count count _ (omega arith))));
     }

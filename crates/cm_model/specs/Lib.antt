@@ -1,7 +1,15 @@
 -- In reading order: what the manager makes of a document.
 pub mod Words
+pub mod Ran
+pub mod Happened
 pub mod State
 pub mod Machine
 pub mod Scheduled
 pub mod Sessions
+pub mod Causes
+pub mod Items
 pub mod Trace
+-- how values are kept in few bytes
+pub mod Rans
+pub mod Held
+pub mod Kept

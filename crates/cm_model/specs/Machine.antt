@@ -1,59 +1,38 @@
 -- The written manager as a machine: one call, one step. A history is legal where each of its entries is such a step.
-use Rattle.std.specs.Prelude.{◌≡◌, ℕ, ◌+◌, ◌==◌, nat_lt, Bool, true, false, not, ◌&&◌, if◌then◌else◌, List, [], ◌∷◌, ◌++◌, position, slice_get, Option, Some, None, IsSomeAnd}
+use Rattle.std.specs.Prelude.{◌≡◌, ℕ, ◌+◌, ◌==◌, nat_lt, Bool, true, false, not, ◌&&◌, ◌||◌, if◌then◌else◌, List, [], ◌∷◌, ◌++◌, position, slice_get, Option, Some, None, is_some, option_map, IsSomeAnd}
 use Rattle.std.specs.List.{list_any}
+use Rattle.std.specs.Option.{option_map_or}
 use Rattle.iface_names.specs.Names.{same_name}
 use Rattle.cm_document.specs.Params.{kind_of}
-use Rattle.cm_model.specs.State.{boot, blanks_of, with_one_less, controller_lines}
 use Rattle.cm_document.specs.declared.call.Call.{Call}
-use Rattle.cm_document.specs.declared.call.Call.TheVariants.{Load, ListControllers, Begin, End, Close}
+use Rattle.cm_document.specs.declared.call.Call.TheVariants.{Load, Configure, Cleanup, Unload, Rate, Send, Switch, Hardware, Told, Await, ListControllers, ListInterfaces, ListComponents, Begin, End, Close}
+use Rattle.cm_document.specs.declared.description.CtlDesc.{CtlDesc}
+use Rattle.cm_document.specs.declared.description.Description.{Description}
+use Rattle.cm_model.specs.Held.{nothing_in}
+use Rattle.cm_model.specs.State.{State, boot, blanks_of, with_one_less, newly_loaded, controller_lines}
 use Rattle.cm_model.specs.declared.entry.Entry.{Entry}
 use Rattle.cm_model.specs.declared.reply.Reply.{Reply}
 use Rattle.cm_model.specs.declared.reply.Reply.TheVariants as reply
+use Rattle.cm_model.specs.declared.reply.Why.{Why}
 use Rattle.cm_model.specs.declared.reply.Why.TheVariants as why
-use Rattle.cm_document.specs.declared.description.CtlKind.{CtlKind}
-use Rattle.cm_document.specs.declared.description.CtlDesc.{CtlDesc}
-use Rattle.cm_document.specs.declared.description.Description.{Description}
-use Rattle.cm_model.specs.declared.state.Blanks.{Blanks}
-use Rattle.cm_model.specs.declared.state.State.{State}
+use Rattle.cm_model.specs.declared.blanks.Blanks.{Blanks}
 
--- ---- Load
+-- ---- Who may call what, and when
 
--- the place of the described controller of this name
-abbrev pub place_of : State → List ℕ → Option ℕ
-place_of s name = position (λ c. same_name c.name name) s.description.controllers
+-- Sessions are numbered below their count, and the loop has that count as its number.
+abbrev pub is_session : State → ℕ → Bool
+is_session s who = nat_lt who s.sessions
 
--- the controller at this place is loaded
-abbrev pub is_loaded_at : ℕ → State → Bool
-is_loaded_at place s = list_any (λ l. l.place == place) s.loaded
+abbrev pub is_loop : State → ℕ → Bool
+is_loop s who = who == s.sessions
 
--- The controller is taken from the stock and gets the next serial.
-abbrev pub loaded_from_stock : State → ℕ → CtlKind → State × Reply
-loaded_from_stock s place kind =
-    if blanks_of s.blanks kind == 0 then (s, reply.Not why.StockEmpty)
-    else (
-      record s {
-        blanks = with_one_less s.blanks kind;
-        loads = s.loads + 1;
-        loaded = s.loaded ++ record { serial = s.loads; place = place } ∷ [];
-      },
-      reply.Serial s.loads,
-    )
+-- A request is decided where it has an outcome: no request can be made yet.
+abbrev pub is_decided : State → ℕ → Bool
+is_decided s ticket = false
 
--- a load of what stands at this place
-abbrev pub load_at : State → ℕ → Option CtlDesc → State × Reply
-load_at s place None = (s, reply.Not why.NotDescribed)
-load_at s place (Some c) = if is_loaded_at place s then (s, reply.Not why.Loaded) else loaded_from_stock s place (kind_of c.params)
-
--- A load: not described, else loaded already, else no blank of the kind left, else done.
-abbrev pub load_from : State → Option ℕ → State × Reply
-load_from s None = (s, reply.Not why.NotDescribed)
-load_from s (Some place) = load_at s place (slice_get s.description.controllers place)
-
--- a load of this name
-abbrev pub load : State → List ℕ → State × Reply
-load s name = load_from s (place_of s name)
-
--- ---- The loop
+-- So many cycles have ended, or the loop is closed.
+abbrev pub is_reached : State → ℕ → Bool
+is_reached s n = not (nat_lt s.ended n) || s.closed
 
 -- A cycle begins where none is aloft, the loop is open, so many have ended, and the description has one more.
 abbrev pub can_begin : State → ℕ → Bool
@@ -67,20 +46,113 @@ can_end s n = s.aloft && s.ended == n
 abbrev pub can_close : State → Bool
 can_close s = not s.aloft && not s.closed
 
+-- whether this caller can make this call now
+abbrev pub is_enabled : State → ℕ → Call → Bool
+is_enabled s who (Told ticket) = is_session s who && is_decided s ticket
+is_enabled s who (Await n) = is_session s who && is_reached s n
+is_enabled s who (Begin n) = is_loop s who && can_begin s n
+is_enabled s who (End n) = is_loop s who && can_end s n
+is_enabled s who Close = is_loop s who && can_close s
+is_enabled s who _ = is_session s who
+
+-- ---- Replies
+
+-- the first of these refusals that applies, else this reply
+abbrev pub unless_refused : List (Bool × Why) → Reply → Reply
+unless_refused [] r = r
+unless_refused (refusal ∷ refusals) r = if refusal.0 then reply.Not refusal.1 else unless_refused refusals r
+
+-- the place of the described controller of this name
+abbrev pub place_of : State → List ℕ → Option ℕ
+place_of s name = position (λ c. same_name c.name name) s.description.controllers
+
+-- the controller at this place is loaded
+abbrev pub is_loaded_at : State → ℕ → Bool
+is_loaded_at s place = list_any (λ l. l.place == place) s.loaded
+
+-- the stock has no blank of the kind of the controller at this place
+abbrev pub is_sold_out_at : State → ℕ → Bool
+is_sold_out_at s place = option_map_or (λ c. blanks_of s.blanks (kind_of c.params) == 0) (slice_get s.description.controllers place) false
+
+-- why a load of what stands at this place is refused, in order
+abbrev pub load_refusals : State → Option ℕ → List (Bool × Why)
+load_refusals s place =
+    (not (is_some place), why.NotDescribed)
+    ∷ (option_map_or (is_loaded_at s) place false, why.Loaded)
+    ∷ (option_map_or (is_sold_out_at s) place false, why.StockEmpty)
+    ∷ []
+
+-- The reply to each call, where it is enabled; to one that is not built yet there is none.
+abbrev pub reply_of : State → Call → Option Reply
+reply_of s (Load name) = Some (unless_refused (load_refusals s (place_of s name)) (reply.Serial s.loads))
+-- not built yet
+reply_of s (Configure name) = None
+-- not built yet
+reply_of s (Cleanup name) = None
+-- not built yet
+reply_of s (Unload name) = None
+-- not built yet
+reply_of s (Rate name hz) = None
+-- not built yet
+reply_of s (Send name mail) = None
+-- not built yet
+reply_of s (Switch request) = None
+-- not built yet
+reply_of s (Hardware component target) = None
+-- not built yet
+reply_of s (Told ticket) = None
+-- not built yet
+reply_of s (Await n) = None
+reply_of s ListControllers = Some (reply.Controllers (controller_lines s))
+-- not built yet
+reply_of s ListInterfaces = None
+-- not built yet
+reply_of s ListComponents = None
+-- no request can wait yet
+reply_of s (Begin n) = Some (reply.Decisions [])
+-- no component can be described yet, and no controller be active
+reply_of s (End n) = Some (reply.Cycle (nothing_in n))
+-- no request can wait yet
+reply_of s Close = Some (reply.Decisions [])
+
+-- ---- Effects
+
+-- The controller at this place takes a blank of its kind and the next serial.
+abbrev pub with_controller : State → ℕ → Option CtlDesc → State
+with_controller s place None = s
+with_controller s place (Some c) = record s {
+  blanks = with_one_less s.blanks (kind_of c.params);
+  loads = s.loads + 1;
+  loaded = s.loaded ++ newly_loaded s.loads place c ∷ [];
+}
+
+-- what stands at this place is loaded
+abbrev pub with_loaded : State → Option ℕ → State
+with_loaded s None = s
+with_loaded s (Some place) = with_controller s place (slice_get s.description.controllers place)
+
+-- what a load that was answered so leaves: it loads where it gave a serial
+abbrev pub load_effect : State → List ℕ → Reply → State
+load_effect s name (reply.Serial n) = with_loaded s (place_of s name)
+load_effect s name _ = s
+
+-- the state after each call that was answered so
+abbrev pub effect : State → Call → Reply → State
+effect s (Load name) r = load_effect s name r
+effect s (Begin n) r = record s { aloft = true }
+effect s (End n) r = record s { aloft = false; ended = s.ended + 1 }
+effect s Close r = record s { closed = true }
+effect s _ r = s
+
 -- ---- A step
 
--- this result, where the caller and the state allow the call
-abbrev pub where_allowed : Bool → State × Reply → Option (State × Reply)
-where_allowed allowed made = if allowed then Some made else None
+-- the state after a reply, with the reply
+abbrev pub answered : State → Call → Reply → State × Reply
+answered s call r = (effect s call r, r)
 
--- The state after a call and the reply, where the call is enabled. A call that is not answered yet never is. Sessions are numbered below their count; the loop has that count as its number.
+-- The state after a call and the reply, where the call is enabled and built.
 unfoldable pub step : State → ℕ → Call → Option (State × Reply)
-step s who (Load name) = where_allowed (nat_lt who s.sessions) (load s name)
-step s who ListControllers = where_allowed (nat_lt who s.sessions) (s, reply.Controllers (controller_lines s))
-step s who (Begin n) = where_allowed (who == s.sessions && can_begin s n) (record s { aloft = true }, reply.Decisions [])
-step s who (End n) = where_allowed (who == s.sessions && can_end s n) (record s { aloft = false; ended = s.ended + 1 }, reply.Cycle (record { cycle = n }))
-step s who Close = where_allowed (who == s.sessions && can_close s) (record s { closed = true }, reply.Decisions [])
-step s who _ = None
+step s who call = if is_enabled s who call then option_map (answered s call) (reply_of s call) else None
 
 -- ---- Histories
 

@@ -1,49 +1,94 @@
 -- The order of the job `run`: sessions settle before each cycle, after the last, and once more after the close.
-use Rattle.std.specs.Prelude.{ℕ, zero, suc, ◌+◌, List, [], ◌∷◌, ◌++◌, length, map, Some, None}
-use Rattle.cm_model.specs.State.{boot}
-use Rattle.cm_model.specs.Machine.{step}
+use Rattle.std.specs.Prelude.{ℕ, zero, suc, ◌+◌, List, [], ◌∷◌, ◌++◌, length, map, drop, Option, Some, None}
 use Rattle.cm_document.specs.declared.call.Call.{Call}
-use Rattle.cm_document.specs.declared.call.Call.TheVariants.{Begin, End, Close}
+use Rattle.cm_document.specs.declared.call.Call.TheVariants.{Told, Begin, End, Close}
+use Rattle.cm_document.specs.declared.document.Document.{Document}
+use Rattle.cm_model.specs.State.{State, boot}
+use Rattle.cm_model.specs.Machine.{step}
 use Rattle.cm_model.specs.declared.entry.Entry.{Entry}
 use Rattle.cm_model.specs.declared.reply.Reply.{Reply}
-use Rattle.cm_document.specs.declared.document.Document.{Document}
-use Rattle.cm_model.specs.declared.state.Blanks.{Blanks}
-use Rattle.cm_model.specs.declared.state.State.{State}
+use Rattle.cm_model.specs.declared.reply.Reply.TheVariants as reply
+use Rattle.cm_model.specs.declared.blanks.Blanks.{Blanks}
 
--- how far a run has come: the state, the history, and for each session the lines that are left
-pub record Progress : Type 0 where
+-- ---- One session
+
+-- Where a session stands: the lines that it has left, and the ticket that it has still to be told of.
+pub record Session : Type 0 where
+  pub lines : List Call
+  pub ticket : Option ℕ
+
+-- how far a run has come where one session advances: the state, the history, and where the session stands
+pub record Advanced : Type 0 where
   pub state : State
   pub made : List Entry
-  pub rests : List (List Call)
-
--- how far one session has come
-pub record Settled : Type 0 where
-  pub state : State
-  pub made : List Entry
-  pub rest : List Call
+  pub session : Session
 
 -- one entry more
 abbrev pub with_entry : List Entry → ℕ → Call → Reply → List Entry
 with_entry made who call reply = made ++ record { who = who; call = call; reply = reply } ∷ []
 
--- A session makes its lines in order, up to the first that is not enabled.
-abbrev pub settle : ℕ → List Call → State → List Entry → Settled
-settle who [] s made = record { state = s; made = made; rest = [] }
-settle who (call ∷ lines) s made =
-    elim (step s who call) [
-      | None ↦ record { state = s; made = made; rest = call ∷ lines }
-      | Some q ↦ settle who lines q.0 (with_entry made who call q.1)
-    ]
+-- the ticket that a request was given
+abbrev pub ticket_in : Reply → Option ℕ
+ticket_in (reply.Queued ticket) = Some ticket
+ticket_in _ = None
 
--- the sessions from this number on settle in order; `rests` are those of the sessions before
-abbrev pub settle_from : ℕ → List (List Call) → State → List Entry → List (List Call) → Progress
-settle_from who [] s made rests = record { state = s; made = made; rests = rests }
-settle_from who (lines ∷ others) s made rests =
-    let one = settle who lines s made in settle_from (who + 1) others one.state one.made (rests ++ one.rest ∷ [])
+-- A session's next call is the Told of its ticket, else its next line.
+abbrev pub next_call : Option ℕ → List Call → Option Call
+next_call (Some ticket) lines = Some (Told ticket)
+next_call None [] = None
+next_call None (call ∷ lines) = Some call
+
+-- Where it stands after that call: without the ticket that it was told of, or one line further, with the ticket that it was given.
+abbrev pub after_call : Option ℕ → List Call → Reply → Session
+after_call (Some ticket) lines r = record { lines = lines; ticket = None }
+after_call None lines r = record { lines = drop 1 lines; ticket = ticket_in r }
+
+-- after a call that made this step
+abbrev pub stepped_on : ℕ → Advanced → Call → Option (State × Reply) → Option Advanced
+stepped_on who a call None = None
+stepped_on who a call (Some q) = Some (record { state = q.0; made = with_entry a.made who call q.1; session = after_call a.session.ticket a.session.lines q.1 })
+
+-- this call, where it is enabled
+abbrev pub called_on : ℕ → Advanced → Option Call → Option Advanced
+called_on who a None = None
+called_on who a (Some call) = stepped_on who a call (step a.state who call)
+
+-- A session advances by its next call, where it has one that is enabled.
+unfoldable pub advance : ℕ → Advanced → Option Advanced
+advance who a = called_on who a (next_call a.session.ticket a.session.lines)
+
+-- at most so many advances, until there is none
+abbrev pub advances : ℕ → ℕ → Advanced → Advanced
+advances zero who a = a
+advances (suc k) who a = elim (advance who a) [ None ↦ a | Some b ↦ advances k who b ]
+
+-- how many entries a session can make at most: for each line its own and a Told, and one for its ticket
+abbrev pub most_entries : Session → ℕ
+most_entries x = suc (length x.lines + length x.lines)
+
+-- A session settles: it advances until it cannot.
+unfoldable pub settle : ℕ → Advanced → Advanced
+settle who a = advances (most_entries a.session) who a
+
+-- ---- All sessions
+
+-- how far a run has come: the state, the history, and where each session stands
+pub record Progress : Type 0 where
+  pub state : State
+  pub made : List Entry
+  pub sessions : List Session
+
+-- the sessions from this number on settle in order; `settled` are those before
+abbrev pub settle_from : ℕ → List Session → State → List Entry → List Session → Progress
+settle_from who [] s made settled = record { state = s; made = made; sessions = settled }
+settle_from who (x ∷ xs) s made settled =
+    let a = settle who (record { state = s; made = made; session = x }) in settle_from (who + 1) xs a.state a.made (settled ++ a.session ∷ [])
 
 -- all sessions settle in order
 unfoldable pub settle_all : Progress → Progress
-settle_all p = settle_from 0 p.rests p.state p.made []
+settle_all p = settle_from 0 p.sessions p.state p.made []
+
+-- ---- The loop
 
 -- the loop makes a call, where it is enabled
 unfoldable pub looped : Call → Progress → Progress
@@ -71,7 +116,7 @@ unfoldable pub start : Document → Blanks → Progress
 start d blanks = record {
   state = boot d.description blanks (length d.script.sessions);
   made = [];
-  rests = map (λ s. s.lines) d.script.sessions;
+  sessions = map (λ s. record { lines = s.lines; ticket = None }) d.script.sessions;
 }
 
 -- the history of the job `run`

@@ -1,23 +1,19 @@
 -- What a history must hold of a document: every session's lines, each once and in order, and the requested cycles.
-use Rattle.std.specs.Prelude.{◌≡◌, ℕ, zero, suc, ◌≤◌, ◌==◌, List, [], ◌∷◌, ◌++◌, length, map, filter, slice_get, IfSome, IsTrue}
+use Rattle.std.specs.Prelude.{◌≡◌, ℕ, zero, suc, ◌≤◌, ◌==◌, Bool, true, false, not, List, [], ◌∷◌, ◌++◌, length, map, filter, flat_map, slice_get, Option, Some, None, IfSome}
 use Rattle.std.specs.List.{AllByRecursion}
-use Rattle.cm_document.specs.Built.{built}
-use Rattle.cm_document.specs.ScriptLaws.{has_form}
 use Rattle.cm_document.specs.declared.call.Call.{Call}
-use Rattle.cm_document.specs.declared.call.Call.TheVariants.{Begin, End, Close}
+use Rattle.cm_document.specs.declared.call.Call.TheVariants.{Told, Begin, End, Close}
+use Rattle.cm_document.specs.declared.document.Document.{Document}
+use Rattle.cm_model.specs.Scheduled.{ticket_in}
 use Rattle.cm_model.specs.declared.entry.Entry.{Entry}
 use Rattle.cm_model.specs.declared.reply.Reply.{Reply}
-use Rattle.cm_model.specs.declared.reply.Reply.TheVariants as reply
-use Rattle.cm_document.specs.declared.document.Document.{Document}
-use Rattle.cm_document.specs.declared.script.SessionText.{SessionText}
 
--- a call that a session can make today: its form is built
+-- A call of a session is any but the loop's three.
 abbrev pub IsConsole : Call → Type 0
-IsConsole c = IsTrue (has_form built c)
-
--- each line of each session is a console call
-abbrev pub AllConsole : List SessionText → Type 0
-AllConsole sessions = AllByRecursion (λ s. AllByRecursion IsConsole s.lines) sessions
+IsConsole (Begin n) = ⊥
+IsConsole (End n) = ⊥
+IsConsole Close = ⊥
+IsConsole _ = Unit {0}
 
 -- the entries of this caller, in order
 abbrev pub entries_by : ℕ → List Entry → List Entry
@@ -27,9 +23,37 @@ entries_by who history = filter (λ e. e.who == who) history
 abbrev pub calls_of : List Entry → List Call
 calls_of entries = map (λ e. e.call) entries
 
--- A session's entries follow its lines where they have these calls, each once and in order.
-abbrev pub Follows : List Call → List Entry → Type 0
-Follows lines entries = calls_of entries ≡ lines
+-- ---- A session's entries
+
+-- to be told what became of a request
+abbrev pub is_told : Call → Bool
+is_told (Told ticket) = true
+is_told _ = false
+
+-- the Told of a ticket, where there is one
+abbrev pub told_of : Option ℕ → List Call
+told_of None = []
+told_of (Some ticket) = Told ticket ∷ []
+
+-- the Told that belongs after this reply: that of the ticket that it gave
+abbrev pub told_after : Reply → List Call
+told_after r = told_of (ticket_in r)
+
+-- an entry's call with the Told that belongs after it
+abbrev pub with_its_told : Entry → List Call
+with_its_told e = e.call ∷ told_after e.reply
+
+-- the entries that are no Told
+abbrev pub asked : List Entry → List Entry
+asked entries = filter (λ e. not (is_told e.call)) entries
+
+-- A session's entries follow its lines: without the Told entries they have these calls, each once and in order; directly after
+-- each entry that gave a ticket stands the Told of that ticket; and there is no other Told.
+pub record Follows (lines : List Call) (entries : List Entry) : Type 0 where
+  pub in_order : calls_of (asked entries) ≡ lines
+  pub each_told : calls_of entries ≡ flat_map with_its_told (asked entries)
+
+-- ---- The loop's entries
 
 -- the loop's calls for the first n cycles
 abbrev pub cycle_calls : ℕ → List Call
@@ -44,16 +68,5 @@ loop_calls n = cycle_calls n ++ Close ∷ []
 -- each cycle and then the close, and nobody else's calls.
 pub record IsWhole (d : Document) (history : List Entry) : Type 0 where
   pub sessions : (k : ℕ) → IfSome (slice_get d.script.sessions k) (λ s. Follows s.lines (entries_by k history))
-  pub cycles : Follows (loop_calls d.description.cycles) (entries_by (length d.script.sessions) history)
+  pub cycles : calls_of (entries_by (length d.script.sessions) history) ≡ loop_calls d.description.cycles
   pub nobody_else : AllByRecursion (λ e. e.who ≤ length d.script.sessions) history
-
--- the reply to a call of the loop reports nothing: no request is decided, and the record has its cycle's number alone
-abbrev pub ReportsNothing : Call → Reply → Type 0
-ReportsNothing (Begin n) r = r ≡ reply.Decisions []
-ReportsNothing (End n) r = r ≡ reply.Cycle (record { cycle = n })
-ReportsNothing Close r = r ≡ reply.Decisions []
-ReportsNothing _ r = Unit {0}
-
--- every record of the history is empty
-abbrev pub IsUneventful : List Entry → Type 0
-IsUneventful history = AllByRecursion (λ e. ReportsNothing e.call e.reply) history

@@ -1,71 +1,97 @@
--- The trace: one line for each entry of a history.
-use Rattle.std.specs.Prelude.{ℕ, List, [], ◌∷◌, ◌++◌, flat_map, codes, decimal, slice_get, option_map, unwrap_or}
-use Rattle.cm_document.specs.Vocabulary.{kind_word, life_word}
+-- The trace: one line for each entry of a history. It is a function of the description, the script's sessions and the history.
+use Rattle.std.specs.Prelude.{ℕ, List, [], ◌∷◌, ◌++◌, map, flat_map, filter_map, codes, decimal, slice_get, Option, Some, None, option_map, unwrap_or}
+use Rattle.iface_names.specs.Interfaces.{interface_text}
 use Rattle.cm_document.specs.CallText.{call_text}
-use Rattle.cm_model.specs.Scheduled.{scheduled}
-use Rattle.cm_model.specs.declared.entry.Entry.{Entry}
+use Rattle.cm_document.specs.Links.{joints_of}
+use Rattle.cm_document.specs.Places.{interfaces_of}
+use Rattle.cm_document.specs.declared.call.Call.{Call}
+use Rattle.cm_document.specs.declared.call.Call.TheVariants.{Load}
+use Rattle.cm_document.specs.declared.description.Description.{Description}
 use Rattle.cm_document.specs.declared.document.Document.{Document}
-use Rattle.cm_model.specs.declared.reply.CtlLine.{CtlLine}
-use Rattle.cm_model.specs.declared.reply.Decision.{Decision}
-use Rattle.cm_model.specs.declared.reply.Outcome.{Outcome}
-use Rattle.cm_model.specs.declared.reply.Outcome.TheVariants as outcome
+use Rattle.cm_document.specs.declared.script.SessionText.{SessionText}
+use Rattle.cm_model.specs.Causes.{outcome_text, decision_text}
+use Rattle.cm_model.specs.Items.{Names, controller_text, iface_text, component_text, record_items}
+use Rattle.cm_model.specs.declared.entry.Entry.{Entry}
 use Rattle.cm_model.specs.declared.reply.Reply.{Reply}
 use Rattle.cm_model.specs.declared.reply.Reply.TheVariants as reply
 use Rattle.cm_model.specs.declared.reply.Why.{Why}
 use Rattle.cm_model.specs.declared.reply.Why.TheVariants as why
-use Rattle.cm_document.specs.declared.script.SessionText.{SessionText}
-use Rattle.cm_model.specs.declared.state.Blanks.{Blanks}
 
--- ---- Words
+-- ---- Names
+
+-- the controller that a load is of
+abbrev pub load_name : Call → Option (List ℕ)
+load_name (Load name) = Some name
+load_name _ = None
+
+-- the name of the controller that a call loaded with this answer
+abbrev pub loaded_by : Call → Reply → Option (List ℕ)
+loaded_by call (reply.Serial n) = load_name call
+loaded_by call _ = None
+
+-- The names of the controllers by serial: each load that was given one is of the next.
+abbrev pub names_of : List Entry → List (List ℕ)
+names_of history = filter_map (λ e. loaded_by e.call e.reply) history
+
+-- what stands for each number in the trace of a history
+abbrev pub names_in : Description → List Entry → Names
+names_in d history = record {
+  controllers = names_of history;
+  components = d.components;
+  joints = map (λ j. j.name) (joints_of d.components);
+  interfaces = map (λ i. interface_text i.called.name) (interfaces_of d);
+}
+
+-- ---- Replies
 
 -- why a call did nothing
 abbrev pub why_word : Why → List ℕ
 why_word why.NotDescribed = codes "not_described"
 why_word why.Loaded = codes "loaded"
 why_word why.StockEmpty = codes "stock_empty"
-
--- what became of a request
-abbrev pub outcome_text : Outcome → List ℕ
-outcome_text outcome.Done = codes "done"
-outcome_text outcome.LoopEnded = codes "loop_ended"
-
--- ---- Items
+why_word why.NotLoaded = codes "not_loaded"
+why_word why.Active = codes "active"
+why_word why.Refused = codes "refused"
+why_word why.NotInactive = codes "not_inactive"
+why_word why.NotActive = codes "not_active"
+why_word why.Chained = codes "chained"
+why_word why.TakesNone = codes "takes_none"
+why_word why.WrongCount = codes "wrong_count"
+why_word why.LoopEnded = codes "loop_ended"
+why_word why.QueueFull = codes "queue_full"
 
 -- items joined by `; `, or `none` where there is none
-abbrev pub items_text : {A : Type 0} → (A → List ℕ) → List A → List ℕ
-items_text text [] = codes "none"
-items_text text (x ∷ xs) = text x ++ flat_map (λ y. codes "; " ++ text y) xs
+abbrev pub joined : List (List ℕ) → List ℕ
+joined [] = codes "none"
+joined (x ∷ xs) = x ++ flat_map (λ y. codes "; " ++ y) xs
 
--- a line of the list of controllers, as `mk mock unconfigured 0`
-abbrev pub controller_text : CtlLine → List ℕ
-controller_text c = c.name ++ codes " " ++ kind_word c.kind ++ codes " " ++ life_word c.life ++ codes " " ++ decimal c.serial
-
--- a decided request, as `0 done`
-abbrev pub decision_text : Decision → List ℕ
-decision_text d = decimal d.ticket ++ codes " " ++ outcome_text d.outcome
+-- the reply
+abbrev pub reply_text : Names → Reply → List ℕ
+reply_text names reply.Done = codes "ok"
+reply_text names (reply.Serial n) = codes "ok " ++ decimal n
+reply_text names (reply.Queued ticket) = codes "queued " ++ decimal ticket
+reply_text names (reply.Not reason) = why_word reason
+reply_text names (reply.Outcome outcome) = outcome_text outcome
+reply_text names (reply.Controllers lines) = joined (map controller_text lines)
+reply_text names (reply.Interfaces lines) = joined (map (iface_text names) lines)
+reply_text names (reply.Components lines) = joined (map (component_text names) lines)
+reply_text names (reply.Decisions decisions) = joined (map decision_text decisions)
+reply_text names (reply.Cycle happened) = joined (record_items names happened)
 
 -- ---- Lines
-
--- the reply; the record of a cycle has no items yet
-abbrev pub reply_text : Reply → List ℕ
-reply_text (reply.Serial n) = codes "ok " ++ decimal n
-reply_text (reply.Not reason) = why_word reason
-reply_text (reply.Controllers lines) = items_text controller_text lines
-reply_text (reply.Decisions decisions) = items_text decision_text decisions
-reply_text (reply.Cycle _) = codes "none"
 
 -- a session's name, or `loop` for the number after the sessions
 abbrev pub caller_text : List SessionText → ℕ → List ℕ
 caller_text sessions who = unwrap_or (option_map (λ s. s.name) (slice_get sessions who)) (codes "loop")
 
 -- caller, call and reply: `a load mk: ok 0`
-abbrev pub line_text : List SessionText → Entry → List ℕ
-line_text sessions e = caller_text sessions e.who ++ codes " " ++ call_text e.call ++ codes ": " ++ reply_text e.reply ++ codes "\n"
+abbrev pub line_text : List SessionText → Names → Entry → List ℕ
+line_text sessions names e = caller_text sessions e.who ++ codes " " ++ call_text e.call ++ codes ": " ++ reply_text names e.reply ++ codes "\n"
 
 -- the trace of a history
-abbrev pub trace : List SessionText → List Entry → List ℕ
-trace sessions history = flat_map (line_text sessions) history
+abbrev pub trace : Description → List SessionText → List Entry → List ℕ
+trace d sessions history = flat_map (line_text sessions (names_in d history)) history
 
--- what the job `run` prints of a document
-unfoldable pub output : Document → Blanks → List ℕ
-output d blanks = trace d.script.sessions (scheduled d blanks)
+-- what is printed of the run of a document with this history
+unfoldable pub output : Document → List Entry → List ℕ
+output d history = trace d.description d.script.sessions history

@@ -1,6 +1,13 @@
-//! How refusals, outcomes and items print in a trace.
+//! How reasons, causes, outcomes and lines print in a trace.
 
-use crate::reply::{CtlLine, Decision, Outcome, Why};
+ghost use Rattle.std.specs.Prelude.{Some, flat_map, codes, ◌++◌};
+ghost use Rattle.std.specs.Fmt.{DisplaysOnOk};
+ghost use Rattle.cm_model.specs.Causes.{dropped_text, drops_text};
+ghost use Rattle.cm_model.specs.Items.{divisor_text, chained_text};
+
+use crate::cause::{Cause, Decision, Dropped, Outcome};
+use crate::lines::CtlLine;
+use crate::reply::Why;
 use std::fmt;
 use std::fmt::{Display, Formatter, Write};
 
@@ -11,52 +18,152 @@ impl Display for Why {
     ghost output = { λ why. Some (why_word why) };
 
     fn fmt<W: Write>(&self, f: &mut Formatter<W>) -> fmt::Result {
+        f.write_str(self.word())
+    }
+}
+
+impl Why {
+    ghost use Rattle.std.specs.Prelude.{◌≡◌};
+    ghost use Rattle.cm_model.specs.Trace.{why_word};
+
+    /// The word of a trace.
+    pub fn word(self) -> &'static str
+        ensures { result.now ≡ why_word self }
+    {
         match self {
-            Why::NotDescribed => f.write_str("not_described"),
-            Why::Loaded => f.write_str("loaded"),
-            Why::StockEmpty => f.write_str("stock_empty"),
+            Why::NotDescribed => "not_described",
+            Why::Loaded => "loaded",
+            Why::StockEmpty => "stock_empty",
+            Why::NotLoaded => "not_loaded",
+            Why::Active => "active",
+            Why::Refused => "refused",
+            Why::NotInactive => "not_inactive",
+            Why::NotActive => "not_active",
+            Why::Chained => "chained",
+            Why::TakesNone => "takes_none",
+            Why::WrongCount => "wrong_count",
+            Why::LoopEnded => "loop_ended",
+            Why::QueueFull => "queue_full",
         }
+    }
+}
+
+impl Display for Cause {
+    ghost use Rattle.std.specs.Prelude.{Some};
+    ghost use Rattle.cm_model.specs.Causes.{cause_text};
+
+    ghost output = { λ cause. Some (cause_text cause) };
+
+    fn fmt<W: Write>(&self, f: &mut Formatter<W>) -> fmt::Result {
+        match self {
+            Cause::Unknown => f.write_str("unknown"),
+            Cause::Twice => f.write_str("twice"),
+            Cause::NotActive => f.write_str("not_active"),
+            Cause::NotConfigured => f.write_str("not_configured"),
+            Cause::AlreadyActive => f.write_str("already_active"),
+            Cause::MissingFollower(interface) => write!(f, "missing_follower {interface}"),
+            Cause::Unavailable(interface) => write!(f, "unavailable {interface}"),
+            Cause::Conflict(interface, owner) => write!(f, "conflict {interface} {owner}"),
+            Cause::ModeRefused(joint) => write!(f, "mode_refused {joint}"),
+            Cause::NotReady => f.write_str("not_ready"),
+            Cause::NoSuchMove => f.write_str("no_such_move"),
+            Cause::InUse(controller) => write!(f, "in_use {controller}"),
+        }
+    }
+}
+
+impl Display for Dropped {
+    ghost use Rattle.std.specs.Prelude.{Some};
+    ghost use Rattle.cm_model.specs.Causes.{dropped_text};
+
+    ghost output = { λ dropped. Some (dropped_text dropped) };
+
+    fn fmt<W: Write>(&self, f: &mut Formatter<W>) -> fmt::Result {
+        let name = &self.name;
+        let cause = &self.cause;
+        write!(f, "{name} {cause}")
     }
 }
 
 impl Display for Outcome {
     ghost use Rattle.std.specs.Prelude.{Some};
-    ghost use Rattle.cm_model.specs.Trace.{outcome_text};
+    ghost use Rattle.cm_model.specs.Causes.{outcome_text};
 
     ghost output = { λ outcome. Some (outcome_text outcome) };
 
     fn fmt<W: Write>(&self, f: &mut Formatter<W>) -> fmt::Result {
         match self {
-            Outcome::Done => f.write_str("done"),
+            Outcome::Done { dropped } => {
+                f.write_str("done")?;
+                write_drops(dropped.as_slice(), f)
+            }
+            Outcome::Refused(name, cause) => {
+                let name = name.get();
+                let cause = cause.get();
+                write!(f, "refused {name} {cause}")
+            }
             Outcome::LoopEnded => f.write_str("loop_ended"),
         }
     }
 }
 
-impl Display for CtlLine {
-    ghost use Rattle.std.specs.Prelude.{Some};
-    ghost use Rattle.cm_model.specs.Trace.{controller_text};
+/// What was dropped, where anything was.
+fn write_drops<W: Write>(dropped: &[Dropped], f: &mut Formatter<W>) -> fmt::Result
+    ensures { DisplaysOnOk W.write_str_gives f.old result (Some (drops_text dropped.now)) f.new }
+{
+    let Some((first, others)) = dropped.split_first() else {
+        return Ok(());
+    };
+    write!(f, " dropped {first}")?;
+    write_others(others, f)
+}
 
-    ghost output = { λ line. Some (controller_text line) };
-
-    fn fmt<W: Write>(&self, f: &mut Formatter<W>) -> fmt::Result {
-        let name = &self.name;
-        let kind = self.kind;
-        let life = self.life;
-        let serial = self.serial;
-        write!(f, "{name} {kind} {life} {serial}")
+/// The names after the first, each after a comma.
+fn write_others<W: Write>(others: &[Dropped], f: &mut Formatter<W>) -> fmt::Result
+    ensures { DisplaysOnOk W.write_str_gives f.old result (Some (flat_map (λ d. codes ", " ++ dropped_text d) others.now)) f.new }
+{
+    for dropped in others {
+        write!(f, ", {dropped}")?;
     }
+    Ok(())
 }
 
 impl Display for Decision {
     ghost use Rattle.std.specs.Prelude.{Some};
-    ghost use Rattle.cm_model.specs.Trace.{decision_text};
+    ghost use Rattle.cm_model.specs.Causes.{decision_text};
 
     ghost output = { λ decision. Some (decision_text decision) };
 
     fn fmt<W: Write>(&self, f: &mut Formatter<W>) -> fmt::Result {
         let ticket = self.ticket;
-        let outcome = self.outcome;
+        let outcome = &self.outcome;
         write!(f, "{ticket} {outcome}")
+    }
+}
+
+impl Display for CtlLine {
+    ghost use Rattle.std.specs.Prelude.{Some};
+    ghost use Rattle.cm_model.specs.Items.{controller_text};
+
+    ghost output = { λ line. Some (controller_text line) };
+
+    fn fmt<W: Write>(&self, f: &mut Formatter<W>) -> fmt::Result {
+        let name = self.name.get();
+        let kind = self.kind;
+        let life = self.life;
+        let serial = self.serial;
+        write!(f, "{name} {kind} {life} {serial}")?;
+        write_divisor(self.divisor, f)?;
+        f.write_str(if self.chained { " chained" } else { "" })
+    }
+}
+
+/// In how many cycles a configured controller is updated once.
+fn write_divisor<W: Write>(divisor: Option<u32>, f: &mut Formatter<W>) -> fmt::Result
+    ensures { DisplaysOnOk W.write_str_gives f.old result (Some (divisor_text divisor)) f.new }
+{
+    match divisor {
+        Some(divisor) => write!(f, " every {divisor}"),
+        None => Ok(()),
     }
 }

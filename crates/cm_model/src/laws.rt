@@ -1,13 +1,13 @@
 //! Laws of the definitions of histories: each is the contract of a function that does nothing.
 
-ghost use Rattle.std.specs.Prelude.{length};
+ghost use Rattle.std.specs.Prelude.{◌≡◌, ℕ, None, length};
 ghost use Rattle.cm_document.specs.declared.document.Document.{Document};
-ghost use Rattle.cm_model.specs.declared.state.Blanks.{Blanks};
 ghost use Rattle.cm_document.specs.Built.{built};
 ghost use Rattle.cm_document.specs.ScriptLaws.{UsesForms};
+ghost use Rattle.cm_model.specs.declared.blanks.Blanks.{Blanks};
 ghost use Rattle.cm_model.specs.Machine.{IsLegal};
-ghost use Rattle.cm_model.specs.Scheduled.{scheduled};
-ghost use Rattle.cm_model.specs.Sessions.{IsWhole, IsUneventful};
+ghost use Rattle.cm_model.specs.Scheduled.{Advanced, advance, settle, scheduled};
+ghost use Rattle.cm_model.specs.Sessions.{IsWhole};
 
 /// Each scheduled history is legal: from boot each of its entries is a step of the written manager.
 pub fn scheduled_histories_are_legal()
@@ -20,7 +20,7 @@ pub fn scheduled_histories_are_whole()
     ensures { (d : Document) (blanks : Blanks) → UsesForms built d.script → IsWhole d (scheduled d blanks) }
 {}
 
-/// Nothing is decided in a scheduled history, and the record of each cycle is empty.
-pub fn scheduled_histories_are_uneventful()
-    ensures { (d : Document) (blanks : Blanks) → IsUneventful (scheduled d blanks) }
+/// A session that settled cannot advance: it has nothing left to do, or its next call is not enabled.
+pub fn settled_sessions_cannot_advance()
+    ensures { (who : ℕ) (a : Advanced) → advance who (settle who a) ≡ None }
 {}

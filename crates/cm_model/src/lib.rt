@@ -2,18 +2,32 @@
 //! Nothing here runs a manager. Read `specs/` first, in the order of `specs/Lib.antt`.
 #![tactic(auto)]
 
+pub use blanks::Blanks;
+pub use cause::{Cause, Decision, Dropped, Outcome};
 pub use cm_document::{
     Call, CheckFault, Checked, CompDesc, CompKind, CtlDesc, CtlKind, DescFault, DescProblem,
     Description, Document, DocumentFault, Forms, Fx, IfaceName, JointDesc, Kind, Life, Mail,
     Memory, Name, NameFault, Params, Point2, Script, ScriptFault, ScriptLine, Seq, SessionText,
     Shared, SwitchRequest, Text, Turn, Verb, What, Wrong, built, every_form,
 };
-pub use entry::Entry;
-pub use reply::{CtlLine, CycleRecord, Decision, Outcome, Reply, Why};
-pub use state::{Blanks, Loaded, State};
+pub use data::{CtlData, RunData};
+pub use entry::{Entry, KeptCall};
+pub use fixed_num::{BodyState, StoredValue, Value};
+pub use lines::{CompLine, CtlLine, IfaceLine};
+pub use ran::{Done, RanList, RanRef, Rans};
+pub use ran_room::RanRoom;
+pub use record::{CycleParts, CycleRecord, FailedPart};
+pub use reply::{Reply, Why};
+pub use sequence::{Boxed, ListRoom, Rare};
 
+mod blanks;
+mod cause;
+mod data;
 mod display;
 mod entry;
 pub mod laws;
+mod lines;
+mod ran;
+mod ran_room;
+mod record;
 mod reply;
-mod state;

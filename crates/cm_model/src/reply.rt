@@ -1,8 +1,9 @@
 //! What the manager answers.
 
-use cm_document::{CtlKind, Life};
-use iface_names::Name;
-use sequence::Seq;
+use crate::cause::{Decision, Outcome};
+use crate::lines::{CompLine, CtlLine, IfaceLine};
+use crate::record::CycleRecord;
+use sequence::{Boxed, Rare, Seq};
 
 /// Why a call did nothing.
 #[derive(Clone, Copy, Debug, PartialEq, Eq)]
@@ -13,57 +14,49 @@ pub enum Why {
     Loaded,
     /// No blank of its kind is left in the stock.
     StockEmpty,
-}
-
-/// A line of the list of controllers.
-#[derive(Clone, Debug, PartialEq, Eq, Drop)]
-pub struct CtlLine {
-    /// The number that its load gave.
-    pub serial: u32,
-    /// Its name.
-    pub name: Name,
-    /// Its kind.
-    pub kind: CtlKind,
-    /// Its lifecycle state.
-    pub life: Life,
-}
-
-/// What became of a request.
-#[derive(Clone, Copy, Debug, PartialEq, Eq)]
-pub enum Outcome {
-    /// It was carried out.
-    Done,
-    /// The loop closed before it was decided.
+    /// No controller of this name is loaded.
+    NotLoaded,
+    /// It is active.
+    Active,
+    /// It refuses the parameters.
+    Refused,
+    /// It is not inactive.
+    NotInactive,
+    /// It is not active.
+    NotActive,
+    /// It is chained: another controller sets its references.
+    Chained,
+    /// Its kind takes no mail.
+    TakesNone,
+    /// The mail does not fit its claims.
+    WrongCount,
+    /// The loop is closed.
     LoopEnded,
-}
-
-/// A decided request.
-#[derive(Clone, Copy, Debug, PartialEq, Eq)]
-pub struct Decision {
-    /// The request's number, from 0.
-    pub ticket: u32,
-    /// What became of it.
-    pub outcome: Outcome,
-}
-
-/// What happened in one cycle. No controller can be active yet, so there is nothing to tell but its number.
-#[derive(Clone, Copy, Debug, PartialEq, Eq)]
-pub struct CycleRecord {
-    /// The cycle's number, from 0.
-    pub cycle: u64,
+    /// As many requests wait as can wait.
+    QueueFull,
 }
 
 /// The answer to a call.
-#[derive(Clone, Debug, PartialEq, Eq, Drop)]
+#[derive(Clone, Debug, Drop)]
 pub enum Reply {
+    /// The call was carried out.
+    Done,
     /// The load gave this number, counted from 0 and never used twice.
     Serial(u32),
+    /// The request waits under this ticket, counted from 0.
+    Queued(u32),
     /// The call did nothing, for this reason.
     Not(Why),
+    /// What became of the request.
+    Outcome(Boxed<Outcome>),
     /// The loaded controllers by serial.
-    Controllers(Seq<CtlLine>),
+    Controllers(Boxed<Seq<CtlLine>>),
+    /// The interfaces by place.
+    Interfaces(Boxed<Seq<IfaceLine>>),
+    /// The components as described.
+    Components(Boxed<Seq<CompLine>>),
     /// What a begin or the close decided, by ticket.
-    Decisions(Seq<Decision>),
+    Decisions(Rare<Decision>),
     /// What the cycle did.
     Cycle(CycleRecord),
 }

@@ -1,5 +1,8 @@
 pub mod ListLemmas
 pub mod PartsLemmas
+pub mod DeskLemmas
+pub mod NameLemmas
+pub mod JoinLemmas
 pub mod RoomLemmas
 pub mod SettleLemmas
 pub mod StreamLemmas

@@ -15,24 +15,33 @@ use Rattle.cm_model.specs.Trace.{output}
 use Rattle.cm_document.specs.declared.document.Document.{Document}
 use Rattle.cm_document.specs.declared.script.Script.{Script}
 use Rattle.cm_document.specs.declared.script.SessionText.{SessionText}
-use Rattle.cm_model.specs.declared.state.Blanks.{Blanks}
+use Rattle.cm_model.specs.declared.blanks.Blanks.{Blanks}
 use Rattle.cm_document.proofs.DocumentLemmas.{document-AcceptedParts}
 use Rattle.cm_model.proofs.LegalLemmas.{scheduled-IsLegal}
 use Rattle.cm_model.proofs.WholeLemmas.{scheduled-IsWhole}
 use Rattle.script_text.proofs.ReadScriptLemmas.{read_script_meets, read_script_uses}
 use Rattle.cm_top.specs.Room.{lines_left}
-use Rattle.cm_top.specs.Status.{Ran, Wrote, status_of, status_of_document}
+use Rattle.cm_model.specs.Scheduled.{Session, scheduled}
+use Rattle.cm_top.specs.Status.{Histories, Ran, Wrote, status_of, status_of_document}
 use Rattle.cm_top.specs.declared.status.Status.{Status}
 use Rattle.cm_top.specs.declared.status.Status.TheVariants as status
 
+-- a session before its lines
+abbrev waiting : SessionText → Session
+waiting t = record { lines = t.lines; ticket = None }
+
 -- the lines that sessions have together are their calls
-lines_left_all : (sessions : List SessionText) → lines_left (map (λ (t : SessionText). t.lines) sessions) ≡ sum_by (λ (t : SessionText). length t.lines) sessions
+lines_left_all : (sessions : List SessionText) → lines_left (map waiting sessions) ≡ sum_by (λ (t : SessionText). length t.lines) sessions
 lines_left_all [] = refl
 lines_left_all (s ∷ sessions) = ap (λ n. length s.lines + n) (lines_left_all sessions) ∙ sym (sum_by-cons (λ (t : SessionText). length t.lines) s sessions)
 
 -- a script that meets the rules leaves room for each of its loads
-pub rules_room : (s : Script) → MeetsRules s → length s.sessions + lines_left (map (λ (t : SessionText). t.lines) s.sessions) < 2 ^ 32
-rules_room s rules = omega (arith, rules.few_sessions, rules.few_calls, lines_left_all s.sessions)
+pub rules_room : (s : Script) → MeetsRules s → lines_left (map waiting s.sessions) < 2 ^ 32
+rules_room s rules = omega (arith, rules.few_calls, lines_left_all s.sessions)
+
+-- and for the numbers of its sessions
+pub rules_few : (s : Script) → MeetsRules s → length s.sessions < 2 ^ 32
+rules_few s rules = omega (arith, rules.few_sessions)
 
 -- what an accepted script is
 accepted_script-Rules : (lines : ℕ) (text : Option (List ℕ)) (s : Script) → accepted_script lines text ≡ Ok s → MeetsRules s × UsesForms built s
@@ -46,7 +55,7 @@ document-Rules bytes d accepted =
 
 -- what was written of an accepted document's trace says what its run promises
 pub Wrote-Ran : (bytes : List ℕ) (d : Document) (blanks : Blanks) (old new : Option (List ℕ)) (flushed : Option ℕ) (ended : Status)
-    → length bytes ≤ 1048576 → document bytes ≡ Ok d → Wrote (output d blanks) old new flushed ended → Ran bytes blanks old new flushed ended
+    → length bytes ≤ 1048576 → document bytes ≡ Ok d → Wrote (output d (scheduled d blanks)) old new flushed ended → Ran (λ e. scheduled e blanks) bytes blanks old new flushed ended
 Wrote-Ran bytes d blanks old new flushed status.Ok short accepted wrote = record {
   document_is = d;
   short = short;
@@ -69,18 +78,18 @@ short-status : (bytes : List ℕ) → length bytes ≤ 1048576 → status_of byt
 short-status bytes short = let no : nat_lt 1048576 (length bytes) ≡ false = grind (arith, nat_tests) in rw no refl
 
 -- where neither source nor sink had a fault, the bytes decide the status, unless memory runs out
-pub Ran-exact : (bytes : List ℕ) (blanks : Blanks) (old new : Option (List ℕ)) (flushed : Option ℕ) (ended : Status) (read write : Type 0)
-    → Ran bytes blanks old new flushed ended → (ended ≡ status.ReadFault → read) → (ended ≡ status.WriteFault → write)
+pub Ran-exact : (made : Histories) (bytes : List ℕ) (blanks : Blanks) (old new : Option (List ℕ)) (flushed : Option ℕ) (ended : Status) (read write : Type 0)
+    → Ran made bytes blanks old new flushed ended → (ended ≡ status.ReadFault → read) → (ended ≡ status.WriteFault → write)
     → ¬ read → ¬ write → (ended ≡ status_of bytes) ⊎ (ended ≡ status.Memory)
-Ran-exact bytes blanks old new flushed status.Ok read write ran rose risen still kept = inl (rw (short-status bytes ran.short, ran.accepted) refl)
-Ran-exact bytes blanks old new flushed status.BadWords read write ran rose risen still kept = absurd ran
-Ran-exact bytes blanks old new flushed (status.BadDescription p) read write ran rose risen still kept = inl (rw (short-status bytes ran.0, ran.1) refl)
-Ran-exact bytes blanks old new flushed (status.BadScript f) read write ran rose risen still kept = inl (rw (short-status bytes ran.0, ran.1) refl)
-Ran-exact bytes blanks old new flushed status.ReadFault read write ran rose risen still kept = absurd (still (rose refl))
-Ran-exact bytes blanks old new flushed status.TooLong read write ran rose risen still kept =
+Ran-exact made bytes blanks old new flushed status.Ok read write ran rose risen still kept = inl (rw (short-status bytes ran.short, ran.accepted) refl)
+Ran-exact made bytes blanks old new flushed status.BadWords read write ran rose risen still kept = absurd ran
+Ran-exact made bytes blanks old new flushed (status.BadDescription p) read write ran rose risen still kept = inl (rw (short-status bytes ran.0, ran.1) refl)
+Ran-exact made bytes blanks old new flushed (status.BadScript f) read write ran rose risen still kept = inl (rw (short-status bytes ran.0, ran.1) refl)
+Ran-exact made bytes blanks old new flushed status.ReadFault read write ran rose risen still kept = absurd (still (rose refl))
+Ran-exact made bytes blanks old new flushed status.TooLong read write ran rose risen still kept =
     let long : nat_lt 1048576 (length bytes) ≡ true = grind (arith, nat_tests) in inl (rw long refl)
-Ran-exact bytes blanks old new flushed status.Memory read write ran rose risen still kept = inr refl
-Ran-exact bytes blanks old new flushed status.WriteFault read write ran rose risen still kept = absurd (kept (risen refl))
+Ran-exact made bytes blanks old new flushed status.Memory read write ran rose risen still kept = inr refl
+Ran-exact made bytes blanks old new flushed status.WriteFault read write ran rose risen still kept = absurd (kept (risen refl))
 
 -- a text that was taken, and then a flush
 pub flush-Wrote : (text : List ℕ) (old mid new : Option (List ℕ)) (flushed : Option ℕ) (ended : Status) (fault : Type 0)

@@ -1,8 +1,30 @@
--- A run in progress, as the definitions see it.
-use Rattle.std.specs.Prelude.{map}
-use Rattle.cm_model.specs.Scheduled.{Progress}
-use Rattle.cm_top.specs.declared.session.Job.{Job}
+-- What one call and one advance of a session come to.
+use Rattle.std.specs.Prelude.{◌≡◌, ℕ, Bool, true, false, List, Option, Some, None}
+use Rattle.cm_document.specs.declared.call.Call.{Call}
+use Rattle.cm_model.specs.State.{State}
+use Rattle.cm_model.specs.Scheduled.{Session, Advanced, with_entry, ticket_in}
+use Rattle.cm_model.specs.declared.entry.Entry.{Entry}
+use Rattle.cm_model.specs.declared.reply.Reply.{Reply}
+use Rattle.cm_top.specs.declared.session.Asked.{Asked}
+use Rattle.cm_top.specs.declared.session.Asked.TheVariants.{Waits, Made}
 
--- how far a job has come
-abbrev pub progress_of : Job → Progress
-progress_of job = record { state = job.state; made = job.made; rests = map (λ r. r.now) job.rests.items }
+-- a call that was enabled: its step, its entry, and the ticket that it was given
+pub record IsMade (expected : Option (State × Reply)) (who : ℕ) (call : Call) (next : State) (made made' : List Entry) (ticket : Option ℕ) : Type 0 where
+  pub answer : Reply
+  pub stepped : expected ≡ Some (next, answer)
+  pub entered : made' ≡ with_entry made who call answer
+  pub queued : ticket ≡ ticket_in answer
+
+-- a call that may not be enabled: then nothing changes
+abbrev pub Called : Option (State × Reply) → ℕ → Call → State → State → List Entry → List Entry → Asked → Type 0
+Called expected who call s next made made' Waits = (expected ≡ None) × (next ≡ s) × (made' ≡ made)
+Called expected who call s next made made' (Made ticket) = IsMade expected who call next made made' ticket
+
+-- how far the run has come where this session advances
+abbrev pub at : State → List Entry → Session → Advanced
+at s made x = record { state = s; made = made; session = x }
+
+-- an advance was made, or there is none and nothing changes
+abbrev pub Advances : Option Advanced → Advanced → Advanced → Bool → Type 0
+Advances expected old new true = expected ≡ Some new
+Advances expected old new false = (expected ≡ None) × (new ≡ old)

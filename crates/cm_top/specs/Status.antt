@@ -4,7 +4,6 @@ use Rattle.std.specs.Io.KnownBytes.{Keeps, Appends}
 use Rattle.outside_io.specs.Bytes.{AllFlushed, AppendsPrefix}
 use Rattle.cm_document.specs.Document.{document}
 use Rattle.cm_model.specs.Machine.{IsLegal}
-use Rattle.cm_model.specs.Scheduled.{scheduled}
 use Rattle.cm_model.specs.Sessions.{IsWhole}
 use Rattle.cm_model.specs.Trace.{output}
 use Rattle.cm_document.specs.declared.document.Document.{Document}
@@ -14,7 +13,8 @@ use Rattle.cm_document.specs.declared.faults.CheckFault.TheVariants as check_fau
 use Rattle.cm_document.specs.declared.faults.ScriptFault.TheVariants as script_fault
 use Rattle.cm_document.specs.declared.faults.DocumentFault.{DocumentFault}
 use Rattle.cm_document.specs.declared.faults.DocumentFault.TheVariants as fault
-use Rattle.cm_model.specs.declared.state.Blanks.{Blanks}
+use Rattle.cm_model.specs.declared.blanks.Blanks.{Blanks}
+use Rattle.cm_model.specs.declared.entry.Entry.{Entry}
 use Rattle.cm_top.specs.declared.status.Status.{Status}
 use Rattle.cm_top.specs.declared.status.Status.TheVariants as status
 
@@ -33,34 +33,38 @@ code_of status.WriteFault = 8
 abbrev pub IsShort : List ℕ → Type 0
 IsShort bytes = length bytes ≤ 1048576
 
--- A run that went well: the bytes are an accepted document; the sink has grown by exactly the trace of the history that is
--- scheduled for it, all of it flushed; and that history is legal and whole.
-pub record Printed (bytes : List ℕ) (blanks : Blanks) (old new : Option (List ℕ)) (flushed : Option ℕ) : Type 0 where
+-- the history that a job makes of each document
+abbrev pub Histories : Type 0
+Histories = Document → List Entry
+
+-- A run that went well: the bytes are an accepted document; the sink has grown by exactly the trace of the history that the job
+-- made of it, all of it flushed; and that history is legal and whole.
+pub record Printed (made : Histories) (bytes : List ℕ) (blanks : Blanks) (old new : Option (List ℕ)) (flushed : Option ℕ) : Type 0 where
   pub document_is : Document
   pub short : IsShort bytes
   pub accepted : document bytes ≡ Ok document_is
-  pub taken : Appends old new (output document_is blanks)
+  pub taken : Appends old new (output document_is (made document_is))
   pub all_flushed : AllFlushed new flushed
-  pub legal : IsLegal document_is.description blanks (length document_is.script.sessions) (scheduled document_is blanks)
-  pub whole : IsWhole document_is (scheduled document_is blanks)
+  pub legal : IsLegal document_is.description blanks (length document_is.script.sessions) (made document_is)
+  pub whole : IsWhole document_is (made document_is)
 
 -- A run that was cut short while it wrote: the sink has grown by a front of that trace.
-pub record Cut (bytes : List ℕ) (blanks : Blanks) (old new : Option (List ℕ)) : Type 0 where
+pub record Cut (made : Histories) (bytes : List ℕ) (old new : Option (List ℕ)) : Type 0 where
   pub document_is : Document
   pub short : IsShort bytes
   pub accepted : document bytes ≡ Ok document_is
-  pub taken : AppendsPrefix old new (output document_is blanks)
+  pub taken : AppendsPrefix old new (output document_is (made document_is))
 
--- What a run over these bytes says by its status. Each refusal names the document's first fault, exactly.
-abbrev pub Ran : List ℕ → Blanks → Option (List ℕ) → Option (List ℕ) → Option ℕ → Status → Type 0
-Ran bytes blanks old new flushed status.Ok = Printed bytes blanks old new flushed
-Ran bytes blanks old new flushed status.BadWords = ⊥
-Ran bytes blanks old new flushed (status.BadDescription p) = IsShort bytes × (document bytes ≡ Err (fault.Description p))
-Ran bytes blanks old new flushed (status.BadScript f) = IsShort bytes × (document bytes ≡ Err (fault.Script f))
-Ran bytes blanks old new flushed status.ReadFault = Unit {0}
-Ran bytes blanks old new flushed status.TooLong = 1048576 < length bytes
-Ran bytes blanks old new flushed status.Memory = Keeps old new ⊎ Cut bytes blanks old new
-Ran bytes blanks old new flushed status.WriteFault = Cut bytes blanks old new
+-- What a run over these bytes says by its status, where the job made this history. Each refusal names the document's first fault, exactly.
+abbrev pub Ran : Histories → List ℕ → Blanks → Option (List ℕ) → Option (List ℕ) → Option ℕ → Status → Type 0
+Ran made bytes blanks old new flushed status.Ok = Printed made bytes blanks old new flushed
+Ran made bytes blanks old new flushed status.BadWords = ⊥
+Ran made bytes blanks old new flushed (status.BadDescription p) = IsShort bytes × (document bytes ≡ Err (fault.Description p))
+Ran made bytes blanks old new flushed (status.BadScript f) = IsShort bytes × (document bytes ≡ Err (fault.Script f))
+Ran made bytes blanks old new flushed status.ReadFault = Unit {0}
+Ran made bytes blanks old new flushed status.TooLong = 1048576 < length bytes
+Ran made bytes blanks old new flushed status.Memory = Keeps old new ⊎ Cut made bytes old new
+Ran made bytes blanks old new flushed status.WriteFault = Cut made bytes old new
 
 -- The status that a document asks for, where it can be read and written: its first fault, or all of its trace.
 abbrev pub status_of_document : Result Document DocumentFault → Status

@@ -1,64 +1,254 @@
-//! The written manager's step as a plain program: one state, changed in place.
+//! The manager at work: one state, changed in place by each step.
 
-ghost use Rattle.std.specs.Prelude.{◌≡◌, ◌+◌, ◌<◌, ◌^◌, ◌++◌, IfOk, OnOk, OnErr, option_to_list};
-ghost use Rattle.sequence.specs.Makes.{Makes};
-ghost use Rattle.cm_model.specs.State.{boot, blanks_of, with_one_less, line_of, controller_lines};
-ghost use Rattle.cm_model.specs.Machine.{place_of, is_loaded_at, loaded_from_stock, load, can_begin, can_end, can_close, step};
-ghost use Rattle.cm_top.specs.Room.{Room, serials_of};
+ghost use Rattle.std.specs.Prelude.{◌≡◌, ◌+◌, ◌<◌, ◌^◌, false, IfOk, OnOk, OnErr, Some, map, length, ◌++◌, option_to_list};
+ghost use Rattle.cm_model.specs.State.{blanks_of, with_one_less};
+ghost use Rattle.cm_document.specs.declared.call.Call.TheVariants as call;
 
 use cm_model::{
-    Blanks, Call, CtlDesc, CtlKind, CtlLine, CycleRecord, Description, Life, Loaded, Memory, Name,
-    Reply, Seq, State, Why,
+    Blanks, Boxed, Call, CtlDesc, CtlKind, CtlLine, CycleRecord, Description, Life, Memory, Name,
+    Rare, Reply, Seq, Shared, Why,
 };
 use std::alloc::Global;
+use std::marker::Model;
 
-/// The state at boot: nothing is loaded, aloft or ended.
-pub fn boot(alloc: Global, description: Description, blanks: Blanks, sessions: u32) -> State
-    ensures { result ≡ boot description blanks sessions }
-{
-    State {
-        description,
-        sessions,
-        blanks,
-        loads: 0,
-        loaded: Seq::new(alloc),
-        ended: 0,
-        aloft: false,
-        closed: false,
-    }
+/// A loaded controller. None has parameters yet.
+#[derive(Debug, Drop)]
+pub struct Slot {
+    serial: u32,
+    place: usize,
+    rate: u32,
+    kind: CtlKind,
 }
 
-/// Makes a call where it is enabled, and gives its reply; None where it is not. Want of memory changes nothing.
-#[tactic(auto, unfolding(cm_model::specs::Machine::step))]
-pub fn step(
-    alloc: Global,
-    state: &mut State,
-    who: u32,
-    call: &Call,
-) -> Result<Option<Reply>, Memory>
-    requires { Room state.old (serials_of call.now) }
-    ensures made { IfOk result (Makes (step state.old who call.now) state.old state.new) }
-    ensures kept { OnErr result (state.new ≡ state.old) }
-{
-    match call {
-        Call::Load(name) if who < state.sessions => Ok(Some(load(state, name)?)),
-        Call::ListControllers if who < state.sessions => {
-            Ok(Some(Reply::Controllers(controller_lines(alloc, state)?)))
+impl Model for Slot {
+    ghost use Rattle.std.specs.Prelude.{None};
+    ghost use Rattle.cm_model.specs.State.{Loaded, fresh};
+
+    ghost Value = { Loaded };
+
+    ghost view = { λ s. record { serial = s.serial; place = s.place; rate = s.rate; divisor = None; ctl = fresh s.kind; mail = None } };
+}
+
+/// The manager at work. Contracts see the written state.
+#[derive(Debug, Drop)]
+pub struct Desk<'a> {
+    description: &'a Description,
+    /// The names of the described controllers, by place, for the lines of lists.
+    names: Vec<Shared<Name>>,
+    sessions: u32,
+    blanks: Blanks,
+    loads: u32,
+    loaded: Vec<Slot>,
+    ended: u64,
+    aloft: bool,
+    closed: bool,
+}
+
+impl<'a> Model for Desk<'a> {
+    ghost use Rattle.cm_model.specs.State.{State};
+
+    ghost Value = { State };
+
+    ghost use Rattle.cm_top.specs.Desk.{state_of, IsKept};
+
+    ghost view = { state_of };
+
+    ghost invariant = { λ a. IsKept a.names.items (state_of a) };
+}
+
+impl<'a> Desk<'a> {
+    ghost use Rattle.sequence.specs.Makes.{Makes};
+    ghost use Rattle.cm_model.specs.State.{boot, line_of, is_chained, controller_lines};
+    ghost use Rattle.cm_model.specs.Machine.{place_of, is_loaded_at, is_sold_out_at, with_loaded, load_effect, reply_of, can_begin, can_end, can_close, step};
+    ghost use Rattle.cm_top.specs.Room.{serials_of};
+
+    /// The manager at boot: nothing is loaded, aloft or ended.
+    pub fn boot(
+        alloc: Global,
+        description: &'a Description,
+        blanks: Blanks,
+        sessions: u32,
+    ) -> Result<Desk<'a>, Memory>
+        ensures { IfOk result (λ desk. desk ≡ boot description.now blanks sessions) }
+    {
+        let names = names_of(alloc, description.controllers.as_slice())?;
+        Ok(Desk {
+            description,
+            names,
+            sessions,
+            blanks,
+            loads: 0,
+            loaded: Vec::new(alloc),
+            ended: 0,
+            aloft: false,
+            closed: false,
+        })
+    }
+
+    /// The number of the loop as a caller.
+    pub fn sessions(&self) -> u32
+        ensures { result ≡ self.now.sessions }
+    {
+        self.sessions
+    }
+
+    /// Makes a call where it is enabled, and gives its reply; None where it is not. Want of memory changes nothing.
+    #[tactic(auto, unfolding(cm_model::specs::Machine::step))]
+    pub fn step(&mut self, alloc: Global, who: u32, call: &Call) -> Result<Option<Reply>, Memory>
+        requires { self.old.loads + serials_of call.now < 2 ^ 32 }
+        ensures made { IfOk result (Makes (step self.old who call.now) self.old self.new) }
+        ensures kept { OnErr result (self.new ≡ self.old) }
+    {
+        match call {
+            Call::Load(name) if who < self.sessions => Ok(Some(self.load(name)?)),
+            Call::ListControllers if who < self.sessions => Ok(Some(self.list(alloc)?)),
+            Call::Begin(cycle) if who == self.sessions => Ok(self.begin(*cycle)),
+            Call::End(cycle) if who == self.sessions => Ok(self.end(*cycle)),
+            Call::Close if who == self.sessions => Ok(self.close()),
+            _ => Ok(None),
         }
-        Call::Begin(cycle) if who == state.sessions && can_begin(state, *cycle) => {
-            state.aloft = true;
-            Ok(Some(Reply::Decisions(Seq::new(alloc))))
+    }
+
+    /// The loop begins a cycle, where it can. Nothing can wait to be decided yet.
+    #[tactic(auto, unfolding(cm_model::specs::Machine::step))]
+    fn begin(&mut self, cycle: u64) -> Option<Reply>
+        ensures { Makes (step self.old self.old.sessions (call.Begin cycle)) self.old self.new result }
+    {
+        if !self.can_begin(cycle) {
+            return None;
         }
-        Call::End(cycle) if who == state.sessions && can_end(state, *cycle) => {
-            state.aloft = false;
-            state.ended = one_more(state.ended, state.description.cycles);
-            Ok(Some(Reply::Cycle(CycleRecord { cycle: *cycle })))
+        self.aloft = true;
+        Some(Reply::Decisions(Rare::none()))
+    }
+
+    fn can_begin(&self, cycle: u64) -> bool
+        ensures { result ≡ can_begin self.now cycle }
+    {
+        !self.aloft && !self.closed && self.ended == cycle && cycle < self.description.cycles
+    }
+
+    /// The loop ends the cycle that is aloft. Nothing can happen in one yet.
+    #[tactic(auto, unfolding(cm_model::specs::Machine::step))]
+    fn end(&mut self, cycle: u64) -> Option<Reply>
+        ensures { Makes (step self.old self.old.sessions (call.End cycle)) self.old self.new result }
+    {
+        if !self.aloft || self.ended != cycle {
+            return None;
         }
-        Call::Close if who == state.sessions && can_close(state) => {
-            state.closed = true;
-            Ok(Some(Reply::Decisions(Seq::new(alloc))))
+        self.ended = one_more(self.ended, self.description.cycles);
+        self.aloft = false;
+        Some(Reply::Cycle(CycleRecord::quiet(cycle)))
+    }
+
+    /// The loop closes, where no cycle is aloft.
+    #[tactic(auto, unfolding(cm_model::specs::Machine::step))]
+    fn close(&mut self) -> Option<Reply>
+        ensures { Makes (step self.old self.old.sessions call.Close) self.old self.new result }
+    {
+        if self.aloft || self.closed {
+            return None;
         }
-        _ => Ok(None),
+        self.closed = true;
+        Some(Reply::Decisions(Rare::none()))
+    }
+
+    /// Loads a controller, or tells why not.
+    fn load(&mut self, name: &Name) -> Result<Reply, Memory>
+        requires { self.old.loads + 1 < 2 ^ 32 }
+        ensures made { IfOk result (λ reply. (reply_of self.old (call.Load name.now) ≡ Some reply) × (self.new ≡ load_effect self.old name.now reply)) }
+        ensures kept { OnErr result (self.new ≡ self.old) }
+    {
+        let Some(place) = self.place_of(name) else {
+            return Ok(Reply::Not(Why::NotDescribed));
+        };
+        if self.is_loaded_at(place) {
+            return Ok(Reply::Not(Why::Loaded));
+        }
+        if self.is_sold_out_at(place) {
+            return Ok(Reply::Not(Why::StockEmpty));
+        }
+        self.take(place)
+    }
+
+    /// The place of the described controller of this name.
+    fn place_of(&self, name: &Name) -> Option<usize>
+        ensures { result ≡ place_of self.now name.now }
+    {
+        let controllers = self.description.controllers.as_slice();
+        controllers.iter().position(|c| c.name == *name)
+    }
+
+    fn is_loaded_at(&self, place: usize) -> bool
+        ensures { result ≡ is_loaded_at self.now place }
+    {
+        self.loaded.iter().any(|slot| slot.place == place)
+    }
+
+    /// Whether the stock has no blank of the kind of the controller at this place.
+    fn is_sold_out_at(&self, place: usize) -> bool
+        ensures { result ≡ is_sold_out_at self.now place }
+    {
+        match self.description.controllers.as_slice().get(place) {
+            Some(controller) => blanks_of(self.blanks, controller.params.kind()) == 0,
+            None => false,
+        }
+    }
+
+    /// The controller at this place takes a blank of its kind and the next serial.
+    fn take(&mut self, place: usize) -> Result<Reply, Memory>
+        requires serials { self.old.loads + 1 < 2 ^ 32 }
+        requires stocked { is_sold_out_at self.old place ≡ false }
+        requires described { place < length self.old.description.controllers }
+        ensures made { IfOk result (λ reply. (reply ≡ Reply.Serial self.old.loads) × (self.new ≡ with_loaded self.old (Some place))) }
+        ensures kept { OnErr result (self.new ≡ self.old) }
+    {
+        let controller = &self.description.controllers.as_slice()[place];
+        let kind = controller.params.kind();
+        let serial = self.loads;
+        self.loaded.push(Slot {
+            serial,
+            place,
+            rate: controller.rate,
+            kind,
+        })?;
+        self.blanks = with_one_less(self.blanks, kind);
+        self.loads += 1;
+        Ok(Reply::Serial(serial))
+    }
+
+    /// The lines of the loaded controllers.
+    fn lines(&self, alloc: Global) -> Result<Seq<CtlLine>, Memory>
+        ensures { IfOk result (λ lines. lines ≡ controller_lines self.now) }
+    {
+        let mut lines = Seq::from_vec(Vec::with_capacity(alloc, self.loaded.len())?);
+        for slot in &self.loaded {
+            push_if_some(&mut lines, self.line(slot)?)?;
+        }
+        Ok(lines)
+    }
+
+    /// The line of a loaded controller. None has parameters yet, so it is unconfigured.
+    fn line(&self, slot: &Slot) -> Result<Option<CtlLine>, Memory>
+        ensures { IfOk result (λ line. line ≡ line_of self.now slot.now) }
+    {
+        let Some(name) = self.names.get(slot.place) else {
+            return Ok(None);
+        };
+        Ok(Some(CtlLine {
+            name: name.share()?,
+            serial: slot.serial,
+            divisor: None,
+            kind: slot.kind,
+            life: Life::Unconfigured,
+            chained: false,
+        }))
+    }
+
+    /// The list of controllers.
+    fn list(&self, alloc: Global) -> Result<Reply, Memory>
+        ensures { IfOk result (λ reply. reply ≡ Reply.Controllers (controller_lines self.now)) }
+    {
+        Ok(Reply::Controllers(Boxed::new(alloc, self.lines(alloc)?)?))
     }
 }
 
@@ -70,68 +260,24 @@ fn one_more(number: u64, greater: u64) -> u64
     number + 1
 }
 
-fn can_begin(state: &State, cycle: u64) -> bool
-    ensures { result ≡ can_begin state.now cycle }
+fn push_if_some(lines: &mut Seq<CtlLine>, line: Option<CtlLine>) -> Result<(), Memory>
+    ensures { OnOk result (lines.new ≡ lines.old ++ option_to_list line) }
 {
-    !state.aloft && !state.closed && state.ended == cycle && cycle < state.description.cycles
-}
-
-fn can_end(state: &State, cycle: u64) -> bool
-    ensures { result ≡ can_end state.now cycle }
-{
-    state.aloft && state.ended == cycle
-}
-
-fn can_close(state: &State) -> bool
-    ensures { result ≡ can_close state.now }
-{
-    !state.aloft && !state.closed
-}
-
-fn load(state: &mut State, name: &Name) -> Result<Reply, Memory>
-    requires { state.old.loads + 1 < 2 ^ 32 }
-    ensures made { IfOk result (λ reply. load state.old name.now ≡ (state.new, reply)) }
-    ensures kept { OnErr result (state.new ≡ state.old) }
-{
-    let Some(place) = place_of(state, name) else {
-        return Ok(Reply::Not(Why::NotDescribed));
-    };
-    let Some(controller) = state.description.controllers.as_slice().get(place) else {
-        return Ok(Reply::Not(Why::NotDescribed));
-    };
-    let kind = controller.params.kind();
-    if is_loaded_at(state, place) {
-        return Ok(Reply::Not(Why::Loaded));
+    if let Some(line) = line {
+        lines.push(line)?;
     }
-    load_from_stock(state, place, kind)
+    Ok(())
 }
 
-fn place_of(state: &State, name: &Name) -> Option<usize>
-    ensures { result ≡ place_of state.now name.now }
+/// The names of these controllers, each to be shared by all lines that tell it.
+fn names_of(alloc: Global, controllers: &[CtlDesc]) -> Result<Vec<Shared<Name>>, Memory>
+    ensures { IfOk result (λ names. names.items ≡ map (λ c. c.name) controllers.now) }
 {
-    let controllers = state.description.controllers.as_slice();
-    controllers.iter().position(|c| c.name == *name)
-}
-
-fn is_loaded_at(state: &State, place: usize) -> bool
-    ensures { result ≡ is_loaded_at place state.now }
-{
-    state.loaded.as_slice().iter().any(|l| l.place == place)
-}
-
-fn load_from_stock(state: &mut State, place: usize, kind: CtlKind) -> Result<Reply, Memory>
-    requires { state.old.loads + 1 < 2 ^ 32 }
-    ensures made { IfOk result (λ reply. loaded_from_stock state.old place kind ≡ (state.new, reply)) }
-    ensures kept { OnErr result (state.new ≡ state.old) }
-{
-    if blanks_of(state.blanks, kind) == 0 {
-        return Ok(Reply::Not(Why::StockEmpty));
+    let mut names = Vec::with_capacity(alloc, controllers.len())?;
+    for controller in controllers {
+        names.push(Shared::new(alloc, controller.name.clone()?)?)?;
     }
-    let serial = state.loads;
-    state.loaded.push(Loaded { serial, place })?;
-    state.blanks = with_one_less(state.blanks, kind);
-    state.loads += 1;
-    Ok(Reply::Serial(serial))
+    Ok(names)
 }
 
 fn blanks_of(blanks: Blanks, kind: CtlKind) -> u32
@@ -161,40 +307,4 @@ fn with_one_less(blanks: Blanks, kind: CtlKind) -> Blanks
         CtlKind::Mock => left.mock -= 1,
     }
     left
-}
-
-#[tactic(auto, using(crate::proofs::ListLemmas::filter_map_next))]
-fn controller_lines(alloc: Global, state: &State) -> Result<Seq<CtlLine>, Memory>
-    ensures { IfOk result (λ lines. lines ≡ controller_lines state.now) }
-{
-    let controllers = state.description.controllers.as_slice();
-    let mut lines = Seq::new(alloc);
-    for loaded in state.loaded.as_slice() {
-        let line = controller_line(controllers, loaded)?;
-        push_if_some(&mut lines, line)?;
-    }
-    Ok(lines)
-}
-
-fn controller_line(described: &[CtlDesc], loaded: &Loaded) -> Result<Option<CtlLine>, Memory>
-    ensures { IfOk result (λ line. line ≡ line_of described.now loaded.now) }
-{
-    let Some(controller) = described.get(loaded.place) else {
-        return Ok(None);
-    };
-    Ok(Some(CtlLine {
-        serial: loaded.serial,
-        name: controller.name.clone()?,
-        kind: controller.params.kind(),
-        life: Life::Unconfigured,
-    }))
-}
-
-fn push_if_some(lines: &mut Seq<CtlLine>, line: Option<CtlLine>) -> Result<(), Memory>
-    ensures { OnOk result (lines.new ≡ lines.old ++ option_to_list line) }
-{
-    if let Some(line) = line {
-        lines.push(line)?;
-    }
-    Ok(())
 }

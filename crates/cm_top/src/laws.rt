@@ -7,7 +7,7 @@ ghost use Rattle.cm_model.specs.Scheduled.{scheduled};
 ghost use Rattle.cm_document.specs.ScriptLaws.{MeetsRules, UsesForms};
 ghost use Rattle.cm_model.specs.Sessions.{IsWhole};
 ghost use Rattle.cm_document.specs.declared.document.Document.{Document};
-ghost use Rattle.cm_model.specs.declared.state.Blanks.{Blanks};
+ghost use Rattle.cm_model.specs.declared.blanks.Blanks.{Blanks};
 
 /// The script of an accepted document meets the rules of scripts, and each of its lines has a form that is built: so it has one
 /// session at most and at most 10,000 calls, and numbers of sessions, lines and loads stay far below 2^32.

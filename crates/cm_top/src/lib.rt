@@ -6,7 +6,10 @@ pub use top::{run, run_alone};
 
 mod desk;
 mod document;
+mod interfaces;
+mod items;
 pub mod laws;
+mod names;
 mod parts;
 mod session;
 mod status;

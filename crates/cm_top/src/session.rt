@@ -1,129 +1,142 @@
 //! Sessions over the desk, and the order of the job `run`.
 
-ghost use Rattle.std.specs.Prelude.{◌≡◌, ◌+◌, ◌<◌, ◌^◌, length, map, IfOk};
-ghost use Rattle.cm_model.specs.Scheduled.{settle, settle_all, looped, cycle, cycles, finish, start, scheduled};
-ghost use Rattle.cm_top.specs.Room.{Room, lines_left, IsLoops};
+ghost use Rattle.std.specs.Prelude.{◌≡◌, ◌+◌, ◌<◌, ◌≤◌, ◌^◌, [], None, length, map, IfOk, OnOk, OnErr};
+ghost use Rattle.cm_model.specs.Machine.{step};
+ghost use Rattle.cm_model.specs.Scheduled.{advance, settle, settle_from, start, scheduled, ticket_in};
+ghost use Rattle.cm_top.specs.Room.{lines_left, serials_of};
+ghost use Rattle.cm_top.specs.Session.{at, Advances, Called};
 
-use crate::desk::{boot, step};
-use cm_model::{Blanks, Call, Checked, Entry, Memory, Reply, Script, Seq, State};
+use crate::desk::Desk;
+use cm_model::{Blanks, Call, Checked, Entry, KeptCall, Memory, Reply, Script, SessionText};
 use std::alloc::Global;
+use std::marker::Model;
 
-/// How far a run has come: its state, its history, and for each session the lines that are left.
-#[derive(Drop)]
+/// Where a session stands: the lines that it has left, and the ticket that it has still to be told of.
+#[derive(Debug, Drop)]
+pub struct Session<'a> {
+    lines: &'a [Call],
+    ticket: Option<u32>,
+}
+
+impl<'a> Model for Session<'a> {
+    ghost use Rattle.cm_model.specs.Scheduled.{Session as Standing};
+
+    ghost Value = { Standing };
+
+    ghost view = { λ s. record { lines = s.lines.now; ticket = s.ticket } };
+}
+
+/// What came of a call that may not be enabled.
+#[derive(Clone, Copy, Debug)]
+pub enum Asked {
+    /// It is not enabled.
+    Waits,
+    /// It was made, and was given this ticket where it is a request that waits.
+    Made(Option<u32>),
+}
+
+/// How far a run has come: its state, its history, and where each session stands.
+#[derive(Debug, Drop)]
 pub struct Job<'a> {
-    state: State,
-    made: Seq<Entry>,
-    rests: Vec<&'a [Call]>,
-    ghost room: { Room state (lines_left (map (λ r. r.now) rests.items)) },
-    ghost few: { length rests.items < 2 ^ 32 },
+    desk: Desk<'a>,
+    made: Vec<Entry>,
+    sessions: Vec<Session<'a>>,
+}
+
+impl<'a> Model for Job<'a> {
+    ghost use Rattle.std.specs.Prelude.{◌+◌, ◌<◌, ◌^◌, length};
+    ghost use Rattle.cm_model.specs.Scheduled.{Progress};
+
+    ghost Value = { Progress };
+
+    ghost use Rattle.cm_top.specs.Room.{lines_left};
+
+    ghost view = { λ s. record { state = s.desk; made = s.made.items; sessions = s.sessions.items } };
+
+    ghost invariant = { λ s. (s.desk.loads + lines_left s.sessions.items < 2 ^ 32) × (length s.sessions.items < 2 ^ 32) };
 }
 
 impl<'a> Job<'a> {
-    ghost use Rattle.cm_top.specs.Session.{progress_of};
+    ghost use Rattle.cm_model.specs.Scheduled.{settle_all, looped, cycle, cycles, finish};
+    ghost use Rattle.cm_document.specs.declared.call.Call.TheVariants as call;
+    ghost use Rattle.cm_top.specs.Room.{IsLoops};
 
     /// No session has made a line yet.
     #[tactic(auto, unfolding(cm_model::specs::Scheduled::start))]
     pub fn start(
         alloc: Global,
-        checked: Checked,
+        checked: &'a Checked,
         script: &'a Script,
         blanks: Blanks,
     ) -> Result<Job<'a>, Memory>
-        requires { length script.now.sessions + lines_left (map (λ s. s.lines) script.now.sessions) < 2 ^ 32 }
-        ensures { IfOk result (λ job. progress_of job ≡ start (record { description = checked; script = script.now }) blanks) }
+        requires few { length script.now.sessions < 2 ^ 32 }
+        requires room { lines_left (map (λ s. record { lines = s.lines; ticket = None }) script.now.sessions) < 2 ^ 32 }
+        ensures { IfOk result (λ job. job ≡ start (record { description = checked.now; script = script.now }) blanks) }
     {
-        let sessions = script.sessions.as_slice();
-        let mut rests = Vec::new(alloc);
-        for session in sessions {
-            rests.push(session.lines.as_slice())?;
-        }
-        let description = checked.into_description();
-        let state = boot(alloc, description, blanks, sessions.len() as u32);
+        let texts = script.sessions.as_slice();
+        let sessions = waiting(alloc, texts)?;
+        let desk = Desk::boot(alloc, checked.description(), blanks, texts.len() as u32)?;
         Ok(Job {
-            state,
-            made: Seq::new(alloc),
-            rests,
+            desk,
+            made: Vec::new(alloc),
+            sessions,
         })
     }
 
     /// The history, once no more is made.
-    fn into_history(self) -> Seq<Entry>
-        ensures { result ≡ (progress_of self.entry).made }
+    fn into_history(self) -> Vec<Entry>
+        ensures { result.items ≡ self.entry.made }
     {
         self.made
     }
 
     /// All sessions settle, in order.
     #[tactic(auto, unfolding(cm_model::specs::Scheduled::settle_all))]
-    fn settle_all(self, alloc: Global) -> Result<Job<'a>, Memory>
-        ensures { IfOk result (λ job. progress_of job ≡ settle_all (progress_of self.entry)) }
+    fn settle_all(&mut self, alloc: Global) -> Result<(), Memory>
+        ensures { OnOk result (self.new ≡ settle_all self.old) }
     {
-        let Job {
-            mut state,
-            mut made,
-            rests,
-        } = self;
-        let mut left = Vec::new(alloc);
-        let mut who = 0;
-        for lines in &rests {
-            let rest = settle(alloc, who, lines, &mut state, &mut made)?;
-            left.push(rest)?;
-            who += 1;
-        }
-        Ok(Job {
-            state,
-            made,
-            rests: left,
-        })
+        settle_each(alloc, &mut self.sessions, &mut self.desk, &mut self.made)
     }
 
     /// The loop makes a call, where it is enabled.
     #[tactic(auto, unfolding(cm_model::specs::Scheduled::looped))]
-    fn looped(self, alloc: Global, call: Call) -> Result<Job<'a>, Memory>
-        requires { IsLoops call }
-        ensures { IfOk result (λ job. progress_of job ≡ looped call (progress_of self.entry)) }
+    fn looped(&mut self, alloc: Global, call: &Call) -> Result<(), Memory>
+        requires { IsLoops call.now }
+        ensures { OnOk result (self.new ≡ looped call.now self.old) }
     {
-        let Job {
-            mut state,
-            mut made,
-            rests,
-        } = self;
-        let who = state.sessions;
-        if let Some(reply) = step(alloc, &mut state, who, &call)? {
-            made.push(Entry { who, call, reply })?;
-        }
-        Ok(Job { state, made, rests })
+        let who = self.desk.sessions();
+        ask(alloc, who, call, &mut self.desk, &mut self.made)?;
+        Ok(())
     }
 
     /// The sessions settle, and the cycle of this number begins and ends.
     #[tactic(auto, unfolding(cm_model::specs::Scheduled::cycle))]
-    fn cycle(self, alloc: Global, number: u64) -> Result<Job<'a>, Memory>
-        ensures { IfOk result (λ job. progress_of job ≡ cycle number (progress_of self.entry)) }
+    fn cycle(&mut self, alloc: Global, number: u64) -> Result<(), Memory>
+        ensures { OnOk result (self.new ≡ cycle number self.old) }
     {
-        self.settle_all(alloc)?
-            .looped(alloc, Call::Begin(number))?
-            .looped(alloc, Call::End(number))
+        self.settle_all(alloc)?;
+        self.looped(alloc, &Call::Begin(number))?;
+        self.looped(alloc, &Call::End(number))
     }
 
     /// So many cycles, from cycle 0 on.
-    fn cycles(self, alloc: Global, count: u64) -> Result<Job<'a>, Memory>
-        ensures { IfOk result (λ job. progress_of job ≡ cycles count (progress_of self.entry)) }
+    fn cycles(&mut self, alloc: Global, count: u64) -> Result<(), Memory>
+        ensures { OnOk result (self.new ≡ cycles count self.old) }
     {
-        let mut job = self;
         for number in 0..count {
-            job = job.cycle(alloc, number)?;
+            self.cycle(alloc, number)?;
         }
-        Ok(job)
+        Ok(())
     }
 
     /// After the last cycle: the sessions settle, the loop closes, and they settle once more.
     #[tactic(auto, unfolding(cm_model::specs::Scheduled::finish))]
-    fn finish(self, alloc: Global) -> Result<Job<'a>, Memory>
-        ensures { IfOk result (λ job. progress_of job ≡ finish (progress_of self.entry)) }
+    fn finish(&mut self, alloc: Global) -> Result<(), Memory>
+        ensures { OnOk result (self.new ≡ finish self.old) }
     {
-        self.settle_all(alloc)?
-            .looped(alloc, Call::Close)?
-            .settle_all(alloc)
+        self.settle_all(alloc)?;
+        self.looped(alloc, &Call::Close)?;
+        self.settle_all(alloc)
     }
 }
 
@@ -131,46 +144,132 @@ impl<'a> Job<'a> {
 #[tactic(auto, unfolding(cm_model::specs::Scheduled::scheduled))]
 pub fn history(
     alloc: Global,
-    checked: Checked,
+    checked: &Checked,
     script: &Script,
     blanks: Blanks,
-) -> Result<Seq<Entry>, Memory>
-    requires { length script.now.sessions + lines_left (map (λ s. s.lines) script.now.sessions) < 2 ^ 32 }
-    ensures { IfOk result (λ made. made ≡ scheduled (record { description = checked; script = script.now }) blanks) }
+) -> Result<Vec<Entry>, Memory>
+    requires few { length script.now.sessions < 2 ^ 32 }
+    requires room { lines_left (map (λ s. record { lines = s.lines; ticket = None }) script.now.sessions) < 2 ^ 32 }
+    ensures { IfOk result (λ made. made.items ≡ scheduled (record { description = checked.now; script = script.now }) blanks) }
 {
-    let count = checked.description().cycles;
-    let job = Job::start(alloc, checked, script, blanks)?;
-    let job = job.cycles(alloc, count)?.finish(alloc)?;
+    let mut job = Job::start(alloc, checked, script, blanks)?;
+    job.cycles(alloc, checked.description().cycles)?;
+    job.finish(alloc)?;
     Ok(job.into_history())
 }
 
-/// Makes a session's lines up to the first that is not enabled, and gives what is left.
-fn settle<'a>(
-    alloc: Global,
-    who: u32,
-    lines: &'a [Call],
-    state: &mut State,
-    made: &mut Seq<Entry>,
-) -> Result<&'a [Call], Memory>
-    requires { Room state.old (length lines.now) }
-    ensures { IfOk result (λ rest. settle who lines.now state.old made.old ≡ record { state = state.new; made = made.new; rest = rest.now }) }
+/// The sessions of a script, each before its lines.
+fn waiting<'a>(alloc: Global, texts: &'a [SessionText]) -> Result<Vec<Session<'a>>, Memory>
+    ensures { IfOk result (λ sessions. sessions.items ≡ map (λ s. record { lines = s.lines; ticket = None }) texts.now) }
 {
-    for (index, call) in lines.iter().enumerate() {
-        let Some(reply) = step(alloc, state, who, call)? else {
-            return Ok(&lines[index..]);
-        };
-        made.push(entry(who, call, reply)?)?;
+    let mut sessions = Vec::with_capacity(alloc, texts.len())?;
+    for text in texts {
+        sessions.push(Session {
+            lines: text.lines.as_slice(),
+            ticket: None,
+        })?;
     }
-    Ok(&lines[lines.len()..])
+    Ok(sessions)
 }
 
-/// An entry of the history, with a call of its own.
-fn entry(who: u32, call: &Call, reply: Reply) -> Result<Entry, Memory>
-    ensures { IfOk result (λ e. e ≡ record { who = who; call = call.now; reply = reply }) }
+/// The sessions settle in order.
+fn settle_each(
+    alloc: Global,
+    sessions: &mut [Session<'_>],
+    desk: &mut Desk<'_>,
+    made: &mut Vec<Entry>,
+) -> Result<(), Memory>
+    requires few { length sessions.old < 2 ^ 32 }
+    requires room { desk.old.loads + lines_left sessions.old < 2 ^ 32 }
+    ensures settled { OnOk result (settle_from 0 sessions.old desk.old made.old.items [] ≡ record { state = desk.new; made = made.new.items; sessions = sessions.new }) }
+    ensures room { desk.new.loads + lines_left sessions.new ≤ desk.old.loads + lines_left sessions.old }
 {
-    Ok(Entry {
+    for who in 0..sessions.len() {
+        settle(alloc, who as u32, &mut sessions[who], desk, made)?;
+    }
+    Ok(())
+}
+
+/// A session settles: it advances until it cannot.
+fn settle(
+    alloc: Global,
+    who: u32,
+    session: &mut Session<'_>,
+    desk: &mut Desk<'_>,
+    made: &mut Vec<Entry>,
+) -> Result<(), Memory>
+    requires room { desk.old.loads + length session.old.lines < 2 ^ 32 }
+    ensures settled { OnOk result (settle who (at desk.old made.old.items session.old) ≡ at desk.new made.new.items session.new) }
+    ensures room { desk.new.loads + length session.new.lines ≤ desk.old.loads + length session.old.lines }
+{
+    while advance(alloc, who, session, desk, made)? {}
+    Ok(())
+}
+
+/// A session advances by one call, where it has one that is enabled: it is told of its ticket, or makes its next line.
+#[tactic(auto, unfolding(cm_model::specs::Scheduled::advance))]
+fn advance(
+    alloc: Global,
+    who: u32,
+    session: &mut Session<'_>,
+    desk: &mut Desk<'_>,
+    made: &mut Vec<Entry>,
+) -> Result<bool, Memory>
+    requires room { desk.old.loads + length session.old.lines < 2 ^ 32 }
+    ensures made { IfOk result (Advances (advance who (at desk.old made.old.items session.old)) (at desk.old made.old.items session.old) (at desk.new made.new.items session.new)) }
+    ensures room { desk.new.loads + length session.new.lines ≤ desk.old.loads + length session.old.lines }
+{
+    if let Some(ticket) = session.ticket {
+        let Asked::Made(_) = ask(alloc, who, &Call::Told(ticket), desk, made)? else {
+            return Ok(false);
+        };
+        session.ticket = None;
+        return Ok(true);
+    }
+    let Some((call, rest)) = session.lines.split_first() else {
+        return Ok(false);
+    };
+    let Asked::Made(ticket) = ask(alloc, who, call, desk, made)? else {
+        return Ok(false);
+    };
+    session.lines = rest;
+    session.ticket = ticket;
+    Ok(true)
+}
+
+/// Makes a call, where it is enabled, with its entry.
+fn ask(
+    alloc: Global,
+    who: u32,
+    call: &Call,
+    desk: &mut Desk<'_>,
+    made: &mut Vec<Entry>,
+) -> Result<Asked, Memory>
+    requires room { desk.old.loads + serials_of call.now < 2 ^ 32 }
+    ensures made { IfOk result (Called (step desk.old who call.now) who call.now desk.old desk.new made.old.items made.new.items) }
+    ensures room { desk.new.loads ≤ desk.old.loads + serials_of call.now }
+    ensures kept { OnErr result (desk.new ≡ desk.old) }
+{
+    made.reserve(1)?;
+    let kept = KeptCall::copy_of(alloc, call)?;
+    let Some(reply) = desk.step(alloc, who, call)? else {
+        return Ok(Asked::Waits);
+    };
+    let ticket = ticket_in(&reply);
+    made.push_reserved(Entry {
         who,
-        call: call.clone()?,
+        call: kept,
         reply,
-    })
+    });
+    Ok(Asked::Made(ticket))
+}
+
+/// The ticket that a request was given.
+fn ticket_in(reply: &Reply) -> Option<u32>
+    ensures { result ≡ ticket_in reply.now }
+{
+    match reply {
+        Reply::Queued(ticket) => Some(*ticket),
+        _ => None,
+    }
 }

@@ -6,6 +6,7 @@ ghost use Rattle.outside_io.specs.Bytes.{AllFlushed};
 ghost use Rattle.outside_io.specs.Faults.{Rose};
 ghost use Rattle.cm_model.specs.Words.{is_asked};
 ghost use Rattle.cm_document.specs.ScriptLaws.{MeetsRules};
+ghost use Rattle.cm_model.specs.Scheduled.{scheduled};
 ghost use Rattle.cm_model.specs.Trace.{output};
 ghost use Rattle.cm_top.specs.Status.{Ran, Wrote, IsPlain, ComesBeforeWriting, ComesOfBytes};
 ghost use Rattle.cm_top.specs.Calls.Run.{Runs};
@@ -47,7 +48,7 @@ where
     ensures words { (result ≡ Status.BadWords) ↔ (is_asked (map string_bytes words.now) ≡ false) }
     // Then nothing was read and nothing written.
     ensures refused { result ≡ Status.BadWords → (source.new ≡ source.old) × (sink.new ≡ sink.old) }
-    ensures runs { is_asked (map string_bytes words.now) ≡ true → Runs stock
+    ensures runs { is_asked (map string_bytes words.now) ≡ true → Runs (λ d. scheduled d stock) stock
         (record { left = S.left source.old; faults = S.faults source.old }) (record { left = S.left source.new; faults = S.faults source.new })
         (record { taken = K.taken sink.old; flushed = K.flushed sink.old; faults = K.faults sink.old }) (record { taken = K.taken sink.new; flushed = K.flushed sink.new; faults = K.faults sink.new }) result }
     // Statuses 2 to 6 leave the sink as it was.
@@ -78,7 +79,7 @@ pub fn run_alone<S: Source, K: Sink>(
     sink: &mut K,
     stock: Blanks,
 ) -> Status
-    ensures runs { Runs stock
+    ensures runs { Runs (λ d. scheduled d stock) stock
         (record { left = S.left source.old; faults = S.faults source.old }) (record { left = S.left source.new; faults = S.faults source.new })
         (record { taken = K.taken sink.old; flushed = K.flushed sink.old; faults = K.faults sink.old }) (record { taken = K.taken sink.new; flushed = K.flushed sink.new; faults = K.faults sink.new }) result }
     // Statuses 3 to 6 leave the sink as it was.
@@ -95,7 +96,7 @@ pub fn run_alone<S: Source, K: Sink>(
 /// Runs the document that these bytes are.
 fn run_bytes<K: Sink>(alloc: Global, bytes: &[u8], sink: &mut K, stock: Blanks) -> Status
     requires { length bytes.now ≤ 1048576 }
-    ensures ran { Ran bytes.now stock (K.taken sink.old) (K.taken sink.new) (K.flushed sink.new) result }
+    ensures ran { Ran (λ d. scheduled d stock) bytes.now stock (K.taken sink.old) (K.taken sink.new) (K.flushed sink.new) result }
     ensures of_bytes { ComesOfBytes result }
     ensures untouched { ComesBeforeWriting result → sink.new ≡ sink.old }
     ensures plain { IsPlain result }
@@ -103,7 +104,7 @@ fn run_bytes<K: Sink>(alloc: Global, bytes: &[u8], sink: &mut K, stock: Blanks) 
     ensures later { K.faults sink.old ≤ K.faults sink.new }
 {
     match read_document(alloc, bytes) {
-        Ok(document) => run_document(alloc, document, sink, stock),
+        Ok(document) => run_document(alloc, &document, sink, stock),
         Err(DocumentFault::Description(problem)) => Status::BadDescription(problem),
         Err(DocumentFault::Script(fault)) => Status::BadScript(fault),
         Err(DocumentFault::Memory) => Status::Memory,
@@ -112,20 +113,18 @@ fn run_bytes<K: Sink>(alloc: Global, bytes: &[u8], sink: &mut K, stock: Blanks) 
 
 /// Runs an accepted document and writes its trace.
 #[tactic(auto, unfolding(cm_model::specs::Trace::output))]
-fn run_document<K: Sink>(alloc: Global, document: Document, sink: &mut K, stock: Blanks) -> Status
-    requires { MeetsRules document.script }
-    ensures wrote { Wrote (output document stock) (K.taken sink.old) (K.taken sink.new) (K.flushed sink.new) result }
+fn run_document<K: Sink>(alloc: Global, document: &Document, sink: &mut K, stock: Blanks) -> Status
+    requires { MeetsRules document.now.script }
+    ensures wrote { Wrote (output document.now (scheduled document.now stock)) (K.taken sink.old) (K.taken sink.new) (K.flushed sink.new) result }
     ensures write_fault { result ≡ Status.WriteFault → Rose (K.faults sink.old) (K.faults sink.new) }
     ensures later { K.faults sink.old ≤ K.faults sink.new }
 {
-    let Document {
-        description,
-        script,
-    } = document;
-    let Ok(history) = history(alloc, description, &script, stock) else {
+    let Ok(history) = history(alloc, &document.description, &document.script, stock) else {
         return Status::Memory;
     };
-    match write_trace(alloc, sink, script.sessions.as_slice(), history.as_slice()) {
+    let description = document.description.description();
+    let sessions = document.script.sessions.as_slice();
+    match write_trace(alloc, sink, description, sessions, history.as_slice()) {
         Ok(()) => flush(sink),
         Err(OutFault::Failed) => Status::WriteFault,
         Err(OutFault::Memory) => Status::Memory,

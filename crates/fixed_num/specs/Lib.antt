@@ -3,3 +3,4 @@ pub mod Micro
 pub mod Arithmetic
 pub mod Text
 pub mod Bodies
+pub mod Stored

@@ -5,6 +5,7 @@
 pub use fx::Fx;
 pub use memory::Memory;
 pub use read::FxFault;
+pub use stored::StoredValue;
 pub use value::{BodyState, JointMode, Value};
 
 mod cut;
@@ -14,6 +15,7 @@ mod memory;
 mod read;
 #[cfg(test)]
 mod tests;
+mod stored;
 mod text;
 mod value;
 

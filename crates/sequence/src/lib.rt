@@ -2,8 +2,14 @@
 //! Contracts see a `Seq` as the list of its items and nothing else: no capacity, no address.
 #![tactic(auto)]
 
+pub use boxed::Boxed;
+pub use rare::Rare;
+pub use room::ListRoom;
 pub use seq::Seq;
 pub use shared::Shared;
 
+mod boxed;
+mod rare;
+mod room;
 mod seq;
 mod shared;

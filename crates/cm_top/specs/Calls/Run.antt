@@ -3,8 +3,8 @@ use Rattle.std.specs.Prelude.{◌≡◌, ℕ, ◌≤◌, List, Option, IfSome, I
 use Rattle.std.specs.Io.KnownBytes.{IsAtEnd}
 use Rattle.outside_io.specs.Bytes.{TakesAtMost}
 use Rattle.outside_io.specs.Faults.{Rose}
-use Rattle.cm_model.specs.declared.state.Blanks.{Blanks}
-use Rattle.cm_top.specs.Status.{Ran, IsPlain, status_of}
+use Rattle.cm_model.specs.declared.blanks.Blanks.{Blanks}
+use Rattle.cm_top.specs.Status.{Histories, Ran, IsPlain, status_of}
 use Rattle.cm_top.specs.declared.status.Status.{Status}
 use Rattle.cm_top.specs.declared.status.Status.TheVariants as status
 
@@ -19,10 +19,10 @@ pub record SinkTold : Type 0 where
   pub flushed : Option ℕ
   pub faults : ℕ
 
--- A run from this source, before and after, into this sink, before and after, with its status.
-pub record Runs (blanks : Blanks) (source source' : SourceTold) (sink sink' : SinkTold) (ended : Status) : Type 0 where
+-- A run from this source, before and after, into this sink, before and after, with its status. The job made these histories.
+pub record Runs (made : Histories) (blanks : Blanks) (source source' : SourceTold) (sink sink' : SinkTold) (ended : Status) : Type 0 where
   -- by the bytes of the source, where they are told
-  pub ran : IfSome source.left (λ bytes. Ran bytes blanks sink.taken sink'.taken sink'.flushed ended)
+  pub ran : IfSome source.left (λ bytes. Ran made bytes blanks sink.taken sink'.taken sink'.flushed ended)
   -- the words are none of its business
   pub never_words : ended ≡ status.BadWords → ⊥
   -- a run that went well has read its source to the end

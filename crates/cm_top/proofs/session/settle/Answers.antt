@@ -1,17 +1,31 @@
-use Rattle.std.proofs.Common.{◌∙◌}
-use Rattle.cm_top.proofs.SettleLemmas.{settle_next, room_next, room_for_next}
+use Rattle.std.proofs.Common.{◌≡◌, Some, None, sym, ◌∙◌, arith}
+use Rattle.cm_model.specs.Scheduled.{Advanced, advance}
+use Rattle.cm_model.proofs.AdvanceLemmas.{advance-less, settle-next, settle-stays}
+use Rattle.cm_top.specs.Session.{at}
 use Rattle.cm_top.proofs.session.settle.Goals as goal
 
--- what is left has room for the next line
-pub step-requires : goal.step-requires
-step-requires c = room_for_next c.args.lines.now c.loop-index.index c.loop-index.state c.index-lines-index.result c.loop-index-test.true c.loop-index.invariant.room
+-- an advance leaves one entry less
+pub loop-smaller : goal.loop-smaller
+loop-smaller c =
+    let old : Advanced = at c.loop.desk c.loop.made.items c.loop.session in
+    let new : Advanced = at c.advance.new.desk c.advance.new.made.items c.advance.new.session in
+    let moved : advance c.args.who old ≡ Some new = rw c.if-branch.true at c.in_ok-advance.ensures.made in
+    omega (arith, advance-less c.args.who old new moved)
 
--- the step, and then the lines after it
-pub loop-index-preserved : goal.loop-index-preserved
-loop-index-preserved c =
-    let stepped = rw c.in-Some.is at c.in_ok-reply.ensures.made in
-    let next = settle_next c.args.who c.args.lines.now c.loop-index.index c.loop-index.state c.step.new.state c.loop-index.made c.index-lines-index.result c.in-Some.reply c.loop-index-test.true c.index-lines-index.is stepped ∙ c.loop-index.invariant.settled in
+-- to advance and then to settle is to settle
+pub loop-preserved : goal.loop-preserved
+loop-preserved c =
+    let old : Advanced = at c.loop.desk c.loop.made.items c.loop.session in
+    let new : Advanced = at c.advance.new.desk c.advance.new.made.items c.advance.new.session in
+    let moved : advance c.args.who old ≡ Some new = rw c.if-branch.true at c.in_ok-advance.ensures.made in
     record {
-      settled = rw (c.in_ok-push.ensures.ok, c.in_ok-entry.ensures) next;
-      room = room_next c.args.who c.args.lines.now c.loop-index.index c.loop-index.state c.step.new.state c.index-lines-index.result c.in-Some.reply c.loop-index-test.true stepped c.loop-index.invariant.room;
+      settled = settle-next c.args.who old new moved ∙ c.loop.invariant.settled;
+      room = omega (arith, c.loop.invariant.room, c.in_ok-advance.ensures.room);
     }
+
+-- without an advance the session is settled
+pub returns-clause-settled : goal.returns-clause-settled
+returns-clause-settled c =
+    let old : Advanced = at c.loop.desk c.loop.made.items c.loop.session in
+    let still = rw c.if-branch.false at c.in_ok-advance.ensures.made in
+    sym c.loop.invariant.settled ∙ settle-stays c.args.who old still.0 ∙ sym still.1

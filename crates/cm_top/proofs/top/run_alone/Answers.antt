@@ -1,3 +1,4 @@
+use Rattle.cm_model.specs.Scheduled.{scheduled}
 use Rattle.cm_top.proofs.TopLemmas.{read-Ran, read-end, Ran-exact}
 use Rattle.cm_top.proofs.top.run_alone.Goals as goal
 
@@ -16,5 +17,5 @@ returns-in-Ok-clause-runs g c =
       write_later = c.run_bytes.ensures.later;
       plain = c.run_bytes.ensures.plain;
       exact = read-Ran _ _ c.in-Ok.bytes.items _ c.in-Ok.ensures.whole
-          (Ran-exact c.in-Ok.bytes.items _ _ _ _ _ _ _ ran (λ failed. absurd (rw failed at c.run_bytes.ensures.of_bytes)) c.run_bytes.ensures.write_fault);
+          (Ran-exact (λ d. scheduled d c.args.stock) c.in-Ok.bytes.items _ _ _ _ _ _ _ ran (λ failed. absurd (rw failed at c.run_bytes.ensures.of_bytes)) c.run_bytes.ensures.write_fault);
     }

@@ -1,0 +1,60 @@
+-- One updated controller more, in the flat list.
+use Rattle.std.proofs.Common.{◌≡◌, ℕ, suc, ◌+◌, ◌≤◌, ℤ, List, [], ◌∷◌, ◌++◌, length, take, drop, refl, sym, ap, ◌∙◌, arith, length-append, length-drop}
+use Rattle.std.specs.Prelude.{sum_by}
+use Rattle.std.proofs.lemmas.List.{take_all, take-append-le, drop-append-le}
+use Rattle.std.proofs.lemmas.List.Sums.{sum_by-cons, sum_by-append}
+use Rattle.fixed_num.specs.declared.value.Value.{Value}
+use Rattle.cm_model.specs.Ran.{Ran}
+use Rattle.cm_model.specs.Rans.{rans, IsWhole}
+use Rattle.cm_model.specs.declared.ran.RanHead.{RanHead}
+
+-- what a head stands for with these values and numbers
+abbrev pub ran_with : RanHead → List Value → List ℤ → Ran
+ran_with h ws ms = record { serial = h.serial; done = h.done; outs = ws; published = ms }
+
+-- the first head's values and numbers are there
+first_within : (x : RanHead) (hs : List RanHead) (vs : List Value) (ns : List ℤ) → IsWhole (x ∷ hs) vs ns → (x.outs ≤ length vs) × (x.published ≤ length ns)
+first_within x hs vs ns whole =
+    let outs : x.outs + sum_by (λ (h : RanHead). h.outs) hs ≡ length vs = sym (sum_by-cons (λ (h : RanHead). h.outs) x hs) ∙ whole.outs in
+    let published : x.published + sum_by (λ (h : RanHead). h.published) hs ≡ length ns = sym (sum_by-cons (λ (h : RanHead). h.published) x hs) ∙ whole.published in
+    (omega (arith, outs), omega (arith, published))
+
+-- the heads after the first count what is left
+rest_whole : (x : RanHead) (hs : List RanHead) (vs : List Value) (ns : List ℤ) → IsWhole (x ∷ hs) vs ns → IsWhole hs (drop x.outs vs) (drop x.published ns)
+rest_whole x hs vs ns whole =
+    let outs : x.outs + sum_by (λ (h : RanHead). h.outs) hs ≡ length vs = sym (sum_by-cons (λ (h : RanHead). h.outs) x hs) ∙ whole.outs in
+    let published : x.published + sum_by (λ (h : RanHead). h.published) hs ≡ length ns = sym (sum_by-cons (λ (h : RanHead). h.published) x hs) ∙ whole.published in
+    record {
+      outs = omega (arith, outs, length-drop {A = Value} x.outs vs);
+      published = omega (arith, published, length-drop {A = ℤ} x.published ns);
+    }
+
+nothing_left : {A : Type 0} (xs : List A) → 0 ≡ length xs → xs ≡ []
+nothing_left [] none = refl
+nothing_left (x ∷ xs) none = absurd (omega (arith, none))
+
+pub one_ran_more : (hs : List RanHead) (h : RanHead) (vs ws : List Value) (ns ms : List ℤ) → IsWhole hs vs ns → h.outs ≡ length ws → h.published ≡ length ms
+    → rans (hs ++ h ∷ []) (vs ++ ws) (ns ++ ms) ≡ rans hs vs ns ++ ran_with h ws ms ∷ []
+one_ran_more [] h vs ws ns ms whole outs published =
+    rw (nothing_left vs whole.outs, nothing_left ns whole.published, outs, published)
+    (rw (take_all (length ws) ws (omega arith), take_all (length ms) ms (omega arith)) refl)
+one_ran_more (x ∷ hs) h vs ws ns ms whole outs published =
+    let within = first_within x hs vs ns whole in
+    rw (take-append-le x.outs vs ws within.0, take-append-le x.published ns ms within.1, drop-append-le x.outs vs ws within.0, drop-append-le x.published ns ms within.1)
+    (ap (λ l. record { serial = x.serial; done = x.done; outs = take x.outs vs; published = take x.published ns } ∷ l)
+      (one_ran_more hs h (drop x.outs vs) ws (drop x.published ns) ms (rest_whole x hs vs ns whole) outs published))
+
+-- all heads count all again
+pub one_head_more : (hs : List RanHead) (h : RanHead) (vs ws : List Value) (ns ms : List ℤ) → IsWhole hs vs ns → h.outs ≡ length ws → h.published ≡ length ms
+    → IsWhole (hs ++ h ∷ []) (vs ++ ws) (ns ++ ms)
+one_head_more hs h vs ws ns ms whole outs published = record {
+  outs = omega (arith, whole.outs, outs, sum_by-append (λ (x : RanHead). x.outs) hs (h ∷ []), sum_by-cons (λ (x : RanHead). x.outs) h [], length-append vs ws);
+  published = omega (arith, whole.published, published, sum_by-append (λ (x : RanHead). x.published) hs (h ∷ []), sum_by-cons (λ (x : RanHead). x.published) h [], length-append ns ms);
+}
+
+pub ruleset one_more = (one_ran_more, one_head_more)
+
+-- there are as many as heads
+pub rans_length : (hs : List RanHead) (vs : List Value) (ns : List ℤ) → length (rans hs vs ns) ≡ length hs
+rans_length [] vs ns = refl
+rans_length (h ∷ hs) vs ns = ap (λ n. suc n) (rans_length hs (drop h.outs vs) (drop h.published ns))

@@ -1,0 +1,43 @@
+-- How causes and outcomes print.
+use Rattle.std.specs.Prelude.{ℕ, List, [], ◌∷◌, ◌++◌, flat_map, codes, decimal}
+use Rattle.iface_names.specs.Interfaces.{interface_text}
+use Rattle.cm_model.specs.declared.cause.Cause.{Cause}
+use Rattle.cm_model.specs.declared.cause.Cause.TheVariants as cause
+use Rattle.cm_model.specs.declared.cause.Decision.{Decision}
+use Rattle.cm_model.specs.declared.cause.Dropped.{Dropped}
+use Rattle.cm_model.specs.declared.cause.Outcome.{Outcome}
+use Rattle.cm_model.specs.declared.cause.Outcome.TheVariants as outcome
+
+-- a cause: its word, and the interface, joint or controller that belongs to it
+abbrev pub cause_text : Cause → List ℕ
+cause_text cause.Unknown = codes "unknown"
+cause_text cause.Twice = codes "twice"
+cause_text cause.NotActive = codes "not_active"
+cause_text cause.NotConfigured = codes "not_configured"
+cause_text cause.AlreadyActive = codes "already_active"
+cause_text (cause.MissingFollower i) = codes "missing_follower " ++ interface_text i
+cause_text (cause.Unavailable i) = codes "unavailable " ++ interface_text i
+cause_text (cause.Conflict i owner) = codes "conflict " ++ interface_text i ++ codes " " ++ owner
+cause_text (cause.ModeRefused joint) = codes "mode_refused " ++ joint
+cause_text cause.NotReady = codes "not_ready"
+cause_text cause.NoSuchMove = codes "no_such_move"
+cause_text (cause.InUse controller) = codes "in_use " ++ controller
+
+-- a dropped name, as `fwd twice`
+abbrev pub dropped_text : Dropped → List ℕ
+dropped_text d = d.name ++ codes " " ++ cause_text d.cause
+
+-- what was dropped, where anything was: each name with its cause, joined by `, `
+abbrev pub drops_text : List Dropped → List ℕ
+drops_text [] = []
+drops_text (d ∷ ds) = codes " dropped " ++ dropped_text d ++ flat_map (λ e. codes ", " ++ dropped_text e) ds
+
+-- what became of a request
+abbrev pub outcome_text : Outcome → List ℕ
+outcome_text (outcome.Done dropped) = codes "done" ++ drops_text dropped
+outcome_text (outcome.Refused name cause) = codes "refused " ++ name ++ codes " " ++ cause_text cause
+outcome_text outcome.LoopEnded = codes "loop_ended"
+
+-- a decided request, as `0 done`
+abbrev pub decision_text : Decision → List ℕ
+decision_text d = decimal d.ticket ++ codes " " ++ outcome_text d.outcome

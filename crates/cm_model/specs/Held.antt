@@ -1,0 +1,19 @@
+-- A record of a cycle as it is kept stands for what happened.
+use Rattle.std.specs.Prelude.{ℕ, []}
+use Rattle.cm_model.specs.Happened.{Happened}
+use Rattle.cm_model.specs.declared.record.CycleParts.{CycleParts}
+use Rattle.cm_model.specs.declared.record.Held.{Held}
+use Rattle.cm_model.specs.declared.record.Held.TheVariants.{Quiet, Whole}
+
+-- nothing happened in this cycle but that it ended
+abbrev pub nothing_in : ℕ → Happened
+nothing_in n = record { cycle = n; failed = []; ran = []; bodies = []; stops = [] }
+
+-- what these parts tell
+abbrev pub told_of_parts : CycleParts → Happened
+told_of_parts p = record { cycle = p.cycle; failed = p.failed; ran = p.ran; bodies = p.bodies; stops = p.stops }
+
+-- what a record that is kept so tells
+abbrev pub happened : Held → Happened
+happened (Quiet n) = nothing_in n
+happened (Whole p) = told_of_parts p

@@ -1,0 +1,125 @@
+-- How the items of lists and of records print. Serials and places are told by names.
+use Rattle.std.specs.Prelude.{ℕ, ℤ, suc, Bool, true, false, if◌then◌else◌, List, [], ◌∷◌, ◌++◌, map, flat_map, codes, decimal, slice_get, Option, Some, None, option_map, unwrap_or}
+use Rattle.fixed_num.specs.Text.{spelled}
+use Rattle.fixed_num.specs.declared.value.BodyState.{BodyState}
+use Rattle.fixed_num.specs.declared.value.Value.{Value}
+use Rattle.fixed_num.specs.declared.value.Value.TheVariants.{Unset, Num}
+use Rattle.cm_document.specs.Vocabulary.{kind_word, life_word}
+use Rattle.cm_document.specs.declared.description.CompDesc.{CompDesc}
+use Rattle.cm_document.specs.declared.description.CompKind.{CompKind}
+use Rattle.cm_document.specs.declared.description.CompKind.TheVariants.{Sensor, Actuator, System}
+use Rattle.cm_model.specs.Happened.{Happened}
+use Rattle.cm_model.specs.Ran.{Ran}
+use Rattle.cm_model.specs.declared.lines.CompLine.{CompLine}
+use Rattle.cm_model.specs.declared.lines.CtlLine.{CtlLine}
+use Rattle.cm_model.specs.declared.lines.IfaceLine.{IfaceLine}
+use Rattle.cm_model.specs.declared.ran.Done.{Done}
+use Rattle.cm_model.specs.declared.ran.Done.TheVariants as done
+use Rattle.cm_model.specs.declared.record.FailedPart.{FailedPart}
+
+-- What stands for each number in a trace: the names of the controllers by serial, the components by place, the names of the
+-- joints and of the interfaces by place.
+pub record Names : Type 0 where
+  pub controllers : List (List ℕ)
+  pub components : List CompDesc
+  pub joints : List (List ℕ)
+  pub interfaces : List (List ℕ)
+
+-- the name at this place; nothing past the last
+abbrev pub name_at : List (List ℕ) → ℕ → List ℕ
+name_at names n = unwrap_or (slice_get names n) []
+
+-- the name of the component at this place
+abbrev pub component_name : Names → ℕ → List ℕ
+component_name names place = unwrap_or (option_map (λ c. c.name) (slice_get names.components place)) []
+
+-- what an interface holds
+abbrev pub value_text : Value → List ℕ
+value_text Unset = codes "unset"
+value_text (Num n) = spelled n
+
+-- what a component is for
+abbrev pub component_word : CompKind → List ℕ
+component_word Sensor = codes "sensor"
+component_word Actuator = codes "actuator"
+component_word System = codes "system"
+
+-- ---- Lines of lists
+
+-- in how many cycles a configured controller is updated once
+abbrev pub divisor_text : Option ℕ → List ℕ
+divisor_text None = []
+divisor_text (Some divisor) = codes " every " ++ decimal divisor
+
+-- a mark of a chained controller
+abbrev pub chained_text : Bool → List ℕ
+chained_text true = codes " chained"
+chained_text false = []
+
+-- a controller, as `mk mock unconfigured 0`
+abbrev pub controller_text : CtlLine → List ℕ
+controller_text c =
+    c.name ++ codes " " ++ kind_word c.kind ++ codes " " ++ life_word c.life ++ codes " " ++ decimal c.serial
+    ++ divisor_text c.divisor ++ chained_text c.chained
+
+-- a component, as `arm system active`
+abbrev pub described_component : Option CompDesc → List ℕ
+described_component None = []
+described_component (Some c) = c.name ++ codes " " ++ component_word c.kind
+
+abbrev pub component_text : Names → CompLine → List ℕ
+component_text names l = described_component (slice_get names.components l.place) ++ codes " " ++ life_word l.life
+
+-- the controller that claims a command interface, or `free`
+abbrev pub owner_text : Names → Option ℕ → List ℕ
+owner_text names None = codes "free"
+owner_text names (Some serial) = name_at names.controllers serial
+
+-- an interface, as `state j1/position 0.000000` or `command j1/velocity unset free`
+abbrev pub held_text : Names → IfaceLine → List ℕ
+held_text names l =
+    if l.available then value_text l.value ++ (if l.command then codes " " ++ owner_text names l.owner else [])
+    else codes "unavailable"
+
+abbrev pub iface_text : Names → IfaceLine → List ℕ
+iface_text names l =
+    (if l.command then codes "command " else codes "state ") ++ name_at names.interfaces l.place ++ codes " " ++ held_text names l
+
+-- ---- Items of a cycle's record
+
+-- a failed component, as `fail arm read`
+abbrev pub failed_text : Names → FailedPart → List ℕ
+failed_text names p = codes "fail " ++ component_name names p.place ++ (if p.reading then codes " read" else codes " write")
+
+-- values, each after a space
+abbrev pub outs_text : List Value → List ℕ
+outs_text values = flat_map (λ v. codes " " ++ value_text v) values
+
+abbrev pub numbers_text : List ℤ → List ℕ
+numbers_text numbers = flat_map (λ n. codes " " ++ spelled n) numbers
+
+-- what an update gave out and published, or `error`
+abbrev pub done_text : Ran → Done → List ℕ
+done_text r done.Ok = codes " ok" ++ outs_text r.outs ++ numbers_text r.published
+done_text r done.Error = codes " error"
+
+-- an updated controller, as `run fwd ok 0.500000`
+abbrev pub ran_text : Names → Ran → List ℕ
+ran_text names r = codes "run " ++ name_at names.controllers r.serial ++ done_text r r.done
+
+-- the body of a joint, as `joint j1 0.000000 0.000000 0.000000`
+abbrev pub body_text : List ℕ → BodyState → List ℕ
+body_text joint b = codes "joint " ++ joint ++ codes " " ++ spelled b.x ++ codes " " ++ spelled b.v ++ codes " " ++ spelled b.f
+
+-- the bodies of the joints from this place on
+abbrev pub body_texts : Names → ℕ → List BodyState → List (List ℕ)
+body_texts names place [] = []
+body_texts names place (b ∷ bs) = body_text (name_at names.joints place) b ∷ body_texts names (suc place) bs
+
+-- a stopped controller
+abbrev pub stop_text : Names → ℕ → List ℕ
+stop_text names serial = codes "stop " ++ name_at names.controllers serial
+
+-- all items of a record: what failed, what was updated, the bodies, what was stopped
+abbrev pub record_items : Names → Happened → List (List ℕ)
+record_items names h = map (failed_text names) h.failed ++ map (ran_text names) h.ran ++ body_texts names 0 h.bodies ++ map (stop_text names) h.stops

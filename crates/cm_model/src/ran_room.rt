@@ -1,0 +1,108 @@
+//! The list of updated controllers while it is filled.
+
+ghost use Rattle.std.specs.Prelude.{◌≡◌, ◌-◌, ◌<◌, ◌≤◌, ◌^◌, [], ◌∷◌, ◌++◌, length, IfOk, vec_len, vec_capacity, ◌+◌};
+
+use crate::ran::{Done, RanHead, RanList};
+use fixed_num::{Fx, StoredValue, Value};
+use std::alloc::{AllocError, Global};
+use std::marker::Model;
+
+/// The list of updated controllers while it is filled, within room that was reserved for controllers, values and numbers.
+#[derive(Debug, Drop)]
+pub struct RanRoom {
+    heads: Vec<RanHead>,
+    values: Vec<StoredValue>,
+    numbers: Vec<Fx>,
+}
+
+impl Model for RanRoom {
+    ghost use Rattle.cm_model.specs.Ran.{Filling};
+
+    ghost Value = { Filling };
+
+    ghost use Rattle.std.specs.Prelude.{◌-◌, vec_len, vec_capacity};
+    ghost use Rattle.cm_model.specs.Rans.{rans, IsWhole};
+
+    ghost view = { λ s. record {
+        rans = rans s.heads.items s.values.items s.numbers.items;
+        heads = vec_capacity s.heads - vec_len s.heads;
+        values = vec_capacity s.values - vec_len s.values;
+        numbers = vec_capacity s.numbers - vec_len s.numbers;
+    } };
+
+    ghost invariant = { λ s. IsWhole s.heads.items s.values.items s.numbers.items };
+}
+
+impl RanRoom {
+    /// An empty list with room for so many controllers, values and numbers.
+    pub fn with_room(
+        alloc: Global,
+        heads: usize,
+        values: usize,
+        numbers: usize,
+    ) -> Result<RanRoom, AllocError>
+        ensures { IfOk result (λ room. room ≡ record { rans = []; heads = heads; values = values; numbers = numbers }) }
+    {
+        Ok(RanRoom {
+            heads: Vec::with_capacity(alloc, heads)?,
+            values: Vec::with_capacity(alloc, values)?,
+            numbers: Vec::with_capacity(alloc, numbers)?,
+        })
+    }
+
+    /// One controller more. It takes no memory.
+    #[tactic(auto, using(crate::proofs::RanLemmas::one_more))]
+    pub fn push(&mut self, serial: u32, done: Done, outs: &[Value], published: &[Fx])
+        requires heads { 0 < self.old.heads }
+        requires values { length outs.now ≤ self.old.values }
+        requires numbers { length published.now ≤ self.old.numbers }
+        requires few_values { length outs.now < 2 ^ 8 }
+        requires few_numbers { length published.now < 2 ^ 8 }
+        ensures rans { self.new.rans ≡ self.old.rans ++ record { serial = serial; done = done; outs = outs.now; published = published.now } ∷ [] }
+        ensures heads { self.new.heads ≡ self.old.heads - 1 }
+        ensures values { self.new.values ≡ self.old.values - length outs.now }
+        ensures numbers { self.new.numbers ≡ self.old.numbers - length published.now }
+    {
+        push_values(&mut self.values, outs);
+        push_numbers(&mut self.numbers, published);
+        self.heads.push_reserved(RanHead {
+            serial,
+            done,
+            outs: outs.len() as u8,
+            published: published.len() as u8,
+        });
+    }
+
+    /// The list. It takes no memory.
+    pub fn into_list(self) -> RanList
+        ensures { result ≡ self.rans }
+    {
+        RanList {
+            heads: self.heads,
+            values: self.values,
+            numbers: self.numbers,
+        }
+    }
+}
+
+/// Values more, within the capacity.
+fn push_values(list: &mut Vec<StoredValue>, values: &[Value])
+    requires { vec_len list.old + length values.now ≤ vec_capacity list.old }
+    ensures items { list.new.items ≡ list.old.items ++ values.now }
+    ensures capacity { vec_capacity list.new ≡ vec_capacity list.old }
+{
+    for value in values {
+        list.push_reserved(StoredValue::of(*value));
+    }
+}
+
+/// Numbers more, within the capacity.
+fn push_numbers(list: &mut Vec<Fx>, numbers: &[Fx])
+    requires { vec_len list.old + length numbers.now ≤ vec_capacity list.old }
+    ensures items { list.new.items ≡ list.old.items ++ numbers.now }
+    ensures capacity { vec_capacity list.new ≡ vec_capacity list.old }
+{
+    for number in numbers {
+        list.push_reserved(*number);
+    }
+}

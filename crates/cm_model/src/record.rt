@@ -1,0 +1,131 @@
+//! What happened in one cycle.
+
+ghost use Rattle.std.specs.Prelude.{◌≡◌, [], IfOk};
+ghost use Rattle.cm_model.specs.Ran.{Ran};
+
+use crate::ran::{RanList, Rans};
+use fixed_num::BodyState;
+use sequence::{Boxed, Seq};
+use std::alloc::{AllocError, Global};
+use std::marker::Model;
+
+/// A component whose read or write failed.
+#[derive(Clone, Copy, Debug, PartialEq, Eq)]
+pub struct FailedPart {
+    /// Its place in the description.
+    pub place: u32,
+    /// Whether its read failed; otherwise its write did.
+    pub reading: bool,
+}
+
+/// What a cycle did, part by part.
+#[derive(Clone, Debug, Drop)]
+pub struct CycleParts {
+    /// The cycle's number, from 0.
+    pub cycle: u64,
+    /// The components that failed: reads before writes, each as described.
+    pub failed: Seq<FailedPart>,
+    /// The controllers that were updated, in the order of their updates.
+    pub ran: RanList,
+    /// The bodies after the cycle, one for each joint as described.
+    pub bodies: Seq<BodyState>,
+    /// The serials of the controllers that were stopped, in the order of the active ones.
+    pub stops: Seq<u32>,
+}
+
+/// What happened in one cycle. Contracts see its parts. A cycle of which there is nothing to tell takes no memory.
+#[derive(Clone, Debug, Drop)]
+pub struct CycleRecord {
+    held: Held,
+}
+
+/// How a record is kept.
+#[derive(Clone, Debug, Drop)]
+enum Held {
+    /// There is nothing to tell but the cycle's number.
+    Quiet(u64),
+    /// All parts.
+    Whole(Boxed<CycleParts>),
+}
+
+impl Model for CycleRecord {
+    ghost use Rattle.cm_model.specs.Happened.{Happened};
+
+    ghost Value = { Happened };
+
+    ghost use Rattle.cm_model.specs.Held.{happened};
+
+    ghost view = { λ s. happened s.held };
+}
+
+impl CycleRecord {
+    ghost use Rattle.cm_model.specs.Held.{told_of_parts};
+
+    /// The record of a cycle of which there is nothing to tell. It takes no memory.
+    pub fn quiet(cycle: u64) -> CycleRecord
+        ensures { result ≡ record { cycle = cycle; failed = []; ran = []; bodies = []; stops = [] } }
+    {
+        CycleRecord {
+            held: Held::Quiet(cycle),
+        }
+    }
+
+    /// The record of these parts.
+    pub fn whole(alloc: Global, parts: CycleParts) -> Result<CycleRecord, AllocError>
+        ensures { IfOk result (λ made. made ≡ told_of_parts parts) }
+    {
+        Ok(CycleRecord {
+            held: Held::Whole(Boxed::new(alloc, parts)?),
+        })
+    }
+
+    /// The cycle's number.
+    pub fn cycle(&self) -> u64
+        ensures { result ≡ self.now.cycle }
+    {
+        match &self.held {
+            Held::Quiet(cycle) => *cycle,
+            Held::Whole(parts) => parts.get().cycle,
+        }
+    }
+
+    /// The components that failed: reads before writes, each as described.
+    pub fn failed(&self) -> &[FailedPart]
+        ensures { result.now ≡ self.now.failed }
+    {
+        match &self.held {
+            Held::Quiet(_) => &[],
+            Held::Whole(parts) => parts.get().failed.as_slice(),
+        }
+    }
+
+    /// The controllers that were updated, in the order of their updates.
+    pub fn ran(&self) -> Rans<'_>
+        ensures { result ≡ self.now.ran }
+    {
+        match &self.held {
+            Held::Quiet(_) => Rans::none(),
+            Held::Whole(parts) => parts.get().ran.iter(),
+        }
+    }
+
+    /// The bodies after the cycle, one for each joint as described.
+    pub fn bodies(&self) -> &[BodyState]
+        ensures { result.now ≡ self.now.bodies }
+    {
+        match &self.held {
+            Held::Quiet(_) => &[],
+            Held::Whole(parts) => parts.get().bodies.as_slice(),
+        }
+    }
+
+    /// The serials of the controllers that were stopped, in the order of the active ones.
+    pub fn stops(&self) -> &[u32]
+        ensures { result.now ≡ self.now.stops }
+    {
+        match &self.held {
+            Held::Quiet(_) => &[],
+            Held::Whole(parts) => parts.get().stops.as_slice(),
+        }
+    }
+}

@@ -1,0 +1,134 @@
+//! What stands for serials and places in a trace.
+
+ghost use Rattle.std.specs.Prelude.{◌≡◌, ◌++◌, map, slice_get, option_map, IfOk, OnOk};
+ghost use Rattle.cm_document.specs.Links.{joints_of};
+ghost use Rattle.cm_model.specs.Trace.{names_of, names_in, loaded_by};
+
+use crate::interfaces::interface_texts;
+use cm_model::{CompDesc, Description, Entry, JointDesc, Memory, Name, Reply};
+use std::alloc::Global;
+use std::marker::Model;
+
+/// The names of the controllers by serial, the components by place, the names of joints and interfaces by place.
+#[derive(Debug, Drop)]
+pub struct Names<'a> {
+    controllers: Vec<&'a Name>,
+    components: &'a [CompDesc],
+    joints: Vec<&'a Name>,
+    interfaces: Vec<String>,
+}
+
+impl<'a> Model for Names<'a> {
+    ghost use Rattle.std.specs.Prelude.{map, string_bytes};
+    ghost use Rattle.cm_model.specs.Items.{Names as Told};
+
+    ghost Value = { Told };
+
+    ghost view = { λ s. record {
+        controllers = map (λ r. r.now) s.controllers.items;
+        components = s.components.now;
+        joints = map (λ r. r.now) s.joints.items;
+        interfaces = map string_bytes s.interfaces.items;
+    } };
+}
+
+impl<'a> Names<'a> {
+    ghost use Rattle.cm_model.specs.Items.{name_at};
+
+    /// What stands for each number in the trace of a history.
+    pub fn of(
+        alloc: Global,
+        description: &'a Description,
+        history: &'a [Entry],
+    ) -> Result<Names<'a>, Memory>
+        ensures { IfOk result (λ names. names ≡ names_in description.now history.now) }
+    {
+        let components = description.components.as_slice();
+        Ok(Names {
+            controllers: loaded_names(alloc, history)?,
+            components,
+            joints: joint_names(alloc, components)?,
+            interfaces: interface_texts(alloc, description)?,
+        })
+    }
+
+    /// The name of the controller with this serial.
+    pub fn controller(&self, serial: u32) -> &str
+        ensures { result.now ≡ name_at self.now.controllers serial }
+    {
+        match self.controllers.get(serial as usize) {
+            Some(name) => name.as_str(),
+            None => "",
+        }
+    }
+
+    /// The component at this place.
+    pub fn component(&self, place: u32) -> Option<&CompDesc>
+        ensures { option_map (λ c. c.now) result ≡ slice_get self.now.components place }
+    {
+        self.components.get(place as usize)
+    }
+
+    /// The name of the joint at this place.
+    pub fn joint(&self, place: usize) -> &str
+        ensures { result.now ≡ name_at self.now.joints place }
+    {
+        match self.joints.get(place) {
+            Some(name) => name.as_str(),
+            None => "",
+        }
+    }
+
+    /// The name of the interface at this place.
+    pub fn interface(&self, place: u32) -> &str
+        ensures { result.now ≡ name_at self.now.interfaces place }
+    {
+        match self.interfaces.get(place as usize) {
+            Some(name) => name.as_str(),
+            None => "",
+        }
+    }
+}
+
+/// The names of the controllers by serial: each load that was given one is of the next.
+fn loaded_names(alloc: Global, history: &[Entry]) -> Result<Vec<&Name>, Memory>
+    ensures { IfOk result (λ names. map (λ r. r.now) names.items ≡ names_of history.now) }
+{
+    let mut names = Vec::new(alloc);
+    for entry in history {
+        if let Some(name) = loaded_by(entry) {
+            names.push(name)?;
+        }
+    }
+    Ok(names)
+}
+
+/// The name of the controller that this entry loaded.
+fn loaded_by(entry: &Entry) -> Option<&Name>
+    ensures { option_map (λ r. r.now) result ≡ loaded_by entry.now.call entry.now.reply }
+{
+    match entry.reply {
+        Reply::Serial(_) => entry.call.load_name(),
+        _ => None,
+    }
+}
+
+/// The names of the joints of all components.
+fn joint_names(alloc: Global, components: &[CompDesc]) -> Result<Vec<&Name>, Memory>
+    ensures { IfOk result (λ names. map (λ r. r.now) names.items ≡ map (λ j. j.name) (joints_of components.now)) }
+{
+    let mut names = Vec::new(alloc);
+    for component in components {
+        push_joints(&mut names, component.joints.as_slice())?;
+    }
+    Ok(names)
+}
+
+fn push_joints<'a>(names: &mut Vec<&'a Name>, joints: &'a [JointDesc]) -> Result<(), Memory>
+    ensures { OnOk result (map (λ r. r.now) names.new.items ≡ map (λ r. r.now) names.old.items ++ map (λ j. j.name) joints.now) }
+{
+    for joint in joints {
+        names.push(&joint.name)?;
+    }
+    Ok(())
+}
