@@ -1,0 +1,4 @@
+mod ListLemmas
+mod RuleLemmas
+mod StepLemmas
+mod SeatLemmas
