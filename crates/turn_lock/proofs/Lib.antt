@@ -2,3 +2,4 @@ mod ListLemmas
 mod RuleLemmas
 mod StepLemmas
 mod SeatLemmas
+mod PassLemmas

@@ -8,7 +8,7 @@ use native.Mathlib.Nat.{mod-eq_of_lt}
 use lib.ListN.{get_elem?}
 use Rattle.std.proofs.Math.Nat.{mod-add-mod}
 use Rattle.std.specs.declared.snapshot.Snapshot.{Snapshot}
-use Rattle.atomic_table.specs.Table.{State, Me, Step, Act, keeps, takes, gives, Allows, homes_after, rest}
+use Rattle.atomic_table.specs.Table.{State, Me, Step, step, Act, keeps, takes, gives, Allows, homes_after, rest}
 use Rattle.atomic_table.proofs.Lists.{one_turn, set_here}
 use Rattle.turn_lock.specs.declared.kept.Shown.{Shown}
 use Rattle.turn_lock.specs.declared.kept.Shown.TheVariants.{Cycles, Tickets}
@@ -21,6 +21,10 @@ use Rattle.turn_lock.specs.Rule.{Standing, words, value, with_value, out, living
 use Rattle.turn_lock.specs.Steps.{word_of, drawn, Hit, looked, counts, publishes, Loads, loads, passes_on}
 use Rattle.turn_lock.proofs.ListLemmas.{at_get, sum_le, prefix_same, prefix_more, of_other}
 use Rattle.turn_lock.proofs.RuleLemmas.{some_none, same_number, turned_apart, change, slot_kept, others_wait}
+
+-- a step, where what it tells does not depend on which
+abbrev pub some_step : {S : Type 0} → Step S
+some_step = step 0 0 0 0 none
 
 -- ---- The words after a step
 
@@ -125,9 +129,9 @@ module _ {K E G : Type 0} (m : Meaning K E G) (footing : G) (seats : ℕ) where
       let most = r.most in
       one_turn r.at.serving n (2 ^ 64) low (omega arith) same
 
-  pub draws : (st : Step (Spot K)) (i : ℕ) (me : Me (Spot K) (View E G)) → me.0.alive ≡ true → me.0.number ≡ None
-      → Allows (Ruled m footing seats) 1 i me 0 (λ n. (n + 1) % 2 ^ 64) (drawn st me)
-  draws st i me alive idle s r long at small =
+  pub draws : (slots : ℕ) (i : ℕ) (me : Me (Spot K) (View E G)) → me.0.alive ≡ true → me.0.number ≡ None
+      → Allows (Ruled m footing seats) slots i me 0 (λ n. (n + 1) % 2 ^ 64) (drawn some_step me)
+  draws slots i me alive idle s r long at small =
       let v = me.0 in
       let f = r.fits i v at in
       let w = waiting r.at.ticket v in
@@ -193,9 +197,9 @@ module _ {K E G : Type 0} (m : Meaning K E G) (footing : G) (seats : ℕ) where
           (λ there. let f = r.fits o.seat o.holder o.sits in
               absurd ((r.apart i o.seat v o.holder (λ h. there (sym h)) at o.sits).tickets r.at.serving mine (f.turn o.holds).0))
 
-  pub looks : (st : Step (Spot K)) (i : ℕ) (me : Me (Spot K) (View E G)) (ticket : ℕ) → me.0.alive ≡ true → me.0.number ≡ Some ticket → me.0.holds ≡ false → me.1 ≡ []
-      → Allows (Ruled m footing seats) 1 i me 1 (λ n. n) (looked m st me)
-  looks st i me ticket alive mine waits empty s r long at small =
+  pub looks : (slots : ℕ) (i : ℕ) (me : Me (Spot K) (View E G)) (ticket : ℕ) → me.0.alive ≡ true → me.0.number ≡ Some ticket → me.0.holds ≡ false → me.1 ≡ []
+      → Allows (Ruled m footing seats) slots i me 1 (λ n. n) (looked m some_step me)
+  looks slots i me ticket alive mine waits empty s r long at small =
       let v = me.0 in
       let f = r.fits i v at in
       let found : get_or s.words 1 0 ≡ r.at.serving % 2 ^ 64 = ap (λ ws. get_or ws 1 0) r.words_are in
@@ -292,12 +296,12 @@ module _ {K E G : Type 0} (m : Meaning K E G) (footing : G) (seats : ℕ) where
     own = λ n c. saw.own n c ∙ sym (ap (of m.caller n) more ∙ of_other m.caller n log e (other n c));
   }
 
-  pub counts_one : (st : Step (Spot K)) (i : ℕ) (me : Me (Spot K) (View E G)) (named : Snapshot K) (e : E)
+  pub counts_one : (slots : ℕ) (i : ℕ) (me : Me (Spot K) (View E G)) (named : Snapshot K) (e : E)
       → ((which : Shown) (xs ys : List E) → m.shown which xs ≤ m.shown which (xs ++ ys))
       → me.1 ≡ (0, Counted named) ∷ [] → me.0.holds ≡ true → me.0.told ≡ []
       → m.entries named.value ≡ me.0.seen ++ e ∷ [] → Contains me.0.mine (m.caller e) → length (m.entries named.value) < 2 ^ 64
-      → Allows (Ruled m footing seats) 1 i me 2 (λ n. (n + 1) % 2 ^ 64) (counts m st me)
-  counts_one st i me named e grows has holds told more own few s r long at small =
+      → Allows (Ruled m footing seats) slots i me 2 (λ n. (n + 1) % 2 ^ 64) (counts m some_step me)
+  counts_one slots i me named e grows has holds told more own few s r long at small =
       let v = me.0 in
       let f = r.fits i v at in
       let turn = f.turn holds in
@@ -352,10 +356,10 @@ module _ {K E G : Type 0} (m : Meaning K E G) (footing : G) (seats : ℕ) where
         λ named' has'. let same : named ≡ named' = ap (named_in named) (sym has ∙ has') in ap (λ (x : Snapshot K). (counted (m.entries x.value) v, me.1)) same,
       )
 
-  pub publishes_one : (st : Step (Spot K)) (i : ℕ) (me : Me (Spot K) (View E G)) (which : Shown) (n : ℕ) → st.word ≡ word_of which
+  pub publishes_one : (slots : ℕ) (st : Step (Spot K)) (i : ℕ) (me : Me (Spot K) (View E G)) (which : Shown) (n : ℕ) → st.word ≡ word_of which
       → me.0.holds ≡ true → n ≡ m.shown which me.0.seen
-      → Allows (Ruled m footing seats) 1 i me (word_of which) (λ _. n) (λ _. publishes st me n)
-  publishes_one st i me which n word holds is s r long at small =
+      → Allows (Ruled m footing seats) slots i me (word_of which) (λ _. n) (λ _. publishes st me n)
+  publishes_one slots st i me which n word holds is s r long at small =
       let v = me.0 in
       let f = r.fits i v at in
       let turn = f.turn holds in
@@ -408,9 +412,9 @@ module _ {K E G : Type 0} (m : Meaning K E G) (footing : G) (seats : ℕ) where
         λ each same. ap (λ k. (published k v, me.1)) (same_word which each (sym word ∙ same)),
       )
 
-  pub loads_one : (st : Step (Spot K)) (i : ℕ) (me : Me (Spot K) (View E G)) (which : Shown) → st.word ≡ word_of which
-      → Allows (Ruled m footing seats) 1 i me (word_of which) (λ n. n) (loads m st me)
-  loads_one st i me which word s r long at small =
+  pub loads_one : (slots : ℕ) (st : Step (Spot K)) (i : ℕ) (me : Me (Spot K) (View E G)) (which : Shown) → st.word ≡ word_of which
+      → Allows (Ruled m footing seats) slots i me (word_of which) (λ n. n) (loads m st me)
+  loads_one slots st i me which word s r long at small =
       let v = me.0 in
       let f = r.fits i v at in
       let p = f.posted which in
@@ -446,10 +450,10 @@ module _ {K E G : Type 0} (m : Meaning K E G) (footing : G) (seats : ℕ) where
         ),
       )
 
-  pub passes : (st : Step (Spot K)) (i : ℕ) (me : Me (Spot K) (View E G)) (kept : K) → me.1 ≡ (0, Home kept) ∷ [] → me.0.alive ≡ true → me.0.holds ≡ true
+  pub passes : (slots : ℕ) (i : ℕ) (me : Me (Spot K) (View E G)) (kept : K) → me.1 ≡ (0, Home kept) ∷ [] → me.0.alive ≡ true → me.0.holds ≡ true
       → m.entries kept ≡ me.0.seen → me.0.footing ≡ Some (m.footing kept) → ((which : Shown) → (known which me.0).owes ≡ false)
-      → Allows (Ruled m footing seats) 1 i me 1 (λ n. (n + 1) % 2 ^ 64) (passes_on st me)
-  passes st i me kept has alive holds list ground_is paid s r long at small =
+      → Allows (Ruled m footing seats) slots i me 1 (λ n. (n + 1) % 2 ^ 64) (passes_on some_step me)
+  passes slots i me kept has alive holds list ground_is paid s r long at small =
       let v = me.0 in
       let f = r.fits i v at in
       let turn = f.turn holds in

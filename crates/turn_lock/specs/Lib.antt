@@ -1,6 +1,7 @@
--- In reading order: what is said of kept values, what a seat knows, what each step does, the rule between any two steps, and what a pass is.
+-- In reading order: what is said of kept values, what a seat knows, what a pass is, the rule between any two steps, what each step tells, and the contracts' words.
 pub mod Meaning
 pub mod Views
+pub mod Stands
 pub mod Rule
 pub mod Steps
 pub mod Passes

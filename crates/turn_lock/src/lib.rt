@@ -6,12 +6,16 @@ pub use kept::{Kept, Shown};
 pub use lock::TurnLock;
 pub use pass::TurnPass;
 
+mod finish;
 mod kept;
 mod lock;
+mod make;
 mod pass;
 mod steps;
 mod table;
+mod turn;
 mod view;
+mod wait;
 
-/// The most passes that a lock has. More than two turns never have one ticket modulo 2^64 while so few wait.
+/// The most passes that a lock has, so that no two of them ever wait with one ticket modulo 2^64.
 pub const MOST_SEATS: u32 = 64;

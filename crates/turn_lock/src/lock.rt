@@ -1,4 +1,4 @@
-//! The lock.
+//! The lock's type. Its calls stand in `make`, `turn` and `finish`.
 
 ghost use Rattle.std.specs.Prelude.{◌≡◌};
 
@@ -8,9 +8,9 @@ use crate::view::View;
 use atomic_table::Table;
 use std::alloc::Global;
 
-/// Keeps a value, which its passes take turns at.
+/// A value that its passes take turns at.
 #[derive(Drop)]
 pub struct TurnLock<K: Kept> {
-    table: Table<Spot<K>, View<K::Entry, K::Ground>, Terms<K>, Turns<K>, Global>,
+    pub(crate) table: Table<Spot<K>, View<K::Entry, K::Ground>, Terms<K>, Turns<K>, Global>,
     ghost sized: { (table.shared.table_id.words ≡ 5) × (table.shared.table_id.slots ≡ 1) },
 }

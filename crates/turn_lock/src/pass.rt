@@ -1,7 +1,7 @@
 //! A pass: the right of one caller to take turns.
 
 ghost use Rattle.std.specs.Prelude.{◌≡◌, true, [], ◌∷◌};
-ghost use Rattle.turn_lock.specs.Passes.{stands};
+ghost use Rattle.turn_lock.specs.Stands.{stands};
 
 use crate::kept::Kept;
 use crate::table::Spot;

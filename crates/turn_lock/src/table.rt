@@ -1,8 +1,11 @@
 //! The lock as a table of five words and one slot, under the lock's rule.
 
-use crate::kept::Kept;
+ghost use Rattle.std.specs.Prelude.{◌≡◌};
+ghost use Rattle.turn_lock.specs.Steps.{word_of};
+
+use crate::kept::{Kept, Shown};
 use crate::view::View;
-use atomic_table::TableRule;
+use atomic_table::{Seat, TableRule};
 use std::marker::PhantomData;
 use std::snapshot::Snapshot;
 
@@ -37,6 +40,16 @@ pub const HISTORY: usize = 2;
 pub const CYCLES: usize = 3;
 pub const TICKETS: usize = 4;
 
+/// The word of a published number.
+pub fn word_of(which: Shown) -> usize
+    ensures { result ≡ word_of which }
+{
+    match which {
+        Shown::Cycles => CYCLES,
+        Shown::Tickets => TICKETS,
+    }
+}
+
 /// The rule of the lock, between any two steps of any threads.
 pub struct Turns<K> {
     marker: PhantomData<K>,
@@ -51,3 +64,6 @@ impl<K: Kept> TableRule<Spot<K>, View<K::Entry, K::Ground>, Terms<K>> for Turns<
 
     ghost first = { λ terms. first_view (K.footing terms.kept.value) };
 }
+
+/// A seat of the lock's table.
+pub type LockSeat<K> = Seat<Spot<K>, View<<K as Kept>::Entry, <K as Kept>::Ground>>;

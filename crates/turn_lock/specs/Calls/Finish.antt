@@ -1,10 +1,35 @@
--- What `finish` promises, and what it asks.
-use Rattle.std.specs.Prelude.{◌≡◌, ℕ, ◌≤◌, List, [], All, Some}
+-- What `finish` asks and promises.
+use Rattle.std.specs.Prelude.{◌≡◌, ℕ, ◌<◌, ◌≤◌, false, List, [], map, All, Contains, Some}
+use mathlib.Core.List.{IsPrefix}
+use Rattle.turn_lock.specs.declared.kept.Kept.{Ghosts}
 use Rattle.turn_lock.specs.declared.kept.Shown.{Shown}
+use Rattle.turn_lock.specs.declared.lock.TurnLock.{TurnLock}
+use Rattle.turn_lock.specs.declared.pass.TurnPass.{TurnPass}
 use Rattle.turn_lock.specs.declared.view.View.{View}
 use Rattle.turn_lock.specs.Meaning.{Meaning, of}
+use Rattle.turn_lock.specs.Passes.{view, seats_of, IsPassOf}
 use Rattle.turn_lock.specs.Rule.{Saw, Told}
 use Rattle.turn_lock.specs.Views.{known}
+
+module _ {K E G : Type 0} {g : Ghosts K E G} where
+  -- These are all passes of the lock, in whatever order, and none holds the turn.
+  pub record AreAll (lock : TurnLock K E G) (passes : List (TurnPass K E G g)) : Type 0 where
+    pub of_lock : All (IsPassOf lock) passes
+    pub idle : All (λ p. (view p).holds ≡ false) passes
+    pub all : (n : ℕ) → n < seats_of lock → Contains (map (λ p. p.number) passes) n
+
+-- The list begins with what the pass of this number had seen, and has its entries and no more of its number; what it knows was published of a prefix of the list.
+pub record Keeps {K E G : Type 0} (m : Meaning K E G) (list : List E) (number : ℕ) (v : View E G) : Type 0 where
+  pub begins : IsPrefix v.seen list
+  pub own : of m.caller number list ≡ of m.caller number v.seen
+  pub cycles : (which : Shown) → (known which v).number ≤ m.shown which list
+
+-- The value that is home at the end: it has the lock's ground, keeps what each pass had seen and its entries, and has no entry of another number.
+pub record Finishes {K E G : Type 0} {g : Ghosts K E G} (m : Meaning K E G) (seats : ℕ) (first : TurnPass K E G g) (others : List (TurnPass K E G g)) (kept : K) : Type 0 where
+  pub ground_is : (view first).footing ≡ Some (m.footing kept)
+  pub first_is : Keeps m (m.entries kept) first.number (view first)
+  pub others_are : All (λ p. Keeps m (m.entries kept) p.number (view p)) others
+  pub no_others : All (λ e. m.caller e < seats) (m.entries kept)
 
 -- the value that is home at the end, as the seat that all others were joined into knows it
 pub record Ends {K E G : Type 0} (m : Meaning K E G) (seats : ℕ) (v : View E G) (kept : K) : Type 0 where

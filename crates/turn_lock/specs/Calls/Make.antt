@@ -1,7 +1,26 @@
 -- What `make` promises.
+use Rattle.std.specs.Prelude.{◌≡◌, ℕ, false, List, [], map, All, Some}
+use Rattle.std.specs.List.{range_with_len}
 use Rattle.turn_lock.specs.declared.kept.Kept.{Ghosts}
+use Rattle.turn_lock.specs.declared.lock.TurnLock.{TurnLock}
 use Rattle.turn_lock.specs.declared.pass.TurnPass.{TurnPass}
 use Rattle.turn_lock.specs.declared.view.View.{View}
+use Rattle.turn_lock.specs.Passes.{view, seats_of, IsPassOf}
 
-abbrev pub view : {K E G : Type 0} {g : Ghosts K E G} → TurnPass K E G g → View E G
-view p = p.seat.me.0
+-- it has seen nothing and taken no turn
+pub record IsFresh {E G : Type 0} (footing : G) (v : View E G) : Type 0 where
+  pub idle : v.holds ≡ false
+  pub seen : v.seen ≡ []
+  pub turns : v.turns ≡ 0
+  pub loads : v.loads ≡ 0
+  pub cycles : v.cycles.number ≡ 0
+  pub tickets : v.tickets.number ≡ 0
+  pub footing_is : v.footing ≡ Some footing
+
+module _ {K E G : Type 0} {g : Ghosts K E G} where
+  -- a lock with so many passes, numbered from 0 in order, which have seen nothing yet
+  pub record Made (footing : G) (seats : ℕ) (lock : TurnLock K E G) (passes : List (TurnPass K E G g)) : Type 0 where
+    pub seats_are : seats_of lock ≡ seats
+    pub numbers : map (λ p. p.number) passes ≡ range_with_len 0 seats
+    pub of_lock : All (IsPassOf lock) passes
+    pub fresh : All (λ p. IsFresh footing (view p)) passes

@@ -1,0 +1,1 @@
+//! Taking a lock apart.
