@@ -3,3 +3,4 @@ mod RuleLemmas
 mod StepLemmas
 mod SeatLemmas
 mod PassLemmas
+mod MakeLemmas

@@ -71,6 +71,11 @@ module _ {K E G : Type 0} (m : Meaning K E G) where
       alone P p zero u e = subst P (some-injective _ u e) p
       alone P p (suc i) u e = absurd (some-ne-none u (sym e))
 
+  pub starts_from : (kept named : K) (seats : ℕ) (slots : List (Spot K)) → named ≡ kept → slots ≡ Home kept ∷ [] → (1 ≤ seats) × (seats ≤ 64) → m.entries kept ≡ [] → ((which : Shown) → m.shown which [] ≡ 0)
+      → Ruled m (m.footing named) seats (opening (0 ∷ 0 ∷ 0 ∷ 0 ∷ 0 ∷ []) slots (first_view (m.footing named)))
+  starts_from kept named seats slots is only_slot number empty zeros =
+      subst (λ (x : K × List (Spot K)). Ruled m (m.footing x.0) seats (opening (0 ∷ 0 ∷ 0 ∷ 0 ∷ 0 ∷ []) x.1 (first_view (m.footing x.0)))) (λ i. (sym is i, sym only_slot i)) (starts kept seats number.0 number.1 empty zeros)
+
 module _ {K E G : Type 0} (m : Meaning K E G) (footing : G) (seats : ℕ) where
   -- ---- A seat is cut in two
 

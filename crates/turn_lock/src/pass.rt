@@ -11,7 +11,7 @@ use atomic_table::Seat;
 /// One of the passes of a lock. It has no more bytes than its number; what it knows stands in clauses alone.
 #[derive(Drop)]
 pub struct TurnPass<K: Kept> {
-    number: u32,
+    pub(crate) number: u32,
     pub(crate) seat: Seat<Spot<K>, View<K::Entry, K::Ground>>,
     // The seat is no spent one, and has the pass's number and no other.
     pub ghost alive: { seat.me.0.alive ≡ true },
