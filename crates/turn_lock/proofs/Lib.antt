@@ -4,3 +4,4 @@ mod StepLemmas
 mod SeatLemmas
 mod PassLemmas
 mod MakeLemmas
+mod FinishLemmas

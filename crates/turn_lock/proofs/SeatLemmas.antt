@@ -330,8 +330,10 @@ module _ {K E G : Type 0} (m : Meaning K E G) (footing : G) (seats : ℕ) where
         h.kept,
         values 0 (Home h.kept) (ap (λ (hs : List (Maybe (Spot K))). get_elem? hs 0) h.there),
         record {
-          saw = subst (λ l. Saw m.caller l v.mine v.seen) (sym list) f.saw;
-          told = subst (λ l. All (Told m.caller l v.mine) v.told) (sym list) f.told;
+          agrees = record {
+            saw = subst (λ l. Saw m.caller l v.mine v.seen) (sym list) f.saw;
+            told = subst (λ l. All (λ t. Saw m.caller l t.0 t.1) v.told) (sym list) (λ k d lt. (f.told k d lt).saw);
+          };
           ground_is = f.ground_is alive ∙ ap Some (sym h.ground_is);
           knows = λ which. let k = (f.posted which).knows in let p = r.published which in let same = ap (m.shown which) list in omega arith;
           callers = λ n high. let most = r.most.0 in ap (of m.caller n) list ∙ r.callers n (omega arith);
