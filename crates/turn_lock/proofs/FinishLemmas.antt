@@ -24,11 +24,11 @@ use Rattle.turn_lock.proofs.PassLemmas.{idle}
 use Rattle.turn_lock.proofs.SeatLemmas.{joins, ends}
 
 module _ {A : Type 0} (P : A → Type 0) where
-  all_left : (xs ys : List A) → All P (xs ++ ys) → All P xs
+  pub all_left : (xs ys : List A) → All P (xs ++ ys) → All P xs
   all_left [] ys all = λ k d lt. absurd (omega arith)
   all_left (x ∷ xs) ys all = All-cons P x xs (all 0 x (omega arith)) (all_left xs ys (All-tail P x (xs ++ ys) all))
 
-  all_right : (xs ys : List A) → All P (xs ++ ys) → All P ys
+  pub all_right : (xs ys : List A) → All P (xs ++ ys) → All P ys
   all_right [] ys all = all
   all_right (x ∷ xs) ys all = all_right xs ys (All-tail P x (xs ++ ys) all)
 

@@ -5,3 +5,5 @@ mod SeatLemmas
 mod PassLemmas
 mod MakeLemmas
 mod FinishLemmas
+pub mod Crossing
+pub mod Callers

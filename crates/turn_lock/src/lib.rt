@@ -14,6 +14,8 @@ mod pass;
 mod steps;
 mod table;
 mod turn;
+#[cfg(test)]
+mod tests;
 mod view;
 mod wait;
 
