@@ -1,5 +1,5 @@
 -- For callers: that the passes of `make` are all passes, also after they went to threads and came back, and in another order.
-use Rattle.std.proofs.Common.{◌≡◌, ℕ, zero, suc, ◌+◌, ◌<◌, ◌≤◌, List, [], ◌∷◌, ◌++◌, map, length, get_or, All, Contains, Option, refl, sym, ap, ◌∙◌, subst, ⊎_elim, arith}
+use Rattle.std.proofs.Common.{◌≡◌, ℕ, suc, ◌<◌, List, [], ◌∷◌, ◌++◌, map, length, get_or, All, Contains, refl, sym, ◌∙◌, subst, ⊎_elim, arith}
 use mathlib.Core.List.{map-append}
 use Rattle.std.specs.List.{range_with_len}
 use Rattle.std.proofs.lemmas.List.Elements.{All-cons, Contains-append_left, Contains-append_right, Contains-append_cases}
@@ -7,9 +7,8 @@ use Rattle.std.proofs.lemmas.List.FromFn.{length-range_with_len, get_or-range_wi
 use Rattle.turn_lock.specs.declared.kept.Kept.{Ghosts}
 use Rattle.turn_lock.specs.declared.lock.TurnLock.{TurnLock}
 use Rattle.turn_lock.specs.declared.pass.TurnPass.{TurnPass}
-use Rattle.turn_lock.specs.Calls.Make.{AreFresh, Made}
+use Rattle.turn_lock.specs.Calls.Make.{Made}
 use Rattle.turn_lock.specs.Calls.Finish.{IsReady, AreAll, EachStays}
-use Rattle.turn_lock.specs.Passes.{view, seats_of, IsPassOf}
 use Rattle.turn_lock.proofs.FinishLemmas.{all_left, all_right}
 
 -- each number below n stands among the first n

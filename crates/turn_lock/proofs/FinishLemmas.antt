@@ -1,5 +1,5 @@
 -- One seat that all others were joined into knows what each of them knew.
-use Rattle.std.proofs.Common.{◌≡◌, ◌⊎◌, ℕ, zero, suc, ◌+◌, ◌<◌, ◌≤◌, ◌==◌, max, Bool, true, false, cond, List, [], ◌∷◌, ◌++◌, map, length, get_or, All, Contains, Option, Some, None, refl, sym, ap, ◌∙◌, subst, inl, inr, ⊎_elim, arith, true≢false, eq-eqb, append_assoc}
+use Rattle.std.proofs.Common.{◌≡◌, ℕ, zero, suc, ◌<◌, ◌≤◌, ◌==◌, Bool, true, false, cond, List, [], ◌∷◌, ◌++◌, map, get_or, All, Contains, None, refl, sym, ap, ◌∙◌, subst, arith, true≢false, eq-eqb, append_assoc}
 use native.Mathlib.Decide.{dec_le}
 use mathlib.Core.Option.{some, some-injective}
 use lib.ListN.{get_elem?}
@@ -9,14 +9,13 @@ use Rattle.std.proofs.lemmas.List.Elements.{All-cons, All-tail, All-append, Cont
 use Rattle.turn_lock.specs.declared.kept.Kept.{Ghosts}
 use Rattle.turn_lock.specs.declared.kept.Shown.{Shown}
 use Rattle.turn_lock.specs.declared.kept.Shown.TheVariants.{Cycles, Tickets}
-use Rattle.turn_lock.specs.declared.lock.TurnLock.{TurnLock}
 use Rattle.turn_lock.specs.declared.pass.TurnPass.{TurnPass}
 use Rattle.turn_lock.specs.declared.table.Spot.{Spot}
 use Rattle.turn_lock.specs.declared.table.Spot.TheVariants.{Home, Away, Counted}
 use Rattle.turn_lock.specs.declared.view.View.{View}
-use Rattle.turn_lock.specs.Calls.Finish.{AreAll, IsReady, Keeps, Finishes, Agrees, Covers, Ends}
+use Rattle.turn_lock.specs.Calls.Finish.{Keeps, Finishes, Agrees, Covers, Ends}
 use Rattle.turn_lock.specs.Meaning.{Meaning, of}
-use Rattle.turn_lock.specs.Passes.{view, seats_of}
+use Rattle.turn_lock.specs.Passes.{view}
 use Rattle.turn_lock.specs.Rule.{Saw, Ruled}
 use Rattle.turn_lock.specs.Stands.{stands}
 use Rattle.turn_lock.specs.Views.{known, joined, spent}

@@ -1,11 +1,11 @@
 -- Lemmas on lists: those of prefixes, of the entries of one number, and of the views in a row.
-use Rattle.std.proofs.Common.{◌≡◌, ◌≢◌, ◌⊎◌, ℕ, zero, suc, ◌+◌, ◌<◌, ◌≤◌, ◌==◌, Bool, true, false, cond, ltb, eqb, List, [], ◌∷◌, ◌++◌, length, get_or, set, filter, sum_by, Contains, refl, sym, ap, ◌∙◌, subst, inl, inr, ⊎_elim, arith, append_assoc, append-nil, length-append, ltb-true, ltb-false, ne_eqb}
+use Rattle.std.proofs.Common.{◌≡◌, ◌≢◌, ◌⊎◌, ℕ, zero, suc, ◌+◌, ◌<◌, ◌≤◌, ◌==◌, Bool, true, false, cond, ltb, List, [], ◌∷◌, ◌++◌, length, get_or, set, sum_by, Contains, refl, sym, ap, ◌∙◌, subst, inl, inr, ⊎_elim, arith, append_assoc, append-nil, ltb-true, ltb-false, ne_eqb}
 use mathlib.Core.List.{IsPrefix}
 use mathlib.Core.Option.{some, some-injective, some-ne-none}
 use lib.ListN.{get_elem?}
 use Rattle.std.proofs.lemmas.List.{append_cancel_left}
-use Rattle.std.proofs.lemmas.List.Elements.{filter-append, Contains-append_cases}
-use Rattle.std.proofs.lemmas.List.Sums.{sum_by-cons, sum_by-set, get_or-le-sum_by}
+use Rattle.std.proofs.lemmas.List.Elements.{filter-append}
+use Rattle.std.proofs.lemmas.List.Sums.{sum_by-cons, sum_by-set}
 use Rattle.atomic_table.proofs.Lists.{at_set}
 use Rattle.turn_lock.specs.Meaning.{of}
 use Rattle.turn_lock.specs.Views.{longer}
@@ -109,13 +109,13 @@ module _ {A : Type 0} where
   pairs_set R l i w turn old new j k a b apart at bt =
       ⊎_elim
       (λ (t : (j ≡ i) × (w ≡ a)). ⊎_elim
-          (λ (s : (k ≡ i) × (w ≡ b)). absurd (apart (t.0 ∙ sym s.0)))
-          (λ (s : (k ≢ i) × (get_elem? l k ≡ some b)). subst (λ x. R x b) t.1 (new k b s.0 s.1))
-          (at_set l i k w b bt))
+      (λ (s : (k ≡ i) × (w ≡ b)). absurd (apart (t.0 ∙ sym s.0)))
+      (λ (s : (k ≢ i) × (get_elem? l k ≡ some b)). subst (λ x. R x b) t.1 (new k b s.0 s.1))
+      (at_set l i k w b bt))
       (λ (t : (j ≢ i) × (get_elem? l j ≡ some a)). ⊎_elim
-          (λ (s : (k ≡ i) × (w ≡ b)). subst (λ x. R a x) s.1 (turn w a (new j a t.0 t.1)))
-          (λ (s : (k ≢ i) × (get_elem? l k ≡ some b)). old j k a b apart t.1 s.1)
-          (at_set l i k w b bt))
+      (λ (s : (k ≡ i) × (w ≡ b)). subst (λ x. R a x) s.1 (turn w a (new j a t.0 t.1)))
+      (λ (s : (k ≢ i) × (get_elem? l k ≡ some b)). old j k a b apart t.1 s.1)
+      (at_set l i k w b bt))
       (at_set l i j w a at)
 
 -- a row and one item more: each is an old one, or the new one at the end

@@ -1,11 +1,10 @@
 -- Fresh passes in a row.
-use Rattle.std.proofs.Common.{◌≡◌, ℕ, zero, suc, ◌+◌, ◌<◌, ◌≤◌, true, false, List, [], ◌∷◌, ◌++◌, map, length, All, Option, Some, None, refl, sym, ap, ◌∙◌, subst, arith, add-one, length-append}
+use Rattle.std.proofs.Common.{◌≡◌, ℕ, zero, suc, ◌+◌, ◌<◌, true, false, List, [], ◌∷◌, ◌++◌, length, All, Option, Some, refl, sym, ap, ◌∙◌, subst, arith, add-one, length-append}
 use mathlib.Core.List.{map-append}
 use Rattle.std.specs.List.{range_with_len}
 use Rattle.std.proofs.lemmas.List.Elements.{All-cons, All-append}
 use Rattle.atomic_table.specs.Table.{Me, Splits}
 use Rattle.turn_lock.specs.declared.kept.Kept.{Ghosts}
-use Rattle.turn_lock.specs.declared.kept.Shown.{Shown}
 use Rattle.turn_lock.specs.declared.lock.TurnLock.{TurnLock}
 use Rattle.turn_lock.specs.declared.pass.TurnPass.{TurnPass}
 use Rattle.turn_lock.specs.declared.table.Spot.{Spot}

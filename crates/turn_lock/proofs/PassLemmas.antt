@@ -1,19 +1,19 @@
 -- What follows of a pass's seat from that it stands right, and its steps after a write to the slot that it holds.
-use Rattle.std.proofs.Common.{◌≡◌, ℕ, zero, suc, ◌+◌, ◌%◌, ◌^◌, ◌<◌, ◌≤◌, ◌==◌, Bool, true, false, not, ◌&&◌, cond, List, [], ◌∷◌, ◌++◌, length, Contains, Option, Some, None, is_none, refl, sym, ap, ◌∙◌, subst, arith, true≢false, eqb-true}
+use Rattle.std.proofs.Common.{◌≡◌, ℕ, ◌+◌, ◌%◌, ◌^◌, ◌<◌, ◌≤◌, ◌==◌, Bool, true, false, not, ◌&&◌, cond, List, [], ◌∷◌, ◌++◌, length, Contains, Option, Some, None, is_none, refl, sym, ap, ◌∙◌, subst, arith, true≢false, eqb-true}
 use mathlib.Core.Option.{none}
 use Rattle.std.specs.declared.snapshot.Snapshot.{Snapshot}
-use Rattle.atomic_table.specs.Table.{Me, Step, step, Allows, rest}
+use Rattle.atomic_table.specs.Table.{Me, step, Allows, rest}
 use Rattle.turn_lock.specs.declared.kept.Shown.{Shown}
 use Rattle.turn_lock.specs.declared.kept.Shown.TheVariants.{Cycles, Tickets}
 use Rattle.turn_lock.specs.declared.table.Spot.{Spot}
-use Rattle.turn_lock.specs.declared.table.Spot.TheVariants.{Home, Away, Counted}
+use Rattle.turn_lock.specs.declared.table.Spot.TheVariants.{Home, Counted}
 use Rattle.turn_lock.specs.declared.view.View.{View}
 use Rattle.turn_lock.specs.Meaning.{Meaning}
 use Rattle.turn_lock.specs.Stands.{is_emptied, has_slot, is_nil, is_idle, stands}
 use Rattle.turn_lock.specs.Rule.{Ruled}
 use Rattle.turn_lock.specs.Steps.{word_of, drawn, Hit, looked, counts, publishes, loads, passes_on}
 use Rattle.turn_lock.specs.Calls.Take.{Waits}
-use Rattle.turn_lock.specs.Views.{known, waiting}
+use Rattle.turn_lock.specs.Views.{known}
 use Rattle.turn_lock.proofs.StepLemmas.{some_step, draws, looks, counts_one, publishes_one, loads_one, passes}
 
 both : (a b : Bool) → (a && b) ≡ true → (a ≡ true) × (b ≡ true)

@@ -1,8 +1,8 @@
 -- The rule is kept where one seat changes, and where a seat is new.
-use Rattle.std.proofs.Common.{◌≡◌, ◌≢◌, ◌⊎◌, ℕ, zero, suc, ◌+◌, ◌<◌, ◌≤◌, true, false, cond, List, [], ◌∷◌, ◌++◌, length, set, All, Contains, sum_by, Option, Some, None, refl, sym, ap, ◌∙◌, subst, inl, inr, ⊎_elim, arith, true≢false}
+use Rattle.std.proofs.Common.{◌≡◌, ◌≢◌, ◌⊎◌, ℕ, ◌+◌, ◌≤◌, true, List, [], ◌∷◌, ◌++◌, length, set, sum_by, Option, Some, None, sym, ap, ◌∙◌, subst, inl, inr, ⊎_elim, arith}
 use mathlib.Core.Logic.{dite}
 use native.Mathlib.Decide.{ℕ_discrete}
-use mathlib.Core.Option.{Option as Maybe, none, some, some-injective, some-ne-none}
+use mathlib.Core.Option.{Option as Maybe, some, some-injective}
 use lib.ListN.{get_elem?}
 use Rattle.std.proofs.lemmas.List.Sums.{sum_by_push}
 use Rattle.atomic_table.specs.Table.{State}
@@ -49,7 +49,7 @@ module _ {K E G : Type 0} (m : Meaning K E G) (footing : G) (seats : ℕ) where
       let few = r.few in
       let most = r.most in
       let other : (j : ℕ) (u : View E G) → j ≢ i → get_elem? s.views j ≡ some u → Fits m footing hs t u × Apart w u =
-          λ j u apart e. others j u apart e (r.apart i j v u (λ h. apart (sym h)) at e) (r.fits j u e) in
+      λ j u apart e. others j u apart e (r.apart i j v u (λ h. apart (sym h)) at e) (r.fits j u e) in
       record {
         at = t;
         words_are = words_are;
@@ -104,7 +104,7 @@ module _ {K E G : Type 0} (m : Meaning K E G) (footing : G) (seats : ℕ) where
       let many = r.as_many in
       let none : out w ≡ 0 = rw idle in
       let all : (j : ℕ) (u : View E G) → get_elem? (s.views ++ w ∷ []) j ≡ some u → Fits m footing s.homes r.at u =
-          λ j u e. ⊎_elim (λ (old : get_elem? s.views j ≡ some u). r.fits j u old) (λ (new : w ≡ u). subst (Fits m footing s.homes r.at) new mine) (at_snoc s.views w u j e) in
+      λ j u e. ⊎_elim (λ (old : get_elem? s.views j ≡ some u). r.fits j u old) (λ (new : w ≡ u). subst (Fits m footing s.homes r.at) new mine) (at_snoc s.views w u j e) in
       record {
         at = r.at;
         words_are = r.words_are;
@@ -122,11 +122,11 @@ module _ {K E G : Type 0} (m : Meaning K E G) (footing : G) (seats : ℕ) where
       pairs j k a b apart e h =
           ⊎_elim
           (λ (old : get_elem? s.views j ≡ some a). ⊎_elim
-              (λ (old' : get_elem? s.views k ≡ some b). r.apart j k a b apart old old')
-              (λ (new : (k ≡ length s.views) × (w ≡ b)). subst (λ (x : View E G). Apart a x) new.1 (others j a old))
-              (snoc_at s.views w b k h))
+          (λ (old' : get_elem? s.views k ≡ some b). r.apart j k a b apart old old')
+          (λ (new : (k ≡ length s.views) × (w ≡ b)). subst (λ (x : View E G). Apart a x) new.1 (others j a old))
+          (snoc_at s.views w b k h))
           (λ (new : (j ≡ length s.views) × (w ≡ a)). ⊎_elim
-              (λ (old : get_elem? s.views k ≡ some b). turned_apart b a (subst (λ (x : View E G). Apart b x) new.1 (others k b old)))
-              (λ (new' : (k ≡ length s.views) × (w ≡ b)). absurd (apart (new.0 ∙ sym new'.0)))
-              (snoc_at s.views w b k h))
+          (λ (old : get_elem? s.views k ≡ some b). turned_apart b a (subst (λ (x : View E G). Apart b x) new.1 (others k b old)))
+          (λ (new' : (k ≡ length s.views) × (w ≡ b)). absurd (apart (new.0 ∙ sym new'.0)))
+          (snoc_at s.views w b k h))
           (snoc_at s.views w a j e)

@@ -1,14 +1,14 @@
 -- The rule holds at the start, is kept where a seat is cut in two or joined into another, and at the end the value is at home.
-use Rattle.std.proofs.Common.{◌≡◌, ◌≢◌, ◌⊎◌, ℕ, zero, suc, ◌+◌, ◌%◌, ◌^◌, ◌<◌, ◌≤◌, max, Bool, true, false, cond, List, [], ◌∷◌, ◌++◌, length, get_or, set, All, Contains, sum_by, Option, Some, None, refl, sym, ap, ◌∙◌, subst, inl, inr, ⊎_elim, arith, true≢false}
+use Rattle.std.proofs.Common.{◌≡◌, ◌≢◌, ℕ, zero, suc, ◌+◌, ◌<◌, ◌≤◌, Bool, true, false, cond, List, [], ◌∷◌, ◌++◌, set, All, Contains, Option, Some, None, refl, sym, ap, ◌∙◌, subst, inl, ⊎_elim, arith, true≢false}
 use mathlib.Core.Logic.{dite}
 use mathlib.Core.List.{IsPrefix}
-use mathlib.Core.Option.{Option as Maybe, none, some, some-injective, some-ne-none}
+use mathlib.Core.Option.{Option as Maybe, some, some-injective, some-ne-none}
 use native.Mathlib.Decide.{ℕ_discrete}
 use lib.ListN.{get_elem?}
 use Rattle.std.proofs.lemmas.List.{set_comm}
 use Rattle.std.proofs.lemmas.List.Elements.{All-cons, All-append, Contains-append_left, Contains-append_right, Contains-append_cases}
 use Rattle.atomic_table.specs.Table.{State, Splits, Joins, opening, Final, Seen}
-use Rattle.atomic_table.proofs.Lists.{at_set, set_here, set_else}
+use Rattle.atomic_table.proofs.Lists.{at_set, set_else}
 use Rattle.turn_lock.specs.declared.kept.Shown.{Shown}
 use Rattle.turn_lock.specs.declared.kept.Shown.TheVariants.{Cycles, Tickets}
 use Rattle.turn_lock.specs.declared.table.Spot.{Spot}
@@ -17,10 +17,10 @@ use Rattle.turn_lock.specs.declared.view.Known.{Known}
 use Rattle.turn_lock.specs.declared.view.View.{View}
 use Rattle.turn_lock.specs.Meaning.{Meaning, of, pick}
 use Rattle.turn_lock.specs.Views.{known, first_view, dealer, dealt, joined, spent, better, longer, either_count}
-use Rattle.turn_lock.specs.Rule.{Standing, words, value, out, living, Saw, Told, Posted, Apart, Fits, IsHome, IsOut, Ruled}
+use Rattle.turn_lock.specs.Rule.{Standing, value, out, living, Saw, Told, Posted, Apart, Fits, IsHome, IsOut, Ruled}
 use Rattle.turn_lock.specs.Calls.Finish.{Ends}
-use Rattle.turn_lock.proofs.ListLemmas.{at_get, sum_set, every_set, prefix_same, of_none, of_between, longer_is, only, nothing}
-use Rattle.turn_lock.proofs.RuleLemmas.{some_none, same_number, turned_apart, change, slot_kept, enter}
+use Rattle.turn_lock.proofs.ListLemmas.{sum_set, every_set, prefix_same, of_none, of_between, longer_is, only, nothing}
+use Rattle.turn_lock.proofs.RuleLemmas.{same_number, change, slot_kept, enter}
 
 -- ---- The start
 
@@ -97,40 +97,40 @@ module _ {K E G : Type 0} (m : Meaning K E G) (footing : G) (seats : ℕ) where
       let lefts = sum_set living s.views i v left at in
       let same_lives : living left ≡ living v = refl in
       let r' = change m footing seats s r i v left at s.words s.homes t
-          r.words_are
-          (omega arith)
-          (omega arith)
-          (omega arith, omega arith)
-          (λ n high. r.callers n (omega arith))
-          r.published
-          (record {
-            one = f.one;
-            within = f.within;
-            turn = f.turn;
-            saw = f.saw;
-            told = f.told;
-            ground_is = f.ground_is;
-            given = λ n c. let b = f.given n c in omega arith;
-            owner = f.owner;
-            counts = λ n e. same_number left.given n (k + 1) e left_given ∙ ap (λ x. x + 1) given;
-            posted = f.posted;
-          })
-          (λ j u apart e a g. (
-            record {
-              one = g.one;
-              within = g.within;
-              turn = g.turn;
-              saw = g.saw;
-              told = g.told;
-              ground_is = g.ground_is;
-              given = λ n c. let b = g.given n c in omega arith;
-              owner = g.owner;
-              counts = λ n e. absurd (a.counts k n keeps e);
-              posted = g.posted;
-            },
-            record { tickets = a.tickets; numbers = a.numbers; counts = λ x y e h. a.counts k y keeps h },
-          ))
-          (slot_kept m footing seats s r i v left at t (λ h. record { kept = h.kept; there = h.there; list = h.list; ground_is = h.ground_is; current = h.current }) (λ h. h)) in
+      r.words_are
+      (omega arith)
+      (omega arith)
+      (omega arith, omega arith)
+      (λ n high. r.callers n (omega arith))
+      r.published
+      (record {
+        one = f.one;
+        within = f.within;
+        turn = f.turn;
+        saw = f.saw;
+        told = f.told;
+        ground_is = f.ground_is;
+        given = λ n c. let b = f.given n c in omega arith;
+        owner = f.owner;
+        counts = λ n e. same_number left.given n (k + 1) e left_given ∙ ap (λ x. x + 1) given;
+        posted = f.posted;
+      })
+      (λ j u apart e a g. (
+        record {
+          one = g.one;
+          within = g.within;
+          turn = g.turn;
+          saw = g.saw;
+          told = g.told;
+          ground_is = g.ground_is;
+          given = λ n c. let b = g.given n c in omega arith;
+          owner = g.owner;
+          counts = λ n e. absurd (a.counts k n keeps e);
+          posted = g.posted;
+        },
+        record { tickets = a.tickets; numbers = a.numbers; counts = λ x y e h. a.counts k y keeps h },
+      ))
+      (slot_kept m footing seats s r i v left at t (λ h. record { kept = h.kept; there = h.there; list = h.list; ground_is = h.ground_is; current = h.current }) (λ h. h)) in
       enter m footing seats (record { words = s.words; homes = s.homes; views = set s.views i left }) r' right
       (omega arith)
       idle
@@ -151,16 +151,16 @@ module _ {K E G : Type 0} (m : Meaning K E G) (footing : G) (seats : ℕ) where
         posted = λ which. let p = f.posted which in record { knows = p.knows; current = p.current; owes = λ e. absurd (true≢false (sym e ∙ paid which)) };
       })
       (every_set (λ u. Apart u right) s.views i left
-          (record {
-            tickets = λ n e h. absurd (cc);
-            numbers = λ n e h. let is : n ≡ k = only k n (subst (λ (l : List ℕ). Contains l n) right_mine h) in let b = f.given n e in omega arith;
-            counts = λ x y e h. absurd (cc);
-          })
-          (λ j u apart e. let g = r.fits j u e in record {
-            tickets = λ n e' h. absurd (cc);
-            numbers = λ n e' h. let is : n ≡ k = only k n (subst (λ (l : List ℕ). Contains l n) right_mine h) in let b = g.given n e' in omega arith;
-            counts = λ x y e' h. absurd (cc);
-          }))
+      (record {
+        tickets = λ n e h. absurd (cc);
+        numbers = λ n e h. let is : n ≡ k = only k n (subst (λ (l : List ℕ). Contains l n) right_mine h) in let b = f.given n e in omega arith;
+        counts = λ x y e h. absurd (cc);
+      })
+      (λ j u apart e. let g = r.fits j u e in record {
+        tickets = λ n e' h. absurd (cc);
+        numbers = λ n e' h. let is : n ≡ k = only k n (subst (λ (l : List ℕ). Contains l n) right_mine h) in let b = g.given n e' in omega arith;
+        counts = λ x y e' h. absurd (cc);
+      }))
 
   -- ---- A seat is joined into another
 
@@ -223,70 +223,70 @@ module _ {K E G : Type 0} (m : Meaning K E G) (footing : G) (seats : ℕ) where
       let spent' : View E G = spent in
       let gone : State (Spot K) (View E G) = record { words = s.words; homes = s.homes; views = set s.views other spent' } in
       let r' : Ruled m footing seats gone = change m footing seats s r other w spent' there' s.words s.homes r.at
-          r.words_are
-          (omega arith)
-          (omega arith)
-          (omega arith, r.most.0)
-          r.callers
-          r.published
-          (record {
-            one = omega arith;
-            within = λ n e. absurd (cc);
-            turn = λ h. absurd (true≢false (sym h));
-            saw = record { begins = (log, refl); own = λ n c. absurd (nothing n c) };
-            told = λ j d lt. absurd (omega arith);
-            ground_is = λ h. absurd (true≢false (sym h));
-            given = λ n c. absurd (nothing n c);
-            owner = λ h. absurd (true≢false (sym h));
-            counts = λ n e. absurd (cc);
-            posted = λ which. unknown_posted which (value which r.at) (m.shown which) (zeros which);
-          })
-          (λ j u apart' e a h. (h, record { tickets = λ n e' h'. absurd (cc); numbers = λ n c c'. nothing n c; counts = λ x y e' h'. absurd (cc) }))
-          (slot_kept m footing seats s r other w spent' there' r.at (λ h. h) (λ h. absurd (true≢false (sym h ∙ waits')))) in
+      r.words_are
+      (omega arith)
+      (omega arith)
+      (omega arith, r.most.0)
+      r.callers
+      r.published
+      (record {
+        one = omega arith;
+        within = λ n e. absurd (cc);
+        turn = λ h. absurd (true≢false (sym h));
+        saw = record { begins = (log, refl); own = λ n c. absurd (nothing n c) };
+        told = λ j d lt. absurd (omega arith);
+        ground_is = λ h. absurd (true≢false (sym h));
+        given = λ n c. absurd (nothing n c);
+        owner = λ h. absurd (true≢false (sym h));
+        counts = λ n e. absurd (cc);
+        posted = λ which. unknown_posted which (value which r.at) (m.shown which) (zeros which);
+      })
+      (λ j u apart' e a h. (h, record { tickets = λ n e' h'. absurd (cc); numbers = λ n c c'. nothing n c; counts = λ x y e' h'. absurd (cc) }))
+      (slot_kept m footing seats s r other w spent' there' r.at (λ h. h) (λ h. absurd (true≢false (sym h ∙ waits')))) in
       let here : get_elem? (set s.views other spent') i ≡ some v = set_else s.views other i spent' (λ h. apart (sym h)) ∙ at in
       subst (λ (vs : List (View E G)). Ruled m footing seats (record { words = s.words; homes = s.homes; views = vs }))
       (set_comm s.views other i spent' both (λ h. apart h))
       (change m footing seats gone r' i v both here s.words s.homes r.at
-          r.words_are
-          (omega arith)
-          (omega arith)
-          (omega arith, r.most.0)
-          r.callers
-          r.published
-          (record {
-            one = omega arith;
-            within = λ n e. absurd (cc);
-            turn = λ h. absurd (true≢false (sym h));
-            saw = record {
-              begins = longer_is (λ l. IsPrefix l log) v.seen w.seen (λ _. f.saw.begins) (λ _. g.saw.begins);
-              own = λ n c. ⊎_elim
-                  (λ (x : Contains v.mine n). own_longer n v.seen w.seen log f.saw.begins g.saw.begins (f.saw.own n x))
-                  (λ (x : Contains w.mine n). own_longer' n v.seen w.seen log f.saw.begins g.saw.begins (g.saw.own n x))
-                  (Contains-append_cases v.mine w.mine n c);
-            };
-            told =
-                let left = λ (n : ℕ) (c : Contains v.mine n). Contains-append_left v.mine w.mine n c in
-                let right = λ (n : ℕ) (c : Contains w.mine n). Contains-append_right v.mine w.mine n c in
-                All-cons (Told m.caller log both.mine) (v.mine, v.seen) ((w.mine, w.seen) ∷ (v.told ++ w.told)) (record { saw = f.saw; within = left }) (
-                  All-cons (Told m.caller log both.mine) (w.mine, w.seen) (v.told ++ w.told) (record { saw = g.saw; within = right }) (
-                    All-append (Told m.caller log both.mine) v.told w.told (told_more log v.mine both.mine v.told left f.told) (told_more log w.mine both.mine w.told right g.told)
-                  )
-                );
-            ground_is = λ h. f.ground_is alive;
-            given = λ n c. ⊎_elim (λ (x : Contains v.mine n). f.given n x) (λ (x : Contains w.mine n). g.given n x) (Contains-append_cases v.mine w.mine n c);
-            owner = λ h. let o = f.owner alive in (o.0, Contains-append_left v.mine w.mine o.0 o.1);
-            counts = λ k e. either_is v.given w.given k r.at.given f.counts g.counts e;
-            posted = λ which. better_posted which v w (λ each. value each r.at) waits waits' f.posted g.posted;
-          })
-          (λ j u apart' e a h. (
-            h,
-            record {
-              tickets = λ n e' h'. absurd (cc);
-              numbers = λ n c c'. ⊎_elim (λ (x : Contains v.mine n). a.numbers n x c') (λ (x : Contains w.mine n). (from_other s r other w there' i v at j u apart' apart e).numbers n x c') (Contains-append_cases v.mine w.mine n c);
-              counts = λ x y e' h'. either_apart v.given w.given u.given x y a.counts (from_other s r other w there' i v at j u apart' apart e).counts e' h';
-            },
-          ))
-          (slot_kept m footing seats gone r' i v both here r.at (λ h. h) (λ h. absurd (true≢false (sym h ∙ waits)))))
+      r.words_are
+      (omega arith)
+      (omega arith)
+      (omega arith, r.most.0)
+      r.callers
+      r.published
+      (record {
+        one = omega arith;
+        within = λ n e. absurd (cc);
+        turn = λ h. absurd (true≢false (sym h));
+        saw = record {
+          begins = longer_is (λ l. IsPrefix l log) v.seen w.seen (λ _. f.saw.begins) (λ _. g.saw.begins);
+          own = λ n c. ⊎_elim
+              (λ (x : Contains v.mine n). own_longer n v.seen w.seen log f.saw.begins g.saw.begins (f.saw.own n x))
+              (λ (x : Contains w.mine n). own_longer' n v.seen w.seen log f.saw.begins g.saw.begins (g.saw.own n x))
+              (Contains-append_cases v.mine w.mine n c);
+        };
+        told =
+            let left = λ (n : ℕ) (c : Contains v.mine n). Contains-append_left v.mine w.mine n c in
+            let right = λ (n : ℕ) (c : Contains w.mine n). Contains-append_right v.mine w.mine n c in
+            All-cons (Told m.caller log both.mine) (v.mine, v.seen) ((w.mine, w.seen) ∷ (v.told ++ w.told)) (record { saw = f.saw; within = left }) (
+            All-cons (Told m.caller log both.mine) (w.mine, w.seen) (v.told ++ w.told) (record { saw = g.saw; within = right }) (
+            All-append (Told m.caller log both.mine) v.told w.told (told_more log v.mine both.mine v.told left f.told) (told_more log w.mine both.mine w.told right g.told)
+            )
+            );
+        ground_is = λ h. f.ground_is alive;
+        given = λ n c. ⊎_elim (λ (x : Contains v.mine n). f.given n x) (λ (x : Contains w.mine n). g.given n x) (Contains-append_cases v.mine w.mine n c);
+        owner = λ h. let o = f.owner alive in (o.0, Contains-append_left v.mine w.mine o.0 o.1);
+        counts = λ k e. either_is v.given w.given k r.at.given f.counts g.counts e;
+        posted = λ which. better_posted which v w (λ each. value each r.at) waits waits' f.posted g.posted;
+      })
+      (λ j u apart' e a h. (
+        h,
+        record {
+          tickets = λ n e' h'. absurd (cc);
+          numbers = λ n c c'. ⊎_elim (λ (x : Contains v.mine n). a.numbers n x c') (λ (x : Contains w.mine n). (from_other s r other w there' i v at j u apart' apart e).numbers n x c') (Contains-append_cases v.mine w.mine n c);
+          counts = λ x y e' h'. either_apart v.given w.given u.given x y a.counts (from_other s r other w there' i v at j u apart' apart e).counts e' h';
+        },
+      ))
+      (slot_kept m footing seats gone r' i v both here r.at (λ h. h) (λ h. absurd (true≢false (sym h ∙ waits)))))
     where
       -- what was joined is apart from each seat that is left
       from_other : (s : State (Spot K) (View E G)) (r : Ruled m footing seats s) (other : ℕ) (w : View E G) → get_elem? s.views other ≡ some w
@@ -307,15 +307,15 @@ module _ {K E G : Type 0} (m : Meaning K E G) (footing : G) (seats : ℕ) where
       not_out : IsOut s.homes s.views → IsHome m footing s.homes r.at
       not_out o = dite (ℕ_discrete o.seat i)
           (λ here. let same : o.holder ≡ v = some-injective _ _ (sym o.sits ∙ ap (get_elem? s.views) here ∙ at) in
-              absurd (true≢false (sym o.holds ∙ ap (λ (u : View E G). u.holds) same ∙ waits)))
+          absurd (true≢false (sym o.holds ∙ ap (λ (u : View E G). u.holds) same ∙ waits)))
           (λ there.
-              let f = r.fits o.seat o.holder o.sits in
-              let number = (f.turn o.holds).0 in
-              let has : out o.holder ≡ 1 = rw number in
-              let owner = f.owner (is_alive o.holder.alive (let one = f.one in omega arith)) in
-              let low = f.given owner.0 owner.1 in
-              let most = r.most.0 in
-              absurd ((r.apart i o.seat v o.holder (λ h. there (sym h)) at o.sits).numbers owner.0 (all owner.0 (omega arith)) owner.1))
+          let f = r.fits o.seat o.holder o.sits in
+          let number = (f.turn o.holds).0 in
+          let has : out o.holder ≡ 1 = rw number in
+          let owner = f.owner (is_alive o.holder.alive (let one = f.one in omega arith)) in
+          let low = f.given owner.0 owner.1 in
+          let most = r.most.0 in
+          absurd ((r.apart i o.seat v o.holder (λ h. there (sym h)) at o.sits).numbers owner.0 (all owner.0 (omega arith)) owner.1))
         where
           is_alive : (b : Bool) → 1 ≤ cond b 1 0 → b ≡ true
           is_alive true h = refl

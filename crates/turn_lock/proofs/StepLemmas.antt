@@ -1,26 +1,26 @@
 -- Each kind of step of one seat keeps the rule.
-use Rattle.std.proofs.Common.{◌≡◌, ◌≢◌, ◌⊎◌, ℕ, zero, suc, ◌+◌, ◌%◌, ◌^◌, ◌<◌, ◌≤◌, true, false, cond, List, [], ◌∷◌, ◌++◌, length, get_or, set, All, Contains, sum_by, Option, Some, None, refl, sym, ap, ◌∙◌, subst, inl, inr, ⊎_elim, arith, true≢false, length-append}
+use Rattle.std.proofs.Common.{◌≡◌, ◌≢◌, ℕ, ◌+◌, ◌%◌, ◌^◌, ◌<◌, ◌≤◌, true, false, List, [], ◌∷◌, ◌++◌, length, get_or, set, All, Contains, sum_by, Some, None, refl, sym, ap, ◌∙◌, subst, inl, inr, ⊎_elim, arith, true≢false, length-append}
 use mathlib.Core.Logic.{dite}
 use mathlib.Core.List.{IsPrefix}
-use mathlib.Core.Option.{Option as Maybe, none, some, some-injective, some-ne-none}
+use mathlib.Core.Option.{Option as Maybe, none, some, some-injective}
 use native.Mathlib.Decide.{ℕ_discrete}
 use native.Mathlib.Nat.{mod-eq_of_lt}
 use lib.ListN.{get_elem?}
 use Rattle.std.proofs.Math.Nat.{mod-add-mod}
 use Rattle.std.specs.declared.snapshot.Snapshot.{Snapshot}
-use Rattle.atomic_table.specs.Table.{State, Me, Step, step, Act, keeps, takes, gives, Allows, homes_after, rest}
+use Rattle.atomic_table.specs.Table.{State, Me, Step, step, keeps, takes, gives, Allows, homes_after, rest}
 use Rattle.atomic_table.proofs.Lists.{one_turn, set_here}
 use Rattle.turn_lock.specs.declared.kept.Shown.{Shown}
 use Rattle.turn_lock.specs.declared.kept.Shown.TheVariants.{Cycles, Tickets}
 use Rattle.turn_lock.specs.declared.table.Spot.{Spot}
 use Rattle.turn_lock.specs.declared.table.Spot.TheVariants.{Home, Away, Counted}
 use Rattle.turn_lock.specs.declared.view.View.{View}
-use Rattle.turn_lock.specs.Meaning.{Meaning, of, pick}
+use Rattle.turn_lock.specs.Meaning.{Meaning, of}
 use Rattle.turn_lock.specs.Views.{known, waiting, at_turn, counted, published, loaded, passed_on}
-use Rattle.turn_lock.specs.Rule.{Standing, words, value, with_value, out, living, Saw, Told, Posted, Apart, Fits, IsHome, IsOut, Ruled}
-use Rattle.turn_lock.specs.Steps.{word_of, drawn, Hit, looked, counts, publishes, Loads, loads, passes_on}
+use Rattle.turn_lock.specs.Rule.{Standing, words, value, with_value, out, living, Saw, Told, Posted, IsHome, IsOut, Ruled}
+use Rattle.turn_lock.specs.Steps.{word_of, drawn, looked, counts, publishes, Loads, loads, passes_on}
 use Rattle.turn_lock.proofs.ListLemmas.{at_get, sum_le, prefix_same, prefix_more, of_other}
-use Rattle.turn_lock.proofs.RuleLemmas.{some_none, same_number, turned_apart, change, slot_kept, others_wait}
+use Rattle.turn_lock.proofs.RuleLemmas.{some_none, same_number, change, slot_kept, others_wait}
 
 -- a step, where what it tells does not depend on which
 abbrev pub some_step : {S : Type 0} → Step S
@@ -193,9 +193,9 @@ module _ {K E G : Type 0} (m : Meaning K E G) (footing : G) (seats : ℕ) where
       not_out : IsOut s.homes s.views → IsHome m footing s.homes r.at
       not_out o = dite (ℕ_discrete o.seat i)
           (λ here. let same : o.holder ≡ v = some-injective _ _ (sym o.sits ∙ ap (get_elem? s.views) here ∙ at) in
-              absurd (true≢false (sym o.holds ∙ ap (λ (u : View E G). u.holds) same ∙ waits)))
+          absurd (true≢false (sym o.holds ∙ ap (λ (u : View E G). u.holds) same ∙ waits)))
           (λ there. let f = r.fits o.seat o.holder o.sits in
-              absurd ((r.apart i o.seat v o.holder (λ h. there (sym h)) at o.sits).tickets r.at.serving mine (f.turn o.holds).0))
+          absurd ((r.apart i o.seat v o.holder (λ h. there (sym h)) at o.sits).tickets r.at.serving mine (f.turn o.holds).0))
 
   pub looks : (slots : ℕ) (i : ℕ) (me : Me (Spot K) (View E G)) (ticket : ℕ) → me.0.alive ≡ true → me.0.number ≡ Some ticket → me.0.holds ≡ false → me.1 ≡ []
       → Allows (Ruled m footing seats) slots i me 1 (λ n. n) (looked m some_step me)
@@ -207,84 +207,84 @@ module _ {K E G : Type 0} (m : Meaning K E G) (footing : G) (seats : ℕ) where
       let within = f.within ticket mine in
       dite (ℕ_discrete (get_or s.words 1 0) (ticket % 2 ^ 64))
       (λ hit.
-          let served : r.at.serving ≡ ticket = near s r ticket within.0 within.1 (sym found ∙ hit) in
-          let mine' : v.number ≡ Some r.at.serving = mine ∙ ap Some (sym served) in
-          let h = home_now s r i v at waits mine' in
-          let list : m.entries h.kept ≡ r.at.log = h.list in
-          let w = at_turn (m.entries h.kept) v in
-          let gone : set s.homes 0 none ≡ none ∷ [] = rw h.there refl in (
-            w,
-            takes 0 (Home h.kept),
-            ap (λ (hs : List (Maybe (Spot K))). get_elem? hs 0) h.there,
-            change m footing seats s r i v w at _ (set s.homes 0 none) r.at
-                same_words
-                (omega arith)
-                (omega arith)
-                (omega arith, r.most.0)
-                r.callers
-                r.published
-                (record {
-                  one = f.one;
-                  within = f.within;
-                  turn = λ _. (mine', list, gone);
-                  saw = record { begins = subst (λ l. IsPrefix l r.at.log) (sym list) (prefix_same r.at.log); own = λ n c. ap (of m.caller n) list };
-                  told = f.told;
-                  ground_is = f.ground_is;
-                  given = f.given;
-                  owner = f.owner;
-                  counts = f.counts;
-                  posted = λ which. let p = f.posted which in record {
-                    knows = p.knows;
-                    current = λ _. subst (λ l. m.shown which l ≤ value which r.at) (sym list) (h.current which);
-                    owes = λ _. refl;
-                  };
-                })
-                (λ j u apart e a g. (
-                  record {
-                    one = g.one;
-                    within = g.within;
-                    turn = λ h. others_wait m footing seats s.homes r.at v u mine' a g h;
-                    saw = g.saw;
-                    told = g.told;
-                    ground_is = g.ground_is;
-                    given = g.given;
-                    owner = g.owner;
-                    counts = g.counts;
-                    posted = g.posted;
-                  },
-                  record { tickets = a.tickets; numbers = a.numbers; counts = a.counts },
-                ))
-                (inr (record { away = gone; seat = i; holder = w; sits = set_here s.views i w ((at_get s.views i v at).0); holds = refl })),
-            λ ticket' mine''. (
-              (λ _. record {
-                kept = h.kept;
-                holds = ap (λ (l : List (ℕ × Spot K)). (w, (0, Home h.kept) ∷ l)) empty;
-                begins = subst (IsPrefix v.seen) (sym list) f.saw.begins;
-                own = λ n c. f.saw.own n c ∙ ap (of m.caller n) (sym list);
-                ground_is = f.ground_is alive ∙ ap Some (sym h.ground_is);
-              }),
-              (λ miss. absurd (miss (hit ∙ ap (λ k. k % 2 ^ 64) (same_number v.number ticket ticket' mine mine'')))),
-            ),
-          ))
+      let served : r.at.serving ≡ ticket = near s r ticket within.0 within.1 (sym found ∙ hit) in
+      let mine' : v.number ≡ Some r.at.serving = mine ∙ ap Some (sym served) in
+      let h = home_now s r i v at waits mine' in
+      let list : m.entries h.kept ≡ r.at.log = h.list in
+      let w = at_turn (m.entries h.kept) v in
+      let gone : set s.homes 0 none ≡ none ∷ [] = rw h.there refl in (
+        w,
+        takes 0 (Home h.kept),
+        ap (λ (hs : List (Maybe (Spot K))). get_elem? hs 0) h.there,
+        change m footing seats s r i v w at _ (set s.homes 0 none) r.at
+            same_words
+            (omega arith)
+            (omega arith)
+            (omega arith, r.most.0)
+            r.callers
+            r.published
+            (record {
+              one = f.one;
+              within = f.within;
+              turn = λ _. (mine', list, gone);
+              saw = record { begins = subst (λ l. IsPrefix l r.at.log) (sym list) (prefix_same r.at.log); own = λ n c. ap (of m.caller n) list };
+              told = f.told;
+              ground_is = f.ground_is;
+              given = f.given;
+              owner = f.owner;
+              counts = f.counts;
+              posted = λ which. let p = f.posted which in record {
+                knows = p.knows;
+                current = λ _. subst (λ l. m.shown which l ≤ value which r.at) (sym list) (h.current which);
+                owes = λ _. refl;
+              };
+            })
+            (λ j u apart e a g. (
+              record {
+                one = g.one;
+                within = g.within;
+                turn = λ h. others_wait m footing seats s.homes r.at v u mine' a g h;
+                saw = g.saw;
+                told = g.told;
+                ground_is = g.ground_is;
+                given = g.given;
+                owner = g.owner;
+                counts = g.counts;
+                posted = g.posted;
+              },
+              record { tickets = a.tickets; numbers = a.numbers; counts = a.counts },
+            ))
+            (inr (record { away = gone; seat = i; holder = w; sits = set_here s.views i w ((at_get s.views i v at).0); holds = refl })),
+        λ ticket' mine''. (
+          (λ _. record {
+            kept = h.kept;
+            holds = ap (λ (l : List (ℕ × Spot K)). (w, (0, Home h.kept) ∷ l)) empty;
+            begins = subst (IsPrefix v.seen) (sym list) f.saw.begins;
+            own = λ n c. f.saw.own n c ∙ ap (of m.caller n) (sym list);
+            ground_is = f.ground_is alive ∙ ap Some (sym h.ground_is);
+          }),
+          (λ miss. absurd (miss (hit ∙ ap (λ k. k % 2 ^ 64) (same_number v.number ticket ticket' mine mine'')))),
+        ),
+      ))
       (λ miss. (
-            v,
-            keeps,
-            tt,
-            change m footing seats s r i v v at _ s.homes r.at
-                same_words
-                (omega arith)
-                (omega arith)
-                (omega arith, r.most.0)
-                r.callers
-                r.published
-                f
-                (λ j u apart e a g. (g, a))
-                (slot_kept m footing seats s r i v v at r.at (λ h. h) (λ h. h)),
-            λ ticket' mine''. (
-              (λ hit. absurd (miss (hit ∙ ap (λ k. k % 2 ^ 64) (same_number v.number ticket' ticket mine'' mine)))),
-              (λ _. refl),
-            ),
-          ))
+        v,
+        keeps,
+        tt,
+        change m footing seats s r i v v at _ s.homes r.at
+            same_words
+            (omega arith)
+            (omega arith)
+            (omega arith, r.most.0)
+            r.callers
+            r.published
+            f
+            (λ j u apart e a g. (g, a))
+            (slot_kept m footing seats s r i v v at r.at (λ h. h) (λ h. h)),
+        λ ticket' mine''. (
+          (λ hit. absurd (miss (hit ∙ ap (λ k. k % 2 ^ 64) (same_number v.number ticket' ticket mine'' mine)))),
+          (λ _. refl),
+        ),
+      ))
 
   -- ---- Steps of the seat that holds the turn
 
@@ -311,7 +311,7 @@ module _ {K E G : Type 0} (m : Meaning K E G) (footing : G) (seats : ℕ) where
       let longer_by : now ≡ r.at.log ++ e ∷ [] = more ∙ ap (λ l. l ++ e ∷ []) turn.1 in
       let given = f.given (m.caller e) own in
       let shows : (which : Shown) → value which r.at ≤ m.shown which now =
-          λ which. let a = r.published which in let b = grows which r.at.log (e ∷ []) in let c = ap (m.shown which) longer_by in omega arith in (
+      λ which. let a = r.published which in let b = grows which r.at.log (e ∷ []) in let c = ap (m.shown which) longer_by in omega arith in (
         w,
         keeps,
         tt,
@@ -446,8 +446,8 @@ module _ {K E G : Type 0} (m : Meaning K E G) (footing : G) (seats : ℕ) where
             (λ j u apart e a g. (g, record { tickets = a.tickets; numbers = a.numbers; counts = a.counts }))
             (slot_kept m footing seats s r i v w at r.at (λ h. h) (λ h. h)),
         λ each same. subst (λ k. Loads m k me n (loaded which n v, me.1)) (same_word which each (sym word ∙ same)) (
-          record { knows = refl; grows = omega arith; current = λ e. let c = p.current e in omega arith }
-        ),
+            record { knows = refl; grows = omega arith; current = λ e. let c = p.current e in omega arith }
+            ),
       )
 
   pub passes : (slots : ℕ) (i : ℕ) (me : Me (Spot K) (View E G)) (kept : K) → me.1 ≡ (0, Home kept) ∷ [] → me.0.alive ≡ true → me.0.holds ≡ true

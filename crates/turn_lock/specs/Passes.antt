@@ -1,5 +1,5 @@
 -- The words of the contracts: a pass, what it knows, and its lock.
-use Rattle.std.specs.Prelude.{◌≡◌, ℕ, false}
+use Rattle.std.specs.Prelude.{◌≡◌, ℕ}
 use Rattle.turn_lock.specs.declared.kept.Kept.{Ghosts}
 use Rattle.turn_lock.specs.declared.lock.TurnLock.{TurnLock}
 use Rattle.turn_lock.specs.declared.pass.TurnPass.{TurnPass}

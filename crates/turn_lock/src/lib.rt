@@ -13,9 +13,9 @@ mod make;
 mod pass;
 mod steps;
 mod table;
-mod turn;
 #[cfg(test)]
 mod tests;
+mod turn;
 mod view;
 mod wait;
 

@@ -38,6 +38,7 @@ pub const HISTORY: usize = 2;
 
 /// The words of the two published numbers.
 pub const CYCLES: usize = 3;
+
 pub const TICKETS: usize = 4;
 
 /// The word of a published number.

@@ -38,6 +38,7 @@ impl Kept for Book {
     ghost use Rattle.std.proofs.Common.{sym, subst, length-append, le-add_right, ◌≤◌};
 
     type Entry = Line;
+
     type Ground = Any;
 
     ghost entries = { λ book. book.lines.items };

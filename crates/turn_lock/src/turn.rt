@@ -37,7 +37,9 @@ impl<K: Kept> TurnLock<K> {
         ensures counted { view pass.new ≡ counted (K.entries kept.now) (view pass.old) }
     {
         self.fill(&mut pass.seat, Spot::Counted(Snapshot::of(kept)));
-        self.table.shared.fetch_add::<Counts>(&mut pass.seat, HISTORY, 1);
+        self.table
+            .shared
+            .fetch_add::<Counts>(&mut pass.seat, HISTORY, 1);
     }
 
     /// Publishes a number of the counted list, so that others read it without a turn.
@@ -48,7 +50,9 @@ impl<K: Kept> TurnLock<K> {
         ensures same { IsSamePass pass.old pass.new }
         ensures published { view pass.new ≡ published which (view pass.old) }
     {
-        self.table.shared.store::<Publishes>(&mut pass.seat, word_of(which), n);
+        self.table
+            .shared
+            .store::<Publishes>(&mut pass.seat, word_of(which), n);
     }
 
     /// Puts the value back and passes the turn on. All entries are counted; where this turn counted one, both numbers were
@@ -63,7 +67,10 @@ impl<K: Kept> TurnLock<K> {
         ensures passed_on { view pass.new ≡ passed_on (view pass.old) }
     {
         self.fill(&mut pass.seat, Spot::Home(kept));
-        let served = self.table.shared.fetch_add::<PassesOn>(&mut pass.seat, SERVING, 1);
+        let served = self
+            .table
+            .shared
+            .fetch_add::<PassesOn>(&mut pass.seat, SERVING, 1);
         if self.table.shared.peek(TICKET) != served.wrapping_add(1) {
             self.table.shared.wake_all(SERVING);
         }
@@ -77,6 +84,8 @@ impl<K: Kept> TurnLock<K> {
         ensures grows { (known which (view pass.old)).number ≤ result }
         ensures current { (known which (view pass.old)).owes ≡ false → K.shown which (view pass.old).seen ≤ result }
     {
-        self.table.shared.load::<Loads>(&mut pass.seat, word_of(which))
+        self.table
+            .shared
+            .load::<Loads>(&mut pass.seat, word_of(which))
     }
 }

@@ -81,7 +81,9 @@ impl<K: Kept> TurnLock<K> {
     fn sleep<R: Wait>(&self, rt: &R, mine: u64) {
         let served = self.table.shared.peek(SERVING);
         if served != mine {
-            self.table.shared.park(rt, SERVING, (served % (1 << 32)) as u32);
+            self.table
+                .shared
+                .park(rt, SERVING, (served % (1 << 32)) as u32);
         }
     }
 

@@ -6,7 +6,7 @@ use denote.Ref.{ShrRef, NamedLft}
 use denote.Struct.Field.{u32-field, row_field}
 use denote.Struct.Tuple.{TupleAt, type_at}
 use denote.Param.Send.{IsSend, IsSync, sendable, shr_sync, param_sync, arg_sync}
-use denote.Param.SendFields.{as_row_sync, as_row_send, declared_sync}
+use denote.Param.SendFields.{as_row_sync, declared_sync}
 use Rattle.std.proofs.Crossing.{crosses}
 use Rattle.turn_lock.specs.contracts.lock.TurnLock as Lock
 use Rattle.turn_lock.specs.contracts.tests.Any as Any

@@ -1,4 +1,4 @@
-use Rattle.turn_lock.proofs.Callers.{made_ready, back_are_all}
+use Rattle.turn_lock.proofs.Callers.{back_are_all}
 use Rattle.turn_lock.proofs.tests.written.Goals as goal
 
 pub hand_in-requires : goal.hand_in-requires

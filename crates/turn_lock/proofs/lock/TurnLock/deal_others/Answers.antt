@@ -1,4 +1,4 @@
-use Rattle.std.proofs.Common.{◌+◌, [], ◌∷◌, length, sym, ap, ◌∙◌, arith, length-append}
+use Rattle.std.proofs.Common.{[], ◌∷◌, length, ap, ◌∙◌, arith, length-append}
 use Rattle.turn_lock.specs.Views.{one_more}
 use Rattle.turn_lock.proofs.MakeLemmas.{fresh_next, fresh_dealer, fresh_dealt}
 use Rattle.turn_lock.proofs.lock.TurnLock.deal_others.Goals as goal
