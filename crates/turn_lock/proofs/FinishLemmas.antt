@@ -9,13 +9,14 @@ use Rattle.std.proofs.lemmas.List.Elements.{All-cons, All-tail, All-append, Cont
 use Rattle.turn_lock.specs.declared.kept.Kept.{Ghosts}
 use Rattle.turn_lock.specs.declared.kept.Shown.{Shown}
 use Rattle.turn_lock.specs.declared.kept.Shown.TheVariants.{Cycles, Tickets}
+use Rattle.turn_lock.specs.declared.lock.TurnLock.{TurnLock}
 use Rattle.turn_lock.specs.declared.pass.TurnPass.{TurnPass}
 use Rattle.turn_lock.specs.declared.table.Spot.{Spot}
 use Rattle.turn_lock.specs.declared.table.Spot.TheVariants.{Home, Away, Counted}
 use Rattle.turn_lock.specs.declared.view.View.{View}
-use Rattle.turn_lock.specs.Calls.Finish.{Keeps, Finishes, Agrees, Covers, Ends}
-use Rattle.turn_lock.specs.Meaning.{Meaning, of}
-use Rattle.turn_lock.specs.Passes.{view}
+use Rattle.turn_lock.specs.Calls.Finish.{Keeps, Finishes, Agrees, Covers, Gathered, Ends}
+use Rattle.turn_lock.specs.Entries.{of}
+use Rattle.turn_lock.specs.Passes.{view, seats_of}
 use Rattle.turn_lock.specs.Rule.{Saw, Ruled}
 use Rattle.turn_lock.specs.Stands.{stands}
 use Rattle.turn_lock.specs.Views.{known, joined, spent}
@@ -104,7 +105,7 @@ mine_of (p ∷ ps) v all n (suc k, lt, is) = mine_of ps v (All-tail (λ q. (n : 
 home_same : {K : Type 0} (a b : K) → Home a ≡ Home b → a ≡ b
 home_same a b e = cc
 
-module _ {K E G : Type 0} (m : Meaning K E G) (footing : G) (seats : ℕ) where
+module _ {K E G : Type 0} (m : Ghosts K E G) (footing : G) (seats : ℕ) where
   -- what is taken out of the slot at the end is the value
   home_is : (i : ℕ) (v : View E G) → (v.alive ≡ true) × (v.holds ≡ false) → ((n : ℕ) → n < seats → Contains v.mine n)
       → (ws : List ℕ) (xs : List (Spot K)) → Final (Seen (Ruled m footing seats) i v) ws xs → (home : Spot K) → get_elem? xs 0 ≡ some home
@@ -146,38 +147,36 @@ module _ {K E G : Type 0} {g : Ghosts K E G} (caller : E → ℕ) where
       (λ k d lt. covers_first caller v (view p) u (view (get_or ps k d)) is (all k d lt))
       (All-cons P p [] (subst (λ x. Covers caller x (view p)) (sym is) (covers_right caller v (view p))) (λ k d lt. absurd (omega arith)))
 
-module _ {K E G : Type 0} (m : Meaning K E G) (footing : G) (seats : ℕ) where
+module _ {K E G : Type 0} (m : Ghosts K E G) (footing : G) (seats : ℕ) where
   pub joins_idle : (i : ℕ) (v : View E G) (other : ℕ) (me : Me (Spot K) (View E G)) → v.number ≡ None → v.holds ≡ false → v.alive ≡ true → me.0.holds ≡ false → stands me ≡ true
-      → ((which : Shown) → m.shown which [] ≡ 0) → Joins (Ruled m footing seats) i v other me.0 (joined v me.0) spent
-  joins_idle i v other me idle_ waits alive waits' right zeros = joins m footing seats i v other me.0 idle_ waits (idle me right waits').number waits' alive zeros
+      → Joins (Ruled m footing seats) i v other me.0 (joined v me.0) spent
+  joins_idle i v other me idle_ waits alive waits' right = joins m footing seats i v other me.0 idle_ waits (idle me right waits').number waits' alive
 
 -- ---- What `finish` promises, from what the one seat knows
 
 module _ {K E G : Type 0} {g : Ghosts K E G} where
   -- all numbers are the seat's
-  pub has_all : (caller : E → ℕ) (v : View E G) (first : TurnPass K E G g) (others : List (TurnPass K E G g)) (seats : ℕ)
-      → Covers caller v (view first) → All (λ p. Covers caller v (view p)) others
-      → ((n : ℕ) → n < seats → Contains (map (λ p. p.number) (first ∷ others)) n)
+  pub has_all : (v : View E G) (first : TurnPass K E G g) (others : List (TurnPass K E G g)) (seats : ℕ)
+      → Gathered v first others → ((n : ℕ) → n < seats → Contains (map (λ p. p.number) (first ∷ others)) n)
       → (n : ℕ) → n < seats → Contains v.mine n
-  has_all caller v first others seats one all names n low =
+  has_all v first others seats all names n low =
       mine_of (first ∷ others) v
-      (All-cons (λ p. (k : ℕ) → Contains (view p).mine k → Contains v.mine k) first others one.numbers (λ k d lt. (all k d lt).numbers))
+      (All-cons (λ p. (k : ℕ) → Contains (view p).mine k → Contains v.mine k) first others all.first_is.numbers (λ k d lt. (all.others_are k d lt).numbers))
       n (names n low)
 
-  keeps : (m : Meaning K E G) (seats : ℕ) (v : View E G) (kept : K) (p : TurnPass K E G g) → Ends m seats v kept → Covers m.caller v (view p) → Keeps m (m.entries kept) p.number (view p)
-  keeps m seats v kept p e c =
-      let a = c.agrees (m.entries kept) e.agrees in record {
+  keeps : (seats : ℕ) (v : View E G) (kept : K) (p : TurnPass K E G g) → Ends g seats v kept → Covers g.caller v (view p) → Keeps (g.entries kept) p
+  keeps seats v kept p e c =
+      let a = c.agrees (g.entries kept) e.agrees in record {
         begins = a.saw.begins;
         own = sym (a.saw.own p.number (subst (λ (l : List ℕ). Contains l p.number) (sym p.mine) (0, omega arith, refl)));
         knew = λ which. let x = c.knows which in let y = e.knows which in omega arith;
       }
 
-  pub finishes : (m : Meaning K E G) (seats : ℕ) (v : View E G) (first : TurnPass K E G g) (others : List (TurnPass K E G g)) (kept : K)
-      → Covers m.caller v (view first) → All (λ p. Covers m.caller v (view p)) others → v.footing ≡ (view first).footing → Ends m seats v kept
-      → Finishes m seats first others kept
-  finishes m seats v first others kept one all footing_is e = record {
-    ground_is = sym footing_is ∙ e.ground_is;
-    first_is = keeps m seats v kept first e one;
-    others_are = λ k d lt. keeps m seats v kept (get_or others k d) e (all k d lt);
-    no_others = below m.caller seats (m.entries kept) e.callers;
+  pub finishes : (lock : TurnLock K E G) (v : View E G) (first : TurnPass K E G g) (others : List (TurnPass K E G g)) (kept : K)
+      → Gathered v first others → Ends g (seats_of lock) v kept → Finishes lock first others kept
+  finishes lock v first others kept all e = record {
+    ground_is = sym all.footing_is ∙ e.ground_is;
+    first_is = keeps (seats_of lock) v kept first e all.first_is;
+    others_are = λ k d lt. keeps (seats_of lock) v kept (get_or others k d) e (all.others_are k d lt);
+    no_others = below g.caller (seats_of lock) (g.entries kept) e.callers;
   }

@@ -7,7 +7,7 @@ use Rattle.std.proofs.lemmas.List.{append_cancel_left}
 use Rattle.std.proofs.lemmas.List.Elements.{filter-append}
 use Rattle.std.proofs.lemmas.List.Sums.{sum_by-cons, sum_by-set}
 use Rattle.atomic_table.proofs.Lists.{at_set}
-use Rattle.turn_lock.specs.Meaning.{of}
+use Rattle.turn_lock.specs.Entries.{of}
 use Rattle.turn_lock.specs.Views.{longer}
 
 -- ---- Prefixes

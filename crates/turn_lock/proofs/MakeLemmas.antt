@@ -9,7 +9,6 @@ use Rattle.turn_lock.specs.declared.lock.TurnLock.{TurnLock}
 use Rattle.turn_lock.specs.declared.pass.TurnPass.{TurnPass}
 use Rattle.turn_lock.specs.declared.table.Spot.{Spot}
 use Rattle.turn_lock.specs.declared.view.View.{View}
-use Rattle.turn_lock.specs.Meaning.{Meaning}
 use Rattle.turn_lock.specs.Passes.{view, IsPassOf}
 use Rattle.turn_lock.specs.Rule.{Ruled}
 use Rattle.turn_lock.specs.Stands.{stands}
@@ -62,7 +61,7 @@ module _ {E G : Type 0} where
   pub fresh_dealt : (footing : Option G) (v w : View E G) → w ≡ dealt v → IsFresh footing v → IsFresh footing w
   fresh_dealt footing v w is f = subst (IsFresh footing) (sym is) (record { idle = f.idle; seen = f.seen; turns = refl; loads = refl; cycles = f.cycles; tickets = f.tickets; footing_is = f.footing_is })
 
-module _ {K E G : Type 0} (m : Meaning K E G) (footing : G) (seats : ℕ) where
+module _ {K E G : Type 0} (m : Ghosts K E G) (footing : G) (seats : ℕ) where
   pub deals_idle : (i : ℕ) (me : Me (Spot K) (View E G)) (k : ℕ) → me.0.given ≡ Some k → k < seats → me.0.alive ≡ true → me.0.holds ≡ false → stands me ≡ true
       → Splits (Ruled m footing seats) i me.0 (dealer me.0) (dealt me.0)
   deals_idle i me k keeps room alive waits right = let r = idle me right waits in deals m footing seats i me.0 k keeps room alive r.number waits (paid_both me.0 r.cycles r.tickets)

@@ -3,16 +3,20 @@ use Rattle.std.proofs.Common.{◌≡◌, ℕ, ◌+◌, ◌%◌, ◌^◌, ◌<◌
 use mathlib.Core.Option.{none}
 use Rattle.std.specs.declared.snapshot.Snapshot.{Snapshot}
 use Rattle.atomic_table.specs.Table.{Me, step, Allows, rest}
+use Rattle.turn_lock.specs.declared.kept.Kept.{Ghosts}
 use Rattle.turn_lock.specs.declared.kept.Shown.{Shown}
 use Rattle.turn_lock.specs.declared.kept.Shown.TheVariants.{Cycles, Tickets}
+use Rattle.turn_lock.specs.declared.pass.TurnPass.{TurnPass}
 use Rattle.turn_lock.specs.declared.table.Spot.{Spot}
 use Rattle.turn_lock.specs.declared.table.Spot.TheVariants.{Home, Counted}
 use Rattle.turn_lock.specs.declared.view.View.{View}
-use Rattle.turn_lock.specs.Meaning.{Meaning}
 use Rattle.turn_lock.specs.Stands.{is_emptied, has_slot, is_nil, is_idle, stands}
 use Rattle.turn_lock.specs.Rule.{Ruled}
 use Rattle.turn_lock.specs.Steps.{word_of, drawn, Hit, looked, counts, publishes, loads, passes_on}
+use Rattle.turn_lock.specs.Calls.Count.{AddsOne}
+use Rattle.turn_lock.specs.Calls.Put.{IsSettled}
 use Rattle.turn_lock.specs.Calls.Take.{Waits}
+use Rattle.turn_lock.specs.Passes.{view}
 use Rattle.turn_lock.specs.Views.{known}
 use Rattle.turn_lock.proofs.StepLemmas.{some_step, draws, looks, counts_one, publishes_one, loads_one, passes}
 
@@ -77,7 +81,7 @@ module _ {K E G : Type 0} where
   pub slot_held : (me : Me (Spot K) (View E G)) → stands me ≡ true → me.0.holds ≡ true → (old : Spot K) × (me.1 ≡ (0, old) ∷ rest me.1)
   slot_held me e holds = let h = holder me e holds in (h.spot, subst (λ l. l ≡ (0, h.spot) ∷ rest l) (sym h.slot) refl)
 
-module _ {K E G : Type 0} (m : Meaning K E G) (footing : G) (seats : ℕ) where
+module _ {K E G : Type 0} (m : Ghosts K E G) (footing : G) (seats : ℕ) where
   pub draws_idle : (slots : ℕ) (i : ℕ) (me : Me (Spot K) (View E G)) → (me.0.alive ≡ true) × (me.0.holds ≡ false) × (stands me ≡ true)
       → Allows (Ruled m footing seats) slots i me 0 (λ n. (n + 1) % 2 ^ 64) (drawn some_step me)
   draws_idle slots i me (alive, waits, right) = draws m footing seats slots i me alive (idle me right waits).number
@@ -85,26 +89,6 @@ module _ {K E G : Type 0} (m : Meaning K E G) (footing : G) (seats : ℕ) where
   pub looks_waiting : (slots : ℕ) (i : ℕ) (me : Me (Spot K) (View E G)) (mine : ℕ) → Waits me me mine
       → Allows (Ruled m footing seats) slots i me 1 (λ n. n) (looked m some_step me)
   looks_waiting slots i me mine w = looks m footing seats slots i me w.ticket w.alive (ap (λ (x : Me (Spot K) (View E G)). x.0.number) w.is) w.waits (ap (λ (x : Me (Spot K) (View E G)). x.1) w.is)
-
-  pub counts_after : (slots : ℕ) (i : ℕ) (old me : Me (Spot K) (View E G)) (named : Snapshot K) (kept : K) (number : ℕ)
-      → ((which : Shown) (xs ys : List E) → m.shown which xs ≤ m.shown which (xs ++ ys))
-      → me ≡ (old.0, (0, Counted named) ∷ []) → named.value ≡ kept → stands old ≡ true → old.0.holds ≡ true → old.0.mine ≡ number ∷ []
-      → (e : E) × (m.entries kept ≡ old.0.seen ++ e ∷ []) × (m.caller e ≡ number) → length (m.entries kept) < 2 ^ 32
-      → Allows (Ruled m footing seats) slots i me 2 (λ n. (n + 1) % 2 ^ 64) (counts m some_step me)
-  counts_after slots i old me named kept number grows is names right holds mine added few =
-      let h = holder old right holds in
-      let new : Me (Spot K) (View E G) = (old.0, (0, Counted named) ∷ []) in
-      subst (λ (x : Me (Spot K) (View E G)). Allows (Ruled m footing seats) slots i x 2 (λ n. (n + 1) % 2 ^ 64) (counts m some_step x)) (sym is)
-      (counts_one m footing seats slots i new named added.0 grows refl holds h.told (ap m.entries names ∙ added.1) (subst (λ l. Contains l (m.caller added.0)) (sym mine) (0, omega arith, sym added.2)) (omega (arith, ap length (ap m.entries names))))
-
-  pub passes_after : (slots : ℕ) (i : ℕ) (old me : Me (Spot K) (View E G)) (kept : K)
-      → me ≡ (old.0, (0, Home kept) ∷ []) → old.0.alive ≡ true → old.0.holds ≡ true → old.0.footing ≡ Some (m.footing kept) → m.entries kept ≡ old.0.seen
-      → (old.0.cycles.owes ≡ false) × (old.0.tickets.owes ≡ false)
-      → Allows (Ruled m footing seats) slots i me 1 (λ n. (n + 1) % 2 ^ 64) (passes_on some_step me)
-  passes_after slots i old me kept is alive holds ground_is list paid =
-      let new : Me (Spot K) (View E G) = (old.0, (0, Home kept) ∷ []) in
-      subst (λ (x : Me (Spot K) (View E G)). Allows (Ruled m footing seats) slots i x 1 (λ n. (n + 1) % 2 ^ 64) (passes_on some_step x)) (sym is)
-      (passes m footing seats slots i new kept refl alive holds list ground_is (paid_both old.0 paid.0 paid.1))
 
   pub publishes_at : (slots : ℕ) (i : ℕ) (me : Me (Spot K) (View E G)) (which : Shown) (word n : ℕ) → word ≡ word_of which → me.0.holds ≡ true → n ≡ m.shown which me.0.seen
       → Allows (Ruled m footing seats) slots i me word (λ _. n) (λ _. publishes (step slots word n 0 none) me n)
@@ -122,10 +106,30 @@ pub word_within : (which : Shown) (word words : ℕ) → word ≡ word_of which 
 word_within Cycles word words is five = omega arith
 word_within Tickets word words is five = omega arith
 
-module _ {K E G : Type 0} (m : Meaning K E G) where
+module _ {K E G : Type 0} (m : Ghosts K E G) where
   -- a look that found the ticket's word
   pub hit_of : (old me : Me (Spot K) (View E G)) (found mine : ℕ) → Waits old old mine → looked m some_step old found me → found ≡ mine → Hit m old me
   hit_of old me found mine w tells same = (tells w.ticket (ap (λ (x : Me (Spot K) (View E G)). x.0.number) w.is)).0 (same ∙ sym w.remainder)
 
   pub slot_of_hit : (old me : Me (Spot K) (View E G)) → Hit m old me → (spot : Spot K) × (me.1 ≡ (0, spot) ∷ rest me.1)
   slot_of_hit old me h = (Home h.kept, subst (λ (x : Me (Spot K) (View E G)). x.1 ≡ (0, Home h.kept) ∷ rest x.1) (sym h.holds) refl)
+
+module _ {K E G : Type 0} {g : Ghosts K E G} (footing : G) (seats : ℕ) where
+  -- the count, once the value is named in the slot
+  pub counts_after : (slots : ℕ) (i : ℕ) (p : TurnPass K E G g) (me : Me (Spot K) (View E G)) (named : Snapshot K) (kept : K)
+      → me ≡ (view p, (0, Counted named) ∷ []) → named.value ≡ kept → (view p).holds ≡ true → AddsOne p kept
+      → Allows (Ruled g footing seats) slots i me 2 (λ n. (n + 1) % 2 ^ 64) (counts g some_step me)
+  counts_after slots i p me named kept is names holds adds =
+      let h = holder p.seat.me p.stands holds in
+      let own : Contains (view p).mine (g.caller adds.entry) = subst (λ (l : List ℕ). Contains l (g.caller adds.entry)) (sym p.mine) (0, omega arith, sym adds.caller) in
+      let few = adds.room in
+      subst (λ (x : Me (Spot K) (View E G)). Allows (Ruled g footing seats) slots i x 2 (λ n. (n + 1) % 2 ^ 64) (counts g some_step x)) (sym is)
+      (counts_one g footing seats slots i (view p, (0, Counted named) ∷ []) named adds.entry refl holds h.told (ap g.entries names ∙ adds.list) own (omega (arith, ap length (ap g.entries names))))
+
+  -- passing on, once the value is home
+  pub passes_after : (slots : ℕ) (i : ℕ) (p : TurnPass K E G g) (me : Me (Spot K) (View E G)) (kept : K)
+      → me ≡ (view p, (0, Home kept) ∷ []) → (view p).holds ≡ true → IsSettled p kept
+      → Allows (Ruled g footing seats) slots i me 1 (λ n. (n + 1) % 2 ^ 64) (passes_on some_step me)
+  passes_after slots i p me kept is holds s =
+      subst (λ (x : Me (Spot K) (View E G)). Allows (Ruled g footing seats) slots i x 1 (λ n. (n + 1) % 2 ^ 64) (passes_on some_step x)) (sym is)
+      (passes g footing seats slots i (view p, (0, Home kept) ∷ []) kept refl p.alive holds s.all_counted s.ground_is (paid_both (view p) s.cycles s.tickets))

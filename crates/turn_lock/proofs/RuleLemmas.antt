@@ -1,8 +1,8 @@
 -- The rule is kept where one seat changes, and where a seat is new.
-use Rattle.std.proofs.Common.{◌≡◌, ◌≢◌, ◌⊎◌, ℕ, ◌+◌, ◌≤◌, true, List, [], ◌∷◌, ◌++◌, length, set, sum_by, Option, Some, None, sym, ap, ◌∙◌, subst, inl, inr, ⊎_elim, arith}
+use Rattle.std.proofs.Common.{false, ◌<◌, true≢false, All, Contains, ◌≡◌, ◌≢◌, ◌⊎◌, ℕ, ◌+◌, ◌≤◌, true, List, [], ◌∷◌, ◌++◌, length, set, sum_by, Option, Some, None, sym, ap, ◌∙◌, subst, inl, inr, ⊎_elim, arith}
 use mathlib.Core.Logic.{dite}
 use native.Mathlib.Decide.{ℕ_discrete}
-use mathlib.Core.Option.{Option as Maybe, some, some-injective}
+use mathlib.Core.Option.{Option as Maybe, none, some, some-injective}
 use lib.ListN.{get_elem?}
 use Rattle.std.proofs.lemmas.List.Sums.{sum_by_push}
 use Rattle.atomic_table.specs.Table.{State}
@@ -10,8 +10,10 @@ use Rattle.atomic_table.proofs.Lists.{at_snoc, at_longer, set_here, set_else}
 use Rattle.turn_lock.specs.declared.kept.Shown.{Shown}
 use Rattle.turn_lock.specs.declared.table.Spot.{Spot}
 use Rattle.turn_lock.specs.declared.view.View.{View}
-use Rattle.turn_lock.specs.Meaning.{Meaning, of}
-use Rattle.turn_lock.specs.Rule.{Standing, words, value, out, living, Apart, Fits, IsHome, IsOut, Ruled}
+use Rattle.turn_lock.specs.declared.kept.Kept.{Ghosts}
+use Rattle.turn_lock.specs.Entries.{of}
+use Rattle.turn_lock.specs.Views.{known}
+use Rattle.turn_lock.specs.Rule.{Standing, words, value, out, living, Saw, Told, Posted, Apart, Fits, IsHome, IsOut, Ruled}
 use Rattle.turn_lock.proofs.ListLemmas.{at_get, sum_set, every_set, pairs_set, snoc_at}
 
 pub some_none : {C : Type 0} (a : Option ℕ) (n : ℕ) → a ≡ None → a ≡ Some n → C
@@ -28,7 +30,7 @@ module _ {E G : Type 0} where
     counts = λ k l e h. a.counts l k h e;
   }
 
-module _ {K E G : Type 0} (m : Meaning K E G) (footing : G) (seats : ℕ) where
+module _ {K E G : Type 0} (m : Ghosts K E G) (footing : G) (seats : ℕ) where
   -- the seat i goes from v to w, and with it the words, the slot and where the lock stands
   unfoldable pub change : (s : State (Spot K) (View E G)) (r : Ruled m footing seats s) (i : ℕ) (v w : View E G) → get_elem? s.views i ≡ some v
       → (ws : List ℕ) (hs : List (Maybe (Spot K))) (t : Standing E)
@@ -92,6 +94,44 @@ module _ {K E G : Type 0} (m : Meaning K E G) (footing : G) (seats : ℕ) where
   pub others_wait : (homes : List (Maybe (Spot K))) (t : Standing E) (v u : View E G) → v.number ≡ Some t.serving → Apart v u
       → Fits m footing homes t u → {C : Type 0} → u.holds ≡ true → C
   others_wait homes t v u mine apart f h = absurd (apart.tickets t.serving mine (f.turn h).0)
+
+  -- a seat that stays as it is fits wherever the slot, the next ticket and the served one go, if its own ticket and its turn do
+  pub still_fits : (hs homes : List (Maybe (Spot K))) (t : Standing E) (ticket serving : ℕ) (u : View E G) → Fits m footing hs t u
+      → ((n : ℕ) → u.number ≡ Some n → (serving ≤ n) × (n < ticket))
+      → (u.holds ≡ true → (u.number ≡ Some serving) × (u.seen ≡ t.log) × (homes ≡ none ∷ []))
+      → Fits m footing homes (record t { ticket = ticket; serving = serving }) u
+  still_fits hs homes t ticket serving u f within turn = record {
+    one = f.one;
+    within = within;
+    turn = turn;
+    saw = f.saw;
+    told = f.told;
+    ground_is = f.ground_is;
+    given = f.given;
+    owner = f.owner;
+    counts = f.counts;
+    posted = f.posted;
+  }
+
+  -- a seat without a ticket
+  pub idle_fits : (homes : List (Maybe (Spot K))) (t : Standing E) (v : View E G) → v.number ≡ None → v.holds ≡ false
+      → Saw m.caller t.log v.mine v.seen → All (Told m.caller t.log v.mine) v.told → (v.alive ≡ true → v.footing ≡ Some footing)
+      → ((n : ℕ) → Contains v.mine n → n < t.given) → (v.alive ≡ true → (n : ℕ) × Contains v.mine n) → ((k : ℕ) → v.given ≡ Some k → k ≡ t.given)
+      → ((which : Shown) → Posted (value which t) (m.shown which) (known which v) v.holds v.seen)
+      → Fits m footing homes t v
+  idle_fits homes t v idle waits saw told ground_is given owner counts posted =
+      let none : out v ≡ 0 = rw idle in record {
+        one = omega arith;
+        within = λ n e. some_none v.number n idle e;
+        turn = λ h. absurd (true≢false (sym h ∙ waits));
+        saw = saw;
+        told = told;
+        ground_is = ground_is;
+        given = given;
+        owner = owner;
+        counts = counts;
+        posted = posted;
+      }
 
   -- a new seat, which is idle
   pub enter : (s : State (Spot K) (View E G)) (r : Ruled m footing seats s) (w : View E G)

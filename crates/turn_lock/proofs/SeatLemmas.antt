@@ -15,44 +15,41 @@ use Rattle.turn_lock.specs.declared.table.Spot.{Spot}
 use Rattle.turn_lock.specs.declared.table.Spot.TheVariants.{Home}
 use Rattle.turn_lock.specs.declared.view.Known.{Known}
 use Rattle.turn_lock.specs.declared.view.View.{View}
-use Rattle.turn_lock.specs.Meaning.{Meaning, of, pick}
+use Rattle.turn_lock.specs.declared.kept.Kept.{Ghosts}
+use Rattle.turn_lock.specs.Entries.{of, pick}
 use Rattle.turn_lock.specs.Views.{known, first_view, dealer, dealt, joined, spent, better, longer, either_count}
 use Rattle.turn_lock.specs.Rule.{Standing, value, out, living, Saw, Told, Posted, Apart, Fits, IsHome, IsOut, Ruled}
 use Rattle.turn_lock.specs.Calls.Finish.{Ends}
 use Rattle.turn_lock.proofs.ListLemmas.{sum_set, every_set, prefix_same, of_none, of_between, longer_is, only, nothing}
-use Rattle.turn_lock.proofs.RuleLemmas.{same_number, change, slot_kept, enter}
+use Rattle.turn_lock.proofs.RuleLemmas.{some_none, same_number, change, slot_kept, idle_fits, enter}
 
 -- ---- The start
 
-module _ {K E G : Type 0} (m : Meaning K E G) where
-  pub starts : (kept : K) (seats : ℕ) → 1 ≤ seats → seats ≤ 64 → m.entries kept ≡ [] → ((which : Shown) → m.shown which [] ≡ 0)
+module _ {K E G : Type 0} (m : Ghosts K E G) where
+  pub starts : (kept : K) (seats : ℕ) → 1 ≤ seats → seats ≤ 64 → m.entries kept ≡ []
       → Ruled m (m.footing kept) seats (opening (0 ∷ 0 ∷ 0 ∷ 0 ∷ 0 ∷ []) (Home kept ∷ []) (first_view (m.footing kept)))
-  starts kept seats some_seat most empty zeros =
+  starts kept seats some_seat most empty =
       let v = first_view {E = E} (m.footing kept) in
       let t : Standing E = record { ticket = 0; serving = 0; given = 1; log = []; cycles = 0; tickets = 0 } in
       let none_yet : (which : Shown) → value which t ≡ 0 = λ which. zero_of which in
-      let mine : Fits m (m.footing kept) (some (Home kept) ∷ []) t v = record {
-        one = omega arith;
-        within = λ n e. absurd (cc);
-        turn = λ h. absurd (true≢false (sym h));
-        saw = record { begins = prefix_same []; own = λ n c. refl };
-        told = λ k d lt. absurd (omega arith);
-        ground_is = λ _. refl;
-        given = λ n c. let is : n ≡ 0 = only 0 n c in omega arith;
-        owner = λ _. (0, (0, omega arith, refl));
-        counts = λ k e. let is : 1 ≡ k = cc in sym is;
-        posted = λ which. fresh which (m.shown which) (zeros which);
-      } in record {
+      let mine : Fits m (m.footing kept) (some (Home kept) ∷ []) t v = idle_fits m (m.footing kept) seats (some (Home kept) ∷ []) t v refl refl
+          (record { begins = prefix_same []; own = λ n c. refl })
+          (λ k d lt. absurd (omega arith))
+          (λ _. refl)
+          (λ n c. let is : n ≡ 0 = only 0 n c in omega arith)
+          (λ _. (0, (0, omega arith, refl)))
+          (λ k e. let is : 1 ≡ k = cc in sym is)
+          (λ which. fresh which (m.shown which) (m.shown_empty which)) in record {
         at = t;
         words_are = refl;
         as_many = refl;
         few = omega arith;
         most = (some_seat, most);
         callers = λ n high. refl;
-        published = λ which. let z = zeros which in let y = none_yet which in omega arith;
+        published = λ which. let z = m.shown_empty which in let y = none_yet which in omega arith;
         fits = alone (Fits m (m.footing kept) (some (Home kept) ∷ []) t) mine;
         apart = λ i j v' w' apart e h. absurd (apart (first i v' e ∙ sym (first j w' h)));
-        slot = inl (record { kept = kept; there = refl; list = empty; ground_is = refl; current = λ which. let z = zeros which in let y = none_yet which in omega arith });
+        slot = inl (record { kept = kept; there = refl; list = empty; ground_is = refl; current = λ which. let z = m.shown_empty which in let y = none_yet which in omega arith });
       }
     where
       zero_of : (which : Shown) → pick {A = ℕ} which 0 0 ≡ 0
@@ -71,12 +68,12 @@ module _ {K E G : Type 0} (m : Meaning K E G) where
       alone P p zero u e = subst P (some-injective _ u e) p
       alone P p (suc i) u e = absurd (some-ne-none u (sym e))
 
-  pub starts_from : (kept named : K) (seats : ℕ) (slots : List (Spot K)) → named ≡ kept → slots ≡ Home kept ∷ [] → (1 ≤ seats) × (seats ≤ 64) → m.entries kept ≡ [] → ((which : Shown) → m.shown which [] ≡ 0)
+  pub starts_from : (kept named : K) (seats : ℕ) (slots : List (Spot K)) → named ≡ kept → slots ≡ Home kept ∷ [] → (1 ≤ seats) × (seats ≤ 64) → m.entries kept ≡ []
       → Ruled m (m.footing named) seats (opening (0 ∷ 0 ∷ 0 ∷ 0 ∷ 0 ∷ []) slots (first_view (m.footing named)))
-  starts_from kept named seats slots is only_slot number empty zeros =
-      subst (λ (x : K × List (Spot K)). Ruled m (m.footing x.0) seats (opening (0 ∷ 0 ∷ 0 ∷ 0 ∷ 0 ∷ []) x.1 (first_view (m.footing x.0)))) (λ i. (sym is i, sym only_slot i)) (starts kept seats number.0 number.1 empty zeros)
+  starts_from kept named seats slots is only_slot number empty =
+      subst (λ (x : K × List (Spot K)). Ruled m (m.footing x.0) seats (opening (0 ∷ 0 ∷ 0 ∷ 0 ∷ 0 ∷ []) x.1 (first_view (m.footing x.0)))) (λ i. (sym is i, sym only_slot i)) (starts kept seats number.0 number.1 empty)
 
-module _ {K E G : Type 0} (m : Meaning K E G) (footing : G) (seats : ℕ) where
+module _ {K E G : Type 0} (m : Ghosts K E G) (footing : G) (seats : ℕ) where
   -- ---- A seat is cut in two
 
   pub deals : (i : ℕ) (v : View E G) (k : ℕ) → v.given ≡ Some k → k < seats → v.alive ≡ true → v.number ≡ None → v.holds ≡ false → ((which : Shown) → (known which v).owes ≡ false)
@@ -134,22 +131,18 @@ module _ {K E G : Type 0} (m : Meaning K E G) (footing : G) (seats : ℕ) where
       enter m footing seats (record { words = s.words; homes = s.homes; views = set s.views i left }) r' right
       (omega arith)
       idle
-      (record {
-        one = omega arith;
-        within = f.within;
-        turn = λ h. absurd (true≢false (sym h ∙ waits));
-        saw = record {
-          begins = f.saw.begins;
-          own = λ n c. let is : n ≡ k = only k n (subst (λ (l : List ℕ). Contains l n) right_mine c) in
-              let none' = r.callers n (omega arith) in of_none m.caller n v.seen r.at.log f.saw.begins none' ∙ sym none';
-        };
-        told = λ j d lt. absurd (omega arith);
-        ground_is = f.ground_is;
-        given = λ n c. let is : n ≡ k = only k n (subst (λ (l : List ℕ). Contains l n) right_mine c) in omega arith;
-        owner = λ _. (k, subst (λ (l : List ℕ). Contains l k) (sym right_mine) (0, omega arith, refl));
-        counts = λ n e. absurd (cc);
-        posted = λ which. let p = f.posted which in record { knows = p.knows; current = p.current; owes = λ e. absurd (true≢false (sym e ∙ paid which)) };
-      })
+      (idle_fits m footing seats s.homes t right idle waits
+          (record {
+            begins = f.saw.begins;
+            own = λ n c. let is : n ≡ k = only k n (subst (λ (l : List ℕ). Contains l n) right_mine c) in
+                let none' = r.callers n (omega arith) in of_none m.caller n v.seen r.at.log f.saw.begins none' ∙ sym none';
+          })
+          (λ j d lt. absurd (omega arith))
+          f.ground_is
+          (λ n c. let is : n ≡ k = only k n (subst (λ (l : List ℕ). Contains l n) right_mine c) in omega arith)
+          (λ _. (k, subst (λ (l : List ℕ). Contains l k) (sym right_mine) (0, omega arith, refl)))
+          (λ n e. some_none None n refl e)
+          (λ which. let p = f.posted which in record { knows = p.knows; current = p.current; owes = λ e. absurd (true≢false (sym e ∙ paid which)) }))
       (every_set (λ u. Apart u right) s.views i left
       (record {
         tickets = λ n e h. absurd (cc);
@@ -208,10 +201,23 @@ module _ {K E G : Type 0} (m : Meaning K E G) (footing : G) (seats : ℕ) where
   told_more : (log : List E) (mine more : List ℕ) (told : List (List ℕ × List E)) → ((n : ℕ) → Contains mine n → Contains more n) → All (Told m.caller log mine) told → All (Told m.caller log more) told
   told_more log mine more told each all = λ k d lt. let x = all k d lt in record { saw = x.saw; within = λ n c. each n (x.within n c) }
 
-  pub joins : (i : ℕ) (v : View E G) (other : ℕ) (w : View E G) → v.number ≡ None → v.holds ≡ false → w.number ≡ None → w.holds ≡ false → v.alive ≡ true → ((which : Shown) → m.shown which [] ≡ 0)
+  -- what is told of both is so: what each has seen, and what each was told
+  told_joined : (log : List E) (v w : View E G) → Saw m.caller log v.mine v.seen → Saw m.caller log w.mine w.seen → All (Told m.caller log v.mine) v.told → All (Told m.caller log w.mine) w.told
+      → All (Told m.caller log (joined v w).mine) (joined v w).told
+  told_joined log v w saw saw' told told' =
+      let P = Told m.caller log (v.mine ++ w.mine) in
+      let left = λ (n : ℕ) (c : Contains v.mine n). Contains-append_left v.mine w.mine n c in
+      let right = λ (n : ℕ) (c : Contains w.mine n). Contains-append_right v.mine w.mine n c in
+      All-cons P (v.mine, v.seen) ((w.mine, w.seen) ∷ (v.told ++ w.told)) (record { saw = saw; within = left }) (
+        All-cons P (w.mine, w.seen) (v.told ++ w.told) (record { saw = saw'; within = right }) (
+          All-append P v.told w.told (told_more log v.mine (v.mine ++ w.mine) v.told left told) (told_more log w.mine (v.mine ++ w.mine) w.told right told')
+        )
+      )
+
+  pub joins : (i : ℕ) (v : View E G) (other : ℕ) (w : View E G) → v.number ≡ None → v.holds ≡ false → w.number ≡ None → w.holds ≡ false → v.alive ≡ true
       → Joins (Ruled m footing seats) i v other w (joined v w) spent
   unfolding change
-  joins i v other w idle waits idle' waits' alive zeros s r at apart there =
+  joins i v other w idle waits idle' waits' alive s r at apart there =
       let both = joined v w in
       let there' : get_elem? s.views other ≡ some w = sym (set_else s.views i other both apart) ∙ there in
       let f = r.fits i v at in
@@ -229,18 +235,14 @@ module _ {K E G : Type 0} (m : Meaning K E G) (footing : G) (seats : ℕ) where
       (omega arith, r.most.0)
       r.callers
       r.published
-      (record {
-        one = omega arith;
-        within = λ n e. absurd (cc);
-        turn = λ h. absurd (true≢false (sym h));
-        saw = record { begins = (log, refl); own = λ n c. absurd (nothing n c) };
-        told = λ j d lt. absurd (omega arith);
-        ground_is = λ h. absurd (true≢false (sym h));
-        given = λ n c. absurd (nothing n c);
-        owner = λ h. absurd (true≢false (sym h));
-        counts = λ n e. absurd (cc);
-        posted = λ which. unknown_posted which (value which r.at) (m.shown which) (zeros which);
-      })
+      (idle_fits m footing seats s.homes r.at spent' refl refl
+          (record { begins = (log, refl); own = λ n c. absurd (nothing n c) })
+          (λ j d lt. absurd (omega arith))
+          (λ h. absurd (true≢false (sym h)))
+          (λ n c. absurd (nothing n c))
+          (λ h. absurd (true≢false (sym h)))
+          (λ n e. some_none None n refl e)
+          (λ which. unknown_posted which (value which r.at) (m.shown which) (m.shown_empty which)))
       (λ j u apart' e a h. (h, record { tickets = λ n e' h'. absurd (cc); numbers = λ n c c'. nothing n c; counts = λ x y e' h'. absurd (cc) }))
       (slot_kept m footing seats s r other w spent' there' r.at (λ h. h) (λ h. absurd (true≢false (sym h ∙ waits')))) in
       let here : get_elem? (set s.views other spent') i ≡ some v = set_else s.views other i spent' (λ h. apart (sym h)) ∙ at in
@@ -253,31 +255,20 @@ module _ {K E G : Type 0} (m : Meaning K E G) (footing : G) (seats : ℕ) where
       (omega arith, r.most.0)
       r.callers
       r.published
-      (record {
-        one = omega arith;
-        within = λ n e. absurd (cc);
-        turn = λ h. absurd (true≢false (sym h));
-        saw = record {
-          begins = longer_is (λ l. IsPrefix l log) v.seen w.seen (λ _. f.saw.begins) (λ _. g.saw.begins);
-          own = λ n c. ⊎_elim
-              (λ (x : Contains v.mine n). own_longer n v.seen w.seen log f.saw.begins g.saw.begins (f.saw.own n x))
-              (λ (x : Contains w.mine n). own_longer' n v.seen w.seen log f.saw.begins g.saw.begins (g.saw.own n x))
-              (Contains-append_cases v.mine w.mine n c);
-        };
-        told =
-            let left = λ (n : ℕ) (c : Contains v.mine n). Contains-append_left v.mine w.mine n c in
-            let right = λ (n : ℕ) (c : Contains w.mine n). Contains-append_right v.mine w.mine n c in
-            All-cons (Told m.caller log both.mine) (v.mine, v.seen) ((w.mine, w.seen) ∷ (v.told ++ w.told)) (record { saw = f.saw; within = left }) (
-            All-cons (Told m.caller log both.mine) (w.mine, w.seen) (v.told ++ w.told) (record { saw = g.saw; within = right }) (
-            All-append (Told m.caller log both.mine) v.told w.told (told_more log v.mine both.mine v.told left f.told) (told_more log w.mine both.mine w.told right g.told)
-            )
-            );
-        ground_is = λ h. f.ground_is alive;
-        given = λ n c. ⊎_elim (λ (x : Contains v.mine n). f.given n x) (λ (x : Contains w.mine n). g.given n x) (Contains-append_cases v.mine w.mine n c);
-        owner = λ h. let o = f.owner alive in (o.0, Contains-append_left v.mine w.mine o.0 o.1);
-        counts = λ k e. either_is v.given w.given k r.at.given f.counts g.counts e;
-        posted = λ which. better_posted which v w (λ each. value each r.at) waits waits' f.posted g.posted;
-      })
+      (idle_fits m footing seats s.homes r.at both refl refl
+          (record {
+            begins = longer_is (λ l. IsPrefix l log) v.seen w.seen (λ _. f.saw.begins) (λ _. g.saw.begins);
+            own = λ n c. ⊎_elim
+                (λ (x : Contains v.mine n). own_longer n v.seen w.seen log f.saw.begins g.saw.begins (f.saw.own n x))
+                (λ (x : Contains w.mine n). own_longer' n v.seen w.seen log f.saw.begins g.saw.begins (g.saw.own n x))
+                (Contains-append_cases v.mine w.mine n c);
+          })
+          (told_joined log v w f.saw g.saw f.told g.told)
+          (λ h. f.ground_is alive)
+          (λ n c. ⊎_elim (λ (x : Contains v.mine n). f.given n x) (λ (x : Contains w.mine n). g.given n x) (Contains-append_cases v.mine w.mine n c))
+          (λ h. let o = f.owner alive in (o.0, Contains-append_left v.mine w.mine o.0 o.1))
+          (λ k e. either_is v.given w.given k r.at.given f.counts g.counts e)
+          (λ which. better_posted which v w (λ each. value each r.at) waits waits' f.posted g.posted))
       (λ j u apart' e a h. (
         h,
         record {

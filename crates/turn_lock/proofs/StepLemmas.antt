@@ -15,12 +15,13 @@ use Rattle.turn_lock.specs.declared.kept.Shown.TheVariants.{Cycles, Tickets}
 use Rattle.turn_lock.specs.declared.table.Spot.{Spot}
 use Rattle.turn_lock.specs.declared.table.Spot.TheVariants.{Home, Away, Counted}
 use Rattle.turn_lock.specs.declared.view.View.{View}
-use Rattle.turn_lock.specs.Meaning.{Meaning, of}
+use Rattle.turn_lock.specs.declared.kept.Kept.{Ghosts}
+use Rattle.turn_lock.specs.Entries.{of}
 use Rattle.turn_lock.specs.Views.{known, waiting, at_turn, counted, published, loaded, passed_on}
 use Rattle.turn_lock.specs.Rule.{Standing, words, value, with_value, out, living, Saw, Told, Posted, IsHome, IsOut, Ruled}
 use Rattle.turn_lock.specs.Steps.{word_of, drawn, looked, counts, publishes, Loads, loads, passes_on}
 use Rattle.turn_lock.proofs.ListLemmas.{at_get, sum_le, prefix_same, prefix_more, of_other}
-use Rattle.turn_lock.proofs.RuleLemmas.{some_none, same_number, change, slot_kept, others_wait}
+use Rattle.turn_lock.proofs.RuleLemmas.{some_none, same_number, turned_apart, change, slot_kept, still_fits, idle_fits, others_wait}
 
 -- a step, where what it tells does not depend on which
 abbrev pub some_step : {S : Type 0} → Step S
@@ -119,7 +120,7 @@ some_same a b e = cc
 
 -- ---- One ticket out, at most as many as lie between
 
-module _ {K E G : Type 0} (m : Meaning K E G) (footing : G) (seats : ℕ) where
+module _ {K E G : Type 0} (m : Ghosts K E G) (footing : G) (seats : ℕ) where
   -- two tickets that are out lie less than 2 ^ 64 apart, so they are one where their remainders are
   near : (s : State (Spot K) (View E G)) (r : Ruled m footing seats s) (n : ℕ) → r.at.serving ≤ n → n < r.at.ticket → r.at.serving % 2 ^ 64 ≡ n % 2 ^ 64 → r.at.serving ≡ n
   near s r n low high same =
@@ -163,18 +164,7 @@ module _ {K E G : Type 0} (m : Meaning K E G) (footing : G) (seats : ℕ) where
               posted = f.posted;
             })
             (λ j u apart e a g. (
-              record {
-                one = g.one;
-                within = λ n h. let b = g.within n h in (b.0, omega arith);
-                turn = g.turn;
-                saw = g.saw;
-                told = g.told;
-                ground_is = g.ground_is;
-                given = g.given;
-                owner = g.owner;
-                counts = g.counts;
-                posted = g.posted;
-              },
+              still_fits m footing seats s.homes s.homes r.at (r.at.ticket + 1) r.at.serving u g (λ n h. let b = g.within n h in (b.0, omega arith)) g.turn,
               record {
                 tickets = λ n e h. let same : r.at.ticket ≡ n = cc in let b = g.within n h in omega arith;
                 numbers = a.numbers;
@@ -240,18 +230,7 @@ module _ {K E G : Type 0} (m : Meaning K E G) (footing : G) (seats : ℕ) where
               };
             })
             (λ j u apart e a g. (
-              record {
-                one = g.one;
-                within = g.within;
-                turn = λ h. others_wait m footing seats s.homes r.at v u mine' a g h;
-                saw = g.saw;
-                told = g.told;
-                ground_is = g.ground_is;
-                given = g.given;
-                owner = g.owner;
-                counts = g.counts;
-                posted = g.posted;
-              },
+              still_fits m footing seats s.homes (set s.homes 0 none) r.at r.at.ticket r.at.serving u g g.within (λ h. others_wait m footing seats s.homes r.at v u mine' a g h),
               record { tickets = a.tickets; numbers = a.numbers; counts = a.counts },
             ))
             (inr (record { away = gone; seat = i; holder = w; sits = set_here s.views i w ((at_get s.views i v at).0); holds = refl })),
@@ -297,11 +276,10 @@ module _ {K E G : Type 0} (m : Meaning K E G) (footing : G) (seats : ℕ) where
   }
 
   pub counts_one : (slots : ℕ) (i : ℕ) (me : Me (Spot K) (View E G)) (named : Snapshot K) (e : E)
-      → ((which : Shown) (xs ys : List E) → m.shown which xs ≤ m.shown which (xs ++ ys))
       → me.1 ≡ (0, Counted named) ∷ [] → me.0.holds ≡ true → me.0.told ≡ []
       → m.entries named.value ≡ me.0.seen ++ e ∷ [] → Contains me.0.mine (m.caller e) → length (m.entries named.value) < 2 ^ 64
       → Allows (Ruled m footing seats) slots i me 2 (λ n. (n + 1) % 2 ^ 64) (counts m some_step me)
-  counts_one slots i me named e grows has holds told more own few s r long at small =
+  counts_one slots i me named e has holds told more own few s r long at small =
       let v = me.0 in
       let f = r.fits i v at in
       let turn = f.turn holds in
@@ -311,7 +289,7 @@ module _ {K E G : Type 0} (m : Meaning K E G) (footing : G) (seats : ℕ) where
       let longer_by : now ≡ r.at.log ++ e ∷ [] = more ∙ ap (λ l. l ++ e ∷ []) turn.1 in
       let given = f.given (m.caller e) own in
       let shows : (which : Shown) → value which r.at ≤ m.shown which now =
-      λ which. let a = r.published which in let b = grows which r.at.log (e ∷ []) in let c = ap (m.shown which) longer_by in omega arith in (
+      λ which. let a = r.published which in let b = m.shown_grows which r.at.log (e ∷ []) in let c = ap (m.shown which) longer_by in omega arith in (
         w,
         keeps,
         tt,
@@ -471,31 +449,12 @@ module _ {K E G : Type 0} (m : Meaning K E G) (footing : G) (seats : ℕ) where
             (omega arith, r.most.0)
             r.callers
             r.published
-            (record {
-              one = omega arith;
-              within = λ n e. absurd (cc);
-              turn = λ h. absurd (cc);
-              saw = f.saw;
-              told = f.told;
-              ground_is = f.ground_is;
-              given = f.given;
-              owner = f.owner;
-              counts = f.counts;
-              posted = λ which. let p = f.posted which in record { knows = p.knows; current = p.current; owes = λ e. absurd (true≢false (sym e ∙ paid which)) };
-            })
+            (idle_fits m footing seats (homes_after s.homes me.1 gives) t w refl refl f.saw f.told f.ground_is f.given f.owner f.counts
+              (λ which. let p = f.posted which in record { knows = p.knows; current = p.current; owes = λ e. absurd (true≢false (sym e ∙ paid which)) }))
             (λ j u apart e a g. (
-              record {
-                one = g.one;
-                within = λ n h. let b = g.within n h in (served_on n r.at.serving b.0 (λ same. a.tickets n (turn.0 ∙ ap Some (sym same)) h), b.1);
-                turn = λ h. others_wait m footing seats s.homes r.at v u turn.0 a g h;
-                saw = g.saw;
-                told = g.told;
-                ground_is = g.ground_is;
-                given = g.given;
-                owner = g.owner;
-                counts = g.counts;
-                posted = g.posted;
-              },
+              still_fits m footing seats s.homes (homes_after s.homes me.1 gives) r.at r.at.ticket (r.at.serving + 1) u g
+                  (λ n h. let b = g.within n h in (served_on n r.at.serving b.0 (λ same. a.tickets n (turn.0 ∙ ap Some (sym same)) h), b.1))
+                  (λ h. others_wait m footing seats s.homes r.at v u turn.0 a g h),
               record { tickets = λ n e' h. absurd (cc); numbers = a.numbers; counts = a.counts },
             ))
             (inl (record {

@@ -1,5 +1,5 @@
 -- The words of the contracts: a pass, what it knows, and its lock.
-use Rattle.std.specs.Prelude.{◌≡◌, ℕ}
+use Rattle.std.specs.Prelude.{◌≡◌, ℕ, true, false}
 use Rattle.turn_lock.specs.declared.kept.Kept.{Ghosts}
 use Rattle.turn_lock.specs.declared.lock.TurnLock.{TurnLock}
 use Rattle.turn_lock.specs.declared.pass.TurnPass.{TurnPass}
@@ -19,6 +19,18 @@ module _ {K E G : Type 0} {g : Ghosts K E G} where
   abbrev pub IsPassOf : TurnLock K E G → TurnPass K E G g → Type 0
   IsPassOf lock p = p.seat.table_id ≡ lock.table.shared.table_id
 
+  -- it is one, and does not hold the turn
+  abbrev pub IsReady : TurnLock K E G → TurnPass K E G g → Type 0
+  IsReady lock p = IsPassOf lock p × ((view p).holds ≡ false)
+
+  -- it is one, and holds the turn
+  abbrev pub HasTurn : TurnLock K E G → TurnPass K E G g → Type 0
+  HasTurn lock p = IsPassOf lock p × ((view p).holds ≡ true)
+
   -- it is still the same pass of the same lock
   abbrev pub IsSamePass : TurnPass K E G g → TurnPass K E G g → Type 0
   IsSamePass p q = (q.number ≡ p.number) × (q.seat.table_id ≡ p.seat.table_id)
+
+  -- it is the same pass, and this is what it knows now
+  abbrev pub Becomes : TurnPass K E G g → TurnPass K E G g → View E G → Type 0
+  Becomes p q v = IsSamePass p q × (view q ≡ v)

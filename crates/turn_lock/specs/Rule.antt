@@ -5,11 +5,13 @@ use mathlib.Core.Option.{Option as Maybe, none, some}
 use lib.ListN.{get_elem?}
 use Rattle.atomic_table.specs.Table.{State}
 use Rattle.turn_lock.specs.declared.kept.Shown.{Shown}
+use Rattle.turn_lock.specs.declared.TheConstants.{MOST_SEATS}
 use Rattle.turn_lock.specs.declared.table.Spot.{Spot}
 use Rattle.turn_lock.specs.declared.table.Spot.TheVariants.{Home}
 use Rattle.turn_lock.specs.declared.view.Known.{Known}
 use Rattle.turn_lock.specs.declared.view.View.{View}
-use Rattle.turn_lock.specs.Meaning.{Meaning, of, pick}
+use Rattle.turn_lock.specs.declared.kept.Kept.{Ghosts}
+use Rattle.turn_lock.specs.Entries.{of, pick}
 use Rattle.turn_lock.specs.Views.{known}
 
 -- where a lock stands: the next ticket and the one that is served, never wrapped, the count of numbers given, the counted list, and what is published
@@ -76,7 +78,7 @@ module _ {K E G : Type 0} where
     pub sits : get_elem? views seat ≡ some holder
     pub holds : holder.holds ≡ true
 
-module _ {K E G : Type 0} (m : Meaning K E G) (footing : G) where
+module _ {K E G : Type 0} (m : Ghosts K E G) (footing : G) where
   -- what holds of each seat
   pub record Fits (homes : List (Maybe (Spot K))) (t : Standing E) (v : View E G) : Type 0 where
     -- only a pass's seat has a ticket out, at most one, which is from the served one up to the next one
@@ -110,7 +112,7 @@ module _ {K E G : Type 0} (m : Meaning K E G) (footing : G) where
     -- as many tickets are out as lie from the served one up to the next one, and so few that their remainders differ
     pub as_many : sum_by out s.views + at.serving ≡ at.ticket
     pub few : sum_by living s.views ≤ at.given
-    pub most : (at.given ≤ seats) × (seats ≤ 64)
+    pub most : (at.given ≤ seats) × (seats ≤ MOST_SEATS)
     -- each entry's number is a given one, and nothing is published that the counted list does not have
     pub callers : (n : ℕ) → at.given ≤ n → of m.caller n at.log ≡ []
     pub published : (which : Shown) → value which at ≤ m.shown which at.log

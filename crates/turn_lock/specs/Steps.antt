@@ -3,16 +3,18 @@ use Rattle.std.specs.Prelude.{◌≡◌, ◌≢◌, ℕ, ◌%◌, ◌^◌, ◌�
 use mathlib.Core.List.{IsPrefix}
 use Rattle.atomic_table.specs.Table.{Me, Step}
 use Rattle.turn_lock.specs.declared.kept.Shown.{Shown}
+use Rattle.turn_lock.specs.declared.table.TheConstants.{CYCLES, TICKETS}
 use Rattle.turn_lock.specs.declared.table.Spot.{Spot}
 use Rattle.turn_lock.specs.declared.table.Spot.TheVariants.{Home, Counted}
 use Rattle.std.specs.declared.snapshot.Snapshot.{Snapshot}
 use Rattle.turn_lock.specs.declared.view.View.{View}
-use Rattle.turn_lock.specs.Meaning.{Meaning, of, pick}
+use Rattle.turn_lock.specs.declared.kept.Kept.{Ghosts}
+use Rattle.turn_lock.specs.Entries.{of, pick}
 use Rattle.turn_lock.specs.Views.{known, waiting, at_turn, counted, published, loaded, passed_on}
 
 -- the word of a published number
 abbrev pub word_of : Shown → ℕ
-word_of which = pick which 3 4
+word_of which = pick which CYCLES TICKETS
 
 module _ {K E G : Type 0} where
   -- it waits with a ticket, of which it found the remainder
@@ -27,7 +29,7 @@ module _ {K E G : Type 0} where
   abbrev pub publishes : Step (Spot K) → Me (Spot K) (View E G) → ℕ → Me (Spot K) (View E G) → Type 0
   publishes step me found after = (which : Shown) → step.word ≡ word_of which → after ≡ (published which me.0, me.1)
 
-  module _ (m : Meaning K E G) where
+  module _ (m : Ghosts K E G) where
     -- it found its ticket, holds the turn, and has this value: the lock's ground, and the counted list, which begins with what it had seen and has no more entries of its own
     pub record Hit (me after : Me (Spot K) (View E G)) : Type 0 where
       pub kept : K

@@ -3,7 +3,7 @@ use Rattle.std.specs.Prelude.{ℕ, ◌+◌, max, true, false, cond, ltb, List, [
 use Rattle.turn_lock.specs.declared.kept.Shown.{Shown}
 use Rattle.turn_lock.specs.declared.view.Known.{Known}
 use Rattle.turn_lock.specs.declared.view.View.{View}
-use Rattle.turn_lock.specs.Meaning.{pick}
+use Rattle.turn_lock.specs.Entries.{pick}
 
 -- nothing is known of a published number, and none is owed
 abbrev pub unknown : Known

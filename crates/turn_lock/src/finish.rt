@@ -1,9 +1,8 @@
 //! Taking a lock apart.
 
-ghost use Rattle.std.specs.Prelude.{◌≡◌, ℕ, ◌<◌, true, false, ◌∷◌, All, Contains, None};
-ghost use Rattle.turn_lock.specs.Meaning.{meaning};
-ghost use Rattle.turn_lock.specs.Passes.{view, seats_of, IsPassOf};
-ghost use Rattle.turn_lock.specs.Calls.Finish.{AreAll, IsReady, Finishes, Covers, Ends};
+ghost use Rattle.std.specs.Prelude.{◌≡◌, ℕ, ◌<◌, true, false, ◌∷◌, All, Contains};
+ghost use Rattle.turn_lock.specs.Passes.{seats_of, IsReady};
+ghost use Rattle.turn_lock.specs.Calls.Finish.{AreAll, Finishes, Gathered, Ends};
 
 use crate::kept::Kept;
 use crate::lock::TurnLock;
@@ -15,7 +14,7 @@ impl<K: Kept> TurnLock<K> {
     /// The kept value, once all passes are handed in, in whatever order.
     pub fn finish(self, first: TurnPass<K>, others: Vec<TurnPass<K>>) -> K
         requires passes { AreAll self (first ∷ others.items) }
-        ensures finished { Finishes (meaning K.entries K.footing K.caller K.shown) (seats_of self) first others.items result }
+        ensures finished { Finishes self first others.items result }
     {
         let seat = self.join_all(first, others);
         self.into_value(seat)
@@ -23,13 +22,9 @@ impl<K: Kept> TurnLock<K> {
 
     /// One seat, which knows what each pass knew.
     fn join_all(&self, first: TurnPass<K>, others: Vec<TurnPass<K>>) -> LockSeat<K>
-        requires first { IsReady self.now first }
-        requires others { All (IsReady self.now) others.items }
+        requires ready { All (IsReady self.now) (first ∷ others.items) }
         ensures table { result.table_id ≡ self.now.table.shared.table_id }
-        ensures idle { (result.me.0.alive ≡ true) × (result.me.0.holds ≡ false) }
-        ensures footing { result.me.0.footing ≡ (view first).footing }
-        ensures first { Covers K.caller result.me.0 (view first) }
-        ensures others { All (λ p. Covers K.caller result.me.0 (view p)) others.items }
+        ensures gathered { Gathered result.me.0 first others.items }
     {
         let TurnPass {
             number: _,
@@ -50,7 +45,7 @@ impl<K: Kept> TurnLock<K> {
         requires table { seat.table_id ≡ self.table.shared.table_id }
         requires idle { (seat.me.0.alive ≡ true) × (seat.me.0.holds ≡ false) }
         requires all { (n : ℕ) → n < seats_of self → Contains seat.me.0.mine n }
-        ensures ends { Ends (meaning K.entries K.footing K.caller K.shown) (seats_of self) seat.me.0 result }
+        ensures ends { Ends ⟦<K as Kept>⟧ (seats_of self) seat.me.0 result }
     {
         let TurnLock { table } = self;
         let mut closed = table.close_with(seat);

@@ -21,3 +21,6 @@ mod wait;
 
 /// The most passes that a lock has, so that no two of them ever wait with one ticket modulo 2^64.
 pub const MOST_SEATS: u32 = 64;
+
+/// The counted list always has fewer entries than this, so that its length is a word.
+pub const TOO_MANY_ENTRIES: u64 = 1 << 32;

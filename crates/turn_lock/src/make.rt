@@ -1,9 +1,9 @@
 //! Making a lock and its passes.
 
-ghost use Rattle.std.specs.Prelude.{◌≡◌, ◌+◌, ◌<◌, ◌≤◌, true, false, [], length, Some, IfOk};
+ghost use Rattle.std.specs.Prelude.{◌≡◌, ◌<◌, ◌≤◌, [], Some, IfOk};
 ghost use Rattle.turn_lock.specs.Views.{first_view, dealer, dealt};
-ghost use Rattle.turn_lock.specs.Passes.{view, seats_of, IsPassOf, IsSamePass};
-ghost use Rattle.turn_lock.specs.Calls.Make.{IsFresh, AreFresh, Made};
+ghost use Rattle.turn_lock.specs.Passes.{view, seats_of, IsPassOf, IsReady, IsSamePass, Becomes};
+ghost use Rattle.turn_lock.specs.Calls.Make.{IsFresh, AreOthers, Made};
 ghost use Rattle.turn_lock.specs.declared.TheConstants.{MOST_SEATS};
 
 use crate::kept::Kept;
@@ -62,13 +62,10 @@ impl<K: Kept> TurnLock<K> {
         first: &mut TurnPass<K>,
         seats: u32,
     ) -> Result<Vec<TurnPass<K>>, Memory>
-        requires pass { IsPassOf self.now first.old }
-        requires fresh { IsFresh (view first.old).footing (view first.old) }
-        requires keeps_count { (view first.old).given ≡ Some 1 }
-        requires seats { (1 ≤ seats) × (seats ≡ seats_of self.now) }
+        requires first { IsPassOf self.now first.old × IsFresh (view first.old).footing (view first.old) }
+        requires count { ((view first.old).given ≡ Some 1) × (1 ≤ seats) × (seats ≡ seats_of self.now) }
         ensures first { IsSamePass first.old first.new × IsFresh (view first.old).footing (view first.new) }
-        ensures count { IfOk result (λ r. length r.items + 1 ≡ seats) }
-        ensures others { IfOk result (λ r. AreFresh self.now (view first.old).footing 1 (length r.items) r.items) }
+        ensures others { IfOk result (λ r. AreOthers self.now (view first.old).footing seats r.items) }
     {
         let mut passes = Vec::new(alloc);
         for number in 1..seats {
@@ -79,11 +76,9 @@ impl<K: Kept> TurnLock<K> {
 
     /// The pass of the next number.
     fn deal(&self, first: &mut TurnPass<K>, number: u32) -> TurnPass<K>
-        requires pass { IsPassOf self.now first.old }
-        requires idle { (view first.old).holds ≡ false }
-        requires keeps_count { (view first.old).given ≡ Some number }
-        requires room { number < seats_of self.now }
-        ensures first { IsSamePass first.old first.new × (view first.new ≡ dealer (view first.old)) }
+        requires ready { IsReady self.now first.old }
+        requires next { ((view first.old).given ≡ Some number) × (number < seats_of self.now) }
+        ensures first { Becomes first.old first.new (dealer (view first.old)) }
         ensures dealt { IsPassOf self.now result × (result.number ≡ number) × (view result ≡ dealt (view first.old)) }
     {
         let seat = self.table.shared.split_seat::<Deals>(&mut first.seat);

@@ -18,20 +18,18 @@ impl<K: Kept> Play<Spot<K>, View<K::Entry, K::Ground>> for Draws {
 pub struct Looks;
 
 impl<K: Kept> Play<Spot<K>, View<K::Entry, K::Ground>> for Looks {
-    ghost use Rattle.turn_lock.specs.Meaning.{meaning};
-    ghost use Rattle.turn_lock.specs.Steps.{looked};
+        ghost use Rattle.turn_lock.specs.Steps.{looked};
 
-    ghost then = { looked (meaning K.entries K.footing K.caller K.shown) };
+    ghost then = { looked ⟦<K as Kept>⟧ };
 }
 
 /// Counts one entry more.
 pub struct Counts;
 
 impl<K: Kept> Play<Spot<K>, View<K::Entry, K::Ground>> for Counts {
-    ghost use Rattle.turn_lock.specs.Meaning.{meaning};
-    ghost use Rattle.turn_lock.specs.Steps.{counts};
+        ghost use Rattle.turn_lock.specs.Steps.{counts};
 
-    ghost then = { counts (meaning K.entries K.footing K.caller K.shown) };
+    ghost then = { counts ⟦<K as Kept>⟧ };
 }
 
 /// Stores a published number.
@@ -47,10 +45,9 @@ impl<K: Kept> Play<Spot<K>, View<K::Entry, K::Ground>> for Publishes {
 pub struct Loads;
 
 impl<K: Kept> Play<Spot<K>, View<K::Entry, K::Ground>> for Loads {
-    ghost use Rattle.turn_lock.specs.Meaning.{meaning};
-    ghost use Rattle.turn_lock.specs.Steps.{loads};
+        ghost use Rattle.turn_lock.specs.Steps.{loads};
 
-    ghost then = { loads (meaning K.entries K.footing K.caller K.shown) };
+    ghost then = { loads ⟦<K as Kept>⟧ };
 }
 
 /// Passes the turn on: one is added to the served number, and the value is home with the same step.

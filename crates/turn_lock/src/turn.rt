@@ -1,10 +1,11 @@
 //! What a pass does at a turn, and the loads that need none.
 
-ghost use Rattle.std.specs.Prelude.{◌≡◌, ℕ, ◌≤◌, ◌<◌, ◌^◌, true, false, [], ◌∷◌, ◌++◌, length, Some};
-ghost use Rattle.turn_lock.specs.Meaning.{meaning};
+ghost use Rattle.std.specs.Prelude.{◌≡◌, ◌≤◌, false};
 ghost use Rattle.turn_lock.specs.Views.{known, counted, published, loaded, passed_on};
-ghost use Rattle.turn_lock.specs.Passes.{view, IsPassOf, IsSamePass};
+ghost use Rattle.turn_lock.specs.Passes.{view, IsPassOf, IsReady, HasTurn, Becomes};
 ghost use Rattle.turn_lock.specs.Calls.Take.{Takes};
+ghost use Rattle.turn_lock.specs.Calls.Count.{AddsOne};
+ghost use Rattle.turn_lock.specs.Calls.Put.{IsSettled};
 
 use crate::kept::{Kept, Shown};
 use crate::lock::TurnLock;
@@ -17,10 +18,8 @@ use std::sync::Wait;
 impl<K: Kept> TurnLock<K> {
     /// Waits for the turn, and hands out the kept value. No other pass holds the turn until this one puts the value back.
     pub fn take<R: Wait>(&self, rt: &R, pass: &mut TurnPass<K>) -> K
-        requires pass { IsPassOf self.now pass.old }
-        requires idle { (view pass.old).holds ≡ false }
-        ensures same { IsSamePass pass.old pass.new }
-        ensures taken { Takes (meaning K.entries K.footing K.caller K.shown) pass.old.number (view pass.old) (view pass.new) result }
+        requires ready { IsReady self.now pass.old }
+        ensures taken { Takes pass.old pass.new result }
     {
         let mine = self.draw(&mut pass.seat);
         self.wait(rt, &mut pass.seat, mine)
@@ -29,12 +28,9 @@ impl<K: Kept> TurnLock<K> {
     /// Counts the one entry that `kept` has at its end beyond those that were counted. The value stays with the caller, and the
     /// numbers that are published of its list are owed until `put`.
     pub fn count(&self, pass: &mut TurnPass<K>, kept: &K)
-        requires pass { IsPassOf self.now pass.old }
-        requires holds { (view pass.old).holds ≡ true }
-        requires added { (e : K.Entry) × (K.entries kept.now ≡ (view pass.old).seen ++ e ∷ []) × (K.caller e ≡ pass.old.number) }
-        requires room { length (K.entries kept.now) < 2 ^ 32 }
-        ensures same { IsSamePass pass.old pass.new }
-        ensures counted { view pass.new ≡ counted (K.entries kept.now) (view pass.old) }
+        requires turn { HasTurn self.now pass.old }
+        requires added { AddsOne pass.old kept.now }
+        ensures counted { Becomes pass.old pass.new (counted (K.entries kept.now) (view pass.old)) }
     {
         self.fill(&mut pass.seat, Spot::Counted(Snapshot::of(kept)));
         self.table
@@ -44,11 +40,9 @@ impl<K: Kept> TurnLock<K> {
 
     /// Publishes a number of the counted list, so that others read it without a turn.
     pub fn publish(&self, pass: &mut TurnPass<K>, which: Shown, n: u64)
-        requires pass { IsPassOf self.now pass.old }
-        requires holds { (view pass.old).holds ≡ true }
+        requires turn { HasTurn self.now pass.old }
         requires number { n ≡ K.shown which (view pass.old).seen }
-        ensures same { IsSamePass pass.old pass.new }
-        ensures published { view pass.new ≡ published which (view pass.old) }
+        ensures published { Becomes pass.old pass.new (published which (view pass.old)) }
     {
         self.table
             .shared
@@ -58,13 +52,9 @@ impl<K: Kept> TurnLock<K> {
     /// Puts the value back and passes the turn on. All entries are counted; where this turn counted one, both numbers were
     /// published after it.
     pub fn put(&self, pass: &mut TurnPass<K>, kept: K)
-        requires pass { IsPassOf self.now pass.old }
-        requires holds { (view pass.old).holds ≡ true }
-        requires ground_is { (view pass.old).footing ≡ Some (K.footing kept) }
-        requires all_counted { K.entries kept ≡ (view pass.old).seen }
-        requires published { ((view pass.old).cycles.owes ≡ false) × ((view pass.old).tickets.owes ≡ false) }
-        ensures same { IsSamePass pass.old pass.new }
-        ensures passed_on { view pass.new ≡ passed_on (view pass.old) }
+        requires turn { HasTurn self.now pass.old }
+        requires settled { IsSettled pass.old kept }
+        ensures passed_on { Becomes pass.old pass.new (passed_on (view pass.old)) }
     {
         self.fill(&mut pass.seat, Spot::Home(kept));
         let served = self
@@ -79,8 +69,7 @@ impl<K: Kept> TurnLock<K> {
     /// What is published now. It waits for nobody, whoever holds the turn, and the number never falls.
     pub fn seen(&self, pass: &mut TurnPass<K>, which: Shown) -> u64
         requires pass { IsPassOf self.now pass.old }
-        ensures same { IsSamePass pass.old pass.new }
-        ensures loaded { view pass.new ≡ loaded which result (view pass.old) }
+        ensures loaded { Becomes pass.old pass.new (loaded which result (view pass.old)) }
         ensures grows { (known which (view pass.old)).number ≤ result }
         ensures current { (known which (view pass.old)).owes ≡ false → K.shown which (view pass.old).seen ≤ result }
     {

@@ -1,7 +1,6 @@
 //! Waiting for a turn: a ticket is drawn, and the served one is looked at until it is the same.
 
-ghost use Rattle.std.specs.Prelude.{◌≡◌, ◌≤◌, ◌%◌, ◌^◌, ◌<◌, true, false, [], ◌∷◌, None, Some, IfSome, IfNone};
-ghost use Rattle.turn_lock.specs.Meaning.{meaning};
+ghost use Rattle.std.specs.Prelude.{◌≡◌, true, false, [], ◌∷◌, MatchOption};
 ghost use Rattle.turn_lock.specs.Stands.{stands};
 ghost use Rattle.turn_lock.specs.Calls.Take.{Waits, Found};
 
@@ -31,7 +30,7 @@ impl<K: Kept> TurnLock<K> {
         requires table { seat.old.table_id ≡ self.now.table.shared.table_id }
         requires waits { Waits seat.old.me seat.old.me mine }
         ensures table { seat.new.table_id ≡ seat.old.table_id }
-        ensures found { Found (meaning K.entries K.footing K.caller K.shown) seat.old.me seat.new.me result }
+        ensures found { Found ⟦<K as Kept>⟧ seat.old.me seat.new.me result }
     {
         for _ in rt.forever() {
             if let Some(kept) = self.look_often(seat, mine) {
@@ -47,8 +46,7 @@ impl<K: Kept> TurnLock<K> {
         requires table { seat.old.table_id ≡ self.now.table.shared.table_id }
         requires waits { Waits seat.old.me seat.old.me mine }
         ensures table { seat.new.table_id ≡ seat.old.table_id }
-        ensures found { IfSome result (Found (meaning K.entries K.footing K.caller K.shown) seat.old.me seat.new.me) }
-        ensures missed { IfNone result (seat.new.me ≡ seat.old.me) }
+        ensures looked { MatchOption result (seat.new.me ≡ seat.old.me) (Found ⟦<K as Kept>⟧ seat.old.me seat.new.me) }
     {
         for _ in 0..LOOKS {
             if let Some(kept) = self.look(seat, mine) {
@@ -64,8 +62,7 @@ impl<K: Kept> TurnLock<K> {
         requires table { seat.old.table_id ≡ self.now.table.shared.table_id }
         requires waits { Waits seat.old.me seat.old.me mine }
         ensures table { seat.new.table_id ≡ seat.old.table_id }
-        ensures found { IfSome result (Found (meaning K.entries K.footing K.caller K.shown) seat.old.me seat.new.me) }
-        ensures missed { IfNone result (seat.new.me ≡ seat.old.me) }
+        ensures looked { MatchOption result (seat.new.me ≡ seat.old.me) (Found ⟦<K as Kept>⟧ seat.old.me seat.new.me) }
     {
         if self.table.shared.load::<Looks>(seat, SERVING) != mine {
             return None;

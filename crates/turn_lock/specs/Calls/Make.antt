@@ -1,5 +1,5 @@
 -- What `make` promises.
-use Rattle.std.specs.Prelude.{◌≡◌, ℕ, false, List, [], map, All, Option, Some}
+use Rattle.std.specs.Prelude.{◌≡◌, ℕ, ◌+◌, false, List, [], map, length, All, Option, Some}
 use Rattle.std.specs.List.{range_with_len}
 use Rattle.turn_lock.specs.declared.kept.Kept.{Ghosts}
 use Rattle.turn_lock.specs.declared.lock.TurnLock.{TurnLock}
@@ -23,6 +23,11 @@ module _ {K E G : Type 0} {g : Ghosts K E G} where
     pub numbers : map (λ p. p.number) passes ≡ range_with_len from count
     pub of_lock : All (IsPassOf lock) passes
     pub fresh : All (λ p. IsFresh footing (view p)) passes
+
+  -- those of a lock with so many seats, without the first
+  pub record AreOthers (lock : TurnLock K E G) (footing : Option G) (seats : ℕ) (passes : List (TurnPass K E G g)) : Type 0 where
+    pub count : length passes + 1 ≡ seats
+    pub passes_are : AreFresh lock footing 1 (length passes) passes
 
   -- A lock with so many passes, numbered from 0 in order, which know its ground and have seen nothing yet.
   pub record Made (footing : G) (seats : ℕ) (lock : TurnLock K E G) (passes : List (TurnPass K E G g)) : Type 0 where

@@ -1,5 +1,5 @@
 use Rattle.std.proofs.Common.{◌≡◌}
-use Rattle.turn_lock.specs.Calls.Finish.{IsReady}
+use Rattle.turn_lock.specs.Passes.{IsReady}
 use Rattle.turn_lock.proofs.tests.write_lines.Given as goal
 
 abbrev pub invariant-loop-turn : goal.invariant-loop-turn

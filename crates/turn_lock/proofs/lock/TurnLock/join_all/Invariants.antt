@@ -1,6 +1,6 @@
 use Rattle.std.proofs.Common.{◌≡◌, true, false, None, All, ◌++◌}
-use Rattle.turn_lock.specs.Passes.{view}
-use Rattle.turn_lock.specs.Calls.Finish.{IsReady, Covers}
+use Rattle.turn_lock.specs.Passes.{view, IsReady}
+use Rattle.turn_lock.specs.Calls.Finish.{Covers}
 use Rattle.turn_lock.proofs.lock.TurnLock.join_all.Given as goal
 
 abbrev pub invariant-loop-pass : goal.invariant-loop-pass
