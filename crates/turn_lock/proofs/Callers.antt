@@ -8,8 +8,8 @@ use Rattle.turn_lock.specs.declared.kept.Kept.{Ghosts}
 use Rattle.turn_lock.specs.declared.lock.TurnLock.{TurnLock}
 use Rattle.turn_lock.specs.declared.pass.TurnPass.{TurnPass}
 use Rattle.turn_lock.specs.Calls.Make.{Made}
-use Rattle.turn_lock.specs.Passes.{seats_of, IsReady}
-use Rattle.turn_lock.specs.Calls.Finish.{AreAll, EachStays}
+use Rattle.turn_lock.specs.Passes.{IsReady, EachStays}
+use Rattle.turn_lock.specs.Calls.Finish.{AreAll}
 use Rattle.turn_lock.proofs.FinishLemmas.{all_left, all_right}
 
 -- each number below n stands among the first n

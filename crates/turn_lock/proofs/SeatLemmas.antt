@@ -33,13 +33,13 @@ module _ {K E G : Type 0} (m : Ghosts K E G) where
       let t : Standing E = record { ticket = 0; serving = 0; given = 1; log = []; cycles = 0; tickets = 0 } in
       let none_yet : (which : Shown) → value which t ≡ 0 = λ which. zero_of which in
       let mine : Fits m (m.footing kept) (some (Home kept) ∷ []) t v = idle_fits m (m.footing kept) seats (some (Home kept) ∷ []) t v refl refl
-          (record { begins = prefix_same []; own = λ n c. refl })
-          (λ k d lt. absurd (omega arith))
-          (λ _. refl)
-          (λ n c. let is : n ≡ 0 = only 0 n c in omega arith)
-          (λ _. (0, (0, omega arith, refl)))
-          (λ k e. let is : 1 ≡ k = cc in sym is)
-          (λ which. fresh which (m.shown which) (m.shown_empty which)) in record {
+      (record { begins = prefix_same []; own = λ n c. refl })
+      (λ k d lt. absurd (omega arith))
+      (λ _. refl)
+      (λ n c. let is : n ≡ 0 = only 0 n c in omega arith)
+      (λ _. (0, (0, omega arith, refl)))
+      (λ k e. let is : 1 ≡ k = cc in sym is)
+      (λ which. fresh which (m.shown which) (m.shown_empty which)) in record {
         at = t;
         words_are = refl;
         as_many = refl;
@@ -132,17 +132,17 @@ module _ {K E G : Type 0} (m : Ghosts K E G) (footing : G) (seats : ℕ) where
       (omega arith)
       idle
       (idle_fits m footing seats s.homes t right idle waits
-          (record {
-            begins = f.saw.begins;
-            own = λ n c. let is : n ≡ k = only k n (subst (λ (l : List ℕ). Contains l n) right_mine c) in
-                let none' = r.callers n (omega arith) in of_none m.caller n v.seen r.at.log f.saw.begins none' ∙ sym none';
-          })
-          (λ j d lt. absurd (omega arith))
-          f.ground_is
-          (λ n c. let is : n ≡ k = only k n (subst (λ (l : List ℕ). Contains l n) right_mine c) in omega arith)
-          (λ _. (k, subst (λ (l : List ℕ). Contains l k) (sym right_mine) (0, omega arith, refl)))
-          (λ n e. some_none None n refl e)
-          (λ which. let p = f.posted which in record { knows = p.knows; current = p.current; owes = λ e. absurd (true≢false (sym e ∙ paid which)) }))
+      (record {
+        begins = f.saw.begins;
+        own = λ n c. let is : n ≡ k = only k n (subst (λ (l : List ℕ). Contains l n) right_mine c) in
+            let none' = r.callers n (omega arith) in of_none m.caller n v.seen r.at.log f.saw.begins none' ∙ sym none';
+      })
+      (λ j d lt. absurd (omega arith))
+      f.ground_is
+      (λ n c. let is : n ≡ k = only k n (subst (λ (l : List ℕ). Contains l n) right_mine c) in omega arith)
+      (λ _. (k, subst (λ (l : List ℕ). Contains l k) (sym right_mine) (0, omega arith, refl)))
+      (λ n e. some_none None n refl e)
+      (λ which. let p = f.posted which in record { knows = p.knows; current = p.current; owes = λ e. absurd (true≢false (sym e ∙ paid which)) }))
       (every_set (λ u. Apart u right) s.views i left
       (record {
         tickets = λ n e h. absurd (cc);
@@ -209,9 +209,9 @@ module _ {K E G : Type 0} (m : Ghosts K E G) (footing : G) (seats : ℕ) where
       let left = λ (n : ℕ) (c : Contains v.mine n). Contains-append_left v.mine w.mine n c in
       let right = λ (n : ℕ) (c : Contains w.mine n). Contains-append_right v.mine w.mine n c in
       All-cons P (v.mine, v.seen) ((w.mine, w.seen) ∷ (v.told ++ w.told)) (record { saw = saw; within = left }) (
-        All-cons P (w.mine, w.seen) (v.told ++ w.told) (record { saw = saw'; within = right }) (
-          All-append P v.told w.told (told_more log v.mine (v.mine ++ w.mine) v.told left told) (told_more log w.mine (v.mine ++ w.mine) w.told right told')
-        )
+      All-cons P (w.mine, w.seen) (v.told ++ w.told) (record { saw = saw'; within = right }) (
+      All-append P v.told w.told (told_more log v.mine (v.mine ++ w.mine) v.told left told) (told_more log w.mine (v.mine ++ w.mine) w.told right told')
+      )
       )
 
   pub joins : (i : ℕ) (v : View E G) (other : ℕ) (w : View E G) → v.number ≡ None → v.holds ≡ false → w.number ≡ None → w.holds ≡ false → v.alive ≡ true
@@ -236,13 +236,13 @@ module _ {K E G : Type 0} (m : Ghosts K E G) (footing : G) (seats : ℕ) where
       r.callers
       r.published
       (idle_fits m footing seats s.homes r.at spent' refl refl
-          (record { begins = (log, refl); own = λ n c. absurd (nothing n c) })
-          (λ j d lt. absurd (omega arith))
-          (λ h. absurd (true≢false (sym h)))
-          (λ n c. absurd (nothing n c))
-          (λ h. absurd (true≢false (sym h)))
-          (λ n e. some_none None n refl e)
-          (λ which. unknown_posted which (value which r.at) (m.shown which) (m.shown_empty which)))
+      (record { begins = (log, refl); own = λ n c. absurd (nothing n c) })
+      (λ j d lt. absurd (omega arith))
+      (λ h. absurd (true≢false (sym h)))
+      (λ n c. absurd (nothing n c))
+      (λ h. absurd (true≢false (sym h)))
+      (λ n e. some_none None n refl e)
+      (λ which. unknown_posted which (value which r.at) (m.shown which) (m.shown_empty which)))
       (λ j u apart' e a h. (h, record { tickets = λ n e' h'. absurd (cc); numbers = λ n c c'. nothing n c; counts = λ x y e' h'. absurd (cc) }))
       (slot_kept m footing seats s r other w spent' there' r.at (λ h. h) (λ h. absurd (true≢false (sym h ∙ waits')))) in
       let here : get_elem? (set s.views other spent') i ≡ some v = set_else s.views other i spent' (λ h. apart (sym h)) ∙ at in
@@ -256,19 +256,19 @@ module _ {K E G : Type 0} (m : Ghosts K E G) (footing : G) (seats : ℕ) where
       r.callers
       r.published
       (idle_fits m footing seats s.homes r.at both refl refl
-          (record {
-            begins = longer_is (λ l. IsPrefix l log) v.seen w.seen (λ _. f.saw.begins) (λ _. g.saw.begins);
-            own = λ n c. ⊎_elim
-                (λ (x : Contains v.mine n). own_longer n v.seen w.seen log f.saw.begins g.saw.begins (f.saw.own n x))
-                (λ (x : Contains w.mine n). own_longer' n v.seen w.seen log f.saw.begins g.saw.begins (g.saw.own n x))
-                (Contains-append_cases v.mine w.mine n c);
-          })
-          (told_joined log v w f.saw g.saw f.told g.told)
-          (λ h. f.ground_is alive)
-          (λ n c. ⊎_elim (λ (x : Contains v.mine n). f.given n x) (λ (x : Contains w.mine n). g.given n x) (Contains-append_cases v.mine w.mine n c))
-          (λ h. let o = f.owner alive in (o.0, Contains-append_left v.mine w.mine o.0 o.1))
-          (λ k e. either_is v.given w.given k r.at.given f.counts g.counts e)
-          (λ which. better_posted which v w (λ each. value each r.at) waits waits' f.posted g.posted))
+      (record {
+        begins = longer_is (λ l. IsPrefix l log) v.seen w.seen (λ _. f.saw.begins) (λ _. g.saw.begins);
+        own = λ n c. ⊎_elim
+            (λ (x : Contains v.mine n). own_longer n v.seen w.seen log f.saw.begins g.saw.begins (f.saw.own n x))
+            (λ (x : Contains w.mine n). own_longer' n v.seen w.seen log f.saw.begins g.saw.begins (g.saw.own n x))
+            (Contains-append_cases v.mine w.mine n c);
+      })
+      (told_joined log v w f.saw g.saw f.told g.told)
+      (λ h. f.ground_is alive)
+      (λ n c. ⊎_elim (λ (x : Contains v.mine n). f.given n x) (λ (x : Contains w.mine n). g.given n x) (Contains-append_cases v.mine w.mine n c))
+      (λ h. let o = f.owner alive in (o.0, Contains-append_left v.mine w.mine o.0 o.1))
+      (λ k e. either_is v.given w.given k r.at.given f.counts g.counts e)
+      (λ which. better_posted which v w (λ each. value each r.at) waits waits' f.posted g.posted))
       (λ j u apart' e a h. (
         h,
         record {

@@ -21,7 +21,7 @@ use Rattle.turn_lock.specs.Views.{known, waiting, at_turn, counted, published, l
 use Rattle.turn_lock.specs.Rule.{Standing, words, value, with_value, out, living, Saw, Told, Posted, IsHome, IsOut, Ruled}
 use Rattle.turn_lock.specs.Steps.{word_of, drawn, looked, counts, publishes, Loads, loads, passes_on}
 use Rattle.turn_lock.proofs.ListLemmas.{at_get, sum_le, prefix_same, prefix_more, of_other}
-use Rattle.turn_lock.proofs.RuleLemmas.{some_none, same_number, turned_apart, change, slot_kept, still_fits, idle_fits, others_wait}
+use Rattle.turn_lock.proofs.RuleLemmas.{some_none, same_number, change, slot_kept, still_fits, idle_fits, others_wait}
 
 -- a step, where what it tells does not depend on which
 abbrev pub some_step : {S : Type 0} → Step S
@@ -450,7 +450,7 @@ module _ {K E G : Type 0} (m : Ghosts K E G) (footing : G) (seats : ℕ) where
             r.callers
             r.published
             (idle_fits m footing seats (homes_after s.homes me.1 gives) t w refl refl f.saw f.told f.ground_is f.given f.owner f.counts
-              (λ which. let p = f.posted which in record { knows = p.knows; current = p.current; owes = λ e. absurd (true≢false (sym e ∙ paid which)) }))
+            (λ which. let p = f.posted which in record { knows = p.knows; current = p.current; owes = λ e. absurd (true≢false (sym e ∙ paid which)) }))
             (λ j u apart e a g. (
               still_fits m footing seats s.homes (homes_after s.homes me.1 gives) r.at r.at.ticket (r.at.serving + 1) u g
                   (λ n h. let b = g.within n h in (served_on n r.at.serving b.0 (λ same. a.tickets n (turn.0 ∙ ap Some (sym same)) h), b.1))

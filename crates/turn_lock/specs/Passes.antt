@@ -1,5 +1,5 @@
 -- The words of the contracts: a pass, what it knows, and its lock.
-use Rattle.std.specs.Prelude.{◌≡◌, ℕ, true, false}
+use Rattle.std.specs.Prelude.{◌≡◌, ℕ, ◌<◌, true, false, List, length, slice_index_or}
 use Rattle.turn_lock.specs.declared.kept.Kept.{Ghosts}
 use Rattle.turn_lock.specs.declared.lock.TurnLock.{TurnLock}
 use Rattle.turn_lock.specs.declared.pass.TurnPass.{TurnPass}
@@ -34,3 +34,7 @@ module _ {K E G : Type 0} {g : Ghosts K E G} where
   -- it is the same pass, and this is what it knows now
   abbrev pub Becomes : TurnPass K E G g → TurnPass K E G g → View E G → Type 0
   Becomes p q v = IsSamePass p q × (view q ≡ v)
+
+  -- each pass is where it was in the row, with its number, and ready again
+  abbrev pub EachStays : TurnLock K E G → List (TurnPass K E G g) → List (TurnPass K E G g) → Type 0
+  EachStays lock ps qs = (i : ℕ) (p q : TurnPass K E G g) → i < length ps → IsReady lock (slice_index_or qs i q) × ((slice_index_or qs i q).number ≡ (slice_index_or ps i p).number)

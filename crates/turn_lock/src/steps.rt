@@ -18,7 +18,7 @@ impl<K: Kept> Play<Spot<K>, View<K::Entry, K::Ground>> for Draws {
 pub struct Looks;
 
 impl<K: Kept> Play<Spot<K>, View<K::Entry, K::Ground>> for Looks {
-        ghost use Rattle.turn_lock.specs.Steps.{looked};
+    ghost use Rattle.turn_lock.specs.Steps.{looked};
 
     ghost then = { looked ⟦<K as Kept>⟧ };
 }
@@ -27,7 +27,7 @@ impl<K: Kept> Play<Spot<K>, View<K::Entry, K::Ground>> for Looks {
 pub struct Counts;
 
 impl<K: Kept> Play<Spot<K>, View<K::Entry, K::Ground>> for Counts {
-        ghost use Rattle.turn_lock.specs.Steps.{counts};
+    ghost use Rattle.turn_lock.specs.Steps.{counts};
 
     ghost then = { counts ⟦<K as Kept>⟧ };
 }
@@ -45,7 +45,7 @@ impl<K: Kept> Play<Spot<K>, View<K::Entry, K::Ground>> for Publishes {
 pub struct Loads;
 
 impl<K: Kept> Play<Spot<K>, View<K::Entry, K::Ground>> for Loads {
-        ghost use Rattle.turn_lock.specs.Steps.{loads};
+    ghost use Rattle.turn_lock.specs.Steps.{loads};
 
     ghost then = { loads ⟦<K as Kept>⟧ };
 }

@@ -57,7 +57,7 @@ pub struct Turns<K> {
 }
 
 impl<K: Kept> TableRule<Spot<K>, View<K::Entry, K::Ground>, Terms<K>> for Turns<K> {
-        ghost use Rattle.turn_lock.specs.Views.{first_view};
+    ghost use Rattle.turn_lock.specs.Views.{first_view};
     ghost use Rattle.turn_lock.specs.Rule.{Ruled};
 
     ghost holds = { λ terms. Ruled ⟦<K as Kept>⟧ (K.footing terms.kept.value) terms.seats };

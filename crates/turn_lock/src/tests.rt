@@ -1,8 +1,9 @@
 //! A book of lines that passes write in turns: eight at once, one alone, and as many as a lock has.
 
 ghost use Rattle.std.specs.Prelude.{◌≡◌, ◌+◌, ◌<◌, ◌≤◌, ◌^◌, ℕ, true, false, length, All, IfOk};
-ghost use Rattle.turn_lock.specs.Passes.{view, IsPassOf, IsSamePass};
-ghost use Rattle.turn_lock.specs.Calls.Finish.{IsReady, AreAll, EachStays};
+ghost use Rattle.turn_lock.specs.Passes.{view, IsReady, HasTurn, IsSamePass, EachStays};
+ghost use Rattle.turn_lock.specs.Calls.Put.{IsSettled};
+ghost use Rattle.turn_lock.specs.Calls.Finish.{AreAll};
 ghost use Rattle.turn_lock.specs.declared.TheConstants.{MOST_SEATS};
 
 use crate::{Kept, MOST_SEATS, Shown, TurnLock, TurnPass};
@@ -56,10 +57,9 @@ impl Kept for Book {
 
 /// One line at a turn of its own.
 fn write_line<R: Wait>(rt: &R, lock: &TurnLock<Book>, pass: &mut TurnPass<Book>, turn: u32)
-    requires pass { IsPassOf lock.now pass.old }
-    requires idle { (view pass.old).holds ≡ false }
-    ensures same { IsSamePass pass.old pass.new }
-    ensures idle { (view pass.new).holds ≡ false }
+    requires ready { IsReady lock.now pass.old }
+    ensures ready { IsReady lock.now pass.new }
+    ensures number { pass.new.number ≡ pass.old.number }
 {
     let mut book = lock.take(rt, pass);
     append(lock, pass, &mut book, turn);
@@ -68,14 +68,11 @@ fn write_line<R: Wait>(rt: &R, lock: &TurnLock<Book>, pass: &mut TurnPass<Book>,
 
 /// A line more, counted and published, if there is room.
 fn append(lock: &TurnLock<Book>, pass: &mut TurnPass<Book>, book: &mut Book, turn: u32)
-    requires pass { IsPassOf lock.now pass.old }
-    requires holds { (view pass.old).holds ≡ true }
-    requires counted { book.old.lines.items ≡ (view pass.old).seen }
-    requires published { ((view pass.old).cycles.owes ≡ false) × ((view pass.old).tickets.owes ≡ false) }
-    ensures same { IsSamePass pass.old pass.new × ((view pass.new).footing ≡ (view pass.old).footing) }
-    ensures holds { (view pass.new).holds ≡ true }
-    ensures counted { book.new.lines.items ≡ (view pass.new).seen }
-    ensures published { ((view pass.new).cycles.owes ≡ false) × ((view pass.new).tickets.owes ≡ false) }
+    requires turn { HasTurn lock.now pass.old }
+    requires settled { IsSettled pass.old book.old }
+    ensures same { IsSamePass pass.old pass.new }
+    ensures turn { HasTurn lock.now pass.new }
+    ensures settled { IsSettled pass.new book.new }
 {
     let who = pass.number();
     let lines = book.lines.len();

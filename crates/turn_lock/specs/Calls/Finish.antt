@@ -1,5 +1,5 @@
 -- What `finish` asks and promises.
-use Rattle.std.specs.Prelude.{◌≡◌, ℕ, ◌<◌, ◌≤◌, true, false, List, [], map, length, All, Contains, slice_index_or, Some}
+use Rattle.std.specs.Prelude.{◌≡◌, ℕ, ◌<◌, ◌≤◌, true, false, List, [], map, All, Contains, Some}
 use mathlib.Core.List.{IsPrefix}
 use Rattle.turn_lock.specs.declared.kept.Kept.{Ghosts}
 use Rattle.turn_lock.specs.declared.kept.Shown.{Shown}
@@ -16,10 +16,6 @@ module _ {K E G : Type 0} {g : Ghosts K E G} where
   pub record AreAll (lock : TurnLock K E G) (passes : List (TurnPass K E G g)) : Type 0 where
     pub ready : All (IsReady lock) passes
     pub all : (n : ℕ) → n < seats_of lock → Contains (map (λ p. p.number) passes) n
-
-  -- each pass is where it was in the row, with its number, and ready again
-  abbrev pub EachStays : TurnLock K E G → List (TurnPass K E G g) → List (TurnPass K E G g) → Type 0
-  EachStays lock ps qs = (i : ℕ) (p q : TurnPass K E G g) → i < length ps → IsReady lock (slice_index_or qs i q) × ((slice_index_or qs i q).number ≡ (slice_index_or ps i p).number)
 
 -- The list begins with what the pass had seen, has its entries and no more of its number, and what the pass knows was published of a beginning of it.
 pub record Keeps {K E G : Type 0} {g : Ghosts K E G} (list : List E) (p : TurnPass K E G g) : Type 0 where
