@@ -1,3 +1,4 @@
+mod Rows
 mod ListLemmas
 mod RuleLemmas
 mod StepLemmas

@@ -8,7 +8,7 @@ use crate::kept::Kept;
 use crate::lock::TurnLock;
 use crate::pass::TurnPass;
 use crate::steps::Gathers;
-use crate::table::{LockSeat, Spot};
+use crate::table::{LockSeat, SLOT, Spot};
 
 impl<K: Kept> TurnLock<K> {
     /// The kept value, once all passes are handed in, in whatever order.
@@ -49,7 +49,7 @@ impl<K: Kept> TurnLock<K> {
     {
         let TurnLock { table } = self;
         let mut closed = table.close_with(seat);
-        let home = closed.take(0);
+        let home = closed.take(SLOT);
         closed.free();
         match home {
             Spot::Home(kept) => kept,

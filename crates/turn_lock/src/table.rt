@@ -41,6 +41,9 @@ pub const CYCLES: usize = 3;
 
 pub const TICKETS: usize = 4;
 
+/// The one slot.
+pub const SLOT: usize = 0;
+
 /// The word of a published number.
 pub fn word_of(which: Shown) -> usize
     ensures { result ≡ word_of which }

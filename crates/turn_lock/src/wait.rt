@@ -7,7 +7,7 @@ ghost use Rattle.turn_lock.specs.Calls.Take.{Waits, Found};
 use crate::kept::Kept;
 use crate::lock::TurnLock;
 use crate::steps::{Draws, Looks};
-use crate::table::{LockSeat, SERVING, Spot, TICKET};
+use crate::table::{LockSeat, SERVING, SLOT, Spot, TICKET};
 use std::hint;
 use std::sync::Wait;
 
@@ -67,7 +67,7 @@ impl<K: Kept> TurnLock<K> {
         if self.table.shared.load::<Looks>(seat, SERVING) != mine {
             return None;
         }
-        match self.table.shared.exchange(seat, 0, Spot::Away) {
+        match self.table.shared.exchange(seat, SLOT, Spot::Away) {
             Spot::Home(kept) => Some(kept),
             Spot::Away => unreachable!(),
             Spot::Counted(_named) => unreachable!(),
@@ -91,7 +91,7 @@ impl<K: Kept> TurnLock<K> {
         ensures table { seat.new.table_id ≡ seat.old.table_id }
         ensures filled { seat.new.me ≡ (seat.old.me.0, (0, spot) ∷ []) }
     {
-        match self.table.shared.exchange(seat, 0, spot) {
+        match self.table.shared.exchange(seat, SLOT, spot) {
             Spot::Home(_other) => unreachable!(),
             Spot::Away => {}
             Spot::Counted(_named) => {}
