@@ -3,6 +3,7 @@ use Rattle.std.specs.Prelude.{ℕ, Bool, true, false, not, if◌then◌else◌, 
 use Rattle.std.specs.Option.{option_map_or}
 use Rattle.iface_names.specs.Names.{same_name}
 use Rattle.cm_document.specs.declared.description.CompKind.{CompKind}
+use Rattle.cm_document.specs.declared.description.CompKind.TheVariants.{Sensor, Actuator, System}
 use Rattle.cm_document.specs.declared.description.CtlKind.{CtlKind}
 use Rattle.cm_document.specs.declared.description.CtlKind.TheVariants.{Forward, Passthrough, Pid, Trajectory, Broadcaster, Mock}
 use Rattle.cm_document.specs.declared.life.Life.{Life}
@@ -45,6 +46,17 @@ abbrev pub strictnesses : List (List ℕ × Bool)
 strictnesses = map (λ row. (row.0.now, row.1)) STRICTNESSES
 
 -- ---- Words
+
+-- the two kinds are one
+abbrev pub same_component_kind : CompKind → CompKind → Bool
+same_component_kind Sensor Sensor = true
+same_component_kind Actuator Actuator = true
+same_component_kind System System = true
+same_component_kind _ _ = false
+
+-- the word beside what a component is for
+abbrev pub component_word : CompKind → List ℕ
+component_word kind = option_map_or (λ row. row.0.now) (find (λ row. same_component_kind row.1 kind) COMPONENT_KINDS) []
 
 -- the two kinds are one
 abbrev pub same_controller_kind : CtlKind → CtlKind → Bool

@@ -5,7 +5,7 @@ ghost use Rattle.std.specs.Fmt.{DisplaysOnOk};
 ghost use Rattle.cm_document.specs.CallText.{values_text, point_text, signed_text};
 
 use crate::call::{Call, Mail, Point2, SwitchRequest};
-use crate::description::CtlKind;
+use crate::description::{CompKind, CtlKind};
 use crate::life::Life;
 use crate::script::Verb;
 use crate::vocabulary::strictness_word;
@@ -13,6 +13,17 @@ use fixed_num::Fx;
 use iface_names::Name;
 use std::fmt;
 use std::fmt::{Display, Formatter, Write};
+
+impl Display for CompKind {
+    ghost use Rattle.std.specs.Prelude.{Some};
+    ghost use Rattle.cm_document.specs.Vocabulary.{component_word};
+
+    ghost output = { λ kind. Some (component_word kind) };
+
+    fn fmt<W: Write>(&self, f: &mut Formatter<W>) -> fmt::Result {
+        f.write_str(self.word())
+    }
+}
 
 impl Display for CtlKind {
     ghost use Rattle.std.specs.Prelude.{Some};

@@ -2,7 +2,7 @@
 
 ghost use Rattle.std.specs.Prelude.{◌≡◌, map, find, option_copied};
 ghost use Rattle.iface_names.specs.Names.{same_name};
-ghost use Rattle.cm_document.specs.Vocabulary.{listed, same_controller_kind, kind_word, same_life, life_word, same_verb, verb_word, bool_eq, strictness_word};
+ghost use Rattle.cm_document.specs.Vocabulary.{listed, same_component_kind, component_word, same_controller_kind, kind_word, same_life, life_word, same_verb, verb_word, bool_eq, strictness_word};
 
 use crate::description::{CompKind, CtlKind};
 use crate::life::Life;
@@ -83,6 +83,33 @@ fn is_word(text: &str, word: &[u8]) -> bool
     ensures { result ≡ same_name word.now text.now }
 {
     word == text.as_bytes()
+}
+
+impl CompKind {
+    /// The word for the kind, as a description's `kind` says it.
+    pub fn word(self) -> &'static str
+        ensures { result.now ≡ component_word self }
+    {
+        match component_row(&COMPONENT_KINDS, self) {
+            Some(row) => row.0,
+            None => "",
+        }
+    }
+}
+
+fn component_row<'a, 'b>(
+    table: &'a [(&'b str, CompKind)],
+    kind: CompKind,
+) -> Option<&'a (&'b str, CompKind)>
+    ensures { option_copied result ≡ find (λ row. same_component_kind row.1 kind) table.now }
+{
+    table.iter().find(|row| is_component_kind(row.1, kind))
+}
+
+fn is_component_kind(kind: CompKind, other: CompKind) -> bool
+    ensures { result ≡ same_component_kind kind other }
+{
+    kind == other
 }
 
 impl CtlKind {

@@ -4,10 +4,8 @@ use Rattle.fixed_num.specs.Text.{spelled}
 use Rattle.fixed_num.specs.declared.value.BodyState.{BodyState}
 use Rattle.fixed_num.specs.declared.value.Value.{Value}
 use Rattle.fixed_num.specs.declared.value.Value.TheVariants.{Unset, Num}
-use Rattle.cm_document.specs.Vocabulary.{kind_word, life_word}
+use Rattle.cm_document.specs.Vocabulary.{component_word, kind_word, life_word}
 use Rattle.cm_document.specs.declared.description.CompDesc.{CompDesc}
-use Rattle.cm_document.specs.declared.description.CompKind.{CompKind}
-use Rattle.cm_document.specs.declared.description.CompKind.TheVariants.{Sensor, Actuator, System}
 use Rattle.cm_model.specs.Happened.{Happened}
 use Rattle.cm_model.specs.Ran.{Ran}
 use Rattle.cm_model.specs.declared.lines.CompLine.{CompLine}
@@ -37,12 +35,6 @@ component_name names place = unwrap_or (option_map (λ c. c.name) (slice_get nam
 abbrev pub value_text : Value → List ℕ
 value_text Unset = codes "unset"
 value_text (Num n) = spelled n
-
--- what a component is for
-abbrev pub component_word : CompKind → List ℕ
-component_word Sensor = codes "sensor"
-component_word Actuator = codes "actuator"
-component_word System = codes "system"
 
 -- ---- Lines of lists
 

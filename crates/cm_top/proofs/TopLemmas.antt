@@ -7,6 +7,7 @@ use Rattle.std.specs.Io.KnownBytes.{Keeps, Appends, IsAtEnd}
 use Rattle.std.proofs.KnownBytes.{Appends-kept}
 use Rattle.outside_io.specs.Bytes.{AllFlushed, GivesAll}
 use Rattle.outside_io.proofs.Prefixes.{AppendsPrefix-all}
+use Rattle.cm_document.specs.declared.limits.TheConstants.{LONGEST_DOCUMENT}
 use Rattle.cm_document.specs.Built.{built}
 use Rattle.cm_document.specs.Document.{accepted_script, document}
 use Rattle.cm_document.specs.Lines.{parts_of}
@@ -55,7 +56,7 @@ document-Rules bytes d accepted =
 
 -- what was written of an accepted document's trace says what its run promises
 pub Wrote-Ran : (bytes : List ℕ) (d : Document) (blanks : Blanks) (old new : Option (List ℕ)) (flushed : Option ℕ) (ended : Status)
-    → length bytes ≤ 1048576 → document bytes ≡ Ok d → Wrote (output d (scheduled d blanks)) old new flushed ended → Ran (λ e. scheduled e blanks) bytes blanks old new flushed ended
+    → length bytes ≤ LONGEST_DOCUMENT → document bytes ≡ Ok d → Wrote (output d (scheduled d blanks)) old new flushed ended → Ran (λ e. scheduled e blanks) bytes blanks old new flushed ended
 Wrote-Ran bytes d blanks old new flushed status.Ok short accepted wrote = record {
   document_is = d;
   short = short;
@@ -74,8 +75,8 @@ Wrote-Ran bytes d blanks old new flushed status.Memory short accepted wrote = in
 Wrote-Ran bytes d blanks old new flushed status.WriteFault short accepted wrote = record { document_is = d; short = short; accepted = accepted; taken = wrote }
 
 -- a document that is short has the status that its reading gives
-short-status : (bytes : List ℕ) → length bytes ≤ 1048576 → status_of bytes ≡ status_of_document (document bytes)
-short-status bytes short = let no : nat_lt 1048576 (length bytes) ≡ false = grind (arith, nat_tests) in rw no refl
+short-status : (bytes : List ℕ) → length bytes ≤ LONGEST_DOCUMENT → status_of bytes ≡ status_of_document (document bytes)
+short-status bytes short = let no : nat_lt LONGEST_DOCUMENT (length bytes) ≡ false = grind (arith, nat_tests) in rw no refl
 
 -- where neither source nor sink had a fault, the bytes decide the status, unless memory runs out
 pub Ran-exact : (made : Histories) (bytes : List ℕ) (blanks : Blanks) (old new : Option (List ℕ)) (flushed : Option ℕ) (ended : Status) (read write : Type 0)
@@ -87,7 +88,7 @@ Ran-exact made bytes blanks old new flushed (status.BadDescription p) read write
 Ran-exact made bytes blanks old new flushed (status.BadScript f) read write ran rose risen still kept = inl (rw (short-status bytes ran.0, ran.1) refl)
 Ran-exact made bytes blanks old new flushed status.ReadFault read write ran rose risen still kept = absurd (still (rose refl))
 Ran-exact made bytes blanks old new flushed status.TooLong read write ran rose risen still kept =
-    let long : nat_lt 1048576 (length bytes) ≡ true = grind (arith, nat_tests) in inl (rw long refl)
+    let long : nat_lt LONGEST_DOCUMENT (length bytes) ≡ true = grind (arith, nat_tests) in inl (rw long refl)
 Ran-exact made bytes blanks old new flushed status.Memory read write ran rose risen still kept = inr refl
 Ran-exact made bytes blanks old new flushed status.WriteFault read write ran rose risen still kept = absurd (kept (risen refl))
 

@@ -2,6 +2,7 @@
 use Rattle.std.specs.Prelude.{◌≡◌, ℕ, ◌<◌, ◌≤◌, List, Option, Result, Ok, Err, length, nat_lt, if◌then◌else◌, ◌⊎◌}
 use Rattle.std.specs.Io.KnownBytes.{Keeps, Appends}
 use Rattle.outside_io.specs.Bytes.{AllFlushed, AppendsPrefix}
+use Rattle.cm_document.specs.declared.limits.TheConstants.{LONGEST_DOCUMENT}
 use Rattle.cm_document.specs.Document.{document}
 use Rattle.cm_model.specs.Machine.{IsLegal}
 use Rattle.cm_model.specs.Sessions.{IsWhole}
@@ -29,9 +30,9 @@ code_of status.TooLong = 6
 code_of status.Memory = 7
 code_of status.WriteFault = 8
 
--- the longest document has 1,048,576 bytes
+-- no longer than a document may be
 abbrev pub IsShort : List ℕ → Type 0
-IsShort bytes = length bytes ≤ 1048576
+IsShort bytes = length bytes ≤ LONGEST_DOCUMENT
 
 -- the history that a job makes of each document
 abbrev pub Histories : Type 0
@@ -62,7 +63,7 @@ Ran made bytes blanks old new flushed status.BadWords = ⊥
 Ran made bytes blanks old new flushed (status.BadDescription p) = IsShort bytes × (document bytes ≡ Err (fault.Description p))
 Ran made bytes blanks old new flushed (status.BadScript f) = IsShort bytes × (document bytes ≡ Err (fault.Script f))
 Ran made bytes blanks old new flushed status.ReadFault = Unit {0}
-Ran made bytes blanks old new flushed status.TooLong = 1048576 < length bytes
+Ran made bytes blanks old new flushed status.TooLong = LONGEST_DOCUMENT < length bytes
 Ran made bytes blanks old new flushed status.Memory = Keeps old new ⊎ Cut made bytes old new
 Ran made bytes blanks old new flushed status.WriteFault = Cut made bytes old new
 
@@ -75,7 +76,7 @@ status_of_document (Err fault.Memory) = status.Memory
 
 -- The length comes first, then the description, then the script.
 abbrev pub status_of : List ℕ → Status
-status_of bytes = if nat_lt 1048576 (length bytes) then status.TooLong else status_of_document (document bytes)
+status_of bytes = if nat_lt LONGEST_DOCUMENT (length bytes) then status.TooLong else status_of_document (document bytes)
 
 -- the statuses that come before anything is written
 abbrev pub ComesBeforeWriting : Status → Type 0

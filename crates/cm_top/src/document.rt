@@ -2,6 +2,7 @@
 
 ghost use Rattle.std.specs.Prelude.{◌≡◌, ◌+◌, ◌<◌, ◌≤◌, ◌^◌, length, option_map, unwrap_or, IfErr};
 ghost use Rattle.sequence.specs.Answers.{Answers};
+ghost use Rattle.cm_document.specs.declared.limits.TheConstants.{LONGEST_DOCUMENT};
 ghost use Rattle.cm_document.specs.Reading.{told_as};
 ghost use Rattle.cm_document.specs.Document.{without_components, checked, accepted_description, accepted_script, document_of, document};
 ghost use Rattle.cm_document.specs.Valid.{IsDescribed};
@@ -20,7 +21,7 @@ use std::alloc::Global;
 /// The document that these bytes are, or its first fault: the description's comes before the script's.
 #[tactic(auto, unfolding(cm_document::specs::Document::document_of))]
 pub fn read_document(alloc: Global, bytes: &[u8]) -> Result<Document, DocumentFault>
-    requires { length bytes.now ≤ 1048576 }
+    requires { length bytes.now ≤ LONGEST_DOCUMENT }
     ensures reads { Answers DocumentFault.Memory (document bytes.now) result }
     ensures plain { IfErr result IsPlainFault }
 {

@@ -2,13 +2,13 @@
 
 ghost use Rattle.std.specs.Prelude.{◌≡◌, ℕ, List, ◌++◌, map, flat_map, codes, OnOk, IfOk, string_bytes};
 ghost use Rattle.cm_model.specs.Rans.{ran_of};
-ghost use Rattle.cm_model.specs.Items.{Names as Told, controller_head, divisor_text, value_text, component_word, held_text, owner_text, ran_text, outs_text, numbers_text, failed_text, body_text, body_texts, stop_text, record_items};
+ghost use Rattle.cm_model.specs.Items.{Names as Told, controller_head, divisor_text, value_text, held_text, owner_text, ran_text, outs_text, numbers_text, failed_text, body_text, body_texts, stop_text, record_items};
 ghost use Rattle.cm_model.specs.Trace.{joined, reply_text};
 ghost use Rattle.cm_top.specs.Joined.{before_item, Adds};
 
 use crate::names::Names;
 use cm_model::{
-    BodyState, CompLine, CompKind, CtlLine, CycleRecord, Decision, Done, FailedPart, Fx, IfaceLine, Memory,
+    BodyState, CompLine, CtlLine, CycleRecord, Decision, Done, FailedPart, Fx, IfaceLine, Memory,
     RanRef, Rans, Reply, StoredValue, Value, push_numbered,
 };
 
@@ -112,8 +112,8 @@ impl Item for CompLine {
     fn push_to(&self, text: &mut String, names: &Names<'_>) -> Result<(), Memory> {
         if let Some(component) = names.component(self.place) {
             let name = &component.name;
-            write!(text, "{name} ")?;
-            text.push_str(component_word(component.kind))?;
+            let kind = component.kind;
+            write!(text, "{name} {kind}")?;
         }
         let life = self.life;
         write!(text, " {life}")?;
@@ -156,16 +156,6 @@ fn owner<'n>(names: &'n Names<'_>, owner: Option<u32>) -> &'n str
     match owner {
         Some(serial) => names.controller(serial),
         None => "free",
-    }
-}
-
-fn component_word(kind: CompKind) -> &'static str
-    ensures { result.now ≡ component_word kind }
-{
-    match kind {
-        CompKind::Sensor => "sensor",
-        CompKind::Actuator => "actuator",
-        CompKind::System => "system",
     }
 }
 

@@ -5,6 +5,7 @@ ghost use Rattle.std.specs.Io.KnownBytes.{Keeps};
 ghost use Rattle.outside_io.specs.Bytes.{AllFlushed};
 ghost use Rattle.outside_io.specs.Faults.{Rose};
 ghost use Rattle.cm_model.specs.Words.{is_asked};
+ghost use Rattle.cm_document.specs.declared.limits.TheConstants.{LONGEST_DOCUMENT};
 ghost use Rattle.cm_document.specs.ScriptLaws.{MeetsRules};
 ghost use Rattle.cm_model.specs.Scheduled.{scheduled};
 ghost use Rattle.cm_model.specs.Trace.{output};
@@ -15,14 +16,12 @@ use crate::document::read_document;
 use crate::session::history;
 use crate::status::Status;
 use crate::trace::{OutFault, write_trace};
+use cm_document::LONGEST_DOCUMENT;
 use cm_model::{Blanks, Document, DocumentFault};
 use outside_io::{Gate, Pace, ReadFault, Sink, Source, read_whole};
 use std::alloc::Global;
 use std::sync::Wait;
 use std::thread::Threads;
-
-/// The longest document, in bytes.
-const LONGEST_DOCUMENT: usize = 1_048_576;
 
 /// Runs the job of the words: `run` is the one that is built. The words are those after the program's name.
 ///
@@ -95,7 +94,7 @@ pub fn run_alone<S: Source, K: Sink>(
 
 /// Runs the document that these bytes are.
 fn run_bytes<K: Sink>(alloc: Global, bytes: &[u8], sink: &mut K, stock: Blanks) -> Status
-    requires { length bytes.now ≤ 1048576 }
+    requires { length bytes.now ≤ LONGEST_DOCUMENT }
     ensures ran { Ran (λ d. scheduled d stock) bytes.now stock (K.taken sink.old) (K.taken sink.new) (K.flushed sink.new) result }
     ensures of_bytes { ComesOfBytes result }
     ensures untouched { ComesBeforeWriting result → sink.new ≡ sink.old }

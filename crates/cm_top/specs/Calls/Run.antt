@@ -1,6 +1,7 @@
 -- What a call of `run_alone` promises, and `run` where its words are accepted.
-use Rattle.std.specs.Prelude.{◌≡◌, ℕ, ◌≤◌, List, Option, IfSome, IsSome, ◌⊎◌}
+use Rattle.std.specs.Prelude.{◌≡◌, ℕ, ◌+◌, ◌≤◌, List, Option, IfSome, IsSome, ◌⊎◌}
 use Rattle.std.specs.Io.KnownBytes.{IsAtEnd}
+use Rattle.cm_document.specs.declared.limits.TheConstants.{LONGEST_DOCUMENT}
 use Rattle.outside_io.specs.Bytes.{TakesAtMost}
 use Rattle.outside_io.specs.Faults.{Rose}
 use Rattle.cm_model.specs.declared.blanks.Blanks.{Blanks}
@@ -28,7 +29,7 @@ pub record Runs (made : Histories) (blanks : Blanks) (source source' : SourceTol
   -- a run that went well has read its source to the end
   pub read_whole : ended ≡ status.Ok → IsSome source.left → IsAtEnd source'.left
   -- never more than one byte past the longest document is taken from the source
-  pub read_at_most : TakesAtMost source.left source'.left 1048577
+  pub read_at_most : TakesAtMost source.left source'.left (LONGEST_DOCUMENT + 1)
   -- a fault of reading comes only where the source's faults rose, one of writing where the sink's did
   pub read_fault : ended ≡ status.ReadFault → Rose source.faults source'.faults
   pub write_fault : ended ≡ status.WriteFault → Rose sink.faults sink'.faults

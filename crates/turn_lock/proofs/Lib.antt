@@ -1,0 +1,10 @@
+mod Rows
+mod ListLemmas
+mod RuleLemmas
+mod StepLemmas
+mod SeatLemmas
+mod PassLemmas
+mod MakeLemmas
+mod FinishLemmas
+pub mod Crossing
+pub mod Callers

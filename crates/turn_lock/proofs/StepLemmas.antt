@@ -1,0 +1,468 @@
+-- Each kind of step of one seat keeps the rule.
+use Rattle.std.proofs.Common.{◌≡◌, ◌≢◌, ℕ, ◌+◌, ◌%◌, ◌^◌, ◌<◌, ◌≤◌, true, false, List, [], ◌∷◌, ◌++◌, length, get_or, set, All, Contains, sum_by, Some, None, refl, sym, ap, ◌∙◌, subst, inl, inr, ⊎_elim, arith, true≢false, length-append}
+use mathlib.Core.Logic.{dite}
+use mathlib.Core.List.{IsPrefix}
+use mathlib.Core.Option.{Option as Maybe, none, some, some-injective}
+use native.Mathlib.Decide.{ℕ_discrete}
+use native.Mathlib.Nat.{mod-eq_of_lt}
+use lib.ListN.{get_elem?}
+use Rattle.std.proofs.Math.Nat.{mod-add-mod}
+use Rattle.std.specs.declared.snapshot.Snapshot.{Snapshot}
+use Rattle.atomic_table.specs.Table.{State, Me, Step, step, keeps, takes, gives, Allows, homes_after, rest}
+use Rattle.atomic_table.proofs.Lists.{one_turn, set_here}
+use Rattle.turn_lock.specs.declared.kept.Shown.{Shown}
+use Rattle.turn_lock.specs.declared.kept.Shown.TheVariants.{Cycles, Tickets}
+use Rattle.turn_lock.specs.declared.table.Spot.{Spot}
+use Rattle.turn_lock.specs.declared.table.Spot.TheVariants.{Home, Away, Counted}
+use Rattle.turn_lock.specs.declared.view.View.{View}
+use Rattle.turn_lock.specs.declared.kept.Kept.{Ghosts}
+use Rattle.turn_lock.specs.Entries.{of}
+use Rattle.turn_lock.specs.Views.{known, waiting, at_turn, counted, published, loaded, passed_on}
+use Rattle.turn_lock.specs.Rule.{Standing, words, value, with_value, out, living, Saw, Told, Posted, IsHome, IsOut, Ruled}
+use Rattle.turn_lock.specs.Steps.{word_of, drawn, looked, counts, publishes, Loads, loads, passes_on}
+use Rattle.turn_lock.proofs.ListLemmas.{at_get, sum_le, prefix_same, prefix_more, of_other}
+use Rattle.turn_lock.proofs.RuleLemmas.{some_none, same_number, change, slot_kept, still_fits, idle_fits, others_wait}
+
+-- a step, where what it tells does not depend on which
+abbrev pub some_step : {S : Type 0} → Step S
+some_step = step 0 0 0 0 none
+
+-- ---- The words after a step
+
+module _ {E : Type 0} where
+  draw_words : (ws : List ℕ) (t : Standing E) → ws ≡ words t → set ws 0 ((get_or ws 0 0 + 1) % 2 ^ 64) ≡ words (record t { ticket = t.ticket + 1 })
+  draw_words ws t e = rw e (ap (λ n. n ∷ t.serving % 2 ^ 64 ∷ length t.log ∷ t.cycles ∷ t.tickets ∷ []) (mod-add-mod t.ticket (2 ^ 64) 1))
+
+  pass_words : (ws : List ℕ) (t : Standing E) → ws ≡ words t → set ws 1 ((get_or ws 1 0 + 1) % 2 ^ 64) ≡ words (record t { serving = t.serving + 1 })
+  pass_words ws t e = rw e (ap (λ n. t.ticket % 2 ^ 64 ∷ n ∷ length t.log ∷ t.cycles ∷ t.tickets ∷ []) (mod-add-mod t.serving (2 ^ 64) 1))
+
+  count_words : (ws : List ℕ) (t : Standing E) (e : E) (log : List E) → ws ≡ words t → log ≡ t.log ++ e ∷ [] → length log < 2 ^ 64
+      → set ws 2 ((get_or ws 2 0 + 1) % 2 ^ 64) ≡ words (record t { log = log })
+  count_words ws t e log is more few =
+      let n : length log ≡ length t.log + 1 = ap length more ∙ length-append t.log (e ∷ []) in
+      let long : (length t.log + 1) % 2 ^ 64 ≡ length log = mod-eq_of_lt (subst (λ k. k < 2 ^ 64) n few) ∙ sym n in
+      rw is (ap (λ k. t.ticket % 2 ^ 64 ∷ t.serving % 2 ^ 64 ∷ k ∷ t.cycles ∷ t.tickets ∷ []) long)
+
+  publish_words : (which : Shown) (ws : List ℕ) (t : Standing E) (n : ℕ) → ws ≡ words t → set ws (word_of which) n ≡ words (with_value which n t)
+  publish_words Cycles ws t n e = rw e refl
+  publish_words Tickets ws t n e = rw e refl
+
+  load_words : (which : Shown) (ws : List ℕ) (t : Standing E) → ws ≡ words t → set ws (word_of which) (get_or ws (word_of which) 0) ≡ words t
+  load_words Cycles ws t e = rw e refl
+  load_words Tickets ws t e = rw e refl
+
+  load_finds : (which : Shown) (ws : List ℕ) (t : Standing E) → ws ≡ words t → get_or ws (word_of which) 0 ≡ value which t
+  load_finds Cycles ws t e = rw e refl
+  load_finds Tickets ws t e = rw e refl
+
+-- ---- What is known and owed after a step
+
+module _ {E : Type 0} where
+  -- no published number falls by a publish
+  value_grows : (which each : Shown) (t : Standing E) (n : ℕ) → value which t ≤ n → value each t ≤ value each (with_value which n t)
+  value_grows Cycles Cycles t n low = low
+  value_grows Cycles Tickets t n low = omega arith
+  value_grows Tickets Cycles t n low = omega arith
+  value_grows Tickets Tickets t n low = low
+
+  -- and it is not above what the list has, if the one that was stored is not
+  value_within : (which each : Shown) (t : Standing E) (n : ℕ) (most : Shown → ℕ) → ((other : Shown) → value other t ≤ most other) → n ≤ most which → value each (with_value which n t) ≤ most each
+  value_within Cycles Cycles t n most old new = new
+  value_within Cycles Tickets t n most old new = old Tickets
+  value_within Tickets Cycles t n most old new = old Cycles
+  value_within Tickets Tickets t n most old new = new
+
+-- the word tells which of the two it is
+same_word : (which each : Shown) → word_of which ≡ word_of each → which ≡ each
+same_word Cycles Cycles e = refl
+same_word Cycles Tickets e = absurd (omega arith)
+same_word Tickets Cycles e = absurd (omega arith)
+same_word Tickets Tickets e = refl
+
+module _ {E G : Type 0} where
+  -- after a count both publishes are owed
+  counted_posted : (v : View E G) (now : List E) (shown : Shown → List E → ℕ) (there : Shown → ℕ)
+      → ((which : Shown) → Posted (there which) (shown which) (known which v) v.holds v.seen) → v.holds ≡ true
+      → (which : Shown) → Posted (there which) (shown which) (known which (counted now v)) v.holds now
+  counted_posted v now shown there p holds Cycles = record { knows = (p Cycles).knows; current = λ e. absurd (true≢false e); owes = λ _. holds }
+  counted_posted v now shown there p holds Tickets = record { knows = (p Tickets).knows; current = λ e. absurd (true≢false e); owes = λ _. holds }
+
+  -- after a publish this one is owed no longer
+  published_posted : (which : Shown) (v : View E G) (n : ℕ) (shown : Shown → List E → ℕ) (t : Standing E)
+      → ((each : Shown) → Posted (value each t) (shown each) (known each v) v.holds v.seen) → value which t ≤ n → shown which v.seen ≡ n
+      → (each : Shown) → Posted (value each (with_value which n t)) (shown each) (known each (published which v)) v.holds v.seen
+  published_posted Cycles v n shown t p low is Cycles = let k = (p Cycles).knows in record { knows = omega arith; current = λ _. omega arith; owes = λ e. absurd (true≢false (sym e)) }
+  published_posted Cycles v n shown t p low is Tickets = p Tickets
+  published_posted Tickets v n shown t p low is Cycles = p Cycles
+  published_posted Tickets v n shown t p low is Tickets = let k = (p Tickets).knows in record { knows = omega arith; current = λ _. omega arith; owes = λ e. absurd (true≢false (sym e)) }
+
+  -- after a load the number that was found is known
+  loaded_posted : (which : Shown) (v : View E G) (n : ℕ) (shown : Shown → List E → ℕ) (there : Shown → ℕ)
+      → ((each : Shown) → Posted (there each) (shown each) (known each v) v.holds v.seen) → n ≡ there which
+      → (each : Shown) → Posted (there each) (shown each) (known each (loaded which n v)) v.holds v.seen
+  loaded_posted Cycles v n shown there p is Cycles = record { knows = omega arith; current = (p Cycles).current; owes = (p Cycles).owes }
+  loaded_posted Cycles v n shown there p is Tickets = p Tickets
+  loaded_posted Tickets v n shown there p is Cycles = p Cycles
+  loaded_posted Tickets v n shown there p is Tickets = record { knows = omega arith; current = (p Tickets).current; owes = (p Tickets).owes }
+
+-- what stands in the hands of the turn's holder
+abbrev named_in : {K : Type 0} → Snapshot K → List (ℕ × Spot K) → Snapshot K
+named_in other [] = other
+named_in other ((k, Home kept) ∷ xs) = other
+named_in other ((k, Away) ∷ xs) = other
+named_in other ((k, Counted named) ∷ xs) = named
+
+served_on : (n k : ℕ) → k ≤ n → n ≢ k → k + 1 ≤ n
+served_on n k le ne = omega arith
+
+some_same : {A : Type 0} (a b : A) → Some a ≡ Some b → a ≡ b
+some_same a b e = cc
+
+-- ---- One ticket out, at most as many as lie between
+
+module _ {K E G : Type 0} (m : Ghosts K E G) (footing : G) (seats : ℕ) where
+  -- two tickets that are out lie less than 2 ^ 64 apart, so they are one where their remainders are
+  near : (s : State (Spot K) (View E G)) (r : Ruled m footing seats s) (n : ℕ) → r.at.serving ≤ n → n < r.at.ticket → r.at.serving % 2 ^ 64 ≡ n % 2 ^ 64 → r.at.serving ≡ n
+  near s r n low high same =
+      let few : sum_by out s.views ≤ sum_by living s.views = sum_le out living s.views (λ i v e. (r.fits i v e).one) in
+      let many = r.as_many in
+      let living_few = r.few in
+      let most = r.most in
+      one_turn r.at.serving n (2 ^ 64) low (omega arith) same
+
+  pub draws : (slots : ℕ) (i : ℕ) (me : Me (Spot K) (View E G)) → me.0.alive ≡ true → me.0.number ≡ None
+      → Allows (Ruled m footing seats) slots i me 0 (λ n. (n + 1) % 2 ^ 64) (drawn some_step me)
+  draws slots i me alive idle s r long at small =
+      let v = me.0 in
+      let f = r.fits i v at in
+      let w = waiting r.at.ticket v in
+      let t : Standing E = record r.at { ticket = r.at.ticket + 1 } in
+      let many = r.as_many in
+      let none : out v ≡ 0 = rw idle in
+      let lives : living v ≡ 1 = rw alive in
+      let holds_not : v.holds ≡ true → ⊥ = λ h. some_none v.number r.at.serving idle (f.turn h).0 in (
+        w,
+        keeps,
+        tt,
+        change m footing seats s r i v w at _ s.homes t
+            (draw_words s.words r.at r.words_are)
+            (omega arith)
+            (omega arith)
+            (omega arith, r.most.0)
+            r.callers
+            r.published
+            (record {
+              one = omega arith;
+              within = λ n e. let same : r.at.ticket ≡ n = cc in (omega arith, omega arith);
+              turn = λ h. absurd (holds_not h);
+              saw = f.saw;
+              told = f.told;
+              ground_is = f.ground_is;
+              given = f.given;
+              owner = f.owner;
+              counts = f.counts;
+              posted = f.posted;
+            })
+            (λ j u apart e a g. (
+              still_fits m footing seats s.homes s.homes r.at (r.at.ticket + 1) r.at.serving u g (λ n h. let b = g.within n h in (b.0, omega arith)) g.turn,
+              record {
+                tickets = λ n e h. let same : r.at.ticket ≡ n = cc in let b = g.within n h in omega arith;
+                numbers = a.numbers;
+                counts = a.counts;
+              },
+            ))
+            (slot_kept m footing seats s r i v w at t (λ h. record { kept = h.kept; there = h.there; list = h.list; ground_is = h.ground_is; current = h.current }) (λ h. h)),
+        (r.at.ticket, refl, ap (λ ws. get_or ws 0 0) r.words_are),
+      )
+
+  -- the seat that waits with the served ticket finds the value at home
+  home_now : (s : State (Spot K) (View E G)) (r : Ruled m footing seats s) (i : ℕ) (v : View E G) → get_elem? s.views i ≡ some v → v.holds ≡ false → v.number ≡ Some r.at.serving
+      → IsHome m footing s.homes r.at
+  home_now s r i v at waits mine = ⊎_elim (λ h. h) (λ (o : IsOut s.homes s.views). not_out o) r.slot
+    where
+      not_out : IsOut s.homes s.views → IsHome m footing s.homes r.at
+      not_out o = dite (ℕ_discrete o.seat i)
+          (λ here. let same : o.holder ≡ v = some-injective _ _ (sym o.sits ∙ ap (get_elem? s.views) here ∙ at) in
+          absurd (true≢false (sym o.holds ∙ ap (λ (u : View E G). u.holds) same ∙ waits)))
+          (λ there. let f = r.fits o.seat o.holder o.sits in
+          absurd ((r.apart i o.seat v o.holder (λ h. there (sym h)) at o.sits).tickets r.at.serving mine (f.turn o.holds).0))
+
+  pub looks : (slots : ℕ) (i : ℕ) (me : Me (Spot K) (View E G)) (ticket : ℕ) → me.0.alive ≡ true → me.0.number ≡ Some ticket → me.0.holds ≡ false → me.1 ≡ []
+      → Allows (Ruled m footing seats) slots i me 1 (λ n. n) (looked m some_step me)
+  looks slots i me ticket alive mine waits empty s r long at small =
+      let v = me.0 in
+      let f = r.fits i v at in
+      let found : get_or s.words 1 0 ≡ r.at.serving % 2 ^ 64 = ap (λ ws. get_or ws 1 0) r.words_are in
+      let same_words : set s.words 1 (get_or s.words 1 0) ≡ words r.at = rw r.words_are refl in
+      let within = f.within ticket mine in
+      dite (ℕ_discrete (get_or s.words 1 0) (ticket % 2 ^ 64))
+      (λ hit.
+      let served : r.at.serving ≡ ticket = near s r ticket within.0 within.1 (sym found ∙ hit) in
+      let mine' : v.number ≡ Some r.at.serving = mine ∙ ap Some (sym served) in
+      let h = home_now s r i v at waits mine' in
+      let list : m.entries h.kept ≡ r.at.log = h.list in
+      let w = at_turn (m.entries h.kept) v in
+      let gone : set s.homes 0 none ≡ none ∷ [] = rw h.there refl in (
+        w,
+        takes 0 (Home h.kept),
+        ap (λ (hs : List (Maybe (Spot K))). get_elem? hs 0) h.there,
+        change m footing seats s r i v w at _ (set s.homes 0 none) r.at
+            same_words
+            (omega arith)
+            (omega arith)
+            (omega arith, r.most.0)
+            r.callers
+            r.published
+            (record {
+              one = f.one;
+              within = f.within;
+              turn = λ _. (mine', list, gone);
+              saw = record { begins = subst (λ l. IsPrefix l r.at.log) (sym list) (prefix_same r.at.log); own = λ n c. ap (of m.caller n) list };
+              told = f.told;
+              ground_is = f.ground_is;
+              given = f.given;
+              owner = f.owner;
+              counts = f.counts;
+              posted = λ which. let p = f.posted which in record {
+                knows = p.knows;
+                current = λ _. subst (λ l. m.shown which l ≤ value which r.at) (sym list) (h.current which);
+                owes = λ _. refl;
+              };
+            })
+            (λ j u apart e a g. (
+              still_fits m footing seats s.homes (set s.homes 0 none) r.at r.at.ticket r.at.serving u g g.within (λ h. others_wait m footing seats s.homes r.at v u mine' a g h),
+              record { tickets = a.tickets; numbers = a.numbers; counts = a.counts },
+            ))
+            (inr (record { away = gone; seat = i; holder = w; sits = set_here s.views i w ((at_get s.views i v at).0); holds = refl })),
+        λ ticket' mine''. (
+          (λ _. record {
+            kept = h.kept;
+            holds = ap (λ (l : List (ℕ × Spot K)). (w, (0, Home h.kept) ∷ l)) empty;
+            begins = subst (IsPrefix v.seen) (sym list) f.saw.begins;
+            own = λ n c. f.saw.own n c ∙ ap (of m.caller n) (sym list);
+            ground_is = f.ground_is alive ∙ ap Some (sym h.ground_is);
+          }),
+          (λ miss. absurd (miss (hit ∙ ap (λ k. k % 2 ^ 64) (same_number v.number ticket ticket' mine mine'')))),
+        ),
+      ))
+      (λ miss. (
+        v,
+        keeps,
+        tt,
+        change m footing seats s r i v v at _ s.homes r.at
+            same_words
+            (omega arith)
+            (omega arith)
+            (omega arith, r.most.0)
+            r.callers
+            r.published
+            f
+            (λ j u apart e a g. (g, a))
+            (slot_kept m footing seats s r i v v at r.at (λ h. h) (λ h. h)),
+        λ ticket' mine''. (
+          (λ hit. absurd (miss (hit ∙ ap (λ k. k % 2 ^ 64) (same_number v.number ticket' ticket mine'' mine)))),
+          (λ _. refl),
+        ),
+      ))
+
+  -- ---- Steps of the seat that holds the turn
+
+  -- of an entry more, at the end of the list: what another seat has seen stays so
+  saw_more : (log : List E) (e : E) (now : List E) (numbers : List ℕ) (seen : List E) → now ≡ log ++ e ∷ [] → ((n : ℕ) → Contains numbers n → m.caller e ≢ n)
+      → Saw m.caller log numbers seen → Saw m.caller now numbers seen
+  saw_more log e now numbers seen more other saw = record {
+    begins = subst (IsPrefix seen) (sym more) (prefix_more seen log (e ∷ []) saw.begins);
+    own = λ n c. saw.own n c ∙ sym (ap (of m.caller n) more ∙ of_other m.caller n log e (other n c));
+  }
+
+  pub counts_one : (slots : ℕ) (i : ℕ) (me : Me (Spot K) (View E G)) (named : Snapshot K) (e : E)
+      → me.1 ≡ (0, Counted named) ∷ [] → me.0.holds ≡ true → me.0.told ≡ []
+      → m.entries named.value ≡ me.0.seen ++ e ∷ [] → Contains me.0.mine (m.caller e) → length (m.entries named.value) < 2 ^ 64
+      → Allows (Ruled m footing seats) slots i me 2 (λ n. (n + 1) % 2 ^ 64) (counts m some_step me)
+  counts_one slots i me named e has holds told more own few s r long at small =
+      let v = me.0 in
+      let f = r.fits i v at in
+      let turn = f.turn holds in
+      let now = m.entries named.value in
+      let w = counted now v in
+      let t : Standing E = record r.at { log = now } in
+      let longer_by : now ≡ r.at.log ++ e ∷ [] = more ∙ ap (λ l. l ++ e ∷ []) turn.1 in
+      let given = f.given (m.caller e) own in
+      let shows : (which : Shown) → value which r.at ≤ m.shown which now =
+      λ which. let a = r.published which in let b = m.shown_grows which r.at.log (e ∷ []) in let c = ap (m.shown which) longer_by in omega arith in (
+        w,
+        keeps,
+        tt,
+        change m footing seats s r i v w at _ s.homes t
+            (count_words s.words r.at e now r.words_are longer_by few)
+            (omega arith)
+            (omega arith)
+            (omega arith, r.most.0)
+            (λ n high. ap (of m.caller n) longer_by ∙ of_other m.caller n r.at.log e (λ h. omega arith) ∙ r.callers n high)
+            shows
+            (record {
+              one = f.one;
+              within = f.within;
+              turn = λ h. (turn.0, refl, turn.2);
+              saw = record { begins = prefix_same now; own = λ n c. refl };
+              told = subst (All (Told m.caller now v.mine)) (sym told) (λ k d lt. absurd (omega arith));
+              ground_is = f.ground_is;
+              given = f.given;
+              owner = f.owner;
+              counts = f.counts;
+              posted = counted_posted v now m.shown (λ which. value which r.at) f.posted holds;
+            })
+            (λ j u apart e' a g. (
+              record {
+                one = g.one;
+                within = g.within;
+                turn = λ h. others_wait m footing seats s.homes r.at v u turn.0 a g h;
+                saw = saw_more r.at.log e now u.mine u.seen longer_by (λ n c h. a.numbers n (subst (Contains v.mine) h own) c) g.saw;
+                told = λ k d lt. let x = g.told k d lt in record {
+                  saw = saw_more r.at.log e now _ _ longer_by (λ n c h. a.numbers n (subst (Contains v.mine) h own) (x.within n c)) x.saw;
+                  within = x.within;
+                };
+                ground_is = g.ground_is;
+                given = g.given;
+                owner = g.owner;
+                counts = g.counts;
+                posted = g.posted;
+              },
+              record { tickets = a.tickets; numbers = a.numbers; counts = a.counts },
+            ))
+            (inr (record { away = turn.2; seat = i; holder = w; sits = set_here s.views i w ((at_get s.views i v at).0); holds = holds })),
+        λ named' has'. let same : named ≡ named' = ap (named_in named) (sym has ∙ has') in ap (λ (x : Snapshot K). (counted (m.entries x.value) v, me.1)) same,
+      )
+
+  pub publishes_one : (slots : ℕ) (st : Step (Spot K)) (i : ℕ) (me : Me (Spot K) (View E G)) (which : Shown) (n : ℕ) → st.word ≡ word_of which
+      → me.0.holds ≡ true → n ≡ m.shown which me.0.seen
+      → Allows (Ruled m footing seats) slots i me (word_of which) (λ _. n) (λ _. publishes st me n)
+  publishes_one slots st i me which n word holds is s r long at small =
+      let v = me.0 in
+      let f = r.fits i v at in
+      let turn = f.turn holds in
+      let w = published which v in
+      let t = with_value which n r.at in
+      let there : m.shown which r.at.log ≡ n = ap (m.shown which) (sym turn.1) ∙ sym is in
+      let low : value which r.at ≤ n = let p = r.published which in omega arith in (
+        w,
+        keeps,
+        tt,
+        change m footing seats s r i v w at _ s.homes t
+            (publish_words which s.words r.at n r.words_are)
+            (omega arith)
+            (omega arith)
+            (omega arith, r.most.0)
+            r.callers
+            (λ each. value_within which each r.at n (λ other. m.shown other r.at.log) r.published (omega arith))
+            (record {
+              one = f.one;
+              within = f.within;
+              turn = f.turn;
+              saw = f.saw;
+              told = f.told;
+              ground_is = f.ground_is;
+              given = f.given;
+              owner = f.owner;
+              counts = f.counts;
+              posted = published_posted which v n m.shown r.at f.posted low (sym is);
+            })
+            (λ j u apart e a g. (
+              record {
+                one = g.one;
+                within = g.within;
+                turn = g.turn;
+                saw = g.saw;
+                told = g.told;
+                ground_is = g.ground_is;
+                given = g.given;
+                owner = g.owner;
+                counts = g.counts;
+                posted = λ each. let p = g.posted each in let up = value_grows which each r.at n low in record {
+                  knows = omega arith;
+                  current = λ e'. let c = p.current e' in omega arith;
+                  owes = p.owes;
+                };
+              },
+              record { tickets = a.tickets; numbers = a.numbers; counts = a.counts },
+            ))
+            (inr (record { away = turn.2; seat = i; holder = w; sits = set_here s.views i w ((at_get s.views i v at).0); holds = holds })),
+        λ each same. ap (λ k. (published k v, me.1)) (same_word which each (sym word ∙ same)),
+      )
+
+  pub loads_one : (slots : ℕ) (st : Step (Spot K)) (i : ℕ) (me : Me (Spot K) (View E G)) (which : Shown) → st.word ≡ word_of which
+      → Allows (Ruled m footing seats) slots i me (word_of which) (λ n. n) (loads m st me)
+  loads_one slots st i me which word s r long at small =
+      let v = me.0 in
+      let f = r.fits i v at in
+      let p = f.posted which in
+      let n = get_or s.words (word_of which) 0 in
+      let found : n ≡ value which r.at = load_finds which s.words r.at r.words_are in
+      let w = loaded which n v in (
+        w,
+        keeps,
+        tt,
+        change m footing seats s r i v w at _ s.homes r.at
+            (load_words which s.words r.at r.words_are)
+            (omega arith)
+            (omega arith)
+            (omega arith, r.most.0)
+            r.callers
+            r.published
+            (record {
+              one = f.one;
+              within = f.within;
+              turn = f.turn;
+              saw = f.saw;
+              told = f.told;
+              ground_is = f.ground_is;
+              given = f.given;
+              owner = f.owner;
+              counts = f.counts;
+              posted = loaded_posted which v n m.shown (λ each. value each r.at) f.posted found;
+            })
+            (λ j u apart e a g. (g, record { tickets = a.tickets; numbers = a.numbers; counts = a.counts }))
+            (slot_kept m footing seats s r i v w at r.at (λ h. h) (λ h. h)),
+        λ each same. subst (λ k. Loads m k me n (loaded which n v, me.1)) (same_word which each (sym word ∙ same)) (
+            record { knows = refl; grows = omega arith; current = λ e. let c = p.current e in omega arith }
+            ),
+      )
+
+  pub passes : (slots : ℕ) (i : ℕ) (me : Me (Spot K) (View E G)) (kept : K) → me.1 ≡ (0, Home kept) ∷ [] → me.0.alive ≡ true → me.0.holds ≡ true
+      → m.entries kept ≡ me.0.seen → me.0.footing ≡ Some (m.footing kept) → ((which : Shown) → (known which me.0).owes ≡ false)
+      → Allows (Ruled m footing seats) slots i me 1 (λ n. (n + 1) % 2 ^ 64) (passes_on some_step me)
+  passes slots i me kept has alive holds list ground_is paid s r long at small =
+      let v = me.0 in
+      let f = r.fits i v at in
+      let turn = f.turn holds in
+      let w = passed_on v in
+      let t : Standing E = record r.at { serving = r.at.serving + 1 } in
+      let one : out v ≡ 1 = rw turn.0 in
+      let home : homes_after s.homes me.1 gives ≡ some (Home kept) ∷ [] = rw (has, turn.2) refl in (
+        w,
+        gives,
+        tt,
+        change m footing seats s r i v w at _ (homes_after s.homes me.1 gives) t
+            (pass_words s.words r.at r.words_are)
+            (omega arith)
+            (omega arith)
+            (omega arith, r.most.0)
+            r.callers
+            r.published
+            (idle_fits m footing seats (homes_after s.homes me.1 gives) t w refl refl f.saw f.told f.ground_is f.given f.owner f.counts
+            (λ which. let p = f.posted which in record { knows = p.knows; current = p.current; owes = λ e. absurd (true≢false (sym e ∙ paid which)) }))
+            (λ j u apart e a g. (
+              still_fits m footing seats s.homes (homes_after s.homes me.1 gives) r.at r.at.ticket (r.at.serving + 1) u g
+                  (λ n h. let b = g.within n h in (served_on n r.at.serving b.0 (λ same. a.tickets n (turn.0 ∙ ap Some (sym same)) h), b.1))
+                  (λ h. others_wait m footing seats s.homes r.at v u turn.0 a g h),
+              record { tickets = λ n e' h. absurd (cc); numbers = a.numbers; counts = a.counts },
+            ))
+            (inl (record {
+              kept = kept;
+              there = home;
+              list = list ∙ turn.1;
+              ground_is = some_same _ _ (sym ground_is ∙ f.ground_is alive);
+              current = λ which. subst (λ l. m.shown which l ≤ value which r.at) turn.1 ((f.posted which).current (paid which));
+            })),
+        ap (λ (l : List (ℕ × Spot K)). (w, rest l)) has,
+      )
