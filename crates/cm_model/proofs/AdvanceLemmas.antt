@@ -1,14 +1,12 @@
 -- What one advance of a session does, and that settling is to advance until none is left.
-use Rattle.std.proofs.Common.{◌≡◌, ℕ, zero, suc, ◌+◌, ◌≤◌, List, [], ◌∷◌, length, Option, Some, None, refl, sym, ap, ◌∙◌, inl, inr, arith}
+use Rattle.std.proofs.Common.{◌≡◌, ℕ, zero, suc, ◌+◌, ◌≤◌, List, [], ◌∷◌, length, Option, Some, None, refl, sym, ◌∙◌, inl, inr, arith}
 use Rattle.std.proofs.lemmas.Option.{same_Some}
 use Rattle.cm_document.proofs.ReadingLemmas.{cases_Option}
 use Rattle.cm_document.specs.declared.call.Call.{Call}
 use Rattle.cm_model.specs.State.{State}
 use Rattle.cm_model.specs.Machine.{step}
-use Rattle.cm_model.specs.Scheduled.{Session, Advanced, with_entry, ticket_in, next_call, after_call, stepped_on, called_on, advance, advances, settle}
-use Rattle.cm_model.specs.declared.entry.Entry.{Entry}
+use Rattle.cm_model.specs.Scheduled.{Advanced, with_entry, ticket_in, next_call, after_call, stepped_on, called_on, advance, advances, settle}
 use Rattle.cm_model.specs.declared.reply.Reply.{Reply}
-use Rattle.cm_model.specs.declared.reply.Reply.TheVariants as reply
 
 -- ---- One advance
 
@@ -127,9 +125,9 @@ pub settle-keeps : (P : Advanced → Type 0) (who : ℕ) → ((a b : Advanced) �
 unfolding settle
 settle-keeps P who keeps a p = advances-keeps (suc (length a.session.lines + length a.session.lines)) a p
   where
-  advances-keeps : (k : ℕ) (a : Advanced) → P a → P (advances k who a)
-  advances-keeps zero a p = p
-  advances-keeps (suc k) a p = elim (cases_Option (advance who a)) [
-    | inl none ↦ rw (none, advances) p
-    | inr (b, some) ↦ rw (some, advances) (advances-keeps k b (keeps a b p (advance-Made who a b some)))
-  ]
+    advances-keeps : (k : ℕ) (a : Advanced) → P a → P (advances k who a)
+    advances-keeps zero a p = p
+    advances-keeps (suc k) a p = elim (cases_Option (advance who a)) [
+      | inl none ↦ rw (none, advances) p
+      | inr (b, some) ↦ rw (some, advances) (advances-keeps k b (keeps a b p (advance-Made who a b some)))
+    ]

@@ -1,11 +1,11 @@
 -- Every scheduled history is legal.
-use Rattle.std.proofs.Common.{◌≡◌, ℕ, zero, suc, ◌+◌, List, [], ◌∷◌, ◌++◌, length, Option, Some, None, Bool, true, false, refl, ◌⊎◌, inl, inr}
+use Rattle.std.proofs.Common.{◌≡◌, ℕ, zero, suc, ◌+◌, List, [], ◌∷◌, ◌++◌, length, Option, Some, None, refl, inl, inr}
 use Rattle.std.specs.Prelude.{IsSomeAnd}
 use Rattle.cm_document.proofs.ReadingLemmas.{cases_Option}
 use Rattle.cm_model.specs.State.{State, boot}
 use Rattle.cm_model.specs.Machine.{step, LegalFrom, IsLegal, state_after}
 use Rattle.cm_model.specs.Scheduled.{Session, Advanced, Progress, with_entry, settle, settle_from, settle_all, looped, cycle, cycles, finish, start, scheduled}
-use Rattle.cm_model.proofs.AdvanceLemmas.{Made, settle-keeps}
+use Rattle.cm_model.proofs.AdvanceLemmas.{settle-keeps}
 use Rattle.cm_document.specs.declared.call.Call.{Call}
 use Rattle.cm_document.specs.declared.call.Call.TheVariants.{Begin, End, Close}
 use Rattle.cm_model.specs.declared.entry.Entry.{Entry}

@@ -1,5 +1,5 @@
 -- One updated controller more, in the flat list.
-use Rattle.std.proofs.Common.{◌≡◌, ℕ, suc, ◌+◌, ◌≤◌, ℤ, List, [], ◌∷◌, ◌++◌, length, take, drop, refl, sym, ap, ◌∙◌, arith, length-append, length-drop}
+use Rattle.std.proofs.Common.{◌≡◌, suc, ◌+◌, ◌≤◌, ℤ, List, [], ◌∷◌, ◌++◌, length, take, drop, refl, sym, ap, ◌∙◌, arith, length-append, length-drop}
 use Rattle.std.specs.Prelude.{sum_by}
 use Rattle.std.proofs.lemmas.List.{take_all, take-append-le, drop-append-le}
 use Rattle.std.proofs.lemmas.List.Sums.{sum_by-cons, sum_by-append}
@@ -42,7 +42,7 @@ one_ran_more (x ∷ hs) h vs ws ns ms whole outs published =
     let within = first_within x hs vs ns whole in
     rw (take-append-le x.outs vs ws within.0, take-append-le x.published ns ms within.1, drop-append-le x.outs vs ws within.0, drop-append-le x.published ns ms within.1)
     (ap (λ l. record { serial = x.serial; done = x.done; outs = take x.outs vs; published = take x.published ns } ∷ l)
-      (one_ran_more hs h (drop x.outs vs) ws (drop x.published ns) ms (rest_whole x hs vs ns whole) outs published))
+    (one_ran_more hs h (drop x.outs vs) ws (drop x.published ns) ms (rest_whole x hs vs ns whole) outs published))
 
 -- all heads count all again
 pub one_head_more : (hs : List RanHead) (h : RanHead) (vs ws : List Value) (ns ms : List ℤ) → IsWhole hs vs ns → h.outs ≡ length ws → h.published ≡ length ms

@@ -1,6 +1,6 @@
 -- A history that is scheduled for console calls is whole.
 use Rattle.std.proofs.Common.{◌≡◌, ℕ, zero, suc, ◌+◌, ◌<◌, ◌≤◌, List, [], ◌∷◌, ◌++◌, length, map, Option, Some, None, Bool, true, false, nat_lt, refl, sym, ap, ◌∙◌, append_assoc, append-nil, inl, inr, arith}
-use Rattle.std.specs.Prelude.{cond, slice_get, filter, flat_map, ◌==◌, ◌&&◌, not, IsTrue}
+use Rattle.std.specs.Prelude.{cond, slice_get, filter, flat_map, ◌==◌, ◌&&◌, IsTrue}
 use Rattle.std.specs.List.{AllByRecursion}
 use Rattle.std.proofs.lemmas.List.{map-append, length-map}
 use Rattle.std.proofs.lemmas.List.Elements.{filter-append}
@@ -9,11 +9,11 @@ use Rattle.std.proofs.lemmas.Option.{same_Some, slice_get-map, slice_get_within}
 use Rattle.cm_document.proofs.ReadingLemmas.{cases_Option, chosen}
 use Rattle.cm_model.specs.Held.{nothing_in}
 use Rattle.cm_model.specs.State.{State, boot, controller_lines}
-use Rattle.cm_model.specs.Machine.{step, unless_refused, load_refusals, place_of, with_controller, with_loaded, load_effect, answered, can_begin, can_end, can_close}
+use Rattle.cm_model.specs.Machine.{step, unless_refused, load_refusals, place_of, with_controller, with_loaded, load_effect, can_begin, can_end, can_close}
 use Rattle.cm_model.specs.Scheduled.{Session, Advanced, Progress, with_entry, ticket_in, advance, advances, settle, settle_from, settle_all, looped, cycle, cycles, finish, start, scheduled}
 use Rattle.cm_document.specs.Built.{built}
 use Rattle.cm_document.specs.ScriptLaws.{has_form}
-use Rattle.cm_model.specs.Sessions.{entries_by, calls_of, is_told, told_after, with_its_told, asked, Follows, cycle_calls, loop_calls, IsWhole}
+use Rattle.cm_model.specs.Sessions.{entries_by, calls_of, is_told, with_its_told, asked, Follows, cycle_calls, loop_calls, IsWhole}
 use Rattle.cm_model.proofs.AdvanceLemmas.{settle-stays}
 use Rattle.cm_document.specs.declared.call.Call.{Call}
 use Rattle.cm_document.specs.declared.call.Call.TheVariants.{Load, ListControllers, Begin, End, Close}

@@ -1,5 +1,5 @@
 -- What a cycle tells of a controller that it updated, and a list of these while it is filled.
-use Rattle.std.specs.Prelude.{ℕ, ℤ, List}
+use Rattle.std.specs.Prelude.{ℕ, ℤ, ◌<◌, ◌≤◌, ◌^◌, List, length}
 use Rattle.fixed_num.specs.declared.value.Value.{Value}
 use Rattle.cm_model.specs.declared.ran.Done.{Done}
 
@@ -16,3 +16,11 @@ pub record Filling : Type 0 where
   pub heads : ℕ
   pub values : ℕ
   pub numbers : ℕ
+
+-- there is room for one more, which gives out and publishes fewer than 256 each
+pub record Fits (room : Filling) (outs : List Value) (published : List ℤ) : Type 0 where
+  pub heads : 0 < room.heads
+  pub values : length outs ≤ room.values
+  pub numbers : length published ≤ room.numbers
+  pub few_values : length outs < 2 ^ 8
+  pub few_numbers : length published < 2 ^ 8

@@ -1,5 +1,5 @@
 -- How the updated controllers of a cycle are kept flat: a head for each, and all values and numbers one after another.
-use Rattle.std.specs.Prelude.{◌≡◌, ℕ, ℤ, List, [], ◌∷◌, length, take, drop, sum_by}
+use Rattle.std.specs.Prelude.{◌≡◌, ℤ, List, [], ◌∷◌, length, take, drop, sum_by}
 use Rattle.fixed_num.specs.declared.value.Value.{Value}
 use Rattle.cm_model.specs.Ran.{Ran}
 use Rattle.cm_model.specs.declared.ran.RanHead.{RanHead}
@@ -10,7 +10,7 @@ abbrev pub rans : List RanHead → List Value → List ℤ → List Ran
 rans [] values numbers = []
 rans (h ∷ hs) values numbers =
     record { serial = h.serial; done = h.done; outs = take h.outs values; published = take h.published numbers }
-      ∷ rans hs (drop h.outs values) (drop h.published numbers)
+    ∷ rans hs (drop h.outs values) (drop h.published numbers)
 
 -- the heads count all values and all numbers
 pub record IsWhole (heads : List RanHead) (values : List Value) (numbers : List ℤ) : Type 0 where

@@ -1,5 +1,5 @@
 -- The state of the manager: all that it knows at one moment, its opening, and what is read off it.
-use Rattle.std.specs.Prelude.{ℕ, ◌-◌, Bool, true, false, ◌&&◌, List, [], slice_get, filter_map, Option, Some, None, option_map, is_some}
+use Rattle.std.specs.Prelude.{ℕ, ◌-◌, Bool, false, ◌&&◌, List, [], slice_get, filter_map, Option, Some, None, option_map, is_some}
 use Rattle.std.specs.List.{list_any}
 use Rattle.std.specs.Option.{option_map_or}
 use Rattle.cm_document.specs.Params.{kind_of}

@@ -1,6 +1,6 @@
 //! The list of updated controllers while it is filled.
 
-ghost use Rattle.std.specs.Prelude.{◌≡◌, ◌-◌, ◌<◌, ◌≤◌, ◌^◌, [], ◌∷◌, ◌++◌, length, IfOk, vec_len, vec_capacity, ◌+◌};
+ghost use Rattle.std.specs.Prelude.{◌≡◌, ◌-◌, ◌≤◌, [], ◌∷◌, ◌++◌, length, IfOk, vec_len, vec_capacity, ◌+◌};
 
 use crate::ran::{Done, RanHead, RanList};
 use fixed_num::{Fx, StoredValue, Value};
@@ -24,16 +24,18 @@ impl Model for RanRoom {
     ghost use Rattle.cm_model.specs.Rans.{rans, IsWhole};
 
     ghost view = { λ s. record {
-        rans = rans s.heads.items s.values.items s.numbers.items;
-        heads = vec_capacity s.heads - vec_len s.heads;
-        values = vec_capacity s.values - vec_len s.values;
-        numbers = vec_capacity s.numbers - vec_len s.numbers;
+      rans = rans s.heads.items s.values.items s.numbers.items;
+      heads = vec_capacity s.heads - vec_len s.heads;
+      values = vec_capacity s.values - vec_len s.values;
+      numbers = vec_capacity s.numbers - vec_len s.numbers;
     } };
 
     ghost invariant = { λ s. IsWhole s.heads.items s.values.items s.numbers.items };
 }
 
 impl RanRoom {
+    ghost use Rattle.cm_model.specs.Ran.{Fits};
+
     /// An empty list with room for so many controllers, values and numbers.
     pub fn with_room(
         alloc: Global,
@@ -53,11 +55,7 @@ impl RanRoom {
     /// One controller more. It takes no memory.
     #[tactic(auto, using(crate::proofs::RanLemmas::one_more))]
     pub fn push(&mut self, serial: u32, done: Done, outs: &[Value], published: &[Fx])
-        requires heads { 0 < self.old.heads }
-        requires values { length outs.now ≤ self.old.values }
-        requires numbers { length published.now ≤ self.old.numbers }
-        requires few_values { length outs.now < 2 ^ 8 }
-        requires few_numbers { length published.now < 2 ^ 8 }
+        requires { Fits self.old outs.now published.now }
         ensures rans { self.new.rans ≡ self.old.rans ++ record { serial = serial; done = done; outs = outs.now; published = published.now } ∷ [] }
         ensures heads { self.new.heads ≡ self.old.heads - 1 }
         ensures values { self.new.values ≡ self.old.values - length outs.now }

@@ -1,8 +1,7 @@
 -- What the desk's lists stand for.
-use Rattle.std.proofs.Common.{◌≡◌, ℕ, ◌++◌, List, [], ◌∷◌, Bool, true, false, Option, Some, None, map, refl, sym, ap, ◌∙◌, inl, inr}
+use Rattle.std.proofs.Common.{◌≡◌, ℕ, ◌++◌, List, [], ◌∷◌, Bool, false, Option, Some, None, map, refl, sym, ◌∙◌}
 use Rattle.std.specs.Prelude.{◌&&◌, slice_get, option_map}
 use Rattle.std.proofs.lemmas.Option.{slice_get-map, same_Some}
-use Rattle.cm_document.proofs.ReadingLemmas.{cases_Option}
 use Rattle.cm_document.specs.declared.life.Life.TheVariants.{Unconfigured}
 use Rattle.std.specs.List.{AllByRecursion, list_any}
 use Rattle.cm_document.specs.declared.description.CtlDesc.{CtlDesc}

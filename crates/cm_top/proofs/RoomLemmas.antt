@@ -1,9 +1,9 @@
 -- A step takes one serial at most, and none but for a load.
 use Rattle.std.proofs.Common.{◌≡◌, ℕ, zero, suc, ◌+◌, ◌<◌, ◌≤◌, List, [], ◌∷◌, length, get_or, slice_set, Option, Some, None, Bool, true, false, refl, arith}
 use Rattle.std.specs.Prelude.{slice_get, option_map, if◌then◌else◌}
-use Rattle.std.proofs.lemmas.Option.{cond_some, same_Some}
+use Rattle.std.proofs.lemmas.Option.{same_Some}
 use Rattle.cm_document.specs.declared.call.Call.{Call}
-use Rattle.cm_document.specs.declared.call.Call.TheVariants.{Load, Begin, End, Close}
+use Rattle.cm_document.specs.declared.call.Call.TheVariants.{Load}
 use Rattle.cm_document.specs.declared.description.CtlDesc.{CtlDesc}
 use Rattle.cm_model.specs.State.{State}
 use Rattle.cm_model.specs.Machine.{step, is_enabled, reply_of, effect, answered, place_of, with_controller, with_loaded, load_effect}
@@ -38,9 +38,9 @@ pub step-loads : (s : State) (who : ℕ) (call : Call) (q : State × Reply) → 
 unfolding step
 step-loads s who call q stepped = tested (is_enabled s who call) stepped
   where
-  tested : (b : Bool) → (if b then option_map (answered s call) (reply_of s call) else None) ≡ Some q → q.0.loads ≤ s.loads + serials_of call
-  tested true made = answered-loads s call (reply_of s call) q made
-  tested false made = cc
+    tested : (b : Bool) → (if b then option_map (answered s call) (reply_of s call) else None) ≡ Some q → q.0.loads ≤ s.loads + serials_of call
+    tested true made = answered-loads s call (reply_of s call) q made
+    tested false made = cc
 
 -- a call takes one at most, and one of the loop none
 pub serials-few : (call : Call) → serials_of call ≤ 1

@@ -1,7 +1,7 @@
 -- One session of a loop over all.
-use Rattle.std.proofs.Common.{◌≡◌, ℕ, zero, suc, ◌+◌, ◌<◌, List, [], ◌∷◌, ◌++◌, length, get_or, take, drop, slice_set, refl, ap, ◌∙◌, arith, add-one, drop-cons}
+use Rattle.std.proofs.Common.{◌≡◌, ℕ, zero, suc, ◌+◌, ◌<◌, List, [], ◌∷◌, ◌++◌, length, get_or, take, drop, slice_set, refl, ap, arith, drop-cons}
 use Rattle.cm_model.specs.State.{State}
-use Rattle.cm_model.specs.Scheduled.{Session, Advanced, settle, settle_from}
+use Rattle.cm_model.specs.Scheduled.{Session, settle, settle_from}
 use Rattle.cm_model.specs.declared.entry.Entry.{Entry}
 use Rattle.cm_top.specs.Session.{at}
 

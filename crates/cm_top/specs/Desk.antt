@@ -1,7 +1,7 @@
 -- The manager at work: what its parts stand for, and what they keep.
 use Rattle.std.specs.Prelude.{◌≡◌, ℕ, ◌<◌, true, false, List, map}
 use Rattle.std.specs.List.{AllByRecursion}
-use Rattle.cm_model.specs.State.{State, Loaded, is_active}
+use Rattle.cm_model.specs.State.{State, is_active}
 use Rattle.cm_top.specs.declared.desk.Desk.TheInside.{Inside}
 
 -- the state that these parts are

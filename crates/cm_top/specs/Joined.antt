@@ -1,5 +1,5 @@
 -- Items that are added one after another.
-use Rattle.std.specs.Prelude.{◌≡◌, ℕ, Bool, true, false, if◌then◌else◌, List, [], ◌∷◌, ◌++◌, codes}
+use Rattle.std.specs.Prelude.{◌≡◌, ℕ, Bool, true, if◌then◌else◌, List, [], ◌∷◌, ◌++◌, codes}
 
 -- what stands before an item: a separator where others stand before it
 abbrev pub before_item : Bool → List ℕ

@@ -1,5 +1,4 @@
 use Rattle.std.proofs.Common.{◌≡◌, ◌++◌, drop, map, string_bytes}
-use Rattle.std.specs.Prelude.{flat_map}
 use Rattle.iface_names.specs.Interfaces.{interface_text}
 use Rattle.cm_document.specs.Described.{states_of}
 use Rattle.cm_top.proofs.interfaces.push_states.Given as goal

@@ -1,7 +1,4 @@
-use Rattle.std.proofs.Common.{◌≡◌, false, map, string_bytes}
-use Rattle.cm_model.specs.Items.{failed_text, ran_text, body_texts, stop_text}
-use Rattle.cm_top.specs.Joined.{Adds}
-use Rattle.cm_top.proofs.JoinLemmas.{Adds-then, Adds-some, Adds-none}
+use Rattle.cm_top.proofs.JoinLemmas.{Adds-then, Adds-some}
 use Rattle.cm_top.proofs.items.push_record.Goals as goal
 
 -- the four parts are all items

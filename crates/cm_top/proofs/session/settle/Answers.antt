@@ -1,4 +1,4 @@
-use Rattle.std.proofs.Common.{◌≡◌, Some, None, sym, ◌∙◌, arith}
+use Rattle.std.proofs.Common.{◌≡◌, Some, sym, ◌∙◌, arith}
 use Rattle.cm_model.specs.Scheduled.{Advanced, advance}
 use Rattle.cm_model.proofs.AdvanceLemmas.{advance-less, settle-next, settle-stays}
 use Rattle.cm_top.specs.Session.{at}
