@@ -92,6 +92,7 @@ impl Env for Words {
 
 /// The least document, and its trace.
 const LEAST: &str = "version = 1\nupdate_rate = 1\ncycles = 0\n--- script ---\n";
+
 const LEAST_TRACE: &str = "loop close: none\n";
 
 /// `WORDS => END`, over the least document.
@@ -117,7 +118,11 @@ fn the_one_word_run_runs_and_others_are_refused(rt: HostRuntime) -> Result<(), F
         let status = run_words(&words, &rt, &mut source, &mut sink);
         let end = end(alloc, &status)?;
         assert_eq!(rt; end.as_str(), want, "{row}");
-        let trace = if status == Status::Ok { LEAST_TRACE } else { "" };
+        let trace = if status == Status::Ok {
+            LEAST_TRACE
+        } else {
+            ""
+        };
         assert_eq!(rt; sink.bytes(), trace.as_bytes(), "{row}");
     }
     Ok(())

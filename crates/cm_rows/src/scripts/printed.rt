@@ -1,7 +1,7 @@
 //! Scripts as they print: the text of what was read.
 
 use super::LONGEST;
-use crate::pages::{Teller, differences};
+use crate::pages::Teller;
 use cm_model::every_form;
 use script_text::{print_script, read_script_with};
 use std::alloc::Global;
@@ -29,15 +29,9 @@ impl Teller for Prints {
     }
 }
 
-#[test]
-fn what_is_read_prints(rt: HostRuntime) -> Result<(), Fail> {
-    assert_eq!(rt; differences(rt.alloc(), &Prints, "", PRINTED)?.as_str(), "");
-    Ok(())
-}
-
-/// A load; calls of every form, of which most stand as they print, with a session that makes none and with turns; a schedule without
-/// turns, which is left out; and nothing.
-const PRINTED: &str = r"session a
+/// A load; calls of every form, of which most stand as they print, with a session that makes none and with turns; a
+/// schedule without turns, which is left out; and nothing.
+pub const PRINTED: &str = r"session a
 load mk
 => session a
 load mk
