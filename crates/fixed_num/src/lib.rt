@@ -13,9 +13,9 @@ mod fx;
 pub mod laws;
 mod memory;
 mod read;
+mod stored;
 #[cfg(test)]
 mod tests;
-mod stored;
 mod text;
 mod value;
 
