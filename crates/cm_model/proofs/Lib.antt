@@ -2,4 +2,5 @@ pub mod RanLemmas
 pub mod AdvanceLemmas
 pub mod LegalLemmas
 pub mod WholeLemmas
+pub mod EnabledLemmas
 mod Rows

@@ -16,4 +16,4 @@ told_of_parts p = record { cycle = p.cycle; failed = p.failed; ran = p.ran; bodi
 -- what a record that is kept so tells
 abbrev pub happened : Held → Happened
 happened (Quiet n) = nothing_in n
-happened (Whole p) = told_of_parts p
+happened (Whole p) = told_of_parts p.value

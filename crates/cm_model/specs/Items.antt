@@ -48,11 +48,12 @@ abbrev pub chained_text : Bool → List ℕ
 chained_text true = codes " chained"
 chained_text false = []
 
--- a controller, as `mk mock unconfigured 0`
+-- a controller, as `mk mock unconfigured 0` or `fwd forward active 1 every 3 chained`
+abbrev pub controller_head : CtlLine → List ℕ
+controller_head c = c.name ++ codes " " ++ kind_word c.kind ++ codes " " ++ life_word c.life
+
 abbrev pub controller_text : CtlLine → List ℕ
-controller_text c =
-    c.name ++ codes " " ++ kind_word c.kind ++ codes " " ++ life_word c.life ++ codes " " ++ decimal c.serial
-    ++ divisor_text c.divisor ++ chained_text c.chained
+controller_text c = controller_head c ++ codes " " ++ decimal c.serial ++ divisor_text c.divisor ++ chained_text c.chained
 
 -- a component, as `arm system active`
 abbrev pub described_component : Option CompDesc → List ℕ

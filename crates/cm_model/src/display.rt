@@ -1,12 +1,10 @@
-//! How reasons, causes, outcomes and lines print in a trace.
+//! How reasons, causes, and outcomes print in a trace.
 
 ghost use Rattle.std.specs.Prelude.{Some, flat_map, codes, ◌++◌};
 ghost use Rattle.std.specs.Fmt.{DisplaysOnOk};
 ghost use Rattle.cm_model.specs.Causes.{dropped_text, drops_text};
-ghost use Rattle.cm_model.specs.Items.{divisor_text, chained_text};
 
 use crate::cause::{Cause, Decision, Dropped, Outcome};
-use crate::lines::CtlLine;
 use crate::reply::Why;
 use std::fmt;
 use std::fmt::{Display, Formatter, Write};
@@ -138,32 +136,5 @@ impl Display for Decision {
         let ticket = self.ticket;
         let outcome = &self.outcome;
         write!(f, "{ticket} {outcome}")
-    }
-}
-
-impl Display for CtlLine {
-    ghost use Rattle.std.specs.Prelude.{Some};
-    ghost use Rattle.cm_model.specs.Items.{controller_text};
-
-    ghost output = { λ line. Some (controller_text line) };
-
-    fn fmt<W: Write>(&self, f: &mut Formatter<W>) -> fmt::Result {
-        let name = self.name.get();
-        let kind = self.kind;
-        let life = self.life;
-        let serial = self.serial;
-        write!(f, "{name} {kind} {life} {serial}")?;
-        write_divisor(self.divisor, f)?;
-        f.write_str(if self.chained { " chained" } else { "" })
-    }
-}
-
-/// In how many cycles a configured controller is updated once.
-fn write_divisor<W: Write>(divisor: Option<u32>, f: &mut Formatter<W>) -> fmt::Result
-    ensures { DisplaysOnOk W.write_str_gives f.old result (Some (divisor_text divisor)) f.new }
-{
-    match divisor {
-        Some(divisor) => write!(f, " every {divisor}"),
-        None => Ok(()),
     }
 }

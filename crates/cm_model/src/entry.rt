@@ -1,11 +1,12 @@
 //! Entries: what a history keeps of a call.
 
-ghost use Rattle.std.specs.Prelude.{◌≡◌, IfOk, IfSome, option_map};
+ghost use Rattle.std.specs.Prelude.{◌≡◌, ◌++◌, IfOk, IfSome, OnOk, option_map, string_bytes};
 ghost use Rattle.cm_model.specs.Trace.{load_name};
 ghost use Rattle.cm_model.specs.Kept.{kept_call};
 
+use crate::append::push_numbered;
 use crate::reply::Reply;
-use cm_document::Call;
+use cm_document::{Call, Memory};
 use iface_names::Name;
 use sequence::Boxed;
 use std::alloc::{AllocError, Global};
@@ -13,7 +14,7 @@ use std::fmt;
 use std::fmt::{Display, Formatter, Write};
 use std::marker::Model;
 
-/// One event of a history.
+/// One event of a history. Each cycle has two, so what is long in one stands on the heap.
 #[derive(Clone, Debug, Drop)]
 pub struct Entry {
     /// Who called: the session's number, or the number of sessions for the loop.
@@ -23,6 +24,8 @@ pub struct Entry {
     /// What was answered.
     pub reply: Reply,
 }
+
+const _: () = prove!(size_of::<Entry>() == 48);
 
 /// A call as a history keeps it, in few bytes. Contracts see the call.
 #[derive(Clone, Debug, Drop)]
@@ -145,6 +148,24 @@ fn in_place(call: &Call) -> Option<Short>
         Call::End(cycle) => Some(Short::End(*cycle)),
         Call::Close => Some(Short::Close),
         _ => None,
+    }
+}
+
+impl KeptCall {
+    ghost use Rattle.cm_document.specs.CallText.{call_text};
+
+    /// Appends the call's text. A begin, an end and the close take no formatter.
+    pub fn push_to(&self, text: &mut String) -> Result<(), Memory>
+        ensures { OnOk result (string_bytes text.new ≡ string_bytes text.old ++ call_text self.now) }
+    {
+        match &self.kept {
+            Short::Begin(cycle) => push_numbered(text, "begin ", *cycle)?,
+            Short::End(cycle) => push_numbered(text, "end ", *cycle)?,
+            Short::Close => text.push_str("close")?,
+            Short::ListControllers => text.push_str("list controllers")?,
+            _ => write!(text, "{self}")?,
+        }
+        Ok(())
     }
 }
 

@@ -1,13 +1,15 @@
 //! Laws of the definitions of histories: each is the contract of a function that does nothing.
 
-ghost use Rattle.std.specs.Prelude.{◌≡◌, ℕ, None, length};
+ghost use Rattle.std.specs.Prelude.{◌≡◌, ◌<◌, ℕ, true, None, length};
+ghost use Rattle.cm_document.specs.declared.call.Call.{Call};
 ghost use Rattle.cm_document.specs.declared.document.Document.{Document};
 ghost use Rattle.cm_document.specs.Built.{built};
 ghost use Rattle.cm_document.specs.ScriptLaws.{UsesForms};
 ghost use Rattle.cm_model.specs.declared.blanks.Blanks.{Blanks};
-ghost use Rattle.cm_model.specs.Machine.{IsLegal};
+ghost use Rattle.cm_model.specs.Machine.{IsLegal, is_enabled};
+ghost use Rattle.cm_model.specs.State.{State};
 ghost use Rattle.cm_model.specs.Scheduled.{Advanced, advance, settle, scheduled};
-ghost use Rattle.cm_model.specs.Sessions.{IsWhole};
+ghost use Rattle.cm_model.specs.Sessions.{IsConsole, IsWhole};
 
 /// Each scheduled history is legal: from boot each of its entries is a step of the written manager.
 pub fn scheduled_histories_are_legal()
@@ -23,4 +25,9 @@ pub fn scheduled_histories_are_whole()
 /// A session that settled cannot advance: it has nothing left to do, or its next call is not enabled.
 pub fn settled_sessions_cannot_advance()
     ensures { (who : ℕ) (a : Advanced) → advance who (settle who a) ≡ None }
+{}
+
+/// A session makes console calls alone: begin, end and close are never enabled for it.
+pub fn sessions_make_console_calls()
+    ensures { (s : State) (who : ℕ) (call : Call) → who < s.sessions → is_enabled s who call ≡ true → IsConsole call }
 {}

@@ -2,6 +2,7 @@
 //! Nothing here runs a manager. Read `specs/` first, in the order of `specs/Lib.antt`.
 #![tactic(auto)]
 
+pub use append::{push_number, push_numbered};
 pub use blanks::Blanks;
 pub use cause::{Cause, Decision, Dropped, Outcome};
 pub use cm_document::{
@@ -17,9 +18,11 @@ pub use lines::{CompLine, CtlLine, IfaceLine};
 pub use ran::{Done, RanList, RanRef, Rans};
 pub use ran_room::RanRoom;
 pub use record::{CycleParts, CycleRecord, FailedPart};
+pub use record_room::{RecordRoom, RecordSize};
 pub use reply::{Reply, Why};
 pub use sequence::{Boxed, ListRoom, Rare};
 
+mod append;
 mod blanks;
 mod cause;
 mod data;
@@ -30,4 +33,5 @@ mod lines;
 mod ran;
 mod ran_room;
 mod record;
+mod record_room;
 mod reply;

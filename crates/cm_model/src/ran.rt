@@ -3,6 +3,7 @@
 ghost use Rattle.std.specs.Prelude.{◌≡◌};
 
 use fixed_num::{Fx, StoredValue};
+use std::alloc::Global;
 use std::iter::Iterator;
 use std::marker::Model;
 
@@ -61,6 +62,19 @@ pub struct RanRef<'a> {
 }
 
 impl RanList {
+    ghost use Rattle.std.specs.Prelude.{[]};
+
+    /// Of no controller. It takes no memory.
+    pub fn new(alloc: Global) -> RanList
+        ensures { result ≡ [] }
+    {
+        RanList {
+            heads: Vec::new(alloc),
+            values: Vec::new(alloc),
+            numbers: Vec::new(alloc),
+        }
+    }
+
     /// The controllers one by one.
     pub fn iter(&self) -> Rans<'_>
         ensures { result ≡ self.now }

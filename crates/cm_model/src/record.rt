@@ -5,7 +5,7 @@ ghost use Rattle.cm_model.specs.Ran.{Ran};
 
 use crate::ran::{RanList, Rans};
 use fixed_num::BodyState;
-use sequence::{Boxed, Seq};
+use sequence::Seq;
 use std::alloc::{AllocError, Global};
 use std::marker::Model;
 
@@ -33,6 +33,8 @@ pub struct CycleParts {
     pub stops: Seq<u32>,
 }
 
+const _: () = prove!(size_of::<CycleParts>() == 152);
+
 /// What happened in one cycle. Contracts see its parts. A cycle of which there is nothing to tell takes no memory.
 #[derive(Clone, Debug, Drop)]
 pub struct CycleRecord {
@@ -45,7 +47,7 @@ enum Held {
     /// There is nothing to tell but the cycle's number.
     Quiet(u64),
     /// All parts.
-    Whole(Boxed<CycleParts>),
+    Whole(Box<CycleParts>),
 }
 
 impl Model for CycleRecord {
@@ -75,8 +77,17 @@ impl CycleRecord {
         ensures { IfOk result (λ made. made ≡ told_of_parts parts) }
     {
         Ok(CycleRecord {
-            held: Held::Whole(Boxed::new(alloc, parts)?),
+            held: Held::Whole(Box::new(alloc, parts)?),
         })
+    }
+
+    /// The record of the parts that stand in this place. It takes no memory.
+    pub(crate) fn boxed(place: Box<CycleParts>) -> CycleRecord
+        ensures { result ≡ told_of_parts place.value }
+    {
+        CycleRecord {
+            held: Held::Whole(place),
+        }
     }
 
     /// The cycle's number.
@@ -85,7 +96,7 @@ impl CycleRecord {
     {
         match &self.held {
             Held::Quiet(cycle) => *cycle,
-            Held::Whole(parts) => parts.get().cycle,
+            Held::Whole(parts) => parts.cycle,
         }
     }
 
@@ -95,7 +106,7 @@ impl CycleRecord {
     {
         match &self.held {
             Held::Quiet(_) => &[],
-            Held::Whole(parts) => parts.get().failed.as_slice(),
+            Held::Whole(parts) => parts.failed.as_slice(),
         }
     }
 
@@ -105,7 +116,7 @@ impl CycleRecord {
     {
         match &self.held {
             Held::Quiet(_) => Rans::none(),
-            Held::Whole(parts) => parts.get().ran.iter(),
+            Held::Whole(parts) => parts.ran.iter(),
         }
     }
 
@@ -115,7 +126,7 @@ impl CycleRecord {
     {
         match &self.held {
             Held::Quiet(_) => &[],
-            Held::Whole(parts) => parts.get().bodies.as_slice(),
+            Held::Whole(parts) => parts.bodies.as_slice(),
         }
     }
 
@@ -125,7 +136,7 @@ impl CycleRecord {
     {
         match &self.held {
             Held::Quiet(_) => &[],
-            Held::Whole(parts) => parts.get().stops.as_slice(),
+            Held::Whole(parts) => parts.stops.as_slice(),
         }
     }
 }

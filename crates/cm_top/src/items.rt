@@ -2,14 +2,14 @@
 
 ghost use Rattle.std.specs.Prelude.{◌≡◌, ℕ, List, ◌++◌, map, flat_map, codes, OnOk, IfOk, string_bytes};
 ghost use Rattle.cm_model.specs.Rans.{ran_of};
-ghost use Rattle.cm_model.specs.Items.{Names as Told, value_text, held_text, owner_text, ran_text, outs_text, numbers_text, failed_text, body_text, body_texts, stop_text, record_items};
+ghost use Rattle.cm_model.specs.Items.{Names as Told, controller_head, divisor_text, value_text, held_text, owner_text, ran_text, outs_text, numbers_text, failed_text, body_text, body_texts, stop_text, record_items};
 ghost use Rattle.cm_model.specs.Trace.{joined, reply_text};
 ghost use Rattle.cm_top.specs.Joined.{before_item, Adds};
 
 use crate::names::Names;
 use cm_model::{
     BodyState, CompLine, CtlLine, CycleRecord, Decision, Done, FailedPart, Fx, IfaceLine, Memory,
-    RanRef, Rans, Reply, StoredValue, Value,
+    RanRef, Rans, Reply, StoredValue, Value, push_numbered,
 };
 
 /// Appends the text of a reply.
@@ -63,8 +63,33 @@ impl Item for CtlLine {
     ghost item_text = { λ names line. controller_text line };
 
     fn push_to(&self, text: &mut String, _names: &Names<'_>) -> Result<(), Memory> {
-        write!(text, "{self}")?;
+        push_controller(text, self)?;
+        push_numbered(text, " ", self.serial as u64)?;
+        push_divisor(text, self.divisor)?;
+        text.push_str(if self.chained { " chained" } else { "" })?;
         Ok(())
+    }
+}
+
+/// The name, the kind and the lifecycle state of a controller.
+fn push_controller(text: &mut String, line: &CtlLine) -> Result<(), Memory>
+    ensures { OnOk result (string_bytes text.new ≡ string_bytes text.old ++ controller_head line.now) }
+{
+    text.push_str(line.name.get().as_str())?;
+    text.push_str(" ")?;
+    text.push_str(line.kind.word())?;
+    text.push_str(" ")?;
+    text.push_str(line.life.word())?;
+    Ok(())
+}
+
+/// In how many cycles a configured controller is updated once.
+fn push_divisor(text: &mut String, divisor: Option<u32>) -> Result<(), Memory>
+    ensures { OnOk result (string_bytes text.new ≡ string_bytes text.old ++ divisor_text divisor) }
+{
+    match divisor {
+        Some(divisor) => push_numbered(text, " every ", divisor as u64),
+        None => Ok(()),
     }
 }
 

@@ -69,9 +69,10 @@ fn push_line(
 ) -> Result<(), Memory>
     ensures { OnOk result (string_bytes text.new ≡ string_bytes text.old ++ line_text sessions.now names.now entry.now) }
 {
-    let caller = caller(sessions, entry.who);
-    let call = &entry.call;
-    write!(text, "{caller} {call}: ")?;
+    text.push_str(caller(sessions, entry.who))?;
+    text.push_str(" ")?;
+    entry.call.push_to(text)?;
+    text.push_str(": ")?;
     push_reply(text, names, &entry.reply)?;
     text.push_str("\n")?;
     Ok(())
