@@ -127,9 +127,9 @@ pub settle-keeps : (P : Advanced → Type 0) (who : ℕ) → ((a b : Advanced) �
 unfolding settle
 settle-keeps P who keeps a p = advances-keeps (suc (length a.session.lines + length a.session.lines)) a p
   where
-  advances-keeps : (k : ℕ) (a : Advanced) → P a → P (advances k who a)
-  advances-keeps zero a p = p
-  advances-keeps (suc k) a p = elim (cases_Option (advance who a)) [
-    | inl none ↦ rw (none, advances) p
-    | inr (b, some) ↦ rw (some, advances) (advances-keeps k b (keeps a b p (advance-Made who a b some)))
-  ]
+    advances-keeps : (k : ℕ) (a : Advanced) → P a → P (advances k who a)
+    advances-keeps zero a p = p
+    advances-keeps (suc k) a p = elim (cases_Option (advance who a)) [
+      | inl none ↦ rw (none, advances) p
+      | inr (b, some) ↦ rw (some, advances) (advances-keeps k b (keeps a b p (advance-Made who a b some)))
+    ]

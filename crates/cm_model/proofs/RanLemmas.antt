@@ -42,7 +42,7 @@ one_ran_more (x ∷ hs) h vs ws ns ms whole outs published =
     let within = first_within x hs vs ns whole in
     rw (take-append-le x.outs vs ws within.0, take-append-le x.published ns ms within.1, drop-append-le x.outs vs ws within.0, drop-append-le x.published ns ms within.1)
     (ap (λ l. record { serial = x.serial; done = x.done; outs = take x.outs vs; published = take x.published ns } ∷ l)
-      (one_ran_more hs h (drop x.outs vs) ws (drop x.published ns) ms (rest_whole x hs vs ns whole) outs published))
+    (one_ran_more hs h (drop x.outs vs) ws (drop x.published ns) ms (rest_whole x hs vs ns whole) outs published))
 
 -- all heads count all again
 pub one_head_more : (hs : List RanHead) (h : RanHead) (vs ws : List Value) (ns ms : List ℤ) → IsWhole hs vs ns → h.outs ≡ length ws → h.published ≡ length ms

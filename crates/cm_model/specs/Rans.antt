@@ -10,7 +10,7 @@ abbrev pub rans : List RanHead → List Value → List ℤ → List Ran
 rans [] values numbers = []
 rans (h ∷ hs) values numbers =
     record { serial = h.serial; done = h.done; outs = take h.outs values; published = take h.published numbers }
-      ∷ rans hs (drop h.outs values) (drop h.published numbers)
+    ∷ rans hs (drop h.outs values) (drop h.published numbers)
 
 -- the heads count all values and all numbers
 pub record IsWhole (heads : List RanHead) (values : List Value) (numbers : List ℤ) : Type 0 where

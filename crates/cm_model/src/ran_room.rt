@@ -24,10 +24,10 @@ impl Model for RanRoom {
     ghost use Rattle.cm_model.specs.Rans.{rans, IsWhole};
 
     ghost view = { λ s. record {
-        rans = rans s.heads.items s.values.items s.numbers.items;
-        heads = vec_capacity s.heads - vec_len s.heads;
-        values = vec_capacity s.values - vec_len s.values;
-        numbers = vec_capacity s.numbers - vec_len s.numbers;
+      rans = rans s.heads.items s.values.items s.numbers.items;
+      heads = vec_capacity s.heads - vec_len s.heads;
+      values = vec_capacity s.values - vec_len s.values;
+      numbers = vec_capacity s.numbers - vec_len s.numbers;
     } };
 
     ghost invariant = { λ s. IsWhole s.heads.items s.values.items s.numbers.items };

@@ -38,9 +38,9 @@ pub step-loads : (s : State) (who : ℕ) (call : Call) (q : State × Reply) → 
 unfolding step
 step-loads s who call q stepped = tested (is_enabled s who call) stepped
   where
-  tested : (b : Bool) → (if b then option_map (answered s call) (reply_of s call) else None) ≡ Some q → q.0.loads ≤ s.loads + serials_of call
-  tested true made = answered-loads s call (reply_of s call) q made
-  tested false made = cc
+    tested : (b : Bool) → (if b then option_map (answered s call) (reply_of s call) else None) ≡ Some q → q.0.loads ≤ s.loads + serials_of call
+    tested true made = answered-loads s call (reply_of s call) q made
+    tested false made = cc
 
 -- a call takes one at most, and one of the loop none
 pub serials-few : (call : Call) → serials_of call ≤ 1

@@ -22,7 +22,11 @@ pub fn interface_texts(alloc: Global, description: &Description) -> Result<Vec<S
     Ok(texts)
 }
 
-fn push_states(alloc: Global, texts: &mut Vec<String>, components: &[CompDesc]) -> Result<(), Memory>
+fn push_states(
+    alloc: Global,
+    texts: &mut Vec<String>,
+    components: &[CompDesc],
+) -> Result<(), Memory>
     ensures { OnOk result (map string_bytes texts.new.items ≡ map string_bytes texts.old.items ++ map interface_text (states_of components.now)) }
 {
     for component in components {
@@ -31,7 +35,11 @@ fn push_states(alloc: Global, texts: &mut Vec<String>, components: &[CompDesc]) 
     Ok(())
 }
 
-fn push_states_of(alloc: Global, texts: &mut Vec<String>, joints: &[JointDesc]) -> Result<(), Memory>
+fn push_states_of(
+    alloc: Global,
+    texts: &mut Vec<String>,
+    joints: &[JointDesc],
+) -> Result<(), Memory>
     ensures { OnOk result (map string_bytes texts.new.items ≡ map string_bytes texts.old.items ++ map interface_text (flat_map states_of_joint joints.now)) }
 {
     for joint in joints {
@@ -40,7 +48,11 @@ fn push_states_of(alloc: Global, texts: &mut Vec<String>, joints: &[JointDesc]) 
     Ok(())
 }
 
-fn push_commands(alloc: Global, texts: &mut Vec<String>, components: &[CompDesc]) -> Result<(), Memory>
+fn push_commands(
+    alloc: Global,
+    texts: &mut Vec<String>,
+    components: &[CompDesc],
+) -> Result<(), Memory>
     ensures { OnOk result (map string_bytes texts.new.items ≡ map string_bytes texts.old.items ++ map interface_text (commands_of components.now)) }
 {
     for component in components {
@@ -49,7 +61,11 @@ fn push_commands(alloc: Global, texts: &mut Vec<String>, components: &[CompDesc]
     Ok(())
 }
 
-fn push_commands_of(alloc: Global, texts: &mut Vec<String>, joints: &[JointDesc]) -> Result<(), Memory>
+fn push_commands_of(
+    alloc: Global,
+    texts: &mut Vec<String>,
+    joints: &[JointDesc],
+) -> Result<(), Memory>
     ensures { OnOk result (map string_bytes texts.new.items ≡ map string_bytes texts.old.items ++ map interface_text (flat_map commands_of_joint joints.now)) }
 {
     for joint in joints {
@@ -59,7 +75,12 @@ fn push_commands_of(alloc: Global, texts: &mut Vec<String>, joints: &[JointDesc]
 }
 
 /// The interfaces of these kinds on a joint.
-fn push_kinds(alloc: Global, texts: &mut Vec<String>, joint: &Name, kinds: &[Kind]) -> Result<(), Memory>
+fn push_kinds(
+    alloc: Global,
+    texts: &mut Vec<String>,
+    joint: &Name,
+    kinds: &[Kind],
+) -> Result<(), Memory>
     ensures { OnOk result (map string_bytes texts.new.items ≡ map string_bytes texts.old.items ++ map interface_text (map (interface.Joint joint.now) kinds.now)) }
 {
     for kind in kinds {
@@ -75,7 +96,11 @@ fn joint_interface(alloc: Global, joint: &Name, kind: Kind) -> Result<String, Me
     Ok(format!(in alloc; "{joint}/{kind}")?)
 }
 
-fn push_references(alloc: Global, texts: &mut Vec<String>, controllers: &[CtlDesc]) -> Result<(), Memory>
+fn push_references(
+    alloc: Global,
+    texts: &mut Vec<String>,
+    controllers: &[CtlDesc],
+) -> Result<(), Memory>
     ensures { OnOk result (map string_bytes texts.new.items ≡ map string_bytes texts.old.items ++ map interface_text (references_of controllers.now)) }
 {
     for controller in controllers {
@@ -85,7 +110,12 @@ fn push_references(alloc: Global, texts: &mut Vec<String>, controllers: &[CtlDes
 }
 
 /// The references of a controller for these interfaces.
-fn push_references_of(alloc: Global, texts: &mut Vec<String>, controller: &Name, interfaces: &[IfaceName]) -> Result<(), Memory>
+fn push_references_of(
+    alloc: Global,
+    texts: &mut Vec<String>,
+    controller: &Name,
+    interfaces: &[IfaceName],
+) -> Result<(), Memory>
     ensures { OnOk result (map string_bytes texts.new.items ≡ map string_bytes texts.old.items ++ map interface_text (map (reference_for controller.now) interfaces.now)) }
 {
     for interface in interfaces {
@@ -105,7 +135,12 @@ fn reference(alloc: Global, controller: &Name, interface: &IfaceName) -> Result<
 }
 
 /// The text of the reference of this kind of a controller for a joint.
-fn reference_text(alloc: Global, controller: &Name, joint: &Name, kind: Kind) -> Result<String, Memory>
+fn reference_text(
+    alloc: Global,
+    controller: &Name,
+    joint: &Name,
+    kind: Kind,
+) -> Result<String, Memory>
     ensures { IfOk result (λ text. string_bytes text ≡ interface_text (interface.Reference controller.now joint.now kind)) }
 {
     Ok(format!(in alloc; "{controller}/{joint}/{kind}")?)

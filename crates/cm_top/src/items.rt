@@ -204,7 +204,12 @@ fn separate(text: &mut String, started: bool) -> Result<(), Memory>
 }
 
 /// The components that failed.
-fn push_failures(text: &mut String, names: &Names<'_>, started: bool, failed: &[FailedPart]) -> Result<bool, Memory>
+fn push_failures(
+    text: &mut String,
+    names: &Names<'_>,
+    started: bool,
+    failed: &[FailedPart],
+) -> Result<bool, Memory>
     ensures { IfOk result (λ after. Adds (string_bytes text.old) (string_bytes text.new) started (map (failed_text names.now) failed.now) after) }
 {
     let mut started = started;
@@ -228,7 +233,12 @@ fn push_failure(text: &mut String, names: &Names<'_>, part: &FailedPart) -> Resu
 }
 
 /// The controllers that were updated.
-fn push_rans(text: &mut String, names: &Names<'_>, started: bool, rans: Rans<'_>) -> Result<bool, Memory>
+fn push_rans(
+    text: &mut String,
+    names: &Names<'_>,
+    started: bool,
+    rans: Rans<'_>,
+) -> Result<bool, Memory>
     ensures { IfOk result (λ after. Adds (string_bytes text.old) (string_bytes text.new) started (map (ran_text names.now) rans.entry) after) }
 {
     let mut started = started;
@@ -276,7 +286,12 @@ fn push_numbers(text: &mut String, numbers: &[Fx]) -> Result<(), Memory>
 }
 
 /// The bodies of the joints.
-fn push_bodies(text: &mut String, names: &Names<'_>, started: bool, bodies: &[BodyState]) -> Result<bool, Memory>
+fn push_bodies(
+    text: &mut String,
+    names: &Names<'_>,
+    started: bool,
+    bodies: &[BodyState],
+) -> Result<bool, Memory>
     ensures { IfOk result (λ after. Adds (string_bytes text.old) (string_bytes text.new) started (body_texts names.now 0 bodies.now) after) }
 {
     let mut started = started;
@@ -297,7 +312,12 @@ fn push_body(text: &mut String, joint: &str, body: &BodyState) -> Result<(), Mem
 }
 
 /// The controllers that were stopped.
-fn push_stops(text: &mut String, names: &Names<'_>, started: bool, stops: &[u32]) -> Result<bool, Memory>
+fn push_stops(
+    text: &mut String,
+    names: &Names<'_>,
+    started: bool,
+    stops: &[u32],
+) -> Result<bool, Memory>
     ensures { IfOk result (λ after. Adds (string_bytes text.old) (string_bytes text.new) started (map (stop_text names.now) stops.now) after) }
 {
     let mut started = started;

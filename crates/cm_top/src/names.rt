@@ -25,10 +25,10 @@ impl<'a> Model for Names<'a> {
     ghost Value = { Told };
 
     ghost view = { λ s. record {
-        controllers = map (λ r. r.now) s.controllers.items;
-        components = s.components.now;
-        joints = map (λ r. r.now) s.joints.items;
-        interfaces = map string_bytes s.interfaces.items;
+      controllers = map (λ r. r.now) s.controllers.items;
+      components = s.components.now;
+      joints = map (λ r. r.now) s.joints.items;
+      interfaces = map string_bytes s.interfaces.items;
     } };
 }
 
