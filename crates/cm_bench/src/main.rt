@@ -6,8 +6,10 @@ use plan::Plan;
 use reading::{DescriptionChecker, DescriptionReader, ScriptReader, TomlReader};
 use std::process::ExitCode;
 use std::rt::{Clock, Env};
+use std::sync::Wait;
 use std::{env, io};
 use timing::{Course, Pair};
+use turns::{LockTurn, MutexTurn};
 
 mod bodies;
 mod cases;
@@ -17,6 +19,7 @@ mod plan;
 mod reading;
 mod texts;
 mod timing;
+mod turns;
 
 /// Status 0 where all answers were the same, 1 where some differ or a call failed, 2 for words that are no plan.
 fn main(rt: HostRuntime) -> anyhow::Result<ExitCode> {
@@ -34,7 +37,7 @@ fn main(rt: HostRuntime) -> anyhow::Result<ExitCode> {
 /// Prints a line for each pair of bodies, and says whether all gave the same answers.
 fn compare_all<R>(rt: &R, plan: Plan) -> anyhow::Result<bool>
 where
-    R: Clock + Print + AllocGlobal,
+    R: Clock + Print + AllocGlobal + Wait,
 {
     let cases = cases::made(rt.alloc(), plan.seed)?;
     let course = Course {
@@ -48,9 +51,15 @@ where
     let alloc = rt.alloc();
     let text = course.compare(rt, &mut PlainText::make(alloc), &mut FastText::make(alloc))?;
     tell(rt, plan, "text", "bytes", &text)?;
+    let turn = course.compare(
+        rt,
+        &mut MutexTurn::make(rt),
+        &mut LockTurn::make(rt, alloc)?,
+    )?;
+    tell(rt, plan, "turn", "answers", &turn)?;
     let checked = compare_checks(rt, plan)?;
     let read = compare_readers(rt, plan)?;
-    Ok(mul.same && over.same && text.same && checked && read)
+    Ok(mul.same && over.same && text.same && turn.same && checked && read)
 }
 
 /// Prints the line of the checks, over a description near every limit: what reading it takes, and what checking it takes besides.

@@ -2,6 +2,7 @@
 
 ghost use Rattle.cm_document.specs.Valid.{IsDescribed};
 
+mod chains;
 mod counts;
 mod links;
 mod names;
@@ -10,7 +11,9 @@ mod ranges;
 
 use crate::descriptions::TOP;
 use crate::pages::{Teller, differences};
+use chains::{CHAINS, Loops};
 use cm_model::{DescProblem, Description};
+use counts::{CLAIMS, JOINTS, PARTS, SHARES};
 use desc_check::check;
 use desc_text::read_description;
 use links::{LINKS, LINKS_OF_AN_ARM};
@@ -50,7 +53,7 @@ fn valid(alloc: Global, description: Description) -> Result<(), DescProblem>
 }
 
 #[test]
-fn the_first_fault_of_the_checks_is_told(rt: HostRuntime) -> Result<(), Fail> {
+fn descriptions_are_valid_or_told_by_their_first_fault(rt: HostRuntime) -> Result<(), Fail> {
     let alloc = rt.alloc();
     assert_eq!(rt;
         differences(alloc, &Checks, "", RANGES_OF_THE_TOP)?.as_str(),
@@ -65,6 +68,9 @@ fn the_first_fault_of_the_checks_is_told(rt: HostRuntime) -> Result<(), Fail> {
         (ARM, LINKS_OF_AN_ARM),
         ("", ORDERS),
         (ARM, ORDERS_OF_AN_ARM),
+        ("", PARTS),
+        (JOINTS, SHARES),
+        (JOINTS, CLAIMS),
     ] {
         let before = format!(in alloc; "{TOP}{before}")?;
         assert_eq!(rt;
@@ -72,6 +78,7 @@ fn the_first_fault_of_the_checks_is_told(rt: HostRuntime) -> Result<(), Fail> {
             ""
         );
     }
+    assert_eq!(rt; differences(alloc, &Loops, TOP, CHAINS)?.as_str(), "");
     Ok(())
 }
 

@@ -9,13 +9,16 @@ mod syntax;
 mod values;
 
 use crate::pages::{Teller, differences, differences_in_lines};
+use cm_model::DescFault;
 use desc_text::read_description;
+use documents::{DEFAULTS, WHOLE};
 use faults::{AT_THE_TOP, OF_COMPONENTS, OF_CONTROLLERS};
 use lists::{COMPONENT, JOINT, MOCK, OF_A_COMPONENT, OF_A_JOINT, OF_A_MOCK};
 pub use read::Shows;
 use std::alloc::Global;
 use std::test::Fail;
-use values::{NAMES, STATES, TYPES, UPDATE_RATES};
+use syntax::TEXTS;
+use values::{NAMES, QUANTITIES, STATES, TYPES, UPDATE_RATES, Vmax};
 
 /// The keys that the top table must have.
 pub const TOP: &str = "version = 1\nupdate_rate = 100\ncycles = 5\n";
@@ -34,31 +37,18 @@ impl Teller for Reads {
 }
 
 #[test]
-fn the_first_fault_counts(rt: HostRuntime) -> Result<(), Fail> {
+fn descriptions_are_read_or_told_by_their_first_fault(rt: HostRuntime) -> Result<(), Fail> {
     let alloc = rt.alloc();
     for (before, page) in [
+        ("", TEXTS),
         ("", AT_THE_TOP),
         (TOP, OF_COMPONENTS),
         (TOP, OF_CONTROLLERS),
-    ] {
-        assert_eq!(rt; differences(alloc, &Reads, before, page)?.as_str(), "");
-    }
-    Ok(())
-}
-
-#[test]
-fn lists_and_values(rt: HostRuntime) -> Result<(), Fail> {
-    let alloc = rt.alloc();
-    for (table, page) in [
         (JOINT, OF_A_JOINT),
         (COMPONENT, OF_A_COMPONENT),
         (MOCK, OF_A_MOCK),
     ] {
-        let before = format!(in alloc; "{TOP}{table}")?;
-        assert_eq!(rt;
-            differences(alloc, &Reads, before.as_str(), page)?.as_str(),
-            ""
-        );
+        assert_eq!(rt; differences(alloc, &Reads, before, page)?.as_str(), "");
     }
     for (before, page) in [
         ("version = 1\ncycles = 5\n", UPDATE_RATES),
@@ -71,8 +61,28 @@ fn lists_and_values(rt: HostRuntime) -> Result<(), Fail> {
             ""
         );
     }
+    for bytes in [b"\xff".as_slice(), b"version = 1 # \xc3".as_slice()] {
+        assert_eq!(rt; read_description(alloc, bytes), Err(DescFault::NotToml));
+    }
+    assert_eq!(rt; differences(alloc, &Shows, "", WHOLE)?.as_str(), "");
+    assert_eq!(rt; differences(alloc, &Shows, TOP, DEFAULTS)?.as_str(), "");
+    assert_eq!(rt;
+        differences_in_lines(alloc, &Vmax, WITHOUT_VMAX, QUANTITIES)?.as_str(),
+        ""
+    );
     Ok(())
 }
+
+/// A joint without its `vmax`.
+const WITHOUT_VMAX: &str = r#"version = 1
+update_rate = 9
+cycles = 5
+[[component]]
+name = "arm"
+kind = "system"
+[[component.joint]]
+name = "j1"
+vmax = "#;
 
 /// A controller without a name.
 const WITHOUT_A_NAME: &str = r#"version = 1

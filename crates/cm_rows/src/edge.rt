@@ -25,8 +25,8 @@ pub fn numbers(alloc: Global, text: &str) -> Result<Vec<u64>, Fail> {
     Ok(numbers)
 }
 
-/// Tells what five reads of four bytes give of a source in memory, `STEP | FAILING READS | BYTES`, each with all of the buffer, in
-/// which dots stand before the first.
+/// Tells what five reads of four bytes give of a source in memory, `STEP | FAILING READS | BYTES`, each with all of
+/// the buffer, in which dots stand before the first.
 #[derive(Clone, Copy)]
 struct FiveReads;
 
@@ -54,8 +54,8 @@ impl Teller for FiveReads {
     }
 }
 
-/// Tells what writes and flushes give of a sink in memory, `ROOM | STEP | FAILING CALLS | PIECES`, where `flush` is a flush; and then
-/// all that it took.
+/// Tells what writes and flushes give of a sink in memory, `ROOM | STEP | FAILING CALLS | PIECES`, where `flush` is a
+/// flush; and then all that it took.
 #[derive(Clone, Copy)]
 struct Writes;
 

@@ -1,4 +1,5 @@
-//! How each fault prints that no status of the program carries. Those that a status carries have their rows with the program.
+//! How each fault prints that no status of the program carries. Those that a status carries have their rows with the
+//! program.
 
 use cm_model::{CheckFault, DescFault, DocumentFault, ScriptFault};
 use fixed_num::{FxFault, Memory};

@@ -1,9 +1,7 @@
-//! Tests of the public calls of all crates: what no clause says, as that calls succeed where there is memory and what is printed.
-//! Most cases are pages of text, each with what must be told of it.
+//! Tests of the public calls of all crates: what no clause says, as that calls succeed where there is memory and what
+//! is printed. Most cases are pages of text, each with what must be told of it.
 #![tactic(auto)]
 
-#[cfg(test)]
-mod chains;
 #[cfg(test)]
 mod checks;
 #[cfg(test)]

@@ -7,8 +7,9 @@ mod words;
 use crate::pages::{Teller, differences};
 use cm_model::Blanks;
 use cm_top::run_alone;
+use outside::{FAULTS, Fails};
 use outside_io::{MemSink, MemSource};
-use pages::{DESCRIPTIONS, SCRIPTS, SEPARATORS};
+use pages::{DESCRIPTIONS, LENGTHS, SCRIPTS, SEPARATORS};
 use std::alloc::Global;
 use std::str;
 use std::test::Fail;
@@ -41,7 +42,7 @@ loop close: none
 ";
 
 /// More bytes than any trace of these tests has.
-pub const AMPLE: usize = 4096;
+pub const AMPLE: usize = 16 * 1_048_576;
 
 /// A stock of so many mocks.
 pub fn mocks(mock: u32) -> Blanks {
@@ -55,10 +56,12 @@ pub fn mocks(mock: u32) -> Blanks {
     }
 }
 
-/// Tells how the run of a document ends, and what it prints, behind one another. The source gives so many bytes a read.
+/// Tells how the run of a document ends, and what it prints, behind one another. The source gives so many bytes a
+/// read, and the stock has so many mocks.
 #[derive(Clone, Copy)]
-struct Runs {
-    step: usize,
+pub struct Runs {
+    pub step: usize,
+    pub mocks: u32,
 }
 
 impl Teller for Runs {
@@ -69,7 +72,7 @@ impl Teller for Runs {
         let bytes = text.as_bytes().to_vec(alloc)?;
         let mut source = MemSource::make(bytes, self.step, vec![in alloc]?);
         let mut sink = MemSink::make(alloc, AMPLE, AMPLE, vec![in alloc]?)?;
-        let status = run_alone(alloc, &mut source, &mut sink, mocks(32));
+        let status = run_alone(alloc, &mut source, &mut sink, mocks(self.mocks));
         let printed = str::from_utf8(sink.bytes())?;
         let told = format!(in alloc; "{status}\n{printed}")?;
         match told.strip_suffix("\n") {
@@ -82,17 +85,27 @@ impl Teller for Runs {
 #[test]
 fn each_document_is_printed_or_refused(rt: HostRuntime) -> Result<(), Fail> {
     let alloc = rt.alloc();
-    for page in [DESCRIPTIONS, SEPARATORS, SCRIPTS] {
+    for page in [DESCRIPTIONS, SEPARATORS, SCRIPTS, LENGTHS] {
         assert_eq!(rt;
-            differences(alloc, &Runs { step: 1000 }, "", page)?.as_str(),
+            differences(
+                alloc,
+                &Runs {
+                    step: 1000,
+                    mocks: 32
+                },
+                "",
+                page
+            )?
+            .as_str(),
             ""
         );
     }
+    assert_eq!(rt; differences(alloc, &Fails, "", FAULTS)?.as_str(), "");
     let nothing = "version = 1\nupdate_rate = 100\ncycles = 0\n--- script ---\n";
     for (document, trace) in [(FIRST, FIRST_TRACE), (nothing, "loop close: none\n")] {
         let want = format!(in alloc; "ok\n{trace}")?;
         for step in [1, 7, 1000] {
-            let told = format!(in alloc; "{}\n", Runs { step }.told(alloc, document)?)?;
+            let told = format!(in alloc; "{}\n", Runs { step, mocks: 32 }.told(alloc, document)?)?;
             assert_eq!(rt; told.as_str(), want.as_str(), "{step} bytes a read");
         }
     }

@@ -8,6 +8,8 @@ mod sessions;
 use crate::pages::{Teller, differences, differences_in_lines};
 use cm_model::{Script, Turn, every_form};
 use lines::{BYTES, CALLS_ON_NAMES, POINTS, SWITCHES, VALUES, WHOLE_NUMBERS};
+use long::{CALLS_AND_TURNS, LONG_LINES, SIZES_OF_CALLS};
+use printed::PRINTED;
 pub use printed::Prints;
 use script_text::{read_script, read_script_with};
 use sessions::{FORMS_OF_TODAY, ONE_FAULT_COUNTS, SCHEDULES, SESSIONS};
@@ -22,7 +24,7 @@ pub const LONGEST: usize = 1_048_576;
 struct EveryForm;
 
 impl Teller for EveryForm {
-    #[tactic(auto, using(cm_model::proofs::LineLemmas::raw_lines_within))]
+    #[tactic(auto, using(cm_document::proofs::LineLemmas::raw_lines_within))]
     fn told(&self, alloc: Global, text: &str) -> Result<String, Fail> {
         let bytes = text.as_bytes();
         if bytes.len() > LONGEST {
@@ -40,7 +42,7 @@ impl Teller for EveryForm {
 struct FormsOfToday;
 
 impl Teller for FormsOfToday {
-    #[tactic(auto, using(cm_model::proofs::LineLemmas::raw_lines_within))]
+    #[tactic(auto, using(cm_document::proofs::LineLemmas::raw_lines_within))]
     fn told(&self, alloc: Global, text: &str) -> Result<String, Fail> {
         let bytes = text.as_bytes();
         if bytes.len() > LONGEST {
@@ -76,7 +78,7 @@ fn told(alloc: Global, script: &Script) -> Result<String, Fail> {
 }
 
 #[test]
-fn sessions_and_schedules(rt: HostRuntime) -> Result<(), Fail> {
+fn scripts_are_read_or_told_by_their_first_bad_line(rt: HostRuntime) -> Result<(), Fail> {
     let alloc = rt.alloc();
     for page in [SESSIONS, SCHEDULES, ONE_FAULT_COUNTS] {
         assert_eq!(rt; differences(alloc, &EveryForm, "", page)?.as_str(), "");
@@ -85,12 +87,6 @@ fn sessions_and_schedules(rt: HostRuntime) -> Result<(), Fail> {
         differences(alloc, &FormsOfToday, "", FORMS_OF_TODAY)?.as_str(),
         ""
     );
-    Ok(())
-}
-
-#[test]
-fn lines_of_every_form(rt: HostRuntime) -> Result<(), Fail> {
-    let alloc = rt.alloc();
     for page in [
         CALLS_ON_NAMES,
         WHOLE_NUMBERS,
@@ -102,6 +98,10 @@ fn lines_of_every_form(rt: HostRuntime) -> Result<(), Fail> {
         let found = differences_in_lines(alloc, &OneCall, "session a\n", page)?;
         assert_eq!(rt; found.as_str(), "");
     }
+    for page in [CALLS_AND_TURNS, SIZES_OF_CALLS, LONG_LINES] {
+        assert_eq!(rt; differences(alloc, &Counts, "", page)?.as_str(), "");
+    }
+    assert_eq!(rt; differences(alloc, &Prints, "", PRINTED)?.as_str(), "");
     Ok(())
 }
 
@@ -117,4 +117,35 @@ impl Teller for OneCall {
             told => Ok(String::from_str(alloc, told.strip_prefix("|a|").unwrap_or(told))?),
         }
     }
+}
+
+/// Tells how many sessions a script has where every form is accepted, and how many calls and turns; or the first bad
+/// line.
+#[derive(Clone, Copy)]
+struct Counts;
+
+impl Teller for Counts {
+    #[tactic(auto, using(cm_document::proofs::LineLemmas::raw_lines_within))]
+    fn told(&self, alloc: Global, text: &str) -> Result<String, Fail> {
+        let bytes = text.as_bytes();
+        if bytes.len() > LONGEST {
+            return Err(Fail::from("a text too long"));
+        }
+        match read_script_with(alloc, every_form(), bytes, 1) {
+            Ok(script) => {
+                let sessions = script.sessions.as_slice().len();
+                Ok(format!(in alloc; "{sessions} and {}", count(&script))?)
+            }
+            Err(fault) => Ok(format!(in alloc; "{fault}")?),
+        }
+    }
+}
+
+/// How many calls and turns a script has.
+fn count(script: &Script) -> usize {
+    let mut count = script.schedule.as_slice().len();
+    for session in script.sessions.as_slice() {
+        count = count.saturating_add(session.lines.as_slice().len());
+    }
+    count
 }

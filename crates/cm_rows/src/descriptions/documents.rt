@@ -1,7 +1,8 @@
 //! Whole descriptions, and all that is read of each: a line for the top table, a component, a joint, a controller.
 
-/// One joint with a forward controller; seven controllers of all types round one joint; an arm of six joints with a trajectory and a
-/// broadcaster; and every key of the components, of a pid and of a mock, in another order than that in which they are visited.
+/// One joint with a forward controller; seven controllers of all types round one joint; an arm of six joints with a
+/// trajectory and a broadcaster; and every key of the components, of a pid and of a mock, in another order than that
+/// in which they are visited.
 pub const WHOLE: &str = r#"version = 1
 update_rate = 100
 cycles = 3

@@ -77,7 +77,7 @@ fn differences_at_keys(
 }
 
 #[test]
-fn keys_of_the_top_of_a_component_and_of_a_joint(rt: HostRuntime) -> Result<(), Fail> {
+fn every_key_is_read_by_its_rule(rt: HostRuntime) -> Result<(), Fail> {
     let alloc = rt.alloc();
     let in_component = format!(in alloc; "{TOP}[[component]]\n")?;
     let in_component = in_component.as_str();
@@ -98,12 +98,6 @@ fn keys_of_the_top_of_a_component_and_of_a_joint(rt: HostRuntime) -> Result<(), 
         let found = differences_at_keys(alloc, before, table, prefix, rows)?;
         assert_eq!(rt; found.as_str(), "");
     }
-    Ok(())
-}
-
-#[test]
-fn keys_of_controllers_of_every_type(rt: HostRuntime) -> Result<(), Fail> {
-    let alloc = rt.alloc();
     let before = format!(in alloc; "{TOP}[[controller]]\n")?;
     let before = before.as_str();
     for (kind, lists, rows) in [

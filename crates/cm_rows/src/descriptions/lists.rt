@@ -1,7 +1,10 @@
 //! Lists, some with one bad item.
 
 /// A joint, to which the cases add.
-pub const JOINT: &str = r#"[[component]]
+pub const JOINT: &str = r#"version = 1
+update_rate = 100
+cycles = 5
+[[component]]
 name = "arm"
 kind = "system"
 [[component.joint]]
@@ -36,7 +39,10 @@ state = "velocity"
 => bad_value component[0].joint[0].state"#;
 
 /// A component.
-pub const COMPONENT: &str = r#"[[component]]
+pub const COMPONENT: &str = r#"version = 1
+update_rate = 100
+cycles = 5
+[[component]]
 name = "arm"
 kind = "system"
 joint = []
@@ -69,7 +75,10 @@ fail_write = [nan]
 => float_given component[0].fail_write[0]"#;
 
 /// A mock.
-pub const MOCK: &str = r#"[[controller]]
+pub const MOCK: &str = r#"version = 1
+update_rate = 100
+cycles = 5
+[[controller]]
 name = "c"
 type = "mock"
 "#;

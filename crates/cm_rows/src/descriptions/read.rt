@@ -1,21 +1,11 @@
 //! All that is read of whole descriptions.
 
-use super::TOP;
-use super::documents::{DEFAULTS, WHOLE};
-use crate::pages::{Teller, differences};
+use crate::pages::Teller;
 use cm_model::{CompDesc, CompKind, CtlDesc, Description, JointDesc, Params};
 use desc_text::read_description;
 use std::alloc::{AllocError, Global};
 use std::fmt::Display;
 use std::test::Fail;
-
-#[test]
-fn whole_descriptions_and_what_stands_where_a_key_is_missing(rt: HostRuntime) -> Result<(), Fail> {
-    let alloc = rt.alloc();
-    assert_eq!(rt; differences(alloc, &Shows, "", WHOLE)?.as_str(), "");
-    assert_eq!(rt; differences(alloc, &Shows, TOP, DEFAULTS)?.as_str(), "");
-    Ok(())
-}
 
 /// Shows all that is read of a description, a line for each table; or its first fault.
 #[derive(Clone, Copy)]

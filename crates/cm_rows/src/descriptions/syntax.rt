@@ -1,26 +1,7 @@
 //! What TOML writes another way, and which texts are no TOML.
 
-use super::Reads;
-use crate::pages::differences;
-use desc_text::read_description;
-use std::test::Fail;
-
-#[test]
-fn what_toml_writes_another_way_and_what_it_refuses(rt: HostRuntime) -> Result<(), Fail> {
-    let alloc = rt.alloc();
-    assert_eq!(rt; differences(alloc, &Reads, "", TEXTS)?.as_str(), "");
-    for bytes in [b"\xff".as_slice(), b"version = 1 # \xc3".as_slice()] {
-        let told = match read_description(alloc, bytes) {
-            Ok(_) => String::from_str(alloc, "read")?,
-            Err(fault) => format!(in alloc; "{fault}")?,
-        };
-        assert_eq!(rt; told.as_str(), "not_toml");
-    }
-    Ok(())
-}
-
 /// Texts with other spellings, byte order marks and control characters, each read or refused.
-const TEXTS: &str = "\"version\" = 1
+pub const TEXTS: &str = "\"version\" = 1
 'update_rate' = 1
 cycles = 5
 => read

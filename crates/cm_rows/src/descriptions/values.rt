@@ -1,5 +1,31 @@
 //! Values at the ends of their ranges, and just past them.
 
+use crate::pages::Teller;
+use desc_text::read_description;
+use std::alloc::Global;
+use std::test::Fail;
+
+/// Tells the micro-units of the first joint's `vmax`, or the first fault.
+#[derive(Clone, Copy)]
+pub struct Vmax;
+
+impl Teller for Vmax {
+    fn told(&self, alloc: Global, text: &str) -> Result<String, Fail> {
+        match read_description(alloc, text.as_bytes()) {
+            Ok(description) => {
+                let component = description
+                    .components
+                    .as_slice()
+                    .first()
+                    .ok_or("no component")?;
+                let joint = component.joints.as_slice().first().ok_or("no joint")?;
+                Ok(format!(in alloc; "{}", joint.vmax.micro())?)
+            }
+            Err(fault) => Ok(format!(in alloc; "{fault}")?),
+        }
+    }
+}
+
 /// Values of `vmax`, with the micro-units that they are.
 pub const QUANTITIES: &str = r#"0 => 0
 -0 => 0

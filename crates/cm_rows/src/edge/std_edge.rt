@@ -31,6 +31,9 @@ fn readers_and_writers_of_std(rt: HostRuntime) -> Result<(), Fail> {
     let mut full = StdSink::make(room.as_mut_slice());
     assert_eq!(rt; full.write(b"hello"), Ok(3));
     assert_eq!(rt; full.write(b"lo"), Err(Failed));
+
+    let found = differences_in_lines(rt.alloc(), &ThreeCalls, "", INTERRUPTIONS)?;
+    assert_eq!(rt; found.as_str(), "");
     Ok(())
 }
 
@@ -112,15 +115,6 @@ impl Teller for ThreeCalls {
         )?;
         Ok(answers)
     }
-}
-
-#[test]
-fn interrupted_calls_are_made_again(rt: HostRuntime) -> Result<(), Fail> {
-    assert_eq!(rt;
-        differences_in_lines(rt.alloc(), &ThreeCalls, "", INTERRUPTIONS)?.as_str(),
-        ""
-    );
-    Ok(())
 }
 
 /// A call is made a thousand times at most.

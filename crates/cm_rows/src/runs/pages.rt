@@ -149,7 +149,7 @@ cycles = 0
 jump
 => script: bad_line 7";
 
-/// A mock or another controller, and scripts.
+/// Mocks or another controller, and scripts.
 pub const SCRIPTS: &str = r#"version = 1
 update_rate = 100
 cycles = 0
@@ -231,4 +231,27 @@ type = "mock"
 load  mk\t\
 => ok
 a load mk: ok 0
+loop close: none
+
+version = 1
+update_rate = 100
+cycles = 0
+<0..33 * [[controller]]
+name = "c#"
+type = "mock"
+>\
+--- script ---
+session a
+<0..33 * load c#
+>\
+=> ok
+<0..32 * a load c#: ok #
+>a load c32: stock_empty
 loop close: none"#;
+
+/// As long as documents may be, and one byte longer.
+pub const LENGTHS: &str = r"#<0..1048575 * x>\
+=> description: bad_key version
+
+#<0..1048576 * x>\
+=> document longer than 1048576 bytes";

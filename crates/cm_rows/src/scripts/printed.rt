@@ -1,7 +1,7 @@
 //! Scripts as they print: the text of what was read.
 
 use super::LONGEST;
-use crate::pages::{Teller, differences};
+use crate::pages::Teller;
 use cm_model::every_form;
 use script_text::{print_script, read_script_with};
 use std::alloc::Global;
@@ -13,7 +13,7 @@ use std::test::Fail;
 pub struct Prints;
 
 impl Teller for Prints {
-    #[tactic(auto, using(cm_model::proofs::LineLemmas::raw_lines_within))]
+    #[tactic(auto, using(cm_document::proofs::LineLemmas::raw_lines_within))]
     fn told(&self, alloc: Global, text: &str) -> Result<String, Fail> {
         let bytes = text.as_bytes();
         if bytes.len() > LONGEST {
@@ -29,15 +29,9 @@ impl Teller for Prints {
     }
 }
 
-#[test]
-fn what_is_read_prints(rt: HostRuntime) -> Result<(), Fail> {
-    assert_eq!(rt; differences(rt.alloc(), &Prints, "", PRINTED)?.as_str(), "");
-    Ok(())
-}
-
-/// A load; calls of every form, of which most stand as they print, with a session that makes none and with turns; a schedule without
-/// turns, which is left out; and nothing.
-const PRINTED: &str = r"session a
+/// A load; calls of every form, of which most stand as they print, with a session that makes none and with turns; a
+/// schedule without turns, which is left out; and nothing.
+pub const PRINTED: &str = r"session a
 load mk
 => session a
 load mk

@@ -1,4 +1,5 @@
-//! Whole scripts: sessions, the schedule, and which of two faults counts. A session, a call and a turn stand behind a bar each.
+//! Whole scripts: sessions, the schedule, and which of two faults counts. A session, a call and a turn stand behind a
+//! bar each.
 
 /// Sessions with their calls.
 pub const SESSIONS: &str = r"=> empty
