@@ -18,3 +18,5 @@ mod pages;
 mod runs;
 #[cfg(test)]
 mod scripts;
+#[cfg(test)]
+mod turns;

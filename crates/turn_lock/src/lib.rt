@@ -13,8 +13,6 @@ mod make;
 mod pass;
 mod steps;
 mod table;
-#[cfg(test)]
-mod tests;
 mod turn;
 mod view;
 mod wait;

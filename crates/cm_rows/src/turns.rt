@@ -6,13 +6,13 @@ ghost use Rattle.turn_lock.specs.Calls.Put.{IsSettled};
 ghost use Rattle.turn_lock.specs.Calls.Finish.{AreAll};
 ghost use Rattle.turn_lock.specs.declared.TheConstants.{MOST_SEATS};
 
-use crate::{Kept, MOST_SEATS, Shown, TurnLock, TurnPass};
 use fixed_num::Memory;
 use std::alloc::Global;
 use std::sync::Wait;
 use std::test::Fail;
 use std::thread;
 use std::thread::Threads;
+use turn_lock::{Kept, MOST_SEATS, Shown, TurnLock, TurnPass};
 
 /// A line: the number of the pass that wrote it, and at which of its turns.
 #[derive(Clone, Copy, Debug, PartialEq, Eq)]
