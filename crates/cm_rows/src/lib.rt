@@ -7,16 +7,13 @@ mod checks;
 #[cfg(test)]
 mod descriptions;
 #[cfg(test)]
-mod edge;
-#[cfg(test)]
 mod faults;
 #[cfg(test)]
 mod largest;
 #[cfg(test)]
-mod pages;
-#[cfg(test)]
 mod runs;
 #[cfg(test)]
 mod scripts;
+
 #[cfg(test)]
-mod turns;
+use ground_rows::pages;

@@ -14,8 +14,6 @@ pub mod laws;
 mod memory;
 mod read;
 mod stored;
-#[cfg(test)]
-mod tests;
 mod text;
 mod value;
 

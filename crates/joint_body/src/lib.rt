@@ -7,8 +7,6 @@ pub use body::Body;
 mod body;
 mod exact;
 pub mod laws;
-#[cfg(test)]
-mod tests;
 
 /// The longest step in microseconds: one second, the period at the lowest update rate.
 pub const LONGEST_STEP: u32 = 1_000_000;

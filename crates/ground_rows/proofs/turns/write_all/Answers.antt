@@ -9,12 +9,12 @@ use denote.Param.Send.{IsSend, IsSync, sendable, shr_sync, param_sync, arg_sync}
 use denote.Param.SendFields.{as_row_sync, declared_sync}
 use Rattle.std.proofs.Crossing.{crosses}
 use Rattle.turn_lock.specs.contracts.lock.TurnLock as Lock
-use Rattle.cm_rows.specs.contracts.turns.Any as Any
-use Rattle.cm_rows.specs.contracts.turns.Book as Book
-use Rattle.cm_rows.specs.contracts.turns.BookKept.TheImpl.{ghosts}
-use Rattle.cm_rows.specs.contracts.turns.Line as Line
+use Rattle.ground_rows.specs.contracts.turns.Any as Any
+use Rattle.ground_rows.specs.contracts.turns.Book as Book
+use Rattle.ground_rows.specs.contracts.turns.BookKept.TheImpl.{ghosts}
+use Rattle.ground_rows.specs.contracts.turns.Line as Line
 use Rattle.turn_lock.proofs.Crossing.{pass_send, lock_sync}
-use Rattle.cm_rows.proofs.turns.write_all.Goals as goal
+use Rattle.ground_rows.proofs.turns.write_all.Goals as goal
 
 book_send : IsSend Book.the_row
 book_send = search (sendable, crosses) depth 40

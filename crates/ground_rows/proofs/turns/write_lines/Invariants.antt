@@ -1,6 +1,6 @@
 use Rattle.std.proofs.Common.{◌≡◌}
 use Rattle.turn_lock.specs.Passes.{IsReady}
-use Rattle.cm_rows.proofs.turns.write_lines.Given as goal
+use Rattle.ground_rows.proofs.turns.write_lines.Given as goal
 
 abbrev pub invariant-loop-turn : goal.invariant-loop-turn
 invariant-loop-turn g l = record {

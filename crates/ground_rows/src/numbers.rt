@@ -1,6 +1,6 @@
 //! Numbers, as lines of text: a question, and behind the arrow what is told. Texts that are read stand between bars.
 
-use crate::{Fx, FxFault};
+use fixed_num::{Fx, FxFault};
 use std::alloc::Global;
 use std::test::Fail;
 
