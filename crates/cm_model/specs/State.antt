@@ -100,8 +100,8 @@ is_chained s c = list_any (λ l. is_active l && precedes_described s.description
 -- ---- Lists
 
 -- the line of a loaded controller
-abbrev pub line_of : State → Loaded → Option CtlLine
-line_of s l = option_map (λ c. record {
+abbrev pub controller_line : State → Loaded → Option CtlLine
+controller_line s l = option_map (λ c. record {
   name = c.name;
   serial = l.serial;
   divisor = l.divisor;
@@ -112,4 +112,4 @@ line_of s l = option_map (λ c. record {
 
 -- the list of controllers, by serial
 abbrev pub controller_lines : State → List CtlLine
-controller_lines s = filter_map (line_of s) s.loaded
+controller_lines s = filter_map (controller_line s) s.loaded

@@ -1,8 +1,10 @@
 -- Lemmas on lists, for whoever reasons about them.
-use Rattle.std.proofs.Common.{◌≡◌, List, [], ◌∷◌, ◌++◌, map, Bool, ◌||◌, refl, ap, ◌∙◌}
-use Rattle.std.specs.Prelude.{flat_map}
+use Rattle.std.proofs.Common.{◌≡◌, suc, ◌<◌, List, [], ◌∷◌, ◌++◌, map, length, Bool, false, ◌||◌, refl, ap, ◌∙◌, arith, length-append}
+use Rattle.std.specs.Prelude.{◌==◌, flat_map}
 use Rattle.std.specs.List.{list_any, AllByRecursion}
+use Rattle.std.proofs.lemmas.Bool.Decides.{nat_tests}
 use Rattle.std.proofs.lemmas.List.Folds.{list_any-append}
+use Rattle.sequence.specs.Last.{in_last}
 
 -- ---- Whether some item passes a test
 
@@ -29,3 +31,29 @@ all_append P (x ∷ xs) ys all others = (all.0, all_append P xs ys all.1 others)
 -- and of one item more
 pub all_push : {A : Type 0} (P : A → Type 0) (xs : List A) (x : A) → AllByRecursion P xs → P x → AllByRecursion P (xs ++ x ∷ [])
 all_push P xs x all one = all_append P xs (x ∷ []) all (one, tt)
+
+-- ---- The last item
+
+-- a list with an item is not empty
+pub not_empty : {A : Type 0} (xs : List A) → 0 < length xs → (length xs == 0) ≡ false
+not_empty xs some = grind (arith, nat_tests)
+
+-- such as one that ends
+pub not_empty_push : {A : Type 0} (xs : List A) (x : A) → (length (xs ++ x ∷ []) == 0) ≡ false
+not_empty_push xs x = let long = length-append xs (x ∷ []) in not_empty (xs ++ x ∷ []) (omega arith)
+
+pub in_last_push : {A : Type 0} (f : A → A) (xs : List A) (x : A) → in_last f (xs ++ x ∷ []) ≡ xs ++ f x ∷ []
+in_last_push f [] x = refl
+in_last_push f (y ∷ []) x = refl
+in_last_push f (y ∷ z ∷ xs) x = ap (λ ys. y ∷ ys) (in_last_push f (z ∷ xs) x)
+
+pub length_in_last : {A : Type 0} (f : A → A) (xs : List A) → length (in_last f xs) ≡ length xs
+length_in_last f [] = refl
+length_in_last f (x ∷ []) = refl
+length_in_last f (x ∷ y ∷ xs) = ap suc (length_in_last f (y ∷ xs))
+
+-- what a change keeps of each item stays
+pub all_in_last : {A : Type 0} (P : A → Type 0) (f : A → A) (xs : List A) → AllByRecursion P xs → ((x : A) → P x → P (f x)) → AllByRecursion P (in_last f xs)
+all_in_last P f [] all kept = tt
+all_in_last P f (x ∷ []) all kept = (kept x all.0, tt)
+all_in_last P f (x ∷ y ∷ xs) all kept = (all.0, all_in_last P f (y ∷ xs) all.1 kept)
