@@ -4,3 +4,5 @@ pub mod LegalLemmas
 pub mod WholeLemmas
 pub mod EnabledLemmas
 mod Rows
+pub mod ControllerLemmas
+mod KindRows

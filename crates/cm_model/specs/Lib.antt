@@ -3,6 +3,10 @@ pub mod Words
 pub mod Ran
 pub mod Happened
 pub mod State
+pub mod Kinds
+pub mod Pids
+pub mod Ways
+pub mod Controllers
 pub mod Machine
 pub mod Scheduled
 pub mod Sessions

@@ -1,11 +1,16 @@
 //! Laws of the definitions of histories: each is the contract of a function that does nothing.
 
-ghost use Rattle.std.specs.Prelude.{◌≡◌, ◌<◌, ℕ, true, None, length};
+ghost use Rattle.std.specs.Prelude.{◌≡◌, ◌<◌, ℕ, ℤ, true, List, length, Option, None};
 ghost use Rattle.cm_document.specs.declared.call.Call.{Call};
 ghost use Rattle.cm_document.specs.declared.document.Document.{Document};
 ghost use Rattle.cm_document.specs.Built.{built};
 ghost use Rattle.cm_document.specs.ScriptLaws.{UsesForms};
 ghost use Rattle.cm_model.specs.declared.blanks.Blanks.{Blanks};
+ghost use Rattle.fixed_num.specs.declared.value.Value.{Value};
+ghost use Rattle.cm_document.specs.declared.call.Mail.{Mail};
+ghost use Rattle.cm_model.specs.declared.data.CtlData.{CtlData};
+ghost use Rattle.cm_model.specs.declared.tick.Tick.{Tick};
+ghost use Rattle.cm_model.specs.Controllers.{ctl_step, KeepsChained};
 ghost use Rattle.cm_model.specs.Machine.{IsLegal, is_enabled};
 ghost use Rattle.cm_model.specs.State.{State};
 ghost use Rattle.cm_model.specs.Scheduled.{Advanced, advance, settle, scheduled};
@@ -31,4 +36,9 @@ pub fn settled_sessions_cannot_advance()
 /// A session makes console calls alone: begin, end and close are never enabled for it.
 pub fn sessions_make_console_calls()
     ensures { (s : State) (who : ℕ) (call : Call) → who < s.sessions → is_enabled s who call ≡ true → IsConsole call }
+{}
+
+/// No step of a controller changes whether it runs, and whether it takes its references from the interfaces.
+pub fn steps_keep_whether_a_controller_is_chained()
+    ensures { (ctl : CtlData) (tick : Tick) (states : List ℤ) (refs : List Value) (mail : Option Mail) → KeepsChained ctl (ctl_step ctl tick states refs mail).after }
 {}

@@ -21,6 +21,8 @@ pub use record::{CycleParts, CycleRecord, FailedPart};
 pub use record_room::{RecordRoom, RecordSize};
 pub use reply::{Reply, Why};
 pub use sequence::{Boxed, ListRoom, Rare};
+pub use shape::Shape;
+pub use tick::{LONGEST_PERIOD, Tick};
 
 mod append;
 mod blanks;
@@ -35,3 +37,5 @@ mod ran_room;
 mod record;
 mod record_room;
 mod reply;
+mod shape;
+mod tick;

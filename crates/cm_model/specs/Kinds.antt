@@ -1,0 +1,77 @@
+-- The kinds of controllers, by their parameters: what each has, with which parameters it is configured, and which mail it takes.
+use Rattle.std.specs.Prelude.{◌≡◌, ℕ, ℤ, Bool, true, false, not, ◌&&◌, ◌==◌, List, length, Option, Some, None}
+use Rattle.std.specs.List.{list_any, list_all}
+use Rattle.cm_document.specs.Valid.{not_negative, claims_fit}
+use Rattle.cm_document.specs.declared.call.Mail.{Mail}
+use Rattle.cm_document.specs.declared.call.Mail.TheVariants.{Values, Points}
+use Rattle.cm_document.specs.declared.description.Params.{Params}
+use Rattle.cm_document.specs.declared.description.Params.TheVariants.{Forward, Passthrough, Pid, Trajectory, Broadcaster, Mock}
+use Rattle.cm_model.specs.declared.shape.Shape.{Shape}
+
+-- ---- What a controller has
+
+-- How many interfaces it claims, reads and exports. A pid closes a loop from one state to one claim, and has a reference for it. A passthrough has a reference for each claim, a
+-- trajectory a state for each. A broadcaster claims nothing. A mock reads what it likes.
+abbrev pub shape_of : Params → Shape
+shape_of (Forward outs) = record { claims = outs; reads = Some 0; references = 0 }
+shape_of (Passthrough outs) = record { claims = outs; reads = Some 0; references = outs }
+shape_of (Pid kp ki kd imax omax) = record { claims = 1; reads = Some 1; references = 1 }
+shape_of (Trajectory outs) = record { claims = outs; reads = Some outs; references = 0 }
+shape_of (Broadcaster ins) = record { claims = 0; reads = Some ins; references = 0 }
+shape_of (Mock outs refuse_config not_ready fail_update) = record { claims = outs; reads = None; references = 0 }
+
+-- so many states are as many as it reads
+abbrev pub AreItsReads : Option ℕ → ℕ → Type 0
+AreItsReads None n = Unit {0}
+AreItsReads (Some reads) n = n ≡ reads
+
+-- ---- What it may be configured with
+
+-- the limits of a pid are not negative
+abbrev pub limits_fit : Params → Bool
+limits_fit (Pid kp ki kd imax omax) = not_negative imax && not_negative omax
+limits_fit _ = true
+
+-- The parameters are in the ranges that a description keeps: as many claims as a controller of the kind may have, and the limits.
+abbrev pub are_ranged : Params → Bool
+are_ranged params = claims_fit params (shape_of params).claims && limits_fit params
+
+-- A mock refuses to be configured where its parameters say so. No other kind refuses.
+abbrev pub is_refused : Params → Bool
+is_refused (Mock outs refuse_config not_ready fail_update) = refuse_config
+is_refused _ = false
+
+-- ---- What its parameters say of a cycle
+
+-- the cycle is one of these
+abbrev pub is_one_of : List ℕ → ℕ → Bool
+is_one_of cycles cycle = list_any (λ c. c == cycle) cycles
+
+-- A mock is not ready in the cycles that are listed for it. Every other kind always is.
+abbrev pub is_ready_in : Params → ℕ → Bool
+is_ready_in (Mock outs refuse_config not_ready fail_update) cycle = not (is_one_of not_ready cycle)
+is_ready_in _ cycle = true
+
+-- The update of a mock gives an error in the cycles that are listed for it. No other update does.
+abbrev pub fails_in : Params → ℕ → Bool
+fails_in (Mock outs refuse_config not_ready fail_update) cycle = is_one_of fail_update cycle
+fails_in _ cycle = false
+
+-- ---- What it takes as mail
+
+-- It takes no mail at all: a broadcaster, or a mock without claims.
+abbrev pub takes_none : Params → Bool
+takes_none (Broadcaster ins) = true
+takes_none (Mock outs refuse_config not_ready fail_update) = outs == 0
+takes_none _ = false
+
+-- so many values are one for each of its claims
+abbrev pub is_for_claims : Params → List ℤ → Bool
+is_for_claims params values = length values == (shape_of params).claims
+
+-- Mail fits where it has a value for each claim: a trajectory takes points in time, of which each has them, every other kind a plain list.
+abbrev pub takes : Params → Mail → Bool
+takes (Trajectory outs) (Points points) = list_all (λ p. is_for_claims (Trajectory outs) p.values) points
+takes (Trajectory outs) (Values values) = false
+takes params (Points points) = false
+takes params (Values values) = not (takes_none params) && is_for_claims params values

@@ -1,0 +1,76 @@
+//! The controller that gives its references, or what it was sent.
+
+ghost use Rattle.std.specs.Prelude.{◌≡◌};
+ghost use Rattle.cm_model.specs.State.{fresh};
+ghost use Rattle.cm_document.specs.declared.description.CtlKind.TheVariants as kind;
+
+use ctl_trait::{CfgFault, Controller, CtlKind, Done, Fx, Mail, Params, SetPart, Tick, Value};
+use std::alloc::Global;
+
+/// A passthrough: where it is chained it gives its references, else the values that it was sent last; before any mail these are unset.
+#[derive(Debug, Drop)]
+pub struct Passthrough {
+    part: Option<SetPart>,
+}
+
+impl Passthrough {
+    /// A passthrough that is not configured.
+    pub fn blank() -> Passthrough
+        ensures { ⟦<Passthrough as Controller>⟧.meaning result ≡ fresh kind.Passthrough }
+    {
+        Passthrough { part: None }
+    }
+}
+
+impl Controller for Passthrough {
+    ghost use Rattle.cm_document.specs.declared.description.CtlKind.TheVariants as kind;
+    ghost use Rattle.cm_document.specs.declared.description.Params.TheVariants as params;
+    ghost use Rattle.ctl_trait.specs.Parts.{data_of};
+
+    ghost meaning = { λ c. data_of kind.Passthrough params.Passthrough c.part };
+
+    fn kind(&self) -> CtlKind {
+        CtlKind::Passthrough
+    }
+
+    fn configure(&mut self, alloc: Global, params: &Params) -> Result<(), CfgFault> {
+        let Params::Passthrough { outs } = params else {
+            unreachable!()
+        };
+        self.part = Some(SetPart::make(alloc, *outs)?);
+        Ok(())
+    }
+
+    fn ready(&self, _cycle: u64) -> bool {
+        true
+    }
+
+    fn activate(&mut self, _states: &[Fx], chained: bool) {
+        if let Some(part) = &mut self.part {
+            part.start(chained);
+        }
+    }
+
+    fn take(&mut self, mail: Mail) {
+        if let (Some(part), Mail::Values(values)) = (&mut self.part, &mail) {
+            part.take(values.as_slice());
+        }
+    }
+
+    fn update(&mut self, _tick: Tick, _states: &[Fx], refs: &[Value], outs: &mut [Value]) -> Done {
+        if let Some(part) = &self.part {
+            outs.copy_from_slice(if part.is_chained() { refs } else { part.set() });
+        }
+        Done::Ok
+    }
+
+    fn deactivate(&mut self) {
+        if let Some(part) = &mut self.part {
+            part.stop();
+        }
+    }
+
+    fn cleanup(&mut self) {
+        self.part = None;
+    }
+}

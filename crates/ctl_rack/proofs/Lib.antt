@@ -1,0 +1,2 @@
+pub mod BerthLemmas
+pub mod StockLemmas

@@ -1,0 +1,15 @@
+//! Where controllers stand that are not being called: the blanks of a stock, and the loaded ones, each in the berth of its serial.
+//! A box is lent to be called, and comes back to its berth.
+#![tactic(auto)]
+
+pub use cm_model::Blanks;
+pub use ctl_trait::{Controller, CtlKind};
+pub use fault::RackFault;
+pub use rack::{Rack, Whereabouts};
+pub use stock::Stock;
+
+mod berth;
+mod fault;
+mod piles;
+mod rack;
+mod stock;

@@ -1,0 +1,73 @@
+//! What a caller may ask of parameters before a call.
+
+ghost use Rattle.std.specs.Prelude.{◌≡◌};
+ghost use Rattle.std.specs.List.{list_all};
+ghost use Rattle.cm_model.specs.Kinds.{shape_of, takes, takes_none, is_for_claims};
+
+use cm_model::{Fx, Mail, Params, Point2, Shape};
+
+/// How many interfaces a controller with these parameters has.
+pub fn shape_of(params: &Params) -> Shape
+    ensures { result ≡ shape_of params.now }
+{
+    match params {
+        Params::Forward { outs } => shape(*outs, Some(0), 0),
+        Params::Passthrough { outs } => shape(*outs, Some(0), *outs),
+        Params::Pid { .. } => shape(1, Some(1), 1),
+        Params::Trajectory { outs } => shape(*outs, Some(*outs), 0),
+        Params::Broadcaster { ins } => shape(0, Some(*ins), 0),
+        Params::Mock { outs, .. } => shape(*outs, None, 0),
+    }
+}
+
+fn shape(claims: u32, reads: Option<u32>, references: u32) -> Shape
+    ensures { result ≡ record { claims = claims; reads = reads; references = references } }
+{
+    Shape {
+        claims,
+        reads,
+        references,
+    }
+}
+
+/// Whether a controller with these parameters takes no mail at all.
+pub fn takes_none(params: &Params) -> bool
+    ensures { result ≡ takes_none params.now }
+{
+    match params {
+        Params::Broadcaster { .. } => true,
+        Params::Mock { outs, .. } => *outs == 0,
+        _ => false,
+    }
+}
+
+/// Whether the mail fits a controller with these parameters.
+pub fn takes(params: &Params, mail: &Mail) -> bool
+    ensures { result ≡ takes params.now mail.now }
+{
+    match (params, mail) {
+        (Params::Trajectory { .. }, Mail::Points(points)) => are_for_claims(
+            params,
+            points.as_slice(),
+        ),
+        (Params::Trajectory { .. }, Mail::Values(_)) | (_, Mail::Points(_)) => false,
+        (_, Mail::Values(values)) => !takes_none(params)
+            && is_for_claims(params, values.as_slice()),
+    }
+}
+
+/// Whether each point has a value for each claim.
+fn are_for_claims(params: &Params, points: &[Point2]) -> bool
+    ensures { result ≡ list_all (λ p. is_for_claims params.now p.values) points.now }
+{
+    points
+        .iter()
+        .all(|point| is_for_claims(params, point.values.as_slice()))
+}
+
+/// Whether there is a value for each claim.
+fn is_for_claims(params: &Params, values: &[Fx]) -> bool
+    ensures { result ≡ is_for_claims params.now values.now }
+{
+    values.len() == shape_of(params).claims as usize
+}

@@ -1,0 +1,17 @@
+//! What a controller is to its manager: the calls that it answers, each with what it does to the controller's data.
+//! The data, and what each kind of controller makes of them, are the table of `cm_model`; the trait's clauses cite it.
+#![tactic(auto)]
+
+pub use cm_model::{
+    CtlData, CtlKind, Done, Fx, LONGEST_PERIOD, Mail, Params, Seq, Shape, Tick, Value,
+};
+pub use controller::Controller;
+pub use fault::CfgFault;
+pub use kinds::{shape_of, takes, takes_none};
+pub use set_part::SetPart;
+
+mod controller;
+mod fault;
+mod in_box;
+mod kinds;
+mod set_part;
