@@ -3,6 +3,7 @@ use Rattle.std.specs.Prelude.{◌≡◌, ℕ, ◌<◌, ◌^◌, Bool, if◌then�
 use Rattle.fixed_num.specs.Bodies.{Plant, stopped}
 use Rattle.fixed_num.specs.declared.value.BodyState.{BodyState}
 use Rattle.fixed_num.specs.declared.value.Value.{Value}
+use Rattle.iface_names.specs.declared.kind.Kind.{Kind}
 use Rattle.joint_body.specs.Simulated.{Simulated, after}
 use Rattle.cm_document.specs.declared.description.CompDesc.{CompDesc}
 use Rattle.cm_document.specs.declared.description.JointDesc.{JointDesc}
@@ -16,6 +17,10 @@ states_in bodies = map (λ body. body.state) bodies
 -- what stays of them
 abbrev pub plants_in : List Simulated → List Plant
 plants_in bodies = map (λ body. body.plant) bodies
+
+-- the interfaces of a joint, one for each of these kinds
+abbrev pub of_joint : ℕ → List Kind → List JointInterface
+of_joint joint kinds = map (λ kind. record { joint = joint; kind = kind }) kinds
 
 -- the body of a described joint, as it begins
 abbrev pub body_made : JointDesc → Simulated

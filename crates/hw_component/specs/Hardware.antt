@@ -1,14 +1,15 @@
 -- A component as contracts see it, and what each of its calls makes of it.
-use Rattle.std.specs.Prelude.{◌≡◌, ℕ, ◌<◌, ◌^◌, Bool, false, true, ◌&&◌, if◌then◌else◌, List, [], length, map, Option, Result, Ok, Err, All}
+use Rattle.std.specs.Prelude.{◌≡◌, ℕ, ◌<◌, ◌^◌, Bool, false, true, ◌&&◌, if◌then◌else◌, List, [], length, map, Option, Some, None, Result, Ok, Err, MatchResult, All}
 use Rattle.fixed_num.specs.Bodies.{IsPlant}
 use Rattle.fixed_num.specs.declared.value.BodyState.{BodyState}
 use Rattle.fixed_num.specs.declared.value.JointMode.{JointMode}
 use Rattle.fixed_num.specs.declared.value.Value.{Value}
 use Rattle.cm_document.specs.declared.description.CompDesc.{CompDesc}
 use Rattle.cm_document.specs.declared.life.Life.{Life}
-use Rattle.cm_model.specs.Components.{write_runs, has_move, is_listed, plant_of, bodies_at_start, commands_at_start, commands_after_move, command_interfaces, claimed_by, mode_of, bodies_after_step}
+use Rattle.cm_model.specs.Components.{write_runs, has_move, is_listed, plant_of, bodies_at_start, commands_at_start, commands_after_move, command_interfaces, mode_fault, claimed_by, mode_of, states_after_read, bodies_after_step}
 use Rattle.hw_component.specs.declared.faults.HwFault.{HwFault}
 use Rattle.hw_component.specs.declared.faults.HwFault.TheVariants.{NoSuchMove}
+use Rattle.hw_component.specs.declared.faults.ModeFault.{ModeFault}
 
 -- What is described of a component; its lifecycle state; the body of each joint; which of its command interfaces is claimed on each
 -- joint; what its command interfaces held when it was written last; and whether it was written since the last step.
@@ -48,7 +49,11 @@ at_start c = record {
   written = false;
 }
 
--- ---- Writes and steps
+-- ---- Reads, writes and steps
+
+-- what the places of its state interfaces hold after a read in a cycle
+abbrev pub after_read : Hardware → ℕ → List Value → List Value
+after_read h n values = states_after_read h.description h.life n h.bodies values
 
 -- What a write of these commands in a cycle leaves: one that succeeds is applied, one that fails changes nothing.
 abbrev pub after_write : Hardware → ℕ → List Value → Hardware
@@ -66,6 +71,11 @@ after_step h dt_us = record h {
 }
 
 -- ---- Modes
+
+-- That these claims can be together is told, or else the least joint on which they are at odds.
+abbrev pub Prepares : Hardware → List ℕ → Result (Unit {0}) ModeFault → Type 0
+Prepares h claims result =
+    MatchResult result (λ _. mode_fault h.description claims ≡ None) (λ fault. mode_fault h.description claims ≡ Some fault.joint)
 
 -- the joints go by these claims from now on
 abbrev pub with_claims : Hardware → List ℕ → Hardware

@@ -1,8 +1,8 @@
 //! The component and its calls.
 
-ghost use Rattle.std.specs.Prelude.{◌≡◌, ◌<◌, ◌≤◌, ◌&&◌, true, length, slice_get, Some, None, MatchResult};
-ghost use Rattle.cm_model.specs.Components.{read_runs, write_runs, ends, state_interfaces, command_interfaces, states_after_read, mode_fault};
-ghost use Rattle.hw_component.specs.Hardware.{IsHardware, after_write, after_step, with_claims, moves, after_move};
+ghost use Rattle.std.specs.Prelude.{◌≡◌, ◌<◌, ◌≤◌, ◌&&◌, true, length, slice_get, Some, None};
+ghost use Rattle.cm_model.specs.Components.{read_runs, write_runs, ends, state_interfaces, command_interfaces, mode_fault};
+ghost use Rattle.hw_component.specs.Hardware.{IsHardware, Prepares, after_read, after_write, after_step, with_claims, moves, after_move};
 
 use crate::claims::{claim_joints, is_contested};
 use crate::cycles::Cycles;
@@ -36,10 +36,9 @@ impl Model for Component {
 
     ghost Value = { Hardware };
 
-    ghost use Rattle.hw_component.specs.Drives.{states_in};
-    ghost use Rattle.hw_component.specs.Kept.{IsKept};
+    ghost use Rattle.hw_component.specs.Kept.{hardware_of, IsKept};
 
-    ghost view = { λ c. record { description = c.description; life = c.life; bodies = states_in c.bodies.items; claimed = c.claimed.items; commands = c.applied.items; written = c.written } };
+    ghost view = { hardware_of };
 
     ghost invariant = { IsKept };
 }
@@ -88,7 +87,7 @@ impl Component {
         requires runs { read_runs self.old.life ≡ true }
         requires places { length states.old ≡ length (state_interfaces self.old.description) }
         ensures done { result ≡ ends self.old.description.fail_read cycle }
-        ensures states { states.new ≡ states_after_read self.old.description self.old.life cycle self.old.bodies states.old }
+        ensures states { states.new ≡ after_read self.old cycle states.old }
         ensures kept { self.new ≡ self.old }
     {
         if self.failing_reads.has(cycle) {
@@ -135,7 +134,7 @@ impl Component {
 
     /// Whether these command interfaces can be claimed together: no two different ones stand on one joint.
     pub fn prepare(&self, claims: &[u32]) -> Result<(), ModeFault>
-        ensures { MatchResult result (λ _. mode_fault self.now.description claims.now ≡ None) (λ fault. mode_fault self.now.description claims.now ≡ Some fault.joint) }
+        ensures { Prepares self.now claims.now result }
     {
         for joint in 0..self.bodies.len() as u32 {
             if is_contested(&self.commands, claims, joint) {

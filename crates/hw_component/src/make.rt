@@ -4,7 +4,7 @@ ghost use Rattle.std.specs.Prelude.{◌≡◌, ◌+◌, ◌<◌, ◌≤◌, ◌^
 ghost use Rattle.fixed_num.specs.Bodies.{IsPlant};
 ghost use Rattle.cm_model.specs.Components.{plant_of, body_at_start, interfaces_from};
 ghost use Rattle.hw_component.specs.Hardware.{CanBeMade, at_start};
-ghost use Rattle.hw_component.specs.Drives.{body_made};
+ghost use Rattle.hw_component.specs.Drives.{body_made, of_joint};
 
 use crate::component::Component;
 use crate::cycles::Cycles;
@@ -97,7 +97,7 @@ fn push_interfaces(
     joint: u32,
     kinds: &[Kind],
 ) -> Result<(), Memory>
-    ensures { OnOk result (interfaces.new.items ≡ interfaces.old.items ++ map (λ kind. record { joint = joint; kind = kind }) kinds.now) }
+    ensures { OnOk result (interfaces.new.items ≡ interfaces.old.items ++ of_joint joint kinds.now) }
 {
     for kind in kinds {
         interfaces.push(JointInterface { joint, kind: *kind })?;
