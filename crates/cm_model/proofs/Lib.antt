@@ -6,3 +6,4 @@ pub mod EnabledLemmas
 mod Rows
 pub mod ControllerLemmas
 mod KindRows
+mod ComponentRows

@@ -2,6 +2,7 @@
 pub mod Words
 pub mod Ran
 pub mod Happened
+pub mod Components
 pub mod State
 pub mod Kinds
 pub mod Pids

@@ -11,9 +11,10 @@ pub use cm_document::{
     Memory, Name, NameFault, Params, Point2, Script, ScriptFault, ScriptLine, Seq, SessionText,
     Shared, SwitchRequest, Text, Turn, Verb, What, Wrong, built, every_form,
 };
+pub use component::JointInterface;
 pub use data::{CtlData, RunData};
 pub use entry::{Entry, KeptCall};
-pub use fixed_num::{BodyState, StoredValue, Value};
+pub use fixed_num::{BodyState, JointMode, StoredValue, Value};
 pub use lines::{CompLine, CtlLine, IfaceLine};
 pub use ran::{Done, RanList, RanRef, Rans};
 pub use ran_room::RanRoom;
@@ -27,6 +28,7 @@ pub use tick::{LONGEST_PERIOD, Tick};
 mod append;
 mod blanks;
 mod cause;
+mod component;
 mod data;
 mod display;
 mod entry;

@@ -1,8 +1,9 @@
 -- Lemmas on lists, for whoever reasons about them.
-use Rattle.std.proofs.Common.{◌≡◌, suc, ◌<◌, List, [], ◌∷◌, ◌++◌, map, length, Bool, false, ◌||◌, refl, ap, ◌∙◌, arith, length-append}
+use Rattle.std.proofs.Common.{◌≡◌, ℕ, zero, suc, ◌+◌, ◌<◌, ◌≤◌, List, [], ◌∷◌, ◌++◌, map, length, get_or, set, take, drop, Bool, false, ◌||◌, refl, ap, ◌∙◌, add-one, arith, length-append}
 use Rattle.std.specs.Prelude.{◌==◌, flat_map}
 use Rattle.std.specs.List.{list_any, AllByRecursion}
 use Rattle.std.proofs.lemmas.Bool.Decides.{nat_tests}
+use Rattle.std.proofs.lemmas.List.{take_all, drop_all, append-nil}
 use Rattle.std.proofs.lemmas.List.Folds.{list_any-append}
 use Rattle.sequence.specs.Last.{in_last}
 
@@ -57,3 +58,32 @@ pub all_in_last : {A : Type 0} (P : A → Type 0) (f : A → A) (xs : List A) �
 all_in_last P f [] all kept = tt
 all_in_last P f (x ∷ []) all kept = (kept x all.0, tt)
 all_in_last P f (x ∷ y ∷ xs) all kept = (all.0, all_in_last P f (y ∷ xs) all.1 kept)
+-- ---- Loops that write a place for each item
+
+-- the places up to this one hold what is made of the items up to it, and the next place is written
+written_next : {A B : Type 0} (f : A → B) (xs : List A) (ys zs : List B) (i : ℕ) (x : A) → i < length xs → length zs ≡ length xs
+    → ys ≡ map f (take i xs) ++ drop i zs → x ≡ get_or xs i x → set ys i (f x) ≡ map f (take (suc i) xs) ++ drop (suc i) zs
+written_next f [] ys zs i x within same so_far is = absurd (omega (arith, within))
+written_next f (w ∷ ws) ys [] i x within same so_far is = absurd (omega (arith, same))
+written_next f (w ∷ ws) ys (z ∷ zs) zero x within same so_far is = rw so_far (ap (λ v. f v ∷ zs) is)
+written_next f (w ∷ ws) ys (z ∷ zs) (suc i) x within same so_far is =
+    rw so_far (ap (λ l. f w ∷ l) (written_next f ws (map f (take i ws) ++ drop i zs) zs i x (omega (arith, within)) (omega (arith, same)) refl is))
+
+pub written_more : {A B : Type 0} (f : A → B) (xs : List A) (ys zs : List B) (i : ℕ) (x : A) → i < length xs → length zs ≡ length xs
+    → ys ≡ map f (take i xs) ++ drop i zs → x ≡ get_or xs i x → set ys i (f x) ≡ map f (take (i + 1) xs) ++ drop (i + 1) zs
+written_more f xs ys zs i x within same so_far is = rw add-one (written_next f xs ys zs i x within same so_far is)
+
+-- until then the next place holds what it held
+pub not_yet_written : {A B : Type 0} (f : A → B) (xs : List A) (ys zs : List B) (i : ℕ) (d : B) → i < length xs → length zs ≡ length xs
+    → ys ≡ map f (take i xs) ++ drop i zs → get_or ys i d ≡ get_or zs i d
+not_yet_written f [] ys zs i d within same so_far = absurd (omega (arith, within))
+not_yet_written f (w ∷ ws) ys [] i d within same so_far = absurd (omega (arith, same))
+not_yet_written f (w ∷ ws) ys (z ∷ zs) zero d within same so_far = rw so_far refl
+not_yet_written f (w ∷ ws) ys (z ∷ zs) (suc i) d within same so_far =
+    rw so_far (not_yet_written f ws (map f (take i ws) ++ drop i zs) zs i d (omega (arith, within)) (omega (arith, same)) refl)
+
+-- when all places are written
+pub written_all : {A B : Type 0} (f : A → B) (xs : List A) (ys zs : List B) (i : ℕ) → length xs ≤ i → length zs ≡ length xs
+    → ys ≡ map f (take i xs) ++ drop i zs → ys ≡ map f xs
+written_all f xs ys zs i past same so_far =
+    so_far ∙ rw (take_all i xs past, drop_all i zs (omega (arith, same))) (append-nil (map f xs))
