@@ -4,3 +4,4 @@ pub mod LegalLemmas
 pub mod WholeLemmas
 pub mod EnabledLemmas
 mod Rows
+mod SwitchRows
