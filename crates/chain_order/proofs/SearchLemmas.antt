@@ -7,13 +7,13 @@ use Rattle.std.proofs.lemmas.List.{get_or-set_same, get_or-set_other, get_or_pas
 use Rattle.std.proofs.lemmas.List.Elements.{All-nil, All-cons, All-append, All-weaker, All-contains, Contains-push, Contains-push_cases, Contains-append_left, Contains-append_right}
 use Rattle.std.proofs.lemmas.List.Sums.{sum_by-set}
 use Rattle.chain_order.specs.Links.{linked}
-use Rattle.chain_order.specs.Search.{Seen, IsReached, Spreads}
+use Rattle.chain_order.specs.Search.{Searched, IsReached, Spreads}
 use Rattle.chain_order.specs.Ways.{IsWay, Leads}
 
 -- ---- One step
 
 -- a step to no place
-pub Spreads-none : (s : Seen) → Spreads s s []
+pub Spreads-none : (s : Searched) → Spreads s s []
 Spreads-none s = record {
   arrived = All-nil (IsReached s);
   kept = λ p was. was;
@@ -25,7 +25,7 @@ Spreads-none s = record {
 }
 
 -- a step to a place that was reached before
-pub Spreads-known : (s : Seen) (place : ℕ) → IsReached s place → Spreads s s (place ∷ [])
+pub Spreads-known : (s : Searched) (place : ℕ) → IsReached s place → Spreads s s (place ∷ [])
 Spreads-known s place was =
     let same = Spreads-none s in
     record {
@@ -39,7 +39,7 @@ Spreads-known s place was =
     }
 
 -- a step to a place that was not
-pub Spreads-fresh : (old new : Seen) (place : ℕ) → place < length old.reached → get_or old.reached place false ≡ false
+pub Spreads-fresh : (old new : Searched) (place : ℕ) → place < length old.reached → get_or old.reached place false ≡ false
     → new.reached ≡ set old.reached place true → new.waiting ≡ old.waiting ++ place ∷ [] → Spreads old new (place ∷ [])
 Spreads-fresh old new place below was marked waits =
     let here : IsReached new place = rw marked (get_or-set_same old.reached place true false below) in
@@ -61,7 +61,7 @@ Spreads-fresh old new place below was marked waits =
     }
 
 -- one step and another
-Spreads-trans : (a b c : Seen) (ps qs : List ℕ) → Spreads a b ps → Spreads b c qs → Spreads a c (ps ++ qs)
+Spreads-trans : (a b c : Searched) (ps qs : List ℕ) → Spreads a b ps → Spreads b c qs → Spreads a c (ps ++ qs)
 Spreads-trans a b c ps qs first second = record {
   arrived = All-append (IsReached c) ps qs (All-weaker (IsReached b) (IsReached c) second.kept ps first.arrived) second.arrived;
   kept = λ p was. second.kept p (first.kept p was);
@@ -83,7 +83,7 @@ Spreads-trans a b c ps qs first second = record {
 }
 
 -- one place more of a list of places
-pub Spreads_more : (a b c : Seen) (places : List ℕ) (i : ℕ) → i < length places
+pub Spreads_more : (a b c : Searched) (places : List ℕ) (i : ℕ) → i < length places
     → Spreads a b (take i places) → Spreads b c (get_or places i 0 ∷ []) → Spreads a c (take (i + 1) places)
 Spreads_more a b c places i below first second =
     rw (take_more places i 0 below) (Spreads-trans a b c (take i places) (get_or places i 0 ∷ []) first second)
@@ -91,7 +91,7 @@ Spreads_more a b c places i below first second =
 -- ---- The whole search
 
 -- The start leads to all that was reached. The links of the start were followed, and those of each reached place that no longer waits.
-pub record IsSearch (links : List (List ℕ)) (start : ℕ) (s : Seen) : Type 0 where
+pub record IsSearch (links : List (List ℕ)) (start : ℕ) (s : Searched) : Type 0 where
   pub places : length s.reached ≡ length links
   pub sound : (p : ℕ) → IsReached s p → Leads links start p
   pub waits : (p : ℕ) → Contains s.waiting p → IsReached s p
@@ -112,7 +112,7 @@ none_reached (suc n) zero = refl
 none_reached (suc n) (suc p) = none_reached n p
 
 -- a new search that follows the links of the start
-pub IsSearch-begun : (links : List (List ℕ)) (start : ℕ) (old new : Seen) → old ≡ record { reached = replicate (length links) false; waiting = [] }
+pub IsSearch-begun : (links : List (List ℕ)) (start : ℕ) (old new : Searched) → old ≡ record { reached = replicate (length links) false; waiting = [] }
     → Spreads old new (linked links start) → IsSearch links start new
 IsSearch-begun links start old new empty step =
     let unreached : (p : ℕ) → IsReached old p → ⊥ = λ (p : ℕ) (was : IsReached old p). false≢true (sym (none_reached (length links) p) ∙ (rw empty at was)) in
@@ -125,7 +125,7 @@ IsSearch-begun links start old new empty step =
     }
 
 -- a place no longer waits, and its links were followed
-pub IsSearch-followed : (links : List (List ℕ)) (start place : ℕ) (old popped new : Seen) → IsSearch links start old
+pub IsSearch-followed : (links : List (List ℕ)) (start place : ℕ) (old popped new : Searched) → IsSearch links start old
     → popped.reached ≡ old.reached → old.waiting ≡ popped.waiting ++ place ∷ [] → Spreads popped new (linked links place) → IsSearch links start new
 IsSearch-followed links start place old popped new so_far same took step =
     let before : (p : ℕ) → IsReached popped p → IsReached old p = λ (p : ℕ) (was : IsReached popped p). rw same at was in
@@ -158,7 +158,7 @@ IsSearch-followed links start place old popped new so_far same took step =
     }
 
 -- a place that waits is a place
-pub waiting_below : (links : List (List ℕ)) (start place : ℕ) (rest : List ℕ) (s : Seen) → IsSearch links start s → s.waiting ≡ rest ++ place ∷ [] → place < length links
+pub waiting_below : (links : List (List ℕ)) (start place : ℕ) (rest : List ℕ) (s : Searched) → IsSearch links start s → s.waiting ≡ rest ++ place ∷ [] → place < length links
 waiting_below links start place rest s search took =
     let reached = search.waits place (rw took (Contains-push rest place)) in
     elim (cases_lt place (length s.reached)) [
@@ -167,7 +167,7 @@ waiting_below links start place rest s search took =
     ]
 
 -- where none waits, a way from what was followed leads to what was reached
-way_reached : (links : List (List ℕ)) (start : ℕ) (s : Seen) → IsSearch links start s → s.waiting ≡ []
+way_reached : (links : List (List ℕ)) (start : ℕ) (s : Searched) → IsSearch links start s → s.waiting ≡ []
     → (p q : ℕ) (via : List ℕ) → All (IsReached s) (linked links p) → IsWay links p via q → IsReached s q
 way_reached links start s search none p q [] here way = All-contains (IsReached s) (linked links p) q here way
 way_reached links start s search none p q (next ∷ more) here way =
@@ -178,6 +178,6 @@ way_reached links start s search none p q (next ∷ more) here way =
     ]
 
 -- where none waits, the start leads to exactly what was reached
-pub IsSearch-ended : (links : List (List ℕ)) (start : ℕ) (s : Seen) → IsSearch links start s → s.waiting ≡ [] → (q : ℕ) → IsReached s q ↔ Leads links start q
+pub IsSearch-ended : (links : List (List ℕ)) (start : ℕ) (s : Searched) → IsSearch links start s → s.waiting ≡ [] → (q : ℕ) → IsReached s q ↔ Leads links start q
 IsSearch-ended links start s search none q =
     (search.sound q, λ (way : Leads links start q). way_reached links start s search none start q way.0 search.begun way.1)

@@ -3,15 +3,16 @@ use Rattle.std.proofs.Common.{◌≡◌, ℕ, ◌<◌, ◌≤◌, true, false, L
 use Rattle.std.specs.Prelude.{◌↔◌}
 use Rattle.std.specs.List.{All, Contains}
 use Rattle.std.proofs.lemmas.Bool.{cases_eq, false_from_ne_true}
-use Rattle.std.proofs.lemmas.List.{get_or_default, length-map}
+use Rattle.std.proofs.lemmas.List.{get_or_default}
 use Rattle.std.proofs.lemmas.List.Elements.{All-nil, All-cons, All-head, All-tail, Contains-get_or}
 use Rattle.std.proofs.lemmas.List.Sums.{position_or_len_is}
 use Rattle.cm_document.proofs.ChainLemmas.{HasChain, far_iff_HasChain}
 use Rattle.cm_document.specs.Links.{precedes_far, IsChain, first_in_loop}
 use Rattle.cm_document.specs.declared.description.CtlDesc.{CtlDesc}
-use Rattle.chain_order.specs.Links.{followers, links_of}
+use Rattle.cm_model.specs.Order.{precedes_at}
+use Rattle.chain_order.specs.Links.{places_below, links_of}
 use Rattle.chain_order.specs.Ways.{IsWay, Leads, NoneBefore, IsFirstBack}
-use Rattle.chain_order.proofs.LinkLemmas.{linked-precedes, precedes-linked}
+use Rattle.chain_order.proofs.LinkLemmas.{length-each_below, linked-precedes, precedes-linked}
 
 module _ (cs : List CtlDesc) (other : CtlDesc) where
   -- the controller at a place
@@ -78,7 +79,7 @@ pub first_back_in_loop : (cs : List CtlDesc) (links : List (List ℕ)) (found : 
 first_back_in_loop cs links found same first = by found (rw same at first)
   where
     count : length (links_of cs) ≡ length cs
-    count = length-map cs (followers cs)
+    count = length-each_below (λ p. places_below (precedes_at cs p) (length cs)) (length cs)
 
     by : (o : Option ℕ) → IsFirstBack (links_of cs) o → o ≡ first_in_loop cs
     by None none = sym (none_back cs (λ k before. none k (omega (arith, count))))

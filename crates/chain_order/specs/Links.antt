@@ -1,25 +1,38 @@
--- Links by place: for each controller, the places of those that it precedes.
-use Rattle.std.specs.Prelude.{ℕ, ◌+◌, ◌<◌, ◌^◌, if◌then◌else◌, List, [], ◌∷◌, length, map, slice_index_or}
+-- Links by place: for each controller, the places of those that it precedes, or that precede it.
+use Rattle.std.specs.Prelude.{ℕ, zero, suc, ◌<◌, ◌^◌, Bool, ◌&&◌, if◌then◌else◌, List, [], ◌∷◌, ◌++◌, length, slice_index_or}
 use Rattle.std.specs.List.{All}
-use Rattle.cm_document.specs.Links.{precedes}
 use Rattle.cm_document.specs.declared.description.CtlDesc.{CtlDesc}
+use Rattle.cm_model.specs.Order.{precedes_at, set_of}
 
--- the places, where the first of these has place k, of those that c precedes
-abbrev pub followers_from : ℕ → CtlDesc → List CtlDesc → List ℕ
-followers_from k c [] = []
-followers_from k c (d ∷ ds) = if precedes c d then k ∷ followers_from (k + 1) c ds else followers_from (k + 1) c ds
+-- the numbers below that pass the test, ascending
+abbrev pub places_below : (ℕ → Bool) → ℕ → List ℕ
+places_below test zero = []
+places_below test (suc n) = places_below test n ++ (if test n then n ∷ [] else [])
 
--- the places of the controllers that c precedes, ascending
-abbrev pub followers : List CtlDesc → CtlDesc → List ℕ
-followers controllers c = followers_from 0 c controllers
+-- what each number below is given, in their order
+abbrev pub each_below : {A : Type 0} → (ℕ → A) → ℕ → List A
+each_below f zero = []
+each_below f (suc n) = each_below f n ++ f n ∷ []
+
+-- for each place below, the places that are linked to it, ascending
+abbrev pub rows_of : (ℕ → ℕ → Bool) → ℕ → List (List ℕ)
+rows_of linked n = each_below (λ p. places_below (λ q. linked q p) n) n
 
 -- for each controller, by place, the places of those that it precedes
 abbrev pub links_of : List CtlDesc → List (List ℕ)
-links_of controllers = map (followers controllers) controllers
+links_of controllers = rows_of (λ q p. precedes_at controllers p q) (length controllers)
 
--- the places that a place is linked to
+-- for each controller, by place, the places of those that precede it
+abbrev pub leaders_of : List CtlDesc → List (List ℕ)
+leaders_of controllers = rows_of (precedes_at controllers) (length controllers)
+
+-- the places in the row of a place
 abbrev pub linked : List (List ℕ) → ℕ → List ℕ
 linked links place = slice_index_or links place []
+
+-- the links from members alone
+abbrev pub among : List Bool → (ℕ → ℕ → Bool) → ℕ → ℕ → Bool
+among flags linked q p = set_of flags q && linked q p
 
 -- There are fewer places than 2^32, and links lead to places alone.
 pub record IsLinks (links : List (List ℕ)) : Type 0 where

@@ -1,9 +1,18 @@
-//! The order among described controllers: which precede which, and whether one precedes itself.
-//! Claims are resolved to places once, and what remains is a search over places.
+//! The order among described controllers: which precede which, whether one precedes itself, and in which order and how often
+//! active ones are updated. Claims are resolved to places once, and what remains goes over places.
 #![tactic(auto)]
 
+pub use cm_model::Member;
+pub use links::{Links, exports};
 pub use loops::first_loop;
+pub use orders::{by_rank, heights, in_order, is_chained, run_list};
+pub use places::PlaceSet;
+pub use rates::{divisor, due};
 
 mod links;
 mod loops;
+mod orders;
+mod places;
+mod ranks;
+mod rates;
 mod search;

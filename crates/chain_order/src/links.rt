@@ -4,13 +4,14 @@ ghost use Rattle.std.specs.Prelude.{◌≡◌, ◌<◌, ◌^◌, length, IfOk, A
 ghost use Rattle.std.specs.List.{list_any};
 ghost use Rattle.iface_names.specs.Interfaces.{same_interface};
 ghost use Rattle.cm_document.specs.Links.{precedes, is_among, refs_of, reference_for};
-ghost use Rattle.chain_order.specs.Links.{followers, links_of, linked};
+ghost use Rattle.cm_model.specs.Order.{precedes_at};
+ghost use Rattle.chain_order.specs.Links.{places_below, links_of, leaders_of, linked};
 
-use cm_document::{CtlDesc, IfaceName, Memory, Name, Seq};
+use cm_document::{Checked, CtlDesc, IfaceName, Memory, Name, Seq};
 use std::alloc::Global;
 use std::marker::Model;
 
-/// For each described controller, by place, the places of the controllers that it precedes.
+/// For each described controller, by place, the places of the controllers that it is linked to.
 #[derive(Debug, Drop)]
 pub struct Links {
     rows: Seq<Seq<u32>>,
@@ -28,14 +29,40 @@ impl Model for Links {
 }
 
 impl Links {
-    /// The links among these controllers: every claim is looked up here, once.
+    /// The links from each controller to those that it precedes: every claim is looked up here, once.
     pub fn resolve(alloc: Global, controllers: &[CtlDesc]) -> Result<Links, Memory>
         requires { length controllers.now < 2 ^ 32 }
         ensures { IfOk result (λ links. links ≡ links_of controllers.now) }
     {
         let mut rows = Seq::new(alloc);
-        for controller in controllers {
-            rows.push(followers(alloc, controllers, controller)?)?;
+        for place in 0..controllers.len() as u32 {
+            rows.push(followers(alloc, controllers, place)?)?;
+        }
+        Ok(Links { rows })
+    }
+
+    /// The links from each controller of a valid description to those that it precedes.
+    pub fn followers_in(alloc: Global, checked: &Checked) -> Result<Links, Memory>
+        ensures { IfOk result (λ links. links ≡ links_of checked.now.controllers) }
+    {
+        Links::resolve(alloc, checked.description().controllers.as_slice())
+    }
+
+    /// The links from each controller of a valid description to those that precede it.
+    pub fn leaders_in(alloc: Global, checked: &Checked) -> Result<Links, Memory>
+        ensures { IfOk result (λ links. links ≡ leaders_of checked.now.controllers) }
+    {
+        Links::to_leaders(alloc, checked.description().controllers.as_slice())
+    }
+
+    /// The links from each controller to those that precede it.
+    fn to_leaders(alloc: Global, controllers: &[CtlDesc]) -> Result<Links, Memory>
+        requires { length controllers.now < 2 ^ 32 }
+        ensures { IfOk result (λ links. links ≡ leaders_of controllers.now) }
+    {
+        let mut rows = Seq::new(alloc);
+        for place in 0..controllers.len() as u32 {
+            rows.push(leaders(alloc, controllers, place)?)?;
         }
         Ok(Links { rows })
     }
@@ -47,8 +74,8 @@ impl Links {
         self.rows.as_slice().len() as u32
     }
 
-    /// The places of the controllers that the one at this place precedes, ascending.
-    pub fn followers(&self, place: u32) -> &[u32]
+    /// The places that this one is linked to, ascending.
+    pub fn row(&self, place: u32) -> &[u32]
         requires { place < length self.now }
         ensures row { result.now ≡ linked self.now place }
         ensures within { All (λ p. p < length self.now) result.now }
@@ -58,21 +85,42 @@ impl Links {
 }
 
 /// The places of the controllers that this one precedes, ascending.
-fn followers(
-    alloc: Global,
-    controllers: &[CtlDesc],
-    controller: &CtlDesc,
-) -> Result<Seq<u32>, Memory>
-    requires { length controllers.now < 2 ^ 32 }
-    ensures { IfOk result (λ places. places ≡ followers controllers.now controller.now) }
+fn followers(alloc: Global, controllers: &[CtlDesc], place: u32) -> Result<Seq<u32>, Memory>
+    requires few { length controllers.now < 2 ^ 32 }
+    requires within { place < length controllers.now }
+    ensures { IfOk result (λ places. places ≡ places_below (precedes_at controllers.now place) (length controllers.now)) }
 {
     let mut places = Seq::new(alloc);
-    for (place, other) in controllers.iter().enumerate() {
-        if precedes(controller, other) {
-            places.push(place as u32)?;
+    for other in 0..controllers.len() as u32 {
+        if precedes_at(controllers, place, other) {
+            places.push(other)?;
         }
     }
     Ok(places)
+}
+
+/// The places of the controllers that precede this one, ascending.
+fn leaders(alloc: Global, controllers: &[CtlDesc], place: u32) -> Result<Seq<u32>, Memory>
+    requires few { length controllers.now < 2 ^ 32 }
+    requires within { place < length controllers.now }
+    ensures { IfOk result (λ places. places ≡ places_below (λ q. precedes_at controllers.now q place) (length controllers.now)) }
+{
+    let mut places = Seq::new(alloc);
+    for other in 0..controllers.len() as u32 {
+        if precedes_at(controllers, other, place) {
+            places.push(other)?;
+        }
+    }
+    Ok(places)
+}
+
+/// Whether the controller at the first place precedes the one at the second.
+fn precedes_at(controllers: &[CtlDesc], place: u32, other: u32) -> bool
+    requires here { place < length controllers.now }
+    requires there { other < length controllers.now }
+    ensures { result ≡ precedes_at controllers.now place other }
+{
+    precedes(&controllers[place as usize], &controllers[other as usize])
 }
 
 /// Whether the one controller precedes the other: it claims a reference of it.
@@ -88,7 +136,7 @@ fn precedes(controller: &CtlDesc, other: &CtlDesc) -> bool
 
 /// Whether the interface is a reference of the controller.
 #[tactic(auto, using(sequence::proofs::ListLemmas::any_map))]
-fn exports(controller: &CtlDesc, interface: &IfaceName) -> bool
+pub fn exports(controller: &CtlDesc, interface: &IfaceName) -> bool
     ensures { result ≡ is_among interface.now (refs_of controller.now) }
 {
     is_any_reference(interface, &controller.name, controller.exported_for())

@@ -2,7 +2,7 @@
 
 ghost use Rattle.std.specs.Prelude.{◌≡◌, ◌↔◌, ◌<◌, [], ◌∷◌, ◌++◌, false, length, replicate, slice_index_or, IsTrue, IfNone, IfOk, OnOk, All};
 ghost use Rattle.std.specs.Option.{option_to_list};
-ghost use Rattle.chain_order.specs.Search.{Seen, Spreads};
+ghost use Rattle.chain_order.specs.Search.{Searched, Spreads};
 ghost use Rattle.chain_order.specs.Ways.{Leads};
 
 use crate::links::Links;
@@ -18,9 +18,9 @@ struct Search {
 }
 
 impl Model for Search {
-    ghost use Rattle.chain_order.specs.Search.{Seen};
+    ghost use Rattle.chain_order.specs.Search.{Searched};
 
-    ghost Value = { Seen };
+    ghost Value = { Searched };
 
     ghost view = { λ s. record { reached = s.reached.items; waiting = s.waiting.items } };
 }
@@ -31,9 +31,9 @@ pub fn leads_back(alloc: Global, links: &Links, start: u32) -> Result<bool, Memo
     ensures { IfOk result (λ yes. IsTrue yes ↔ Leads links.now start start) }
 {
     let mut search = Search::new(alloc, links.len())?;
-    search.spread(links.followers(start))?;
+    search.spread(links.row(start))?;
     while let Some(place) = search.next() {
-        search.spread(links.followers(place))?;
+        search.spread(links.row(place))?;
     }
     Ok(search.has_reached(start))
 }

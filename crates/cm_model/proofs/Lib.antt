@@ -7,3 +7,4 @@ mod Rows
 pub mod ControllerLemmas
 mod KindRows
 mod ComponentRows
+mod SwitchRows

@@ -12,6 +12,13 @@ pub mod Machine
 pub mod Scheduled
 pub mod Sessions
 pub mod Causes
+-- switches, and the order of updates
+pub mod Order
+pub mod Scene
+pub mod Faults
+pub mod Switches
+pub mod BestEffort
+-- the trace
 pub mod Items
 pub mod Trace
 -- how values are kept in few bytes

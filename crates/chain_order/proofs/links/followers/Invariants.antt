@@ -1,7 +1,8 @@
-use Rattle.std.proofs.Common.{◌≡◌, ◌++◌, drop}
-use Rattle.chain_order.specs.Links.{followers_from, followers}
+use Rattle.std.proofs.Common.{◌≡◌}
+use Rattle.cm_model.specs.Order.{precedes_at}
+use Rattle.chain_order.specs.Links.{places_below}
 use Rattle.chain_order.proofs.links.followers.Given as goal
 
--- the places found, and those still to be found, are all
-abbrev pub invariant-loop-place : goal.invariant-loop-place
-invariant-loop-place l = l.places ++ followers_from l.place l.controller (drop l.place l.controllers) ≡ followers l.controllers l.controller
+-- the places so far that pass
+abbrev pub invariant-loop-other : goal.invariant-loop-other
+invariant-loop-other l = l.places ≡ places_below (precedes_at l.controllers l.place) l.other

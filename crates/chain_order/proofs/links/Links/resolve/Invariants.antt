@@ -1,7 +1,8 @@
-use Rattle.std.proofs.Common.{◌≡◌, map, take}
-use Rattle.chain_order.specs.Links.{followers}
+use Rattle.std.proofs.Common.{◌≡◌, length}
+use Rattle.cm_model.specs.Order.{precedes_at}
+use Rattle.chain_order.specs.Links.{places_below, each_below}
 use Rattle.chain_order.proofs.links.Links.resolve.Given as goal
 
--- each controller so far has its row
-abbrev pub invariant-loop-controller : goal.invariant-loop-controller
-invariant-loop-controller l = l.rows ≡ map (followers l.controllers) (take l.controller-index l.controllers)
+-- each place so far has its row
+abbrev pub invariant-loop-place : goal.invariant-loop-place
+invariant-loop-place l = l.rows ≡ each_below (λ p. places_below (λ q. precedes_at l.controllers p q) (length l.controllers)) l.place

@@ -1,0 +1,8 @@
+use Rattle.std.proofs.Common.{◌≡◌}
+use Rattle.cm_model.specs.Order.{precedes_at}
+use Rattle.chain_order.specs.Links.{places_below}
+use Rattle.chain_order.proofs.links.leaders.Given as goal
+
+-- the places so far that pass
+abbrev pub invariant-loop-other : goal.invariant-loop-other
+invariant-loop-other l = l.places ≡ places_below (λ q. precedes_at l.controllers q l.place) l.other

@@ -1,0 +1,251 @@
+-- Order and switches on a description of seven controllers over one joint, written down by hand: computed from the definitions.
+use Rattle.std.proofs.Common.{◌≡◌, ℕ, Bool, true, false, List, [], ◌∷◌, ◌++◌, map, pos, refl}
+use Rattle.std.specs.Prelude.{codes, decimal, flat_map}
+use Rattle.std.specs.Fmt.{digits}
+use Rattle.iface_names.specs.declared.interface.IfaceName.{IfaceName}
+use Rattle.iface_names.specs.declared.interface.IfaceName.TheVariants.{Joint, Reference}
+use Rattle.iface_names.specs.declared.kind.Kind.TheVariants.{Position, Velocity}
+use Rattle.cm_document.specs.Described.{a_controller, a_description, a_joint, a_component}
+use Rattle.cm_document.specs.declared.call.SwitchRequest.{SwitchRequest}
+use Rattle.cm_document.specs.declared.description.CompDesc.{CompDesc}
+use Rattle.cm_document.specs.declared.description.CompKind.TheVariants.{System}
+use Rattle.cm_document.specs.declared.description.CtlDesc.{CtlDesc}
+use Rattle.cm_document.specs.declared.description.Description.{Description}
+use Rattle.cm_document.specs.declared.description.Params.TheVariants.{Forward, Passthrough, Pid, Trajectory, Broadcaster, Mock}
+use Rattle.cm_document.specs.declared.life.Life.{Life}
+use Rattle.cm_document.specs.declared.life.Life.TheVariants.{Unconfigured, Inactive, Active}
+use Rattle.cm_model.specs.declared.planned.Planned.{Planned}
+use Rattle.cm_model.specs.declared.seen.Seen.{Seen}
+use Rattle.cm_model.specs.Causes.{outcome_text}
+use Rattle.cm_model.specs.Order.{height, divisor, is_due, rank_within}
+use Rattle.cm_model.specs.Scene.{Scene, active, order}
+use Rattle.cm_model.specs.BestEffort.{stays_within, plan_of}
+
+-- ---- The description
+
+abbrev j1_position : IfaceName
+j1_position = Joint (codes "j1") Position
+
+abbrev j1_velocity : IfaceName
+j1_velocity = Joint (codes "j1") Velocity
+
+abbrev pid_reference : IfaceName
+pid_reference = Reference (codes "pid") (codes "j1") Position
+
+abbrev arm : CompDesc
+arm = a_component (codes "arm") System Active Unconfigured [] []
+    (a_joint (codes "j1") (pos 1000000) (pos 1000000) (pos 0) (pos 0) (pos 0) (Position ∷ Velocity ∷ []) (Position ∷ Velocity ∷ []) ∷ [])
+
+-- a forward, a pid, a trajectory above it, another trajectory, a broadcaster, a mock, and a passthrough above the pid
+abbrev controllers : List CtlDesc
+controllers =
+    a_controller (codes "fwd") 0 (j1_position ∷ []) [] (Forward 1)
+    ∷ a_controller (codes "pid") 0 (j1_velocity ∷ []) (j1_position ∷ []) (Pid (pos 2000000) (pos 0) (pos 0) (pos 0) (pos 10000000))
+    ∷ a_controller (codes "traj") 0 (pid_reference ∷ []) (j1_position ∷ []) (Trajectory 1)
+    ∷ a_controller (codes "traj2") 0 (j1_position ∷ []) (j1_position ∷ []) (Trajectory 1)
+    ∷ a_controller (codes "jsb") 0 [] (j1_position ∷ j1_velocity ∷ []) (Broadcaster 2)
+    ∷ a_controller (codes "mk") 0 [] [] (Mock 0 false (2 ∷ []) (5 ∷ []))
+    ∷ a_controller (codes "pt") 0 (pid_reference ∷ []) [] (Passthrough 1)
+    ∷ []
+
+abbrev robot : Description
+robot = a_description 1 100 6 (arm ∷ []) controllers
+
+-- the controllers by place
+abbrev fwd : ℕ
+fwd = 0
+
+abbrev pid : ℕ
+pid = 1
+
+abbrev traj : ℕ
+traj = 2
+
+abbrev traj2 : ℕ
+traj2 = 3
+
+abbrev jsb : ℕ
+jsb = 4
+
+abbrev mk : ℕ
+mk = 5
+
+abbrev pt : ℕ
+pt = 6
+
+-- a loaded controller that is inactive, one that is active, one that is unconfigured, and one that is not ready
+abbrev inactive : ℕ → ℕ → Seen
+inactive serial place = record { serial = serial; place = place; life = Inactive; chained = false; ready = true }
+
+abbrev running : ℕ → ℕ → Seen
+running serial place = record { serial = serial; place = place; life = Active; chained = false; ready = true }
+
+abbrev chained : ℕ → ℕ → Seen
+chained serial place = record { serial = serial; place = place; life = Active; chained = true; ready = true }
+
+abbrev fresh : ℕ → ℕ → Seen
+fresh serial place = record { serial = serial; place = place; life = Unconfigured; chained = false; ready = true }
+
+abbrev unready : ℕ → ℕ → Seen
+unready serial place = record { serial = serial; place = place; life = Inactive; chained = false; ready = false }
+
+-- these controllers over an active arm
+abbrev over_arm : List Seen → Scene
+over_arm loaded = record { description = robot; loaded = loaded; components = Active ∷ [] }
+
+-- a strict switch, and one of best effort
+abbrev strictly : List (List ℕ) → List (List ℕ) → SwitchRequest
+strictly off on = record { on = on; off = off; strict = true }
+
+abbrev at_best : List (List ℕ) → List (List ℕ) → SwitchRequest
+at_best off on = record { on = on; off = off; strict = false }
+
+-- a plan as text: the outcome, the serials to deactivate, and those to activate
+abbrev plan_text : Planned → List ℕ
+plan_text p = outcome_text p.outcome ++ codes ";" ++ flat_map (λ n. codes " -" ++ decimal n) p.off ++ codes ";" ++ flat_map (λ n. codes " +" ++ decimal n) p.on
+
+abbrev told : List Seen → SwitchRequest → List ℕ
+told loaded r = plan_text (plan_of (over_arm loaded) r)
+
+-- ---- Order and rates
+
+-- those above the pid stand one higher than the others
+heights_of_seven : map (height controllers) (0 ∷ 1 ∷ 2 ∷ 3 ∷ 4 ∷ 5 ∷ 6 ∷ []) ≡ 0 ∷ 0 ∷ 1 ∷ 0 ∷ 0 ∷ 0 ∷ 1 ∷ []
+unfolding rank_within
+heights_of_seven = refl
+
+-- what precedes comes first, though it was loaded later
+trajectory_before_pid : map (λ l. l.serial) (order (over_arm (running 0 pid ∷ running 1 traj ∷ [])) (active (over_arm (running 0 pid ∷ running 1 traj ∷ [])))) ≡ 1 ∷ 0 ∷ []
+unfolding rank_within
+trajectory_before_pid = refl
+
+-- how often a controller is updated
+divisors : map (divisor 100) (33 ∷ 0 ∷ 100 ∷ 60 ∷ 50 ∷ 1 ∷ []) ≡ 3 ∷ 1 ∷ 1 ∷ 1 ∷ 2 ∷ 100 ∷ []
+divisors = refl
+
+-- every third cycle
+due_cycles : map (λ n. is_due n 3) (0 ∷ 1 ∷ 2 ∷ 3 ∷ 4 ∷ []) ≡ true ∷ false ∷ false ∷ true ∷ false ∷ []
+due_cycles = refl
+
+-- ---- Followers
+
+-- a trajectory over a pid that is not active
+follower_missing : told (inactive 0 pid ∷ inactive 1 traj ∷ []) (strictly [] (codes "traj" ∷ [])) ≡ codes "refused traj missing_follower pid/j1/position;;"
+unfolding rank_within digits
+follower_missing = refl
+
+-- both together: the pid first, so that the trajectory comes to it
+follower_with_it : told (inactive 0 pid ∷ inactive 1 traj ∷ []) (strictly [] (codes "pid" ∷ codes "traj" ∷ [])) ≡ codes "done;; +0 +1"
+unfolding rank_within digits
+follower_with_it = refl
+
+-- the pid cannot leave below the trajectory
+follower_needed : told (chained 0 pid ∷ running 1 traj ∷ []) (strictly (codes "pid" ∷ []) []) ≡ codes "refused traj missing_follower pid/j1/position;;"
+unfolding rank_within digits
+follower_needed = refl
+
+-- nor by best effort
+follower_kept : told (chained 0 pid ∷ running 1 traj ∷ []) (at_best (codes "pid" ∷ []) []) ≡ codes "done dropped pid missing_follower pid/j1/position;;"
+unfolding rank_within stays_within digits
+follower_kept = refl
+
+-- both leave together, the trajectory first
+both_leave : told (chained 0 pid ∷ running 1 traj ∷ []) (strictly (codes "pid" ∷ codes "traj" ∷ []) []) ≡ codes "done; -1 -0;"
+unfolding rank_within digits
+both_leave = refl
+
+-- and by best effort too, in whatever order they stand
+both_leave_at_best : told (chained 0 pid ∷ running 1 traj ∷ []) (at_best (codes "pid" ∷ codes "traj" ∷ []) []) ≡ codes "done; -1 -0;"
+unfolding rank_within stays_within digits
+both_leave_at_best = refl
+
+-- by best effort both come, though the trajectory is named first
+both_come_at_best : told (inactive 0 pid ∷ inactive 1 traj ∷ []) (at_best [] (codes "traj" ∷ codes "pid" ∷ [])) ≡ codes "done;; +0 +1"
+unfolding rank_within stays_within digits
+both_come_at_best = refl
+
+-- a pid that was active restarts where a trajectory comes above it
+chained_by_a_comer : told (running 0 pid ∷ inactive 1 traj ∷ []) (strictly [] (codes "traj" ∷ [])) ≡ codes "done; -0; +0 +1"
+unfolding rank_within digits
+chained_by_a_comer = refl
+
+-- ---- Conflicts and modes
+
+-- one joint interface, two claims
+conflict : told (running 0 fwd ∷ inactive 1 traj2 ∷ []) (strictly [] (codes "traj2" ∷ [])) ≡ codes "refused traj2 conflict j1/position fwd;;"
+unfolding rank_within digits
+conflict = refl
+
+-- two interfaces of one joint
+mode : told (running 0 fwd ∷ inactive 1 pid ∷ []) (strictly [] (codes "pid" ∷ [])) ≡ codes "refused pid mode_refused j1;;"
+unfolding rank_within digits
+mode = refl
+
+-- the one leaves for the other
+exchanged : told (running 0 fwd ∷ inactive 1 traj2 ∷ []) (strictly (codes "fwd" ∷ []) (codes "traj2" ∷ [])) ≡ codes "done; -0; +1"
+unfolding rank_within digits
+exchanged = refl
+
+-- ---- Best effort
+
+-- what can join joins
+what_can_be_done : told (running 0 fwd ∷ inactive 1 traj2 ∷ inactive 2 jsb ∷ []) (at_best [] (codes "nosuch" ∷ codes "traj2" ∷ codes "jsb" ∷ []))
+    ≡ codes "done dropped nosuch unknown, traj2 conflict j1/position fwd;; +2"
+unfolding rank_within stays_within digits
+what_can_be_done = refl
+
+-- a name twice: strictly refused, and at best done once
+twice : told (inactive 0 fwd ∷ []) (strictly [] (codes "fwd" ∷ codes "fwd" ∷ [])) ≡ codes "refused fwd twice;;"
+unfolding rank_within digits
+twice = refl
+
+twice_at_best : told (inactive 0 fwd ∷ []) (at_best [] (codes "fwd" ∷ codes "fwd" ∷ [])) ≡ codes "done dropped fwd twice;; +0"
+unfolding rank_within stays_within digits
+twice_at_best = refl
+
+-- a follower that is to restart and is needed stays as it is, so it is active already
+restart_of_a_needed_one : told (chained 0 pid ∷ running 1 traj ∷ []) (at_best (codes "pid" ∷ []) (codes "pid" ∷ []))
+    ≡ codes "done dropped pid missing_follower pid/j1/position, pid already_active;;"
+unfolding rank_within stays_within digits
+restart_of_a_needed_one = refl
+
+-- a restart that cannot join leaves
+restart_that_fails : told (record (unready 0 mk) { life = Active } ∷ []) (at_best (codes "mk" ∷ []) (codes "mk" ∷ [])) ≡ codes "done dropped mk not_ready; -0;"
+unfolding rank_within stays_within digits
+restart_that_fails = refl
+
+-- ---- Other causes
+
+-- a name that is not loaded, and one that is not active
+not_active : told (inactive 0 fwd ∷ []) (strictly (codes "fwd" ∷ []) (codes "fwd" ∷ [])) ≡ codes "refused fwd not_active;;"
+unfolding rank_within digits
+not_active = refl
+
+not_configured : told (fresh 0 fwd ∷ []) (strictly [] (codes "fwd" ∷ [])) ≡ codes "refused fwd not_configured;;"
+unfolding rank_within digits
+not_configured = refl
+
+already_active : told (running 0 fwd ∷ []) (strictly [] (codes "fwd" ∷ [])) ≡ codes "refused fwd already_active;;"
+unfolding rank_within digits
+already_active = refl
+
+-- what is not ready is named, though it is last
+not_ready : told (inactive 0 fwd ∷ inactive 1 jsb ∷ unready 2 mk ∷ []) (strictly [] (codes "fwd" ∷ codes "jsb" ∷ codes "mk" ∷ [])) ≡ codes "refused mk not_ready;;"
+unfolding rank_within digits
+not_ready = refl
+
+-- a component that is not there
+unavailable : plan_text (plan_of (record (over_arm (inactive 0 fwd ∷ [])) { components = Unconfigured ∷ [] }) (strictly [] (codes "fwd" ∷ [])))
+    ≡ codes "refused fwd unavailable j1/position;;"
+unfolding rank_within digits
+unavailable = refl
+
+-- a restart
+restarted : told (running 0 fwd ∷ []) (strictly (codes "fwd" ∷ []) (codes "fwd" ∷ [])) ≡ codes "done; -0; +0"
+unfolding rank_within digits
+restarted = refl
+
+-- nothing asked, nothing done
+nothing : told (running 0 fwd ∷ []) (strictly [] []) ≡ codes "done;;"
+unfolding rank_within digits
+nothing = refl
