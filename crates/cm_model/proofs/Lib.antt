@@ -5,3 +5,4 @@ pub mod WholeLemmas
 pub mod EnabledLemmas
 mod Rows
 mod ComponentRows
+mod CycleRows

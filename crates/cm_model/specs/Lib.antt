@@ -3,7 +3,9 @@ pub mod Words
 pub mod Ran
 pub mod Happened
 pub mod Components
+pub mod Values
 pub mod State
+pub mod Cycle
 pub mod Machine
 pub mod Scheduled
 pub mod Sessions

@@ -37,3 +37,6 @@ mod ran_room;
 mod record;
 mod record_room;
 mod reply;
+
+/// A second, in microseconds.
+pub const SECOND_US: u32 = 1_000_000;
