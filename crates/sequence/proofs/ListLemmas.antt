@@ -46,6 +46,15 @@ pub written_more : {A B : Type 0} (f : A → B) (xs : List A) (ys zs : List B) (
     → ys ≡ map f (take i xs) ++ drop i zs → x ≡ get_or xs i x → set ys i (f x) ≡ map f (take (i + 1) xs) ++ drop (i + 1) zs
 written_more f xs ys zs i x within same so_far is = rw add-one (written_next f xs ys zs i x within same so_far is)
 
+-- until then the next place holds what it held
+pub not_yet_written : {A B : Type 0} (f : A → B) (xs : List A) (ys zs : List B) (i : ℕ) (d : B) → i < length xs → length zs ≡ length xs
+    → ys ≡ map f (take i xs) ++ drop i zs → get_or ys i d ≡ get_or zs i d
+not_yet_written f [] ys zs i d within same so_far = absurd (omega (arith, within))
+not_yet_written f (w ∷ ws) ys [] i d within same so_far = absurd (omega (arith, same))
+not_yet_written f (w ∷ ws) ys (z ∷ zs) zero d within same so_far = rw so_far refl
+not_yet_written f (w ∷ ws) ys (z ∷ zs) (suc i) d within same so_far =
+    rw so_far (not_yet_written f ws (map f (take i ws) ++ drop i zs) zs i d (omega (arith, within)) (omega (arith, same)) refl)
+
 -- when all places are written
 pub written_all : {A B : Type 0} (f : A → B) (xs : List A) (ys zs : List B) (i : ℕ) → length xs ≤ i → length zs ≡ length xs
     → ys ≡ map f (take i xs) ++ drop i zs → ys ≡ map f xs

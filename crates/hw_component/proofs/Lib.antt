@@ -1,0 +1,4 @@
+pub mod CycleLemmas
+pub mod ClaimLemmas
+pub mod JointLemmas
+pub mod MakingLemmas

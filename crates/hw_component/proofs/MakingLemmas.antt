@@ -1,0 +1,102 @@
+-- What can be made of a description: the components of a valid one.
+use Rattle.std.proofs.Common.{◌≡◌, ℕ, ◌+◌, ◌≤◌, ℤ, pos, negsuc, ◌≤ℤ◌, Bool, true, false, List, [], ◌∷◌, length, Result, Ok, Err, refl, arith, length-append}
+use Rattle.std.specs.Prelude.{nat_lt, nat_le, ◌==◌, ◌&&◌, codes, if◌then◌else◌}
+use Rattle.std.specs.List.{All}
+use Rattle.std.proofs.lemmas.Bool.{ltb-false}
+use Rattle.std.proofs.lemmas.Int.{ints}
+use Rattle.std.proofs.lemmas.List.Elements.{All-nil, All-cons}
+use Rattle.fixed_num.specs.Bodies.{IsPlant}
+use Rattle.cm_document.specs.declared.limits.TheConstants.{VERSION, HIGHEST_RATE, MOST_CYCLES, MOST_COMPONENTS, MOST_JOINTS}
+use Rattle.cm_document.specs.Forms.{item_path, inside}
+use Rattle.cm_document.specs.Links.{joints_of}
+use Rattle.cm_document.specs.Valid.{limited, few_enough, named_apart, not_negative, ranged, each_ranged, joint_ranged, component_ranged, joint_count_fits, in_range, valid, IsValid}
+use Rattle.cm_document.specs.declared.description.CompDesc.{CompDesc}
+use Rattle.cm_document.specs.declared.description.CompKind.{CompKind}
+use Rattle.cm_document.specs.declared.description.Description.{Description}
+use Rattle.cm_document.specs.declared.description.JointDesc.{JointDesc}
+use Rattle.cm_document.specs.declared.faults.CheckFault.{CheckFault}
+use Rattle.cm_document.specs.declared.faults.CheckFault.TheVariants.{TooMany}
+use Rattle.cm_document.specs.declared.faults.What.{What}
+use Rattle.cm_document.specs.declared.faults.What.TheVariants.{Components, Joints}
+use Rattle.cm_document.proofs.ReadingLemmas.{bind_Ok}
+use Rattle.cm_model.specs.Components.{plant_of}
+use Rattle.hw_component.specs.Hardware.{CanBeMade}
+
+-- ---- Ranges
+
+-- what was found within its range is so
+ranged_so : (fits : Bool) (path : List ℕ) (u : Unit {0}) → ranged fits path ≡ Ok u → fits ≡ true
+ranged_so true path u e = refl
+ranged_so false path u e = cc
+
+-- where each item of a list is within its ranges, what that means holds of each
+each_so : {A : Type 0} (P : A → Type 0) (rule : List ℕ → A → Result (Unit {0}) CheckFault) → ((path : List ℕ) (x : A) (u : Unit {0}) → rule path x ≡ Ok u → P x)
+    → (key : List ℕ) (k : ℕ) (xs : List A) (u : Unit {0}) → each_ranged rule key k xs ≡ Ok u → All P xs
+each_so P rule means key k [] u e = All-nil P
+each_so P rule means key k (x ∷ xs) u e =
+    let here = bind_Ok (rule (inside (item_path key k)) x) _ u e in
+    All-cons P x xs (means _ x here.0 here.1) (each_so P rule means key (k + 1) xs u here.2)
+
+-- a number that is not negative
+some : (z : ℤ) → not_negative z ≡ true → pos 0 ≤ℤ z
+some (pos n) e = omega (arith, ints)
+some (negsuc n) e = let f = e in cc
+
+-- of a joint within its ranges no number that its body moves by is negative
+joint_so : (kind : CompKind) (path : List ℕ) (joint : JointDesc) (u : Unit {0}) → joint_ranged kind path joint ≡ Ok u → IsPlant (plant_of joint)
+joint_so kind path joint u e =
+    let vmax = bind_Ok (ranged (not_negative joint.vmax) _) _ u e in
+    let gain = bind_Ok (ranged (not_negative joint.gain) _) _ u vmax.2 in
+    let damping = bind_Ok (ranged (not_negative joint.damping) _) _ u gain.2 in
+    record {
+      vmax = some joint.vmax (ranged_so _ _ vmax.0 vmax.1);
+      gain = some joint.gain (ranged_so _ _ gain.0 gain.1);
+      damping = some joint.damping (ranged_so _ _ damping.0 damping.1);
+    }
+
+-- nor of one of a component
+component_so : (path : List ℕ) (c : CompDesc) (u : Unit {0}) → component_ranged path c ≡ Ok u → All (λ joint. IsPlant (plant_of joint)) c.joints
+component_so path c u e =
+    let count = bind_Ok (ranged (joint_count_fits c.kind (length c.joints)) _) _ u e in
+    each_so (λ joint. IsPlant (plant_of joint)) (joint_ranged c.kind) (joint_so c.kind) _ 0 c.joints u count.2
+
+-- ---- Counts
+
+-- where no fault is told there are not too many
+not_over : (what : What) (over : Bool) (u : Unit {0}) → ◌≡◌ {A = Result (Unit {0}) CheckFault} (if over then Err (TooMany what) else Ok tt) (Ok u) → over ≡ false
+not_over what true u e = cc
+not_over what false u e = refl
+
+-- what was found few enough is so
+limited_so : (what : What) (number limit : ℕ) (u : Unit {0}) → limited what number limit ≡ Ok u → number ≤ limit
+limited_so what number limit u e = ltb-false limit number (not_over what (nat_lt limit number) u e)
+
+-- no component has more joints than all together
+joints_fit : (n : ℕ) (cs : List CompDesc) → length (joints_of cs) ≤ n → All (λ c. length c.joints ≤ n) cs
+joints_fit n [] few = All-nil (λ c. length c.joints ≤ n)
+joints_fit n (c ∷ cs) few =
+    let both = length-append c.joints (joints_of cs) in
+    All-cons (λ c. length c.joints ≤ n) c cs (omega (arith, both, few)) (joints_fit n cs (omega (arith, both, few)))
+
+-- ---- Components
+
+-- both together
+both_so : (cs : List CompDesc) → All (λ c. All (λ joint. IsPlant (plant_of joint)) c.joints) cs → All (λ c. length c.joints ≤ MOST_JOINTS) cs → All CanBeMade cs
+both_so cs plants few k d below = record { plants = plants k d below; joints = let n = few k d below in omega (arith, n) }
+
+-- each component of a valid description can be made
+pub valid_can_be_made : (d : Description) → IsValid d → All CanBeMade d.components
+unfolding valid
+valid_can_be_made d sound =
+    let few = bind_Ok (few_enough d) _ d sound.no_fault in
+    let named = bind_Ok (named_apart d) _ d few.2 in
+    let ranges = bind_Ok (in_range d) _ d named.2 in
+    let components = bind_Ok (limited Components (length d.components) MOST_COMPONENTS) _ few.0 few.1 in
+    let joints = bind_Ok (limited Joints (length (joints_of d.components)) MOST_JOINTS) _ few.0 components.2 in
+    let version = bind_Ok (ranged (d.version == VERSION) (codes "version")) _ ranges.0 ranges.1 in
+    let rate = bind_Ok (ranged (nat_le 1 d.update_rate && nat_le d.update_rate HIGHEST_RATE) (codes "update_rate")) _ ranges.0 version.2 in
+    let cycles = bind_Ok (ranged (nat_le d.cycles MOST_CYCLES) (codes "cycles")) _ ranges.0 rate.2 in
+    let each = bind_Ok (each_ranged component_ranged (codes "component") 0 d.components) _ ranges.0 cycles.2 in
+    both_so d.components
+    (each_so (λ c. All (λ joint. IsPlant (plant_of joint)) c.joints) component_ranged component_so (codes "component") 0 d.components each.0 each.1)
+    (joints_fit MOST_JOINTS d.components (limited_so Joints (length (joints_of d.components)) MOST_JOINTS joints.0 joints.1))

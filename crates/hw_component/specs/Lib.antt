@@ -1,0 +1,5 @@
+pub mod Hardware
+-- how the code keeps a component
+pub mod Cycles
+pub mod Drives
+pub mod Kept
