@@ -6,7 +6,7 @@ use Rattle.iface_names.specs.declared.interface.IfaceName.{IfaceName}
 use Rattle.cm_document.specs.Vocabulary.{controller_kinds}
 use Rattle.cm_document.specs.Forms.{fault_in, word_in}
 use Rattle.cm_document.specs.Tables.{walk}
-use Rattle.cm_document.specs.Described.{joint_table, component_table, controller_table, controller_form, top_table, described_states, description_form, description_in, all_faults, has_form}
+use Rattle.cm_document.specs.Described.{joint_table, component_table, controller_table, controller_form, top_table, described_states, description_form, description_in, all_faults, fits_description}
 use Rattle.cm_document.specs.declared.description.CtlKind.{CtlKind}
 use Rattle.cm_document.specs.declared.description.CtlKind.TheVariants.{Forward, Passthrough, Pid, Trajectory, Broadcaster, Mock}
 use Rattle.cm_document.proofs.FormLemmas.{Tells, Tells-first, Tells-fits, IsSound, IsSoundTable, sound_parts, walk-IsSound, chosen-Tells}
@@ -40,14 +40,14 @@ unfolding top_table
 top-IsSound states = search (sound_parts, component-IsSound, controller-IsSound) depth 20
 
 -- the whole tree
-description-Tells : (ms : Members) → Tells (description_in (Some ms)) (all_faults ms) (has_form ms)
+description-Tells : (ms : Members) → Tells (description_in (Some ms)) (all_faults ms) (fits_description ms)
 unfolding description_form
 description-Tells ms = (walk-IsSound (top-IsSound (described_states ms))).tells [] ms
 
 -- the fault that is told of a tree is the first of all its faults
 pub description-first : (ms : Members) → fault_in (description_in (Some ms)) ≡ take 1 (all_faults ms)
-description-first ms = Tells-first (description_in (Some ms)) (all_faults ms) (has_form ms) (description-Tells ms)
+description-first ms = Tells-first (description_in (Some ms)) (all_faults ms) (fits_description ms) (description-Tells ms)
 
 -- a tree is accepted exactly where it has the form of a description
-pub description-fits : (ms : Members) → is_ok (description_in (Some ms)) ≡ has_form ms
-description-fits ms = Tells-fits (description_in (Some ms)) (all_faults ms) (has_form ms) (description-Tells ms)
+pub description-fits : (ms : Members) → is_ok (description_in (Some ms)) ≡ fits_description ms
+description-fits ms = Tells-fits (description_in (Some ms)) (all_faults ms) (fits_description ms) (description-Tells ms)

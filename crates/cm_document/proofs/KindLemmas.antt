@@ -6,7 +6,7 @@ use Rattle.std.specs.List.{AllByRecursion, IsDistinct, list_any}
 use Rattle.std.proofs.lemmas.Bool.{cond_both}
 use Rattle.std.proofs.lemmas.Map.Keys.{IsDistinct-push}
 use Rattle.toml.specs.Data.{Data, string, array, Items, no_items, item}
-use Rattle.iface_names.specs.Interfaces.{kind_of, same_kind}
+use Rattle.iface_names.specs.Interfaces.{kind_named, same_kind}
 use Rattle.iface_names.specs.Sameness.{same_kind-Decides}
 use Rattle.iface_names.specs.declared.interface.IfaceName.{IfaceName}
 use Rattle.iface_names.specs.declared.kind.Kind.{Kind}
@@ -38,7 +38,7 @@ placed_kind_is_new path before (Some kind) =
 
 -- nor does one that is read of a value
 kind_is_new : (path : List ℕ) (before : List Kind) (d : Data) → IfOk (placed path (kind_in before d)) (λ x. list_any (same_kind x) before ≡ false)
-kind_is_new path before (string text) = placed_kind_is_new path before (kind_of text)
+kind_is_new path before (string text) = placed_kind_is_new path before (kind_named text)
 kind_is_new path before _ = tt
 
 -- kinds read after others differ with them

@@ -1,10 +1,11 @@
 -- Lines and words, cut off a text one by one.
 use Rattle.std.proofs.Common.{◌≡◌, ℕ, suc, ◌+◌, ◌<◌, ◌≤◌, Bool, true, false, cond, List, [], ◌∷◌, ◌++◌, length, take, drop, Some, None, refl, ap, ◌∙◌, arith, ltb-false, ltb-true, length-drop}
-use Rattle.std.specs.Prelude.{position, if◌then◌else◌, not, ◌==◌}
-use Rattle.std.specs.List.{position_or_len}
+use Rattle.std.specs.Prelude.{position, filter, if◌then◌else◌, not, ◌==◌}
+use Rattle.std.specs.List.{position_or_len, onto_first, slice_split}
 use Rattle.std.proofs.lemmas.List.{take_all, drop_all}
 use Rattle.std.proofs.lemmas.Option.{cond_some}
-use Rattle.cm_document.specs.Lines.{onto_first, raw_lines, without_last, joined, is_blank, words}
+use Rattle.sequence.proofs.ListLemmas.{not_empty}
+use Rattle.cm_document.specs.Lines.{raw_lines, without_last, joined, is_blank, words}
 
 -- ---- Lines
 
@@ -112,24 +113,32 @@ word_end xs = position_or_len is_blank xs
 
 -- a blank in front does not count
 words_blank : (b : ℕ) (bs : List ℕ) → is_blank b ≡ true → words (b ∷ bs) ≡ words bs
-words_blank b [] h = rw h refl
-words_blank b (c ∷ cs) h = rw h refl
+words_blank b bs h = rw h refl
 
--- one byte more in front of a word
-word_more : (v : Bool) (b : ℕ) (cs : List ℕ) (n : ℕ) (rest : List (List ℕ)) → (v ≡ true → n ≡ 0) → (v ≡ false → rest ≡ take n cs ∷ words (drop n cs)) → (v ≡ true → rest ≡ words cs)
-    → (if v then (b ∷ []) ∷ rest else onto_first b rest) ≡ take (1 + n) (b ∷ cs) ∷ words (drop (1 + n) (b ∷ cs))
-word_more true b cs n rest z h w = rw (z refl, w refl) refl
-word_more false b cs n rest z h w = let e : 1 + n ≡ suc n = omega arith in rw (e, h refl) refl
+-- the first part of a text that is split at its blanks: so many bytes; the parts behind it have the words of the rest
+record FirstPart (xs : List ℕ) (n : ℕ) : Type 0 where
+  behind : List (List ℕ)
+  parts : slice_split is_blank xs ≡ take n xs ∷ behind
+  others : filter (λ word. not (length word == 0)) behind ≡ words (drop n xs)
 
--- no byte stands before a blank in front
-no_word_end : (v : Bool) (n : ℕ) → v ≡ true → cond (not v) (1 + n) 0 ≡ 0
-no_word_end true n h = refl
-no_word_end false n h = cc
+-- one byte more in front of it
+first_part_more : (v : Bool) (b : ℕ) (bs : List ℕ) (n : ℕ) → is_blank b ≡ v → FirstPart bs n → FirstPart (b ∷ bs) (cond (not v) (1 + n) 0)
+first_part_more true b bs n e first = record { behind = slice_split is_blank bs; parts = rw e refl; others = rw e refl }
+first_part_more false b bs n e first =
+    let k : 1 + n ≡ suc n = omega arith in
+    record { behind = first.behind; parts = rw (e, k, first.parts) refl; others = rw k first.others }
+
+-- it ends before the first blank
+first_part : (xs : List ℕ) → FirstPart xs (word_end xs)
+first_part [] = record { behind = []; parts = refl; others = refl }
+first_part (b ∷ bs) = first_part_more (is_blank b) b bs (word_end bs) refl (first_part bs)
 
 -- the first blank ends a word
 words_word : (b : ℕ) (bs : List ℕ) → is_blank b ≡ false → words (b ∷ bs) ≡ take (word_end (b ∷ bs)) (b ∷ bs) ∷ words (drop (word_end (b ∷ bs)) (b ∷ bs))
-words_word b [] h = rw h refl
-words_word b (c ∷ cs) h = rw h (word_more (is_blank c) b (c ∷ cs) (word_end (c ∷ cs)) (words (c ∷ cs)) (no_word_end (is_blank c) (word_end cs)) (words_word c cs) (λ _. refl))
+words_word b bs h =
+    let first = first_part bs in
+    let k : 1 + word_end bs ≡ suc (word_end bs) = omega arith in
+    rw (h, k, first.parts, not_empty (b ∷ take (word_end bs) bs) (omega arith), first.others) refl
 
 -- what stands behind the blanks begins with a word
 abbrev BeginsWithWord : List ℕ → List ℕ → Type 0

@@ -217,5 +217,5 @@ abbrev pub all_faults : Members → List DescFault
 all_faults ms = description_form.faults [] ms
 
 -- whether a tree has the form of a description: no unlisted key, each required key, and at every key a value of the form that is asked there
-abbrev pub has_form : Members → Bool
-has_form ms = description_form.fits ms
+abbrev pub fits_description : Members → Bool
+fits_description ms = description_form.fits ms

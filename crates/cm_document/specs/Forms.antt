@@ -5,7 +5,7 @@ use Rattle.toml.specs.Data.{Data, string, integer, float, boolean, array, table,
 use Rattle.fixed_num.specs.Micro.{units}
 use Rattle.fixed_num.specs.Text.{number_of}
 use Rattle.iface_names.specs.Names.{is_name}
-use Rattle.iface_names.specs.Interfaces.{kind_of, same_kind, interface_of}
+use Rattle.iface_names.specs.Interfaces.{kind_named, same_kind, interface_of}
 use Rattle.iface_names.specs.declared.kind.Kind.{Kind}
 use Rattle.iface_names.specs.declared.interface.IfaceName.{IfaceName}
 use Rattle.iface_names.specs.declared.interface.IfaceName.TheVariants.{Joint, Reference}
@@ -81,7 +81,7 @@ new_kind before (Some kind) = if list_any (same_kind kind) before then Err wrong
 
 -- a kind of interface stands once in a list
 abbrev pub kind_in : List Kind → Data → Result Kind Wrong
-kind_in before (string text) = new_kind before (kind_of text)
+kind_in before (string text) = new_kind before (kind_named text)
 kind_in before _ = Err wrong.Value
 
 -- ---- Places

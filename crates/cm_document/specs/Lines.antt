@@ -1,11 +1,7 @@
 -- The lines of a document, the separator, and the words of a line.
-use Rattle.std.specs.Prelude.{ℕ, ◌+◌, Bool, true, false, ◌||◌, ◌==◌, if◌then◌else◌, List, [], ◌∷◌, ◌++◌, codes, Option, Some, None, nat_eq}
+use Rattle.std.specs.Prelude.{ℕ, ◌+◌, Bool, true, false, not, ◌||◌, ◌==◌, if◌then◌else◌, List, [], ◌∷◌, ◌++◌, length, filter, codes, Option, Some, None, nat_eq}
+use Rattle.std.specs.List.{onto_first, slice_split}
 use Rattle.std.specs.Cmp.Lexicographic.{pointwise}
-
--- this byte, and then what the first list has
-abbrev pub onto_first : ℕ → List (List ℕ) → List (List ℕ)
-onto_first b [] = (b ∷ []) ∷ []
-onto_first b (x ∷ xs) = (b ∷ x) ∷ xs
 
 -- The lines of a text, each with its line feed, which the last may lack. After the last line feed no empty line stands.
 abbrev pub raw_lines : List ℕ → List (List ℕ)
@@ -52,14 +48,9 @@ parts_of bytes = parts_of_lines (raw_lines bytes)
 abbrev pub is_blank : ℕ → Bool
 is_blank b = b == 32 || b == 9
 
--- the words of a line: what stands between blanks
+-- the words of a line: the parts between blanks that are not empty
 abbrev pub words : List ℕ → List (List ℕ)
-words [] = []
-words (b ∷ []) = if is_blank b then [] else (b ∷ []) ∷ []
-words (b ∷ c ∷ bs) =
-    if is_blank b then words (c ∷ bs)
-    else if is_blank c then (b ∷ []) ∷ words (c ∷ bs)
-    else onto_first b (words (c ∷ bs))
+words text = filter (λ word. not (length word == 0)) (slice_split is_blank text)
 
 -- a word that begins a comment
 abbrev pub is_comment : List ℕ → Bool

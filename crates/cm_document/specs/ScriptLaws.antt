@@ -1,10 +1,10 @@
 -- What every script keeps that was read; and a script that keeps it reads back from its text.
-use Rattle.std.specs.Prelude.{◌≡◌, ℕ, ℤ, ◌+◌, ◌<◌, ◌≤◌, Bool, false, IsTrue, Ok, List, [], ◌∷◌, length, sum_by, codes}
+use Rattle.std.specs.Prelude.{◌≡◌, ℕ, ℤ, ◌+◌, ◌<◌, ◌≤◌, Bool, false, IsTrue, Ok, List, [], ◌∷◌, length, codes}
 use Rattle.std.specs.List.{AllByRecursion}
 use Rattle.fixed_num.specs.Micro.{IsInRange}
 use Rattle.iface_names.specs.Names.{is_name, same_name}
 use Rattle.cm_document.specs.declared.limits.TheConstants.{HIGHEST_RATE, MOST_SESSIONS, MOST_CALLS, MOST_NAMES, MOST_POINTS, MOST_VALUES}
-use Rattle.cm_document.specs.ScriptRules.{script_with}
+use Rattle.cm_document.specs.ScriptRules.{calls_and_turns, script_with}
 use Rattle.cm_document.specs.declared.call.Call.{Call}
 use Rattle.cm_document.specs.declared.call.Call.TheVariants as call
 use Rattle.cm_document.specs.declared.call.Mail.{Mail}
@@ -91,10 +91,6 @@ abbrev pub IsTurnAmong : ℕ → Turn → Type 0
 IsTurnAmong sessions (turn.Step who) = who < sessions
 IsTurnAmong sessions turn.Begin = Unit {0}
 IsTurnAmong sessions turn.End = Unit {0}
-
--- how many calls and turns a script has
-abbrev pub calls_and_turns : Script → ℕ
-calls_and_turns s = sum_by (λ t. length t.lines) s.sessions + length s.schedule
 
 -- A script has at most 8 sessions of different names, at most 10,000 calls and turns, calls that a line can say, and steps of
 -- its own sessions.

@@ -69,8 +69,8 @@ same_controller_kind Mock Mock = true
 same_controller_kind _ _ = false
 
 -- the word beside a kind of controller
-abbrev pub kind_word : CtlKind → List ℕ
-kind_word kind = option_map_or (λ row. row.0.now) (find (λ row. same_controller_kind row.1 kind) CONTROLLER_KINDS) []
+abbrev pub controller_word : CtlKind → List ℕ
+controller_word kind = option_map_or (λ row. row.0.now) (find (λ row. same_controller_kind row.1 kind) CONTROLLER_KINDS) []
 
 -- the two states are one
 abbrev pub same_life : Life → Life → Bool

@@ -27,9 +27,9 @@ impl Display for CompKind {
 
 impl Display for CtlKind {
     ghost use Rattle.std.specs.Prelude.{Some};
-    ghost use Rattle.cm_document.specs.Vocabulary.{kind_word};
+    ghost use Rattle.cm_document.specs.Vocabulary.{controller_word};
 
-    ghost output = { λ kind. Some (kind_word kind) };
+    ghost output = { λ kind. Some (controller_word kind) };
 
     fn fmt<W: Write>(&self, f: &mut Formatter<W>) -> fmt::Result {
         f.write_str(self.word())

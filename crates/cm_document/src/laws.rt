@@ -5,7 +5,7 @@ ghost use Rattle.toml.specs.Data.{Members};
 ghost use Rattle.cm_document.specs.declared.description.CtlDesc.{CtlDesc};
 ghost use Rattle.cm_document.specs.declared.document.Document.{Document};
 ghost use Rattle.cm_document.specs.Forms.{fault_in};
-ghost use Rattle.cm_document.specs.Described.{description_in, all_faults, has_form};
+ghost use Rattle.cm_document.specs.Described.{description_in, all_faults, fits_description};
 ghost use Rattle.cm_document.specs.Document.{document};
 ghost use Rattle.cm_document.specs.Links.{precedes_far, IsChain};
 ghost use Rattle.cm_document.specs.Places.{EachStandsOnce};
@@ -22,7 +22,7 @@ pub fn the_first_of_all_faults_is_told()
 /// A tree is accepted exactly where it has the form of a description: no unlisted key, each required key, and at every key a
 /// value of the form that is asked there.
 pub fn an_accepted_tree_has_its_form()
-    ensures { (ms : Members) → is_ok (description_in (Some ms)) ≡ has_form ms }
+    ensures { (ms : Members) → is_ok (description_in (Some ms)) ≡ fits_description ms }
 {}
 
 /// Among some controllers one precedes another at a distance exactly where a chain leads from it to the other over controllers of

@@ -2,7 +2,7 @@
 
 ghost use Rattle.std.specs.Prelude.{◌≡◌, map, find, option_copied};
 ghost use Rattle.iface_names.specs.Names.{same_name};
-ghost use Rattle.cm_document.specs.Vocabulary.{listed, same_component_kind, component_word, same_controller_kind, kind_word, same_life, life_word, same_verb, verb_word, bool_eq, strictness_word};
+ghost use Rattle.cm_document.specs.Vocabulary.{listed, same_component_kind, component_word, same_controller_kind, controller_word, same_life, life_word, same_verb, verb_word, bool_eq, strictness_word};
 
 use crate::description::{CompKind, CtlKind};
 use crate::life::Life;
@@ -115,7 +115,7 @@ fn is_component_kind(kind: CompKind, other: CompKind) -> bool
 impl CtlKind {
     /// The word for the kind, as a description's `type` says it.
     pub fn word(self) -> &'static str
-        ensures { result.now ≡ kind_word self }
+        ensures { result.now ≡ controller_word self }
     {
         match kind_row(&CONTROLLER_KINDS, self) {
             Some(row) => row.0,

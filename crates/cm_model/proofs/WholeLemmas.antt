@@ -214,7 +214,7 @@ settle_from-Settles who (lines ∷ others) s made settled built fits plain done 
 -- ---- The loop
 
 -- a settled progress after n cycles of a document
-record Ran (n total who : ℕ) (sessions : List (List Call)) (p : Progress) : Type 0 where
+record Cycled (n total who : ℕ) (sessions : List (List Call)) (p : Progress) : Type 0 where
   settled : AllMade p.sessions
   calls : callers p.made ≡ by_sessions 0 sessions ++ by who (cycle_calls n)
   plain : AllPlain p.made
@@ -299,9 +299,9 @@ two_calls made who by_whom c d r q front calls known so_far =
     ∙ ap (λ l. front ++ by who l) (append_assoc calls (c ∷ []) (d ∷ []))
 
 -- one cycle more
-cycle-Ran : (n total who : ℕ) (sessions : List (List Call)) (p : Progress) → Ran n total who sessions p → n < total
-    → Ran (suc n) total who sessions (settle_all (looped (End n) (looped (Begin n) p)))
-cycle-Ran n total who sessions p ran more =
+cycle-Cycled : (n total who : ℕ) (sessions : List (List Call)) (p : Progress) → Cycled n total who sessions p → n < total
+    → Cycled (suc n) total who sessions (settle_all (looped (End n) (looped (Begin n) p)))
+cycle-Cycled n total who sessions p ran more =
     let more' : n < p.state.description.cycles = rw ran.total_is more in
     let first = looped-begun n p ran.aloft ran.closed ran.ended more' in
     let second = looped-ended n (begun n p) refl ran.ended in
@@ -318,19 +318,19 @@ cycle-Ran n total who sessions p ran more =
     })
 
 -- the first n cycles
-cycles-Ran : (n total who : ℕ) (sessions : List (List Call)) (p : Progress) → Ran 0 total who sessions (settle_all p) → n ≤ total
-    → Ran n total who sessions (settle_all (cycles n p))
+cycles-Cycled : (n total who : ℕ) (sessions : List (List Call)) (p : Progress) → Cycled 0 total who sessions (settle_all p) → n ≤ total
+    → Cycled n total who sessions (settle_all (cycles n p))
 unfolding with_cycle
-cycles-Ran zero total who sessions p ran fits = ran
-cycles-Ran (suc n) total who sessions p ran fits =
-    cycle-Ran n total who sessions (settle_all (cycles n p)) (cycles-Ran n total who sessions p ran (omega arith)) (omega arith)
+cycles-Cycled zero total who sessions p ran fits = ran
+cycles-Cycled (suc n) total who sessions p ran fits =
+    cycle-Cycled n total who sessions (settle_all (cycles n p)) (cycles-Cycled n total who sessions p ran (omega arith)) (omega arith)
 
 -- what a whole run made: every session's lines, then the loop's calls, and no ticket
 record Finished (total who : ℕ) (sessions : List (List Call)) (history : List Entry) : Type 0 where
   calls : callers history ≡ by_sessions 0 sessions ++ by who (loop_calls total)
   plain : AllPlain history
 
-finish-Finished : (total who : ℕ) (sessions : List (List Call)) (p : Progress) → Ran total total who sessions (settle_all p)
+finish-Finished : (total who : ℕ) (sessions : List (List Call)) (p : Progress) → Cycled total total who sessions (settle_all p)
     → Finished total who sessions (finish p).made
 unfolding finish
 finish-Finished total who sessions p ran =
@@ -358,10 +358,10 @@ built_lines : (sessions : List SessionText) → AllBuilt sessions → AllByRecur
 built_lines [] forms = tt
 built_lines (s ∷ sessions) forms = (forms.0, built_lines sessions forms.1)
 
-start-Ran : (d : Document) (blanks : Blanks) → AllBuilt d.script.sessions
-    → Ran 0 d.description.cycles (length d.script.sessions) (lines_of d.script.sessions) (settle_all (start d blanks))
+start-Cycled : (d : Document) (blanks : Blanks) → AllBuilt d.script.sessions
+    → Cycled 0 d.description.cycles (length d.script.sessions) (lines_of d.script.sessions) (settle_all (start d blanks))
 unfolding start settle_all
-start-Ran d blanks built =
+start-Cycled d blanks built =
     let lines = lines_of d.script.sessions in
     let s = boot d.description blanks (length d.script.sessions) in
     let fits : 0 + length lines ≤ length d.script.sessions = omega (arith, length-map d.script.sessions (λ (t : SessionText). t.lines)) in
@@ -382,7 +382,7 @@ scheduled-Finished : (d : Document) (blanks : Blanks) → AllBuilt d.script.sess
     → Finished d.description.cycles (length d.script.sessions) (lines_of d.script.sessions) (scheduled d blanks)
 unfolding scheduled
 scheduled-Finished d blanks built =
-    finish-Finished d.description.cycles _ _ _ (cycles-Ran d.description.cycles d.description.cycles _ _ (start d blanks) (start-Ran d blanks built) (omega arith))
+    finish-Finished d.description.cycles _ _ _ (cycles-Cycled d.description.cycles d.description.cycles _ _ (start d blanks) (start-Cycled d blanks built) (omega arith))
 
 -- ---- One caller's calls
 

@@ -80,14 +80,14 @@ components_stepped s values component (c ∷ cs) bodies =
 -- ---- A cycle
 
 -- What a cycle makes: what the interfaces hold and the bodies are after it, and what its record tells.
-pub record Cycled : Type 0 where
+pub record CycleResult : Type 0 where
   pub values : List InterfaceValue
   pub bodies : List BodyState
   pub happened : Happened
 
 -- what a cycle makes after these updates
-abbrev pub cycled : State → Updates → Cycled
-cycled s u =
+abbrev pub cycle_with : State → Updates → CycleResult
+cycle_with s u =
     let bodies = components_stepped s u.values 0 s.description.components s.bodies in
     record {
       values = u.values;
@@ -97,8 +97,8 @@ cycled s u =
 
 -- A cycle: the components are read that are inactive or active, and their state interfaces hold their bodies' numbers where the read
 -- did not fail; the controllers are updated; the active components are written whose read did not fail; every body steps.
-unfoldable pub cycle : State → Cycled
-cycle s = cycled s (updates s (after_reads (component_is read_succeeds s) s.bodies s.values))
+unfoldable pub cycle : State → CycleResult
+cycle s = cycle_with s (updates s (after_reads (component_is read_succeeds s) s.bodies s.values))
 
 -- ---- Its end
 
@@ -112,5 +112,5 @@ lives_after s = map (λ p. life_after p.0 p.1 s.ended) (zip s.description.compon
 
 -- At the end the values and bodies are those after the cycle, the components that failed move, and one cycle more has ended. No
 -- controller can be active yet, so none is stopped.
-unfoldable pub after_cycle : State → Cycled → State
+unfoldable pub after_cycle : State → CycleResult → State
 after_cycle s c = moved (record s { values = c.values; bodies = c.bodies; ended = s.ended + 1; aloft = false }) (lives_after s)

@@ -4,7 +4,7 @@ use Rattle.fixed_num.specs.Text.{spelled}
 use Rattle.fixed_num.specs.declared.value.BodyState.{BodyState}
 use Rattle.fixed_num.specs.declared.value.Value.{Value}
 use Rattle.fixed_num.specs.declared.value.Value.TheVariants.{Unset, Num}
-use Rattle.cm_document.specs.Vocabulary.{component_word, kind_word, life_word}
+use Rattle.cm_document.specs.Vocabulary.{component_word, controller_word, life_word}
 use Rattle.cm_document.specs.declared.description.CompDesc.{CompDesc}
 use Rattle.cm_model.specs.Happened.{Happened}
 use Rattle.cm_model.specs.Ran.{Ran}
@@ -50,7 +50,7 @@ chained_text false = []
 
 -- a controller, as `mk mock unconfigured 0` or `fwd forward active 1 every 3 chained`
 abbrev pub controller_head : CtlLine → List ℕ
-controller_head c = c.name ++ codes " " ++ kind_word c.kind ++ codes " " ++ life_word c.life
+controller_head c = c.name ++ codes " " ++ controller_word c.kind ++ codes " " ++ life_word c.life
 
 abbrev pub controller_text : CtlLine → List ℕ
 controller_text c = controller_head c ++ codes " " ++ decimal c.serial ++ divisor_text c.divisor ++ chained_text c.chained

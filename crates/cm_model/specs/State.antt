@@ -151,8 +151,8 @@ owner s i =
 -- ---- Lists
 
 -- the line of a loaded controller
-abbrev pub line_of : State → Loaded → Option CtlLine
-line_of s l = option_map (λ c. record {
+abbrev pub controller_line : State → Loaded → Option CtlLine
+controller_line s l = option_map (λ c. record {
   name = c.name;
   serial = l.serial;
   divisor = l.divisor;
@@ -163,7 +163,7 @@ line_of s l = option_map (λ c. record {
 
 -- the list of controllers, by serial
 abbrev pub controller_lines : State → List CtlLine
-controller_lines s = filter_map (line_of s) s.loaded
+controller_lines s = filter_map (controller_line s) s.loaded
 
 -- the line of an interface at a place
 abbrev pub interface_line : State → ℕ → InterfaceValue → IfaceLine

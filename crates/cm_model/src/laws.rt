@@ -13,7 +13,8 @@ ghost use Rattle.cm_model.specs.Sessions.{IsConsole, IsWhole};
 
 /// Each scheduled history is legal: from boot each of its entries is a step of the written manager.
 pub fn scheduled_histories_are_legal()
-    ensures { (d : Document) (blanks : Blanks) → IsLegal d.description blanks (length d.script.sessions) (scheduled d blanks) }
+    ensures { (d : Document) (blanks : Blanks)
+        → IsLegal d.description blanks (length d.script.sessions) (scheduled d blanks) }
 {}
 
 /// Each history that is scheduled for a document whose lines have forms that are built is whole for it: it has every session's

@@ -56,7 +56,9 @@ impl RanRoom {
     #[tactic(auto, using(crate::proofs::RanLemmas::one_more))]
     pub fn push(&mut self, serial: u32, done: Done, outs: &[Value], published: &[Fx])
         requires { Fits self.old outs.now published.now }
-        ensures rans { self.new.rans ≡ self.old.rans ++ record { serial = serial; done = done; outs = outs.now; published = published.now } ∷ [] }
+        ensures rans { self.new.rans
+            ≡ self.old.rans
+            ++ record { serial = serial; done = done; outs = outs.now; published = published.now } ∷ [] }
         ensures heads { self.new.heads ≡ self.old.heads - 1 }
         ensures values { self.new.values ≡ self.old.values - length outs.now }
         ensures numbers { self.new.numbers ≡ self.old.numbers - length published.now }

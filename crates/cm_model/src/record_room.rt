@@ -44,7 +44,9 @@ impl RecordRoom {
     /// Room for so much.
     pub fn with_room(alloc: Global, size: RecordSize) -> Result<RecordRoom, AllocError>
         ensures failed { IfOk result (λ room. room.failed ≡ record { items = []; room = size.failed }) }
-        ensures ran { IfOk result (λ room. room.ran ≡ record { rans = []; heads = size.ran; values = size.values; numbers = size.numbers }) }
+        ensures ran { IfOk result
+            (λ room.
+            room.ran ≡ record { rans = []; heads = size.ran; values = size.values; numbers = size.numbers }) }
         ensures bodies { IfOk result (λ room. room.bodies ≡ record { items = []; room = size.bodies }) }
         ensures stops { IfOk result (λ room. room.stops ≡ record { items = []; room = size.stops }) }
     {
@@ -59,7 +61,13 @@ impl RecordRoom {
 
     /// The record of the cycle of this number, with all that was filled in. It takes no memory.
     pub fn land(self, cycle: u64) -> CycleRecord
-        ensures { result ≡ record { cycle = cycle; failed = self.failed.items; ran = self.ran.rans; bodies = self.bodies.items; stops = self.stops.items } }
+        ensures { result ≡ record {
+          cycle = cycle;
+          failed = self.failed.items;
+          ran = self.ran.rans;
+          bodies = self.bodies.items;
+          stops = self.stops.items;
+        } }
     {
         let RecordRoom {
             failed,

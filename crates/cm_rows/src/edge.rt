@@ -146,7 +146,7 @@ const READS: &str = "\
 
 /// Pieces that go in whole or in part, calls that fail, and too little room.
 const WRITES: &str = "\
-15 | 10 | 1 3 | hello, world/ld/ld/flush/flush/ again/in/ => 10, failed, 2, failed, flushed, 3, failed, 0: hello, world ag
+15 | 10 | 1 3 | hello, wood/d/d/flush/flush/ again/in/ => 10, failed, 1, failed, flushed, 4, failed, 0: hello, wood aga
 0 | 10 |  | x/all x/all /flush => failed, failed, all, flushed:\x20
 100 | 10 | 3 | all hello, world/all  and good morning => all, failed: hello, world and good\x20";
 

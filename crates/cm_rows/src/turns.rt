@@ -52,7 +52,8 @@ impl Kept for Book {
 
     ghost shown_empty = { λ which. refl };
 
-    ghost shown_grows = { λ which xs ys. subst (λ n. length xs ≤ n) (sym (length-append xs ys)) (le-add_right (length xs) (length ys)) };
+    ghost shown_grows = { λ which xs ys.
+        subst (λ n. length xs ≤ n) (sym (length-append xs ys)) (le-add_right (length xs) (length ys)) };
 }
 
 /// One line at a turn of its own.

@@ -5,7 +5,7 @@ use Rattle.std.proofs.lemmas.Option.{slice_get-map, same_Some}
 use Rattle.cm_document.specs.declared.life.Life.TheVariants.{Unconfigured}
 use Rattle.std.specs.List.{AllByRecursion, list_any}
 use Rattle.cm_document.specs.declared.description.CtlDesc.{CtlDesc}
-use Rattle.cm_model.specs.State.{State, Loaded, is_active, is_chained, precedes_described, line_of}
+use Rattle.cm_model.specs.State.{State, Loaded, is_active, is_chained, precedes_described, controller_line}
 use Rattle.cm_model.specs.declared.lines.CtlLine.{CtlLine}
 
 still-none : (ls : List Loaded) (test : Loaded → Bool) → AllByRecursion (λ l. is_active l ≡ false) ls → list_any (λ l. is_active l && test l) ls ≡ false
@@ -31,7 +31,7 @@ abbrev pub loaded_line : Loaded → List ℕ → CtlLine
 loaded_line l name = record { name = name; serial = l.serial; divisor = None; kind = l.ctl.kind; life = Unconfigured; chained = false }
 
 line_from : (s : State) (l : Loaded) (name : List ℕ) (o : Option CtlDesc) → slice_get s.description.controllers l.place ≡ o → option_map (λ (c : CtlDesc). c.name) o ≡ Some name
-    → l.divisor ≡ None → l.ctl.params ≡ None → AllByRecursion (λ m. is_active m ≡ false) s.loaded → Some (loaded_line l name) ≡ line_of s l
+    → l.divisor ≡ None → l.ctl.params ≡ None → AllByRecursion (λ m. is_active m ≡ false) s.loaded → Some (loaded_line l name) ≡ controller_line s l
 line_from s l name None found named divisor params still = cc
 line_from s l name (Some c) found named divisor params still =
     let same : c.name ≡ name = same_Some _ _ named in
@@ -39,6 +39,6 @@ line_from s l name (Some c) found named divisor params still =
 
 pub line-is : (s : State) (l : Loaded) (names : List (List ℕ)) (name : List ℕ) → names ≡ map (λ (c : CtlDesc). c.name) s.description.controllers
     → slice_get names l.place ≡ Some name → l.divisor ≡ None → l.ctl.params ≡ None → AllByRecursion (λ m. is_active m ≡ false) s.loaded
-    → Some (loaded_line l name) ≡ line_of s l
+    → Some (loaded_line l name) ≡ controller_line s l
 line-is s l names name named found divisor params still =
     line_from s l name (slice_get s.description.controllers l.place) refl (sym (named_at s.description.controllers names l.place named) ∙ found) divisor params still

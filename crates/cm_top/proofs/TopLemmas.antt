@@ -23,7 +23,7 @@ use Rattle.cm_model.proofs.WholeLemmas.{scheduled-IsWhole}
 use Rattle.script_text.proofs.ReadScriptLemmas.{read_script_meets, read_script_uses}
 use Rattle.cm_top.specs.Room.{lines_left}
 use Rattle.cm_model.specs.Scheduled.{Session, scheduled}
-use Rattle.cm_top.specs.Status.{Histories, Ran, Wrote, status_of, status_of_document}
+use Rattle.cm_top.specs.Status.{Histories, EndedWith, Wrote, IsPlain, ComesOfBytes, status_of, status_of_document}
 use Rattle.cm_top.specs.declared.status.Status.{Status}
 use Rattle.cm_top.specs.declared.status.Status.TheVariants as status
 
@@ -55,9 +55,9 @@ document-Rules bytes d accepted =
     let parts = parts_of bytes in accepted_script-Rules parts.lines parts.script d.script (document-AcceptedParts bytes d accepted).script
 
 -- what was written of an accepted document's trace says what its run promises
-pub Wrote-Ran : (bytes : List ℕ) (d : Document) (blanks : Blanks) (old new : Option (List ℕ)) (flushed : Option ℕ) (ended : Status)
-    → length bytes ≤ LONGEST_DOCUMENT → document bytes ≡ Ok d → Wrote (output d (scheduled d blanks)) old new flushed ended → Ran (λ e. scheduled e blanks) bytes blanks old new flushed ended
-Wrote-Ran bytes d blanks old new flushed status.Ok short accepted wrote = record {
+pub Wrote-EndedWith : (bytes : List ℕ) (d : Document) (blanks : Blanks) (old new : Option (List ℕ)) (flushed : Option ℕ) (ended : Status)
+    → length bytes ≤ LONGEST_DOCUMENT → document bytes ≡ Ok d → Wrote (output d (scheduled d blanks)) old new flushed ended → EndedWith (λ e. scheduled e blanks) bytes blanks old new flushed ended
+Wrote-EndedWith bytes d blanks old new flushed status.Ok short accepted wrote = record {
   document_is = d;
   short = short;
   accepted = accepted;
@@ -66,31 +66,42 @@ Wrote-Ran bytes d blanks old new flushed status.Ok short accepted wrote = record
   legal = scheduled-IsLegal d blanks;
   whole = scheduled-IsWhole d blanks (document-Rules bytes d accepted).1.calls;
 }
-Wrote-Ran bytes d blanks old new flushed status.BadWords short accepted wrote = wrote
-Wrote-Ran bytes d blanks old new flushed (status.BadDescription p) short accepted wrote = absurd wrote
-Wrote-Ran bytes d blanks old new flushed (status.BadScript f) short accepted wrote = absurd wrote
-Wrote-Ran bytes d blanks old new flushed status.ReadFault short accepted wrote = tt
-Wrote-Ran bytes d blanks old new flushed status.TooLong short accepted wrote = absurd wrote
-Wrote-Ran bytes d blanks old new flushed status.Memory short accepted wrote = inr (record { document_is = d; short = short; accepted = accepted; taken = wrote })
-Wrote-Ran bytes d blanks old new flushed status.WriteFault short accepted wrote = record { document_is = d; short = short; accepted = accepted; taken = wrote }
+Wrote-EndedWith bytes d blanks old new flushed status.BadWords short accepted wrote = wrote
+Wrote-EndedWith bytes d blanks old new flushed (status.BadDescription p) short accepted wrote = absurd wrote
+Wrote-EndedWith bytes d blanks old new flushed (status.BadScript f) short accepted wrote = absurd wrote
+Wrote-EndedWith bytes d blanks old new flushed status.ReadFault short accepted wrote = tt
+Wrote-EndedWith bytes d blanks old new flushed status.TooLong short accepted wrote = absurd wrote
+Wrote-EndedWith bytes d blanks old new flushed status.Memory short accepted wrote = inr (record { document_is = d; short = short; accepted = accepted; taken = wrote })
+Wrote-EndedWith bytes d blanks old new flushed status.WriteFault short accepted wrote = record { document_is = d; short = short; accepted = accepted; taken = wrote }
 
 -- a document that is short has the status that its reading gives
 short-status : (bytes : List ℕ) → length bytes ≤ LONGEST_DOCUMENT → status_of bytes ≡ status_of_document (document bytes)
 short-status bytes short = let no : nat_lt LONGEST_DOCUMENT (length bytes) ≡ false = grind (arith, nat_tests) in rw no refl
 
+-- a run that wrote comes of the bytes, and carries no want of memory in a refusal
+pub Wrote-OfBytes : (text : List ℕ) (old new : Option (List ℕ)) (flushed : Option ℕ) (ended : Status) → Wrote text old new flushed ended → ComesOfBytes ended × IsPlain ended
+Wrote-OfBytes text old new flushed status.Ok wrote = (tt, tt)
+Wrote-OfBytes text old new flushed status.BadWords wrote = absurd wrote
+Wrote-OfBytes text old new flushed (status.BadDescription p) wrote = absurd wrote
+Wrote-OfBytes text old new flushed (status.BadScript f) wrote = absurd wrote
+Wrote-OfBytes text old new flushed status.ReadFault wrote = absurd wrote
+Wrote-OfBytes text old new flushed status.TooLong wrote = absurd wrote
+Wrote-OfBytes text old new flushed status.Memory wrote = (tt, tt)
+Wrote-OfBytes text old new flushed status.WriteFault wrote = (tt, tt)
+
 -- where neither source nor sink had a fault, the bytes decide the status, unless memory runs out
-pub Ran-exact : (made : Histories) (bytes : List ℕ) (blanks : Blanks) (old new : Option (List ℕ)) (flushed : Option ℕ) (ended : Status) (read write : Type 0)
-    → Ran made bytes blanks old new flushed ended → (ended ≡ status.ReadFault → read) → (ended ≡ status.WriteFault → write)
+pub EndedWith-exact : (made : Histories) (bytes : List ℕ) (blanks : Blanks) (old new : Option (List ℕ)) (flushed : Option ℕ) (ended : Status) (read write : Type 0)
+    → EndedWith made bytes blanks old new flushed ended → (ended ≡ status.ReadFault → read) → (ended ≡ status.WriteFault → write)
     → ¬ read → ¬ write → (ended ≡ status_of bytes) ⊎ (ended ≡ status.Memory)
-Ran-exact made bytes blanks old new flushed status.Ok read write ran rose risen still kept = inl (rw (short-status bytes ran.short, ran.accepted) refl)
-Ran-exact made bytes blanks old new flushed status.BadWords read write ran rose risen still kept = absurd ran
-Ran-exact made bytes blanks old new flushed (status.BadDescription p) read write ran rose risen still kept = inl (rw (short-status bytes ran.0, ran.1) refl)
-Ran-exact made bytes blanks old new flushed (status.BadScript f) read write ran rose risen still kept = inl (rw (short-status bytes ran.0, ran.1) refl)
-Ran-exact made bytes blanks old new flushed status.ReadFault read write ran rose risen still kept = absurd (still (rose refl))
-Ran-exact made bytes blanks old new flushed status.TooLong read write ran rose risen still kept =
+EndedWith-exact made bytes blanks old new flushed status.Ok read write ran rose risen still kept = inl (rw (short-status bytes ran.short, ran.accepted) refl)
+EndedWith-exact made bytes blanks old new flushed status.BadWords read write ran rose risen still kept = absurd ran
+EndedWith-exact made bytes blanks old new flushed (status.BadDescription p) read write ran rose risen still kept = inl (rw (short-status bytes ran.0, ran.1) refl)
+EndedWith-exact made bytes blanks old new flushed (status.BadScript f) read write ran rose risen still kept = inl (rw (short-status bytes ran.0, ran.1) refl)
+EndedWith-exact made bytes blanks old new flushed status.ReadFault read write ran rose risen still kept = absurd (still (rose refl))
+EndedWith-exact made bytes blanks old new flushed status.TooLong read write ran rose risen still kept =
     let long : nat_lt LONGEST_DOCUMENT (length bytes) ≡ true = grind (arith, nat_tests) in inl (rw long refl)
-Ran-exact made bytes blanks old new flushed status.Memory read write ran rose risen still kept = inr refl
-Ran-exact made bytes blanks old new flushed status.WriteFault read write ran rose risen still kept = absurd (kept (risen refl))
+EndedWith-exact made bytes blanks old new flushed status.Memory read write ran rose risen still kept = inr refl
+EndedWith-exact made bytes blanks old new flushed status.WriteFault read write ran rose risen still kept = absurd (kept (risen refl))
 
 -- a text that was taken, and then a flush
 pub flush-Wrote : (text : List ℕ) (old mid new : Option (List ℕ)) (flushed : Option ℕ) (ended : Status) (fault : Type 0)
@@ -100,9 +111,9 @@ flush-Wrote text old mid new flushed ended fault taken kept (inl (went_well, all
 flush-Wrote text old mid new flushed ended fault taken kept (inr (failed, rose)) = rw failed (AppendsPrefix-all old new text (Appends-kept old mid new text taken kept))
 
 -- what was read whole is what the source told
-pub read-Ran : (left left' : Option (List ℕ)) (bytes : List ℕ) (P : List ℕ → Type 0) → GivesAll left left' bytes → P bytes → IfSome left P
-read-Ran None left' bytes P whole p = tt
-read-Ran (Some told) left' bytes P whole p = rw whole.0 p
+pub read-EndedWith : (left left' : Option (List ℕ)) (bytes : List ℕ) (P : List ℕ → Type 0) → GivesAll left left' bytes → P bytes → IfSome left P
+read-EndedWith None left' bytes P whole p = tt
+read-EndedWith (Some told) left' bytes P whole p = rw whole.0 p
 
 -- then nothing is left
 pub read-end : (left left' : Option (List ℕ)) (bytes : List ℕ) → GivesAll left left' bytes → IsSome left → IsAtEnd left'

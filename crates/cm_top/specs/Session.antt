@@ -16,9 +16,9 @@ pub record IsMade (expected : Option (State × Reply)) (who : ℕ) (call : Call)
   pub queued : ticket ≡ ticket_in answer
 
 -- a call that may not be enabled: then nothing changes
-abbrev pub Called : Option (State × Reply) → ℕ → Call → State → State → List Entry → List Entry → Asked → Type 0
-Called expected who call s next made made' Waits = (expected ≡ None) × (next ≡ s) × (made' ≡ made)
-Called expected who call s next made made' (Made ticket) = IsMade expected who call next made made' ticket
+abbrev pub Asks : Option (State × Reply) → ℕ → Call → State → State → List Entry → List Entry → Asked → Type 0
+Asks expected who call s next made made' Waits = (expected ≡ None) × (next ≡ s) × (made' ≡ made)
+Asks expected who call s next made made' (Made ticket) = IsMade expected who call next made made' ticket
 
 -- how far the run has come where this session advances
 abbrev pub at : State → List Entry → Session → Advanced

@@ -57,15 +57,15 @@ pub record Cut (made : Histories) (bytes : List ℕ) (old new : Option (List ℕ
   pub taken : AppendsPrefix old new (output document_is (made document_is))
 
 -- What a run over these bytes says by its status, where the job made this history. Each refusal names the document's first fault, exactly.
-abbrev pub Ran : Histories → List ℕ → Blanks → Option (List ℕ) → Option (List ℕ) → Option ℕ → Status → Type 0
-Ran made bytes blanks old new flushed status.Ok = Printed made bytes blanks old new flushed
-Ran made bytes blanks old new flushed status.BadWords = ⊥
-Ran made bytes blanks old new flushed (status.BadDescription p) = IsShort bytes × (document bytes ≡ Err (fault.Description p))
-Ran made bytes blanks old new flushed (status.BadScript f) = IsShort bytes × (document bytes ≡ Err (fault.Script f))
-Ran made bytes blanks old new flushed status.ReadFault = Unit {0}
-Ran made bytes blanks old new flushed status.TooLong = LONGEST_DOCUMENT < length bytes
-Ran made bytes blanks old new flushed status.Memory = Keeps old new ⊎ Cut made bytes old new
-Ran made bytes blanks old new flushed status.WriteFault = Cut made bytes old new
+abbrev pub EndedWith : Histories → List ℕ → Blanks → Option (List ℕ) → Option (List ℕ) → Option ℕ → Status → Type 0
+EndedWith made bytes blanks old new flushed status.Ok = Printed made bytes blanks old new flushed
+EndedWith made bytes blanks old new flushed status.BadWords = ⊥
+EndedWith made bytes blanks old new flushed (status.BadDescription p) = IsShort bytes × (document bytes ≡ Err (fault.Description p))
+EndedWith made bytes blanks old new flushed (status.BadScript f) = IsShort bytes × (document bytes ≡ Err (fault.Script f))
+EndedWith made bytes blanks old new flushed status.ReadFault = Unit {0}
+EndedWith made bytes blanks old new flushed status.TooLong = LONGEST_DOCUMENT < length bytes
+EndedWith made bytes blanks old new flushed status.Memory = Keeps old new ⊎ Cut made bytes old new
+EndedWith made bytes blanks old new flushed status.WriteFault = Cut made bytes old new
 
 -- The status that a document asks for, where it can be read and written: its first fault, or all of its trace.
 abbrev pub status_of_document : Result Document DocumentFault → Status

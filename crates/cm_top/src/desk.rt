@@ -26,7 +26,14 @@ impl Model for Slot {
 
     ghost Value = { Loaded };
 
-    ghost view = { λ s. record { serial = s.serial; place = s.place; rate = s.rate; divisor = None; ctl = fresh s.kind; mail = None } };
+    ghost view = { λ s. record {
+      serial = s.serial;
+      place = s.place;
+      rate = s.rate;
+      divisor = None;
+      ctl = fresh s.kind;
+      mail = None;
+    } };
 }
 
 /// The manager at work. Contracts see the written state.
@@ -58,7 +65,7 @@ impl<'a> Model for Desk<'a> {
 
 impl<'a> Desk<'a> {
     ghost use Rattle.sequence.specs.Makes.{Makes};
-    ghost use Rattle.cm_model.specs.State.{boot, line_of, is_chained, controller_lines};
+    ghost use Rattle.cm_model.specs.State.{boot, controller_line, is_chained, controller_lines};
     ghost use Rattle.cm_model.specs.Machine.{place_of, is_loaded_at, is_sold_out_at, with_loaded, load_effect, reply_of, can_begin, can_end, can_close, step};
     ghost use Rattle.cm_top.specs.Room.{serials_of};
 
@@ -155,7 +162,10 @@ impl<'a> Desk<'a> {
     /// Loads a controller, or tells why not.
     fn load(&mut self, name: &Name) -> Result<Reply, Memory>
         requires { self.old.loads + 1 < 2 ^ 32 }
-        ensures made { IfOk result (λ reply. (reply_of self.old (call.Load name.now) ≡ Some reply) × (self.new ≡ load_effect self.old name.now reply)) }
+        ensures made { IfOk result
+            (λ reply.
+            (reply_of self.old (call.Load name.now) ≡ Some reply)
+            × (self.new ≡ load_effect self.old name.now reply)) }
         ensures kept { OnErr result (self.new ≡ self.old) }
     {
         let Some(place) = self.place_of(name) else {
@@ -199,7 +209,8 @@ impl<'a> Desk<'a> {
         requires serials { self.old.loads + 1 < 2 ^ 32 }
         requires stocked { is_sold_out_at self.old place ≡ false }
         requires described { place < length self.old.description.controllers }
-        ensures made { IfOk result (λ reply. (reply ≡ Reply.Serial self.old.loads) × (self.new ≡ with_loaded self.old (Some place))) }
+        ensures made { IfOk result
+            (λ reply. (reply ≡ Reply.Serial self.old.loads) × (self.new ≡ with_loaded self.old (Some place))) }
         ensures kept { OnErr result (self.new ≡ self.old) }
     {
         let controller = &self.description.controllers.as_slice()[place];
@@ -229,7 +240,7 @@ impl<'a> Desk<'a> {
 
     /// The line of a loaded controller. None has parameters yet, so it is unconfigured.
     fn line(&self, slot: &Slot) -> Result<Option<CtlLine>, Memory>
-        ensures { IfOk result (λ line. line ≡ line_of self.now slot.now) }
+        ensures { IfOk result (λ line. line ≡ controller_line self.now slot.now) }
     {
         let Some(name) = self.names.get(slot.place) else {
             return Ok(None);

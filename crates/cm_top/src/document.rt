@@ -37,7 +37,8 @@ pub fn read_document(alloc: Global, bytes: &[u8]) -> Result<Document, DocumentFa
 /// The description in its text: read, then checked, and then without a component; or its first fault.
 #[tactic(auto, unfolding(cm_document::specs::Document::accepted_description), using(crate::proofs::PlainLemmas::plain_faults))]
 fn description(alloc: Global, text: &[u8]) -> Result<Checked, DocumentFault>
-    ensures reads { Answers DocumentFault.Memory (told_as DocumentFault.Description (accepted_description text.now)) result }
+    ensures reads { Answers DocumentFault.Memory (told_as DocumentFault.Description (accepted_description text.now))
+        result }
     ensures plain { IfErr result IsPlainFault }
 {
     match read_description(alloc, text) {
@@ -63,7 +64,8 @@ fn checked(alloc: Global, description: Description) -> Result<Checked, DocumentF
 
 /// Components are not built yet: a description that has one is refused at their key.
 fn without_components(alloc: Global, checked: Checked) -> Result<Checked, DocumentFault>
-    ensures reads { Answers DocumentFault.Memory (told_as DocumentFault.Description (without_components checked)) result }
+    ensures reads { Answers DocumentFault.Memory (told_as DocumentFault.Description (without_components checked))
+        result }
     ensures plain { IfErr result IsPlainFault }
 {
     if checked.description().components.as_slice().is_empty() {
@@ -78,7 +80,8 @@ fn without_components(alloc: Global, checked: Checked) -> Result<Checked, Docume
 #[tactic(auto, using(crate::proofs::PlainLemmas::plain_faults, cm_document::proofs::LineLemmas::raw_lines_within))]
 fn script(alloc: Global, lines: usize, text: Option<&[u8]>) -> Result<Script, DocumentFault>
     requires { lines + unwrap_or (option_map (λ t. length t.now) text) 0 + 2 < 2 ^ 32 }
-    ensures reads { Answers DocumentFault.Memory (told_as DocumentFault.Script (accepted_script lines (option_map (λ t. t.now) text.entry))) result }
+    ensures reads { Answers DocumentFault.Memory
+        (told_as DocumentFault.Script (accepted_script lines (option_map (λ t. t.now) text.entry))) result }
     ensures plain { IfErr result IsPlainFault }
 {
     let Some(text) = text else {

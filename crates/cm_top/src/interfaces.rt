@@ -13,7 +13,10 @@ use std::alloc::Global;
 /// The texts of all interfaces: the states of all joints, then the commands of all joints, then the references of all controllers.
 #[tactic(auto, using(crate::proofs::NameLemmas::all_interfaces))]
 pub fn interface_texts(alloc: Global, description: &Description) -> Result<Vec<String>, Memory>
-    ensures { IfOk result (λ texts. map string_bytes texts.items ≡ map (λ i. interface_text i.called.name) (interfaces_of description.now)) }
+    ensures { IfOk result
+        (λ texts.
+        map string_bytes texts.items
+        ≡ map (λ i. interface_text i.called.name) (interfaces_of description.now)) }
 {
     let mut texts = Vec::new(alloc);
     push_states(alloc, &mut texts, description.components.as_slice())?;
@@ -27,7 +30,9 @@ fn push_states(
     texts: &mut Vec<String>,
     components: &[CompDesc],
 ) -> Result<(), Memory>
-    ensures { OnOk result (map string_bytes texts.new.items ≡ map string_bytes texts.old.items ++ map interface_text (states_of components.now)) }
+    ensures { OnOk result
+        (map string_bytes texts.new.items
+        ≡ map string_bytes texts.old.items ++ map interface_text (states_of components.now)) }
 {
     for component in components {
         push_states_of(alloc, texts, component.joints.as_slice())?;
@@ -40,7 +45,9 @@ fn push_states_of(
     texts: &mut Vec<String>,
     joints: &[JointDesc],
 ) -> Result<(), Memory>
-    ensures { OnOk result (map string_bytes texts.new.items ≡ map string_bytes texts.old.items ++ map interface_text (flat_map states_of_joint joints.now)) }
+    ensures { OnOk result
+        (map string_bytes texts.new.items
+        ≡ map string_bytes texts.old.items ++ map interface_text (flat_map states_of_joint joints.now)) }
 {
     for joint in joints {
         push_kinds(alloc, texts, &joint.name, joint.states.as_slice())?;
@@ -53,7 +60,9 @@ fn push_commands(
     texts: &mut Vec<String>,
     components: &[CompDesc],
 ) -> Result<(), Memory>
-    ensures { OnOk result (map string_bytes texts.new.items ≡ map string_bytes texts.old.items ++ map interface_text (commands_of components.now)) }
+    ensures { OnOk result
+        (map string_bytes texts.new.items
+        ≡ map string_bytes texts.old.items ++ map interface_text (commands_of components.now)) }
 {
     for component in components {
         push_commands_of(alloc, texts, component.joints.as_slice())?;
@@ -66,7 +75,9 @@ fn push_commands_of(
     texts: &mut Vec<String>,
     joints: &[JointDesc],
 ) -> Result<(), Memory>
-    ensures { OnOk result (map string_bytes texts.new.items ≡ map string_bytes texts.old.items ++ map interface_text (flat_map commands_of_joint joints.now)) }
+    ensures { OnOk result
+        (map string_bytes texts.new.items
+        ≡ map string_bytes texts.old.items ++ map interface_text (flat_map commands_of_joint joints.now)) }
 {
     for joint in joints {
         push_kinds(alloc, texts, &joint.name, joint.commands.as_slice())?;
@@ -81,7 +92,9 @@ fn push_kinds(
     joint: &Name,
     kinds: &[Kind],
 ) -> Result<(), Memory>
-    ensures { OnOk result (map string_bytes texts.new.items ≡ map string_bytes texts.old.items ++ map interface_text (map (interface.Joint joint.now) kinds.now)) }
+    ensures { OnOk result
+        (map string_bytes texts.new.items
+        ≡ map string_bytes texts.old.items ++ map interface_text (map (interface.Joint joint.now) kinds.now)) }
 {
     for kind in kinds {
         texts.push(joint_interface(alloc, joint, *kind)?)?;
@@ -101,7 +114,9 @@ fn push_references(
     texts: &mut Vec<String>,
     controllers: &[CtlDesc],
 ) -> Result<(), Memory>
-    ensures { OnOk result (map string_bytes texts.new.items ≡ map string_bytes texts.old.items ++ map interface_text (references_of controllers.now)) }
+    ensures { OnOk result
+        (map string_bytes texts.new.items
+        ≡ map string_bytes texts.old.items ++ map interface_text (references_of controllers.now)) }
 {
     for controller in controllers {
         push_references_of(alloc, texts, &controller.name, controller.exported_for())?;
@@ -116,7 +131,10 @@ fn push_references_of(
     controller: &Name,
     interfaces: &[IfaceName],
 ) -> Result<(), Memory>
-    ensures { OnOk result (map string_bytes texts.new.items ≡ map string_bytes texts.old.items ++ map interface_text (map (reference_for controller.now) interfaces.now)) }
+    ensures { OnOk result
+        (map string_bytes texts.new.items
+        ≡ map string_bytes texts.old.items
+        ++ map interface_text (map (reference_for controller.now) interfaces.now)) }
 {
     for interface in interfaces {
         texts.push(reference(alloc, controller, interface)?)?;
@@ -141,7 +159,8 @@ fn reference_text(
     joint: &Name,
     kind: Kind,
 ) -> Result<String, Memory>
-    ensures { IfOk result (λ text. string_bytes text ≡ interface_text (interface.Reference controller.now joint.now kind)) }
+    ensures { IfOk result
+        (λ text. string_bytes text ≡ interface_text (interface.Reference controller.now joint.now kind)) }
 {
     Ok(format!(in alloc; "{controller}/{joint}/{kind}")?)
 }

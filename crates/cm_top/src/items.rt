@@ -44,7 +44,8 @@ trait Item {
 
 /// Appends the items, joined by `; `, or `none`.
 fn push_items<T: Item>(text: &mut String, names: &Names<'_>, items: &[T]) -> Result<(), Memory>
-    ensures { OnOk result (string_bytes text.new ≡ string_bytes text.old ++ joined (map (T.item_text names.now) items.now)) }
+    ensures { OnOk result
+        (string_bytes text.new ≡ string_bytes text.old ++ joined (map (T.item_text names.now) items.now)) }
 {
     let Some((first, others)) = items.split_first() else {
         return push_none(text);
@@ -173,7 +174,8 @@ fn push_value(text: &mut String, value: StoredValue) -> Result<(), Memory>
 
 /// Appends the items of a record, joined by `; `, or `none`.
 fn push_record(text: &mut String, names: &Names<'_>, record: &CycleRecord) -> Result<(), Memory>
-    ensures { OnOk result (string_bytes text.new ≡ string_bytes text.old ++ joined (record_items names.now record.now)) }
+    ensures { OnOk result
+        (string_bytes text.new ≡ string_bytes text.old ++ joined (record_items names.now record.now)) }
 {
     let failures = push_failures(text, names, false, record.failed())?;
     let rans = push_rans(text, names, failures, record.ran())?;
@@ -210,7 +212,10 @@ fn push_failures(
     started: bool,
     failed: &[FailedPart],
 ) -> Result<bool, Memory>
-    ensures { IfOk result (λ after. Adds (string_bytes text.old) (string_bytes text.new) started (map (failed_text names.now) failed.now) after) }
+    ensures { IfOk result
+        (λ after.
+        Adds (string_bytes text.old) (string_bytes text.new) started
+        (map (failed_text names.now) failed.now) after) }
 {
     let mut started = started;
     for part in failed {
@@ -239,7 +244,10 @@ fn push_rans(
     started: bool,
     rans: Rans<'_>,
 ) -> Result<bool, Memory>
-    ensures { IfOk result (λ after. Adds (string_bytes text.old) (string_bytes text.new) started (map (ran_text names.now) rans.entry) after) }
+    ensures { IfOk result
+        (λ after.
+        Adds (string_bytes text.old) (string_bytes text.new) started (map (ran_text names.now) rans.entry)
+        after) }
 {
     let mut started = started;
     for ran in rans {
@@ -292,7 +300,10 @@ fn push_bodies(
     started: bool,
     bodies: &[BodyState],
 ) -> Result<bool, Memory>
-    ensures { IfOk result (λ after. Adds (string_bytes text.old) (string_bytes text.new) started (body_texts names.now 0 bodies.now) after) }
+    ensures { IfOk result
+        (λ after.
+        Adds (string_bytes text.old) (string_bytes text.new) started (body_texts names.now 0 bodies.now)
+        after) }
 {
     let mut started = started;
     for (place, body) in bodies.iter().enumerate() {
@@ -318,7 +329,10 @@ fn push_stops(
     started: bool,
     stops: &[u32],
 ) -> Result<bool, Memory>
-    ensures { IfOk result (λ after. Adds (string_bytes text.old) (string_bytes text.new) started (map (stop_text names.now) stops.now) after) }
+    ensures { IfOk result
+        (λ after.
+        Adds (string_bytes text.old) (string_bytes text.new) started (map (stop_text names.now) stops.now)
+        after) }
 {
     let mut started = started;
     for serial in stops {

@@ -19,5 +19,7 @@ pub fn accepted_scripts_meet_the_rules()
 /// Each history that is scheduled for an accepted document is whole for it: it has every session's lines, each once and in
 /// order, the begin and the end of each cycle, the close, and nothing else.
 pub fn histories_of_accepted_documents_are_whole()
-    ensures { (bytes : List ℕ) (d : Document) (blanks : Blanks) → document bytes ≡ Ok d → IsWhole d (scheduled d blanks) }
+    ensures { (bytes : List ℕ) (d : Document) (blanks : Blanks)
+        → document bytes ≡ Ok d
+        → IsWhole d (scheduled d blanks) }
 {}

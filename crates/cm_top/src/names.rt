@@ -125,7 +125,8 @@ fn joint_names(alloc: Global, components: &[CompDesc]) -> Result<Vec<&Name>, Mem
 }
 
 fn push_joints<'a>(names: &mut Vec<&'a Name>, joints: &'a [JointDesc]) -> Result<(), Memory>
-    ensures { OnOk result (map (λ r. r.now) names.new.items ≡ map (λ r. r.now) names.old.items ++ map (λ j. j.name) joints.now) }
+    ensures { OnOk result
+        (map (λ r. r.now) names.new.items ≡ map (λ r. r.now) names.old.items ++ map (λ j. j.name) joints.now) }
 {
     for joint in joints {
         names.push(&joint.name)?;

@@ -4,7 +4,7 @@ ghost use Rattle.std.specs.Prelude.{◌≡◌, ◌+◌, ◌<◌, ◌≤◌, ◌^
 ghost use Rattle.cm_model.specs.Machine.{step};
 ghost use Rattle.cm_model.specs.Scheduled.{advance, settle, settle_from, start, scheduled, ticket_in};
 ghost use Rattle.cm_top.specs.Room.{lines_left, serials_of};
-ghost use Rattle.cm_top.specs.Session.{at, Advances, Called};
+ghost use Rattle.cm_top.specs.Session.{at, Advances, Asks};
 
 use crate::desk::Desk;
 use cm_model::{Blanks, Call, Checked, Entry, KeptCall, Memory, Reply, Script, SessionText};
@@ -19,9 +19,9 @@ pub struct Session<'a> {
 }
 
 impl<'a> Model for Session<'a> {
-    ghost use Rattle.cm_model.specs.Scheduled.{Session as Standing};
+    ghost use Rattle.cm_model.specs.Scheduled.{Session as WrittenSession};
 
-    ghost Value = { Standing };
+    ghost Value = { WrittenSession };
 
     ghost view = { λ s. record { lines = s.lines.now; ticket = s.ticket } };
 }
@@ -53,7 +53,8 @@ impl<'a> Model for Job<'a> {
 
     ghost view = { λ s. record { state = s.desk; made = s.made.items; sessions = s.sessions.items } };
 
-    ghost invariant = { λ s. (s.desk.loads + lines_left s.sessions.items < 2 ^ 32) × (length s.sessions.items < 2 ^ 32) };
+    ghost invariant = { λ s.
+        (s.desk.loads + lines_left s.sessions.items < 2 ^ 32) × (length s.sessions.items < 2 ^ 32) };
 }
 
 impl<'a> Job<'a> {
@@ -150,7 +151,8 @@ pub fn history(
 ) -> Result<Vec<Entry>, Memory>
     requires few { length script.now.sessions < 2 ^ 32 }
     requires room { lines_left (map (λ s. record { lines = s.lines; ticket = None }) script.now.sessions) < 2 ^ 32 }
-    ensures { IfOk result (λ made. made.items ≡ scheduled (record { description = checked.now; script = script.now }) blanks) }
+    ensures { IfOk result
+        (λ made. made.items ≡ scheduled (record { description = checked.now; script = script.now }) blanks) }
 {
     let mut job = Job::start(alloc, checked, script, blanks)?;
     job.cycles(alloc, checked.description().cycles)?;
@@ -160,7 +162,8 @@ pub fn history(
 
 /// The sessions of a script, each before its lines.
 fn waiting<'a>(alloc: Global, texts: &'a [SessionText]) -> Result<Vec<Session<'a>>, Memory>
-    ensures { IfOk result (λ sessions. sessions.items ≡ map (λ s. record { lines = s.lines; ticket = None }) texts.now) }
+    ensures { IfOk result
+        (λ sessions. sessions.items ≡ map (λ s. record { lines = s.lines; ticket = None }) texts.now) }
 {
     let mut sessions = Vec::with_capacity(alloc, texts.len())?;
     for text in texts {
@@ -181,7 +184,9 @@ fn settle_each(
 ) -> Result<(), Memory>
     requires few { length sessions.old < 2 ^ 32 }
     requires room { desk.old.loads + lines_left sessions.old < 2 ^ 32 }
-    ensures settled { OnOk result (settle_from 0 sessions.old desk.old made.old.items [] ≡ record { state = desk.new; made = made.new.items; sessions = sessions.new }) }
+    ensures settled { OnOk result
+        (settle_from 0 sessions.old desk.old made.old.items []
+        ≡ record { state = desk.new; made = made.new.items; sessions = sessions.new }) }
     ensures room { desk.new.loads + lines_left sessions.new ≤ desk.old.loads + lines_left sessions.old }
 {
     for who in 0..sessions.len() {
@@ -199,7 +204,8 @@ fn settle(
     made: &mut Vec<Entry>,
 ) -> Result<(), Memory>
     requires room { desk.old.loads + length session.old.lines < 2 ^ 32 }
-    ensures settled { OnOk result (settle who (at desk.old made.old.items session.old) ≡ at desk.new made.new.items session.new) }
+    ensures settled { OnOk result
+        (settle who (at desk.old made.old.items session.old) ≡ at desk.new made.new.items session.new) }
     ensures room { desk.new.loads + length session.new.lines ≤ desk.old.loads + length session.old.lines }
 {
     while advance(alloc, who, session, desk, made)? {}
@@ -216,7 +222,9 @@ fn advance(
     made: &mut Vec<Entry>,
 ) -> Result<bool, Memory>
     requires room { desk.old.loads + length session.old.lines < 2 ^ 32 }
-    ensures made { IfOk result (Advances (advance who (at desk.old made.old.items session.old)) (at desk.old made.old.items session.old) (at desk.new made.new.items session.new)) }
+    ensures made { IfOk result
+        (Advances (advance who (at desk.old made.old.items session.old)) (at desk.old made.old.items session.old)
+        (at desk.new made.new.items session.new)) }
     ensures room { desk.new.loads + length session.new.lines ≤ desk.old.loads + length session.old.lines }
 {
     if let Some(ticket) = session.ticket {
@@ -246,7 +254,8 @@ fn ask(
     made: &mut Vec<Entry>,
 ) -> Result<Asked, Memory>
     requires room { desk.old.loads + serials_of call.now < 2 ^ 32 }
-    ensures made { IfOk result (Called (step desk.old who call.now) who call.now desk.old desk.new made.old.items made.new.items) }
+    ensures made { IfOk result
+        (Asks (step desk.old who call.now) who call.now desk.old desk.new made.old.items made.new.items) }
     ensures room { desk.new.loads ≤ desk.old.loads + serials_of call.now }
     ensures kept { OnErr result (desk.new ≡ desk.old) }
 {

@@ -1,6 +1,6 @@
 //! The top call: a document in, its trace out.
 
-ghost use Rattle.std.specs.Prelude.{◌≡◌, ◌+◌, ◌<◌, ◌≤◌, ◌⊎◌, ◌↔◌, length, map, string_bytes, true, false};
+ghost use Rattle.std.specs.Prelude.{◌≡◌, ◌+◌, ◌<◌, ◌≤◌, ◌⊎◌, length, map, string_bytes, true};
 ghost use Rattle.std.specs.Io.KnownBytes.{Keeps};
 ghost use Rattle.outside_io.specs.Bytes.{AllFlushed};
 ghost use Rattle.outside_io.specs.Faults.{Rose};
@@ -9,8 +9,8 @@ ghost use Rattle.cm_document.specs.declared.limits.TheConstants.{LONGEST_DOCUMEN
 ghost use Rattle.cm_document.specs.ScriptLaws.{MeetsRules};
 ghost use Rattle.cm_model.specs.Scheduled.{scheduled};
 ghost use Rattle.cm_model.specs.Trace.{output};
-ghost use Rattle.cm_top.specs.Status.{Ran, Wrote, IsPlain, ComesBeforeWriting, ComesOfBytes};
-ghost use Rattle.cm_top.specs.Calls.Run.{Runs};
+ghost use Rattle.cm_top.specs.Status.{Wrote, ComesBeforeWriting};
+ghost use Rattle.cm_top.specs.Calls.Run.{source_told, sink_told, RefusesWords, Runs, RunsBytes};
 
 use crate::document::read_document;
 use crate::session::history;
@@ -43,13 +43,12 @@ where
     K: Sink,
     P: Pace + Send,
     G: Gate,
-    // BadWords comes exactly where the words are not accepted.
-    ensures words { (result ≡ Status.BadWords) ↔ (is_asked (map string_bytes words.now) ≡ false) }
-    // Then nothing was read and nothing written.
-    ensures refused { result ≡ Status.BadWords → (source.new ≡ source.old) × (sink.new ≡ sink.old) }
-    ensures runs { is_asked (map string_bytes words.now) ≡ true → Runs (λ d. scheduled d stock) stock
-        (record { left = S.left source.old; faults = S.faults source.old }) (record { left = S.left source.new; faults = S.faults source.new })
-        (record { taken = K.taken sink.old; flushed = K.flushed sink.old; faults = K.faults sink.old }) (record { taken = K.taken sink.new; flushed = K.flushed sink.new; faults = K.faults sink.new }) result }
+    ensures words { RefusesWords (map string_bytes words.now) source.old source.new sink.old sink.new result }
+    ensures runs { is_asked (map string_bytes words.now) ≡ true
+        → Runs (λ d. scheduled d stock) stock
+        (source_told S.left S.faults source.old) (source_told S.left S.faults source.new)
+        (sink_told K.taken K.flushed K.faults sink.old) (sink_told K.taken K.flushed K.faults sink.new)
+        result }
     // Statuses 2 to 6 leave the sink as it was.
     ensures untouched { ComesBeforeWriting result → sink.new ≡ sink.old }
     // Nothing is paced.
@@ -79,8 +78,9 @@ pub fn run_alone<S: Source, K: Sink>(
     stock: Blanks,
 ) -> Status
     ensures runs { Runs (λ d. scheduled d stock) stock
-        (record { left = S.left source.old; faults = S.faults source.old }) (record { left = S.left source.new; faults = S.faults source.new })
-        (record { taken = K.taken sink.old; flushed = K.flushed sink.old; faults = K.faults sink.old }) (record { taken = K.taken sink.new; flushed = K.flushed sink.new; faults = K.faults sink.new }) result }
+        (source_told S.left S.faults source.old) (source_told S.left S.faults source.new)
+        (sink_told K.taken K.flushed K.faults sink.old) (sink_told K.taken K.flushed K.faults sink.new)
+        result }
     // Statuses 3 to 6 leave the sink as it was.
     ensures untouched { ComesBeforeWriting result → sink.new ≡ sink.old }
 {
@@ -95,12 +95,10 @@ pub fn run_alone<S: Source, K: Sink>(
 /// Runs the document that these bytes are.
 fn run_bytes<K: Sink>(alloc: Global, bytes: &[u8], sink: &mut K, stock: Blanks) -> Status
     requires { length bytes.now ≤ LONGEST_DOCUMENT }
-    ensures ran { Ran (λ d. scheduled d stock) bytes.now stock (K.taken sink.old) (K.taken sink.new) (K.flushed sink.new) result }
-    ensures of_bytes { ComesOfBytes result }
+    ensures runs { RunsBytes (λ d. scheduled d stock) stock bytes.now
+        (sink_told K.taken K.flushed K.faults sink.old) (sink_told K.taken K.flushed K.faults sink.new)
+        result }
     ensures untouched { ComesBeforeWriting result → sink.new ≡ sink.old }
-    ensures plain { IsPlain result }
-    ensures write_fault { result ≡ Status.WriteFault → Rose (K.faults sink.old) (K.faults sink.new) }
-    ensures later { K.faults sink.old ≤ K.faults sink.new }
 {
     match read_document(alloc, bytes) {
         Ok(document) => run_document(alloc, &document, sink, stock),
@@ -114,7 +112,8 @@ fn run_bytes<K: Sink>(alloc: Global, bytes: &[u8], sink: &mut K, stock: Blanks) 
 #[tactic(auto, unfolding(cm_model::specs::Trace::output))]
 fn run_document<K: Sink>(alloc: Global, document: &Document, sink: &mut K, stock: Blanks) -> Status
     requires { MeetsRules document.now.script }
-    ensures wrote { Wrote (output document.now (scheduled document.now stock)) (K.taken sink.old) (K.taken sink.new) (K.flushed sink.new) result }
+    ensures wrote { Wrote (output document.now (scheduled document.now stock)) (K.taken sink.old) (K.taken sink.new)
+        (K.flushed sink.new) result }
     ensures write_fault { result ≡ Status.WriteFault → Rose (K.faults sink.old) (K.faults sink.new) }
     ensures later { K.faults sink.old ≤ K.faults sink.new }
 {
@@ -133,7 +132,8 @@ fn run_document<K: Sink>(alloc: Global, document: &Document, sink: &mut K, stock
 /// Flushes the sink: the run went well, or the sink failed.
 fn flush<K: Sink>(sink: &mut K) -> Status
     ensures kept { Keeps (K.taken sink.old) (K.taken sink.new) }
-    ensures flushed { (result ≡ Status.Ok) × AllFlushed (K.taken sink.new) (K.flushed sink.new) ⊎ (result ≡ Status.WriteFault) × Rose (K.faults sink.old) (K.faults sink.new) }
+    ensures flushed { (result ≡ Status.Ok) × AllFlushed (K.taken sink.new) (K.flushed sink.new)
+        ⊎ (result ≡ Status.WriteFault) × Rose (K.faults sink.old) (K.faults sink.new) }
     ensures later { K.faults sink.old ≤ K.faults sink.new }
 {
     match sink.flush() {

@@ -67,7 +67,8 @@ fn push_line(
     names: &Names<'_>,
     entry: &Entry,
 ) -> Result<(), Memory>
-    ensures { OnOk result (string_bytes text.new ≡ string_bytes text.old ++ line_text sessions.now names.now entry.now) }
+    ensures { OnOk result
+        (string_bytes text.new ≡ string_bytes text.old ++ line_text sessions.now names.now entry.now) }
 {
     text.push_str(caller(sessions, entry.who))?;
     text.push_str(" ")?;
@@ -80,7 +81,8 @@ fn push_line(
 
 /// Hands the text on to the sink, all of it. It takes no memory.
 fn pass_on<K: Sink>(sink: &mut K, text: &mut String) -> Result<(), Failed>
-    ensures ok { OnOk result (Appends (K.taken sink.old) (K.taken sink.new) (string_bytes text.old) × (string_bytes text.new ≡ [])) }
+    ensures ok { OnOk result
+        (Appends (K.taken sink.old) (K.taken sink.new) (string_bytes text.old) × (string_bytes text.new ≡ [])) }
     ensures err { OnErr result (AppendsPrefix (K.taken sink.old) (K.taken sink.new) (string_bytes text.old)) }
     ensures cause { HasCause (K.faults sink.old) (K.faults sink.new) result }
 {
@@ -97,8 +99,12 @@ fn write_line<K: Sink>(
     names: &Names<'_>,
     entry: &Entry,
 ) -> Result<(), OutFault>
-    ensures ok { OnOk result (Streams (K.taken sink.old) (K.taken sink.new) (string_bytes text.old) (string_bytes text.new) (line_text sessions.now names.now entry.now)) }
-    ensures err { OnErr result (AppendsPrefix (K.taken sink.old) (K.taken sink.new) (string_bytes text.old ++ line_text sessions.now names.now entry.now)) }
+    ensures ok { OnOk result
+        (Streams (K.taken sink.old) (K.taken sink.new) (string_bytes text.old) (string_bytes text.new)
+        (line_text sessions.now names.now entry.now)) }
+    ensures err { OnErr result
+        (AppendsPrefix (K.taken sink.old) (K.taken sink.new)
+        (string_bytes text.old ++ line_text sessions.now names.now entry.now)) }
     ensures fault { HasFault (K.faults sink.old) (K.faults sink.new) result }
 {
     push_line(text, sessions, names, entry)?;
@@ -117,8 +123,10 @@ pub fn write_trace<K: Sink>(
     sessions: &[SessionText],
     history: &[Entry],
 ) -> Result<(), OutFault>
-    ensures ok { OnOk result (Appends (K.taken sink.old) (K.taken sink.new) (trace description.now sessions.now history.now)) }
-    ensures err { OnErr result (AppendsPrefix (K.taken sink.old) (K.taken sink.new) (trace description.now sessions.now history.now)) }
+    ensures ok { OnOk result
+        (Appends (K.taken sink.old) (K.taken sink.new) (trace description.now sessions.now history.now)) }
+    ensures err { OnErr result
+        (AppendsPrefix (K.taken sink.old) (K.taken sink.new) (trace description.now sessions.now history.now)) }
     ensures fault { HasFault (K.faults sink.old) (K.faults sink.new) result }
 {
     let names = Names::of(alloc, description, history)?;
@@ -133,8 +141,11 @@ fn write_lines<K: Sink>(
     names: &Names<'_>,
     history: &[Entry],
 ) -> Result<(), OutFault>
-    ensures ok { OnOk result (Appends (K.taken sink.old) (K.taken sink.new) (flat_map (line_text sessions.now names.now) history.now)) }
-    ensures err { OnErr result (AppendsPrefix (K.taken sink.old) (K.taken sink.new) (flat_map (line_text sessions.now names.now) history.now)) }
+    ensures ok { OnOk result
+        (Appends (K.taken sink.old) (K.taken sink.new) (flat_map (line_text sessions.now names.now) history.now)) }
+    ensures err { OnErr result
+        (AppendsPrefix (K.taken sink.old) (K.taken sink.new)
+        (flat_map (line_text sessions.now names.now) history.now)) }
     ensures fault { HasFault (K.faults sink.old) (K.faults sink.new) result }
 {
     let mut text = String::new(alloc);

@@ -15,7 +15,9 @@ use std::alloc::{AllocError, Global};
 /// Each claim is a command interface of a component or a reference, and each read a state interface: else NoInterface of the
 /// first that is not, controllers in order and of each its claims before its reads.
 pub fn links_exist(alloc: Global, description: &Description) -> Result<(), CheckFault>
-    ensures { Answers CheckFault.Memory (links_exist (claimable description.now) (states_of description.now.components) description.now.controllers) result }
+    ensures { Answers CheckFault.Memory
+        (links_exist (claimable description.now) (states_of description.now.components)
+        description.now.controllers) result }
 {
     let controllers = description.controllers.as_slice();
     let references = references(alloc, controllers)?;
@@ -32,7 +34,9 @@ fn each_link_exists(
     references: &[IfaceName],
     controllers: &[CtlDesc],
 ) -> Result<(), CheckFault>
-    ensures { Answers CheckFault.Memory (links_exist (commands_of components.now ++ references.now) (states_of components.now) controllers.now) result }
+    ensures { Answers CheckFault.Memory
+        (links_exist (commands_of components.now ++ references.now) (states_of components.now) controllers.now)
+        result }
 {
     for controller in controllers {
         claims_exist(components, references, controller)?;
@@ -47,7 +51,9 @@ fn claims_exist(
     references: &[IfaceName],
     controller: &CtlDesc,
 ) -> Result<(), CheckFault>
-    ensures { Answers CheckFault.Memory (all_among (commands_of components.now ++ references.now) controller.now.name controller.now.claims) result }
+    ensures { Answers CheckFault.Memory
+        (all_among (commands_of components.now ++ references.now) controller.now.name controller.now.claims)
+        result }
 {
     match missing_claim(components, references, controller.claims.as_slice()) {
         Some(missing) => Err(no_interface(controller, missing)?),
@@ -57,7 +63,8 @@ fn claims_exist(
 
 /// Each read of the controller is a state interface of these components.
 fn reads_exist(components: &[CompDesc], controller: &CtlDesc) -> Result<(), CheckFault>
-    ensures { Answers CheckFault.Memory (all_among (states_of components.now) controller.now.name controller.now.reads) result }
+    ensures { Answers CheckFault.Memory (all_among (states_of components.now) controller.now.name controller.now.reads)
+        result }
 {
     match missing_read(components, controller.reads()) {
         Some(missing) => Err(no_interface(controller, missing)?),
@@ -71,7 +78,8 @@ fn missing_claim<'a>(
     references: &[IfaceName],
     claims: &'a [IfaceName],
 ) -> Option<&'a IfaceName>
-    ensures { option_copied result ≡ find (λ i. not (is_among i (commands_of components.now ++ references.now))) claims.now }
+    ensures { option_copied result
+        ≡ find (λ i. not (is_among i (commands_of components.now ++ references.now))) claims.now }
 {
     claims
         .iter()

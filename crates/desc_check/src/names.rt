@@ -119,7 +119,9 @@ fn joint_names<'a>(alloc: Global, components: &'a [CompDesc]) -> Result<Vec<&'a 
 
 /// Then the names of these joints.
 fn push_names<'a>(names: &mut Vec<&'a Name>, joints: &'a [JointDesc]) -> Result<(), AllocError>
-    ensures { OnOk result (map (λ name. name.now) names.new.items ≡ map (λ name. name.now) names.old.items ++ map (λ j. j.name) joints.now) }
+    ensures { OnOk result
+        (map (λ name. name.now) names.new.items
+        ≡ map (λ name. name.now) names.old.items ++ map (λ j. j.name) joints.now) }
 {
     for joint in joints {
         names.push(&joint.name)?;

@@ -76,7 +76,8 @@ impl TableForm for Controller {
 }
 
 fn forward(keys: &Keys<'_>) -> Result<CtlDesc, DescFault>
-    ensures { Answers DescFault.Memory ((walk (claiming_table params.Forward)).read keys.now.prefix.now (table_view keys.now.table.now)) result }
+    ensures { Answers DescFault.Memory
+        ((walk (claiming_table params.Forward)).read keys.now.prefix.now (table_view keys.now.table.now)) result }
 {
     keys.none_but(&CLAIMING)?;
     let name = keys.required("name", &One(Named))?;
@@ -95,7 +96,9 @@ fn forward(keys: &Keys<'_>) -> Result<CtlDesc, DescFault>
 }
 
 fn passthrough(keys: &Keys<'_>) -> Result<CtlDesc, DescFault>
-    ensures { Answers DescFault.Memory ((walk (claiming_table params.Passthrough)).read keys.now.prefix.now (table_view keys.now.table.now)) result }
+    ensures { Answers DescFault.Memory
+        ((walk (claiming_table params.Passthrough)).read keys.now.prefix.now (table_view keys.now.table.now))
+        result }
 {
     keys.none_but(&CLAIMING)?;
     let name = keys.required("name", &One(Named))?;
@@ -114,7 +117,8 @@ fn passthrough(keys: &Keys<'_>) -> Result<CtlDesc, DescFault>
 }
 
 fn pid(keys: &Keys<'_>) -> Result<CtlDesc, DescFault>
-    ensures { Answers DescFault.Memory ((walk pid_table).read keys.now.prefix.now (table_view keys.now.table.now)) result }
+    ensures { Answers DescFault.Memory ((walk pid_table).read keys.now.prefix.now (table_view keys.now.table.now))
+        result }
 {
     keys.none_but(&PID)?;
     let name = keys.required("name", &One(Named))?;
@@ -143,7 +147,8 @@ fn pid(keys: &Keys<'_>) -> Result<CtlDesc, DescFault>
 }
 
 fn trajectory(keys: &Keys<'_>) -> Result<CtlDesc, DescFault>
-    ensures { Answers DescFault.Memory ((walk trajectory_table).read keys.now.prefix.now (table_view keys.now.table.now)) result }
+    ensures { Answers DescFault.Memory
+        ((walk trajectory_table).read keys.now.prefix.now (table_view keys.now.table.now)) result }
 {
     keys.none_but(&TRAJECTORY)?;
     let name = keys.required("name", &One(Named))?;
@@ -163,7 +168,8 @@ fn trajectory(keys: &Keys<'_>) -> Result<CtlDesc, DescFault>
 }
 
 fn broadcaster(keys: &Keys<'_>, all: &Shared<Seq<IfaceName>>) -> Result<CtlDesc, DescFault>
-    ensures { Answers DescFault.Memory ((walk (broadcaster_table all.now)).read keys.now.prefix.now (table_view keys.now.table.now)) result }
+    ensures { Answers DescFault.Memory
+        ((walk (broadcaster_table all.now)).read keys.now.prefix.now (table_view keys.now.table.now)) result }
 {
     keys.none_but(&BROADCASTER)?;
     let name = keys.required("name", &One(Named))?;
@@ -182,7 +188,8 @@ fn broadcaster(keys: &Keys<'_>, all: &Shared<Seq<IfaceName>>) -> Result<CtlDesc,
 }
 
 fn mock(keys: &Keys<'_>) -> Result<CtlDesc, DescFault>
-    ensures { Answers DescFault.Memory ((walk mock_table).read keys.now.prefix.now (table_view keys.now.table.now)) result }
+    ensures { Answers DescFault.Memory ((walk mock_table).read keys.now.prefix.now (table_view keys.now.table.now))
+        result }
 {
     keys.none_but(&MOCK)?;
     let name = keys.required("name", &One(Named))?;

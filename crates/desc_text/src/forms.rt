@@ -49,7 +49,8 @@ pub trait TableForm {
 
     /// The table as it was read, or its first fault.
     fn read(&self, keys: &Keys<'_>) -> Result<Self::Read, DescFault>
-        ensures { Answers DescFault.Memory ((table_form self.now).read keys.now.prefix.now (table_view keys.now.table.now)) result };
+        ensures { Answers DescFault.Memory
+            ((table_form self.now).read keys.now.prefix.now (table_view keys.now.table.now)) result };
 }
 
 /// One value, read by this rule.
@@ -139,7 +140,8 @@ fn each_table<T: TableForm>(
     path: &str,
     items: &[Value],
 ) -> Result<Seq<T::Read>, DescFault>
-    ensures { Answers DescFault.Memory (tables_from (T.table_form form.now) path.now 0 (items_view items.now) []) result }
+    ensures { Answers DescFault.Memory (tables_from (T.table_form form.now) path.now 0 (items_view items.now) [])
+        result }
 {
     let mut found = Seq::new(alloc);
     for (index, item) in items.iter().enumerate() {

@@ -27,7 +27,9 @@ pub struct Keys<'a> {
 impl Keys<'_> {
     /// The table has no keys but the listed ones: else BadKey with the first of the others, least by bytes.
     pub fn none_but(&self, listed: &[&str]) -> Result<(), DescFault>
-        ensures { Answers DescFault.Memory (none_unlisted self.now.prefix.now (unlisted (map (λ k. k.now) listed.now) (table_view self.now.table.now))) result }
+        ensures { Answers DescFault.Memory
+            (none_unlisted self.now.prefix.now
+            (unlisted (map (λ k. k.now) listed.now) (table_view self.now.table.now))) result }
     {
         // A table keeps its keys in the order of their bytes.
         'members: for (key, _value) in self.table.iter() {
@@ -41,7 +43,9 @@ impl Keys<'_> {
 
     /// What stands at a key, read as this form; BadKey where the key is missing.
     pub fn required<F: Form>(&self, key: &str, form: &F) -> Result<F::Read, DescFault>
-        ensures { Answers DescFault.Memory (required_read (F.form form.now) (self.now.prefix.now ++ key.now) (get_member key.now (table_view self.now.table.now))) result }
+        ensures { Answers DescFault.Memory
+            (required_read (F.form form.now) (self.now.prefix.now ++ key.now)
+            (get_member key.now (table_view self.now.table.now))) result }
     {
         let path = key_path(self.alloc, self.prefix, key)?;
         match look_up(self.table, key) {
@@ -57,7 +61,9 @@ impl Keys<'_> {
         form: &F,
         default: F::Read,
     ) -> Result<F::Read, DescFault>
-        ensures { Answers DescFault.Memory (defaulted_read (F.form form.now) default (self.now.prefix.now ++ key.now) (get_member key.now (table_view self.now.table.now))) result }
+        ensures { Answers DescFault.Memory
+            (defaulted_read (F.form form.now) default (self.now.prefix.now ++ key.now)
+            (get_member key.now (table_view self.now.table.now))) result }
     {
         match look_up(self.table, key) {
             Some(value) => {

@@ -76,7 +76,10 @@ fn top(alloc: Global, table: &Table) -> Result<Description, DescFault>
 
 /// The controllers; `all` stands for the states of these components.
 fn controllers(keys: &Keys<'_>, components: &[CompDesc]) -> Result<Seq<CtlDesc>, DescFault>
-    ensures { Answers DescFault.Memory (defaulted_read (tables_of (controller_form (states_of components.now))) [] (keys.now.prefix.now ++ codes "controller") (get_member (codes "controller") (table_view keys.now.table.now))) result }
+    ensures { Answers DescFault.Memory
+        (defaulted_read (tables_of (controller_form (states_of components.now))) []
+        (keys.now.prefix.now ++ codes "controller")
+        (get_member (codes "controller") (table_view keys.now.table.now))) result }
 {
     let all = every_state(keys.alloc, components)?;
     let form = TablesOf(Controller { all });

@@ -9,7 +9,7 @@ use Rattle.std.proofs.lemmas.Bool.{cases_Bool, and_parts, le-ltb, ltb-false}
 use Rattle.std.proofs.lemmas.Bool.Decides.{nat_tests}
 use Rattle.std.proofs.lemmas.Fmt.{digits_decimal, digits_value-decimal, decimal_nonempty, length-decimal-le}
 use Rattle.std.proofs.lemmas.List.{append-nil, length-replicate, take_at, drop_at, take_all, drop_all}
-use Rattle.fixed_num.specs.Text.{Parts, parts_from, unsigned_parts, parts_of, is_broken, decimal_count, size_of, number_in_range, number_of, sign_text, six_digits, spelled}
+use Rattle.fixed_num.specs.Text.{Parts, parts_from, unsigned_parts, number_parts, is_broken, decimal_count, size_of, number_in_range, number_of, sign_text, six_digits, spelled}
 use Rattle.fixed_num.proofs.DigitLemmas.{own}
 use Rattle.fixed_num.proofs.ReadLemmas.{number_of_nothing, number_of_broken, number_of_parts}
 
@@ -79,7 +79,7 @@ plain_reads [] six size w = absurd (omega (arith, w.some))
 plain_reads (d ∷ ds) six size w =
     let first : is_ascii_digit d ≡ true = (and_parts _ (all_ascii_digits ds) w.digits).0 in
     let unsigned : (d == 45) ≡ false = grind (arith, nat_tests) in
-    let parts : parts_of ((d ∷ ds) ++ 46 ∷ six) ≡ unsigned_parts false ((d ∷ ds) ++ 46 ∷ six) = rw unsigned refl in
+    let parts : number_parts ((d ∷ ds) ++ 46 ∷ six) ≡ unsigned_parts false ((d ∷ ds) ++ 46 ∷ six) = rw unsigned refl in
     number_of_parts ((d ∷ ds) ++ 46 ∷ six) (grind (arith, nat_tests)) (ap is_broken parts ∙ parts_whole false d ds six size w) ∙ ap number_in_range parts ∙ parts_number false d ds six size w
 
 -- with one
@@ -166,8 +166,8 @@ number_in_range_small p n h = elim (cases_Bool (nat_lt 6 (decimal_count p.decima
 pub number_of_small : (text : List ℕ) (n : ℤ) → number_of text ≡ Ok n → nat_abs n ≤ 1000000000000000
 number_of_small text n h = elim (cases_Bool (length text == 0)) [
   | inl none ↦ let e = number_of_nothing text none in cc
-  | inr some ↦ elim (cases_Bool (is_broken (parts_of text))) [
+  | inr some ↦ elim (cases_Bool (is_broken (number_parts text))) [
     | inl broken ↦ let e = number_of_broken text some broken in cc
-    | inr whole ↦ number_in_range_small (parts_of text) n (sym (number_of_parts text some whole) ∙ h)
+    | inr whole ↦ number_in_range_small (number_parts text) n (sym (number_of_parts text some whole) ∙ h)
   ]
 ]

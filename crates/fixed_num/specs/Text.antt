@@ -35,9 +35,9 @@ abbrev pub unsigned_parts : Bool → List ℕ → Parts
 unsigned_parts negative text = parts_from negative (front_digits text) (after_digits text)
 
 -- the parts of a text
-abbrev pub parts_of : List ℕ → Parts
-parts_of [] = unsigned_parts false []
-parts_of (b ∷ bs) = if b == 45 then unsigned_parts true bs else unsigned_parts false (b ∷ bs)
+abbrev pub number_parts : List ℕ → Parts
+number_parts [] = unsigned_parts false []
+number_parts (b ∷ bs) = if b == 45 then unsigned_parts true bs else unsigned_parts false (b ∷ bs)
 
 -- no byte stands there
 abbrev pub is_empty : List ℕ → Bool
@@ -54,7 +54,7 @@ is_broken p = (is_empty p.whole || is_bare_point p.decimals) || not (is_empty p.
 
 -- The place of the first byte that can't stand there, or the length where a digit is missing at the end: in both cases the rest begins there.
 abbrev pub bad_place : List ℕ → Option ℕ
-bad_place text = let p = parts_of text in if is_broken p then Some (length text - length p.rest) else None
+bad_place text = let p = number_parts text in if is_broken p then Some (length text - length p.rest) else None
 
 -- how many decimals stand there
 abbrev pub decimal_count : Option (List ℕ) → ℕ
@@ -86,7 +86,7 @@ unfoldable pub number_of : List ℕ → Result ℤ FxFault
 number_of [] = Err Empty
 number_of (b ∷ bs) = elim (bad_place (b ∷ bs)) [
   | Some place ↦ Err (BadByte place)
-  | None ↦ number_in_range (parts_of (b ∷ bs))
+  | None ↦ number_in_range (number_parts (b ∷ bs))
 ]
 
 -- `-` where negative

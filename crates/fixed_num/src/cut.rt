@@ -5,7 +5,7 @@ ghost use Rattle.std.specs.Str.{all_ascii_digits};
 ghost use Rattle.std.specs.List.{prefix_len};
 ghost use Rattle.std.specs.Char.{is_ascii_digit};
 ghost use Rattle.std.specs.Str.Parse.{digits_value};
-ghost use Rattle.fixed_num.specs.Text.{front_digits, after_digits, unsigned_parts, parts_of, is_broken, is_bare_point, decimal_count, micro_of_decimals, size_of};
+ghost use Rattle.fixed_num.specs.Text.{front_digits, after_digits, unsigned_parts, number_parts, is_broken, is_bare_point, decimal_count, micro_of_decimals, size_of};
 
 use crate::{DECIMALS, LARGEST, MICRO, MOST_UNITS};
 use std::marker::Model;
@@ -27,14 +27,21 @@ impl<'a> Model for Cut<'a> {
 
     ghost Value = { Parts };
 
-    ghost view = { λ s. record { negative = s.negative; whole = s.whole.now; decimals = option_map (λ ds. ds.now) s.decimals; rest = s.rest.now } };
+    ghost view = { λ s. record {
+      negative = s.negative;
+      whole = s.whole.now;
+      decimals = option_map (λ ds. ds.now) s.decimals;
+      rest = s.rest.now;
+    } };
 
-    ghost invariant = { λ s. IsTrue (all_ascii_digits s.whole.now) × ForSome s.decimals (λ ds. IsTrue (all_ascii_digits ds.now)) };
+    ghost invariant = { λ s.
+        IsTrue (all_ascii_digits s.whole.now)
+        × ForSome s.decimals (λ ds. IsTrue (all_ascii_digits ds.now)) };
 }
 
 impl<'a> Cut<'a> {
     pub(crate) fn of(text: &'a [u8]) -> Cut<'a>
-        ensures parts { result ≡ parts_of text.now }
+        ensures parts { result ≡ number_parts text.now }
         ensures shorter { length result.rest ≤ length text.now }
     {
         match text.split_first() {

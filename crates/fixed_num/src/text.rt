@@ -1,6 +1,6 @@
 //! The one spelling of a number.
 
-ghost use Rattle.std.specs.Prelude.{◌≡◌, ◌+◌, ◌*◌, ◌^◌, ◌<◌, ◌≤◌, List, [], ◌∷◌, ◌++◌, length, nat_abs, OnOk, OnErr, IfOk, IsOk, Some, vec_len, vec_capacity, string_bytes};
+ghost use Rattle.std.specs.Prelude.{◌≡◌, ◌+◌, ◌*◌, ◌^◌, ◌<◌, ◌≤◌, List, [], ◌∷◌, ◌++◌, length, nat_abs, MatchResult, IfOk, IsOk, Some, vec_len, vec_capacity, string_bytes};
 ghost use Rattle.std.specs.Fmt.{decimal, DisplaysOnOk};
 ghost use Rattle.fixed_num.specs.Text.{spelled, six_digits};
 
@@ -31,8 +31,8 @@ impl Fx {
 
     /// Appends the number's text. Without memory the bytes stay as they were, and where room is reserved it can't fail.
     pub fn push_text(self, text: &mut Vec<u8>) -> Result<(), Memory>
-        ensures ok { OnOk result (text.new.items ≡ text.old.items ++ spelled self) }
-        ensures err { OnErr result (text.new.items ≡ text.old.items) }
+        ensures bytes { MatchResult result (λ _. text.new.items ≡ text.old.items ++ spelled self)
+            (λ _. text.new.items ≡ text.old.items) }
         ensures room { vec_len text.old + length (spelled self) ≤ vec_capacity text.old → IsOk result }
         ensures capacity { vec_capacity text.old ≤ vec_capacity text.new }
         ensures longest { length (spelled self) ≤ Self.LONGEST_TEXT }

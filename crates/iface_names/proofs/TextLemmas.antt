@@ -9,7 +9,7 @@ use Rattle.std.proofs.lemmas.List.Elements.{All-nil, All-cons}
 use Rattle.std.proofs.lemmas.List.Splits.{slice_split_at, join_with_byte-slice_split}
 use Rattle.std.proofs.lemmas.Slice.Eq.{bytes_eq-Decides}
 use Rattle.iface_names.specs.Names.{is_name, is_name_byte, same_name}
-use Rattle.iface_names.specs.Interfaces.{kind_word, kind_of, interface_parts, joint_of, reference_of, interface_of_parts, interface_of, interface_text}
+use Rattle.iface_names.specs.Interfaces.{kind_word, kind_named, interface_parts, joint_of, reference_of, interface_of_parts, interface_of, interface_text}
 use Rattle.iface_names.specs.declared.interface.IfaceName.{IfaceName}
 use Rattle.iface_names.specs.declared.interface.IfaceName.TheVariants.{Joint, Reference}
 use Rattle.iface_names.specs.declared.kind.TheConstants.{KINDS}
@@ -49,10 +49,10 @@ parts_of_word Velocity = refl
 parts_of_word Effort = refl
 
 -- a kind's word is that kind's
-kind_of_word : (kind : Kind) → kind_of (kind_word kind) ≡ Some kind
-kind_of_word Position = refl
-kind_of_word Velocity = refl
-kind_of_word Effort = refl
+kind_named_word : (kind : Kind) → kind_named (kind_word kind) ≡ Some kind
+kind_named_word Position = refl
+kind_named_word Velocity = refl
+kind_named_word Effort = refl
 
 -- a joint's interface is read back
 pub joint_reads_back : (joint : List ℕ) (kind : Kind) → is_name joint ≡ true → interface_of (interface_text (Joint joint kind)) ≡ Ok (Joint joint kind)
@@ -60,7 +60,7 @@ unfolding interface_of
 joint_reads_back joint kind named =
     let text = joint_text joint (kind_word kind) in
     let cut = parts_of_name joint (kind_word kind) named ∙ ap (λ ps. joint ∷ ps) (parts_of_word kind) in
-    ap interface_of_parts (ap interface_parts text ∙ cut) ∙ rw (kind_of_word kind, named) refl
+    ap interface_of_parts (ap interface_parts text ∙ cut) ∙ rw (kind_named_word kind, named) refl
 
 -- a reference is read back
 pub reference_reads_back : (controller joint : List ℕ) (kind : Kind) → is_name controller ≡ true → is_name joint ≡ true
@@ -69,7 +69,7 @@ unfolding interface_of
 reference_reads_back controller joint kind leads named =
     let text = reference_text controller joint (kind_word kind) in
     let cut = parts_of_name joint (kind_word kind) named ∙ ap (λ ps. joint ∷ ps) (parts_of_word kind) in
-    ap interface_of_parts (ap interface_parts text ∙ parts_of_name controller (joint ++ (47 ∷ kind_word kind)) leads ∙ ap (λ ps. controller ∷ ps) cut) ∙ rw (kind_of_word kind, leads, named) refl
+    ap interface_of_parts (ap interface_parts text ∙ parts_of_name controller (joint ++ (47 ∷ kind_word kind)) leads ∙ ap (λ ps. controller ∷ ps) cut) ∙ rw (kind_named_word kind, leads, named) refl
 
 pub ruleset reading_back = (joint_reads_back, reference_reads_back)
 
@@ -86,27 +86,27 @@ word_of_found (row ∷ rows) text meaning word kind named h = elim (cases_Bool (
 ]
 
 -- the word of a kind that was read
-word_of_kind : (word : List ℕ) (kind : Kind) → kind_of word ≡ Some kind → kind_word kind ≡ word
+word_of_kind : (word : List ℕ) (kind : Kind) → kind_named word ≡ Some kind → kind_word kind ≡ word
 word_of_kind word kind h = word_of_found KINDS (λ row. row.0.now) (λ row. row.1) word kind (refl, (refl, (refl, tt))) h
 
 -- what two parts name prints as them
-joint_prints_back : (v : Bool) (joint word : List ℕ) (kind : Kind) (interface : IfaceName) → kind_of word ≡ Some kind → (if v then Ok (Joint joint kind) else Err BadName) ≡ Ok interface
+joint_prints_back : (v : Bool) (joint word : List ℕ) (kind : Kind) (interface : IfaceName) → kind_named word ≡ Some kind → (if v then Ok (Joint joint kind) else Err BadName) ≡ Ok interface
     → interface_text interface ≡ joint ++ (47 ∷ word)
 joint_prints_back true joint word kind interface e h = let i : interface ≡ Joint joint kind = cc in rw (i, word_of_kind word kind e) (joint_text joint word)
 joint_prints_back false joint word kind interface e h = cc
 
 -- what three parts name prints as them
-reference_prints_back : (v : Bool) (controller joint word : List ℕ) (kind : Kind) (interface : IfaceName) → kind_of word ≡ Some kind
+reference_prints_back : (v : Bool) (controller joint word : List ℕ) (kind : Kind) (interface : IfaceName) → kind_named word ≡ Some kind
     → (if v then Ok (Reference controller joint kind) else Err BadName) ≡ Ok interface → interface_text interface ≡ controller ++ (47 ∷ (joint ++ (47 ∷ word)))
 reference_prints_back true controller joint word kind interface e h = let i : interface ≡ Reference controller joint kind = cc in rw (i, word_of_kind word kind e) (reference_text controller joint word)
 reference_prints_back false controller joint word kind interface e h = cc
 
 -- the same where a kind is looked for
-joint_of_prints_back : (joint word : List ℕ) (read : Option Kind) (interface : IfaceName) → kind_of word ≡ read → joint_of joint read ≡ Ok interface → interface_text interface ≡ joint ++ (47 ∷ word)
+joint_of_prints_back : (joint word : List ℕ) (read : Option Kind) (interface : IfaceName) → kind_named word ≡ read → joint_of joint read ≡ Ok interface → interface_text interface ≡ joint ++ (47 ∷ word)
 joint_of_prints_back joint word None interface e h = cc
 joint_of_prints_back joint word (Some kind) interface e h = joint_prints_back (is_name joint) joint word kind interface e h
 
-reference_of_prints_back : (controller joint word : List ℕ) (read : Option Kind) (interface : IfaceName) → kind_of word ≡ read → reference_of controller joint read ≡ Ok interface
+reference_of_prints_back : (controller joint word : List ℕ) (read : Option Kind) (interface : IfaceName) → kind_named word ≡ read → reference_of controller joint read ≡ Ok interface
     → interface_text interface ≡ controller ++ (47 ∷ (joint ++ (47 ∷ word)))
 reference_of_prints_back controller joint word None interface e h = cc
 reference_of_prints_back controller joint word (Some kind) interface e h = reference_prints_back (is_name controller && is_name joint) controller joint word kind interface e h
@@ -115,8 +115,8 @@ reference_of_prints_back controller joint word (Some kind) interface e h = refer
 parts_print_back : (ps : List (List ℕ)) (interface : IfaceName) → interface_of_parts ps ≡ Ok interface → interface_text interface ≡ join_with_byte 47 ps
 parts_print_back [] interface h = cc
 parts_print_back (a ∷ []) interface h = cc
-parts_print_back (joint ∷ word ∷ []) interface h = joint_of_prints_back joint word (kind_of word) interface refl h
-parts_print_back (controller ∷ joint ∷ word ∷ []) interface h = reference_of_prints_back controller joint word (kind_of word) interface refl h
+parts_print_back (joint ∷ word ∷ []) interface h = joint_of_prints_back joint word (kind_named word) interface refl h
+parts_print_back (controller ∷ joint ∷ word ∷ []) interface h = reference_of_prints_back controller joint word (kind_named word) interface refl h
 parts_print_back (a ∷ b ∷ c ∷ d ∷ ps) interface h = cc
 
 -- what a text names prints as the text

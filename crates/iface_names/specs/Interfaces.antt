@@ -25,8 +25,8 @@ abbrev pub kind_word : Kind → List ℕ
 kind_word kind = option_map_or (λ row. row.0.now) (find (λ row. same_kind row.1 kind) KINDS) []
 
 -- the kind that stands beside a word there
-abbrev pub kind_of : List ℕ → Option Kind
-kind_of word = option_map (λ row. row.1) (find (λ row. same_name row.0.now word) KINDS)
+abbrev pub kind_named : List ℕ → Option Kind
+kind_named word = option_map (λ row. row.1) (find (λ row. same_name row.0.now word) KINDS)
 
 -- ---- Text
 
@@ -46,8 +46,8 @@ reference_of controller joint (Some kind) = if is_name controller && is_name joi
 
 -- Two parts are a joint and a kind, three are a controller, a joint and a kind. Any other number of parts is no interface.
 abbrev pub interface_of_parts : List (List ℕ) → Result IfaceName NameFault
-interface_of_parts (joint ∷ kind ∷ []) = joint_of joint (kind_of kind)
-interface_of_parts (controller ∷ joint ∷ kind ∷ []) = reference_of controller joint (kind_of kind)
+interface_of_parts (joint ∷ kind ∷ []) = joint_of joint (kind_named kind)
+interface_of_parts (controller ∷ joint ∷ kind ∷ []) = reference_of controller joint (kind_named kind)
 interface_of_parts _ = Err BadName
 
 -- the interface that this text names

@@ -3,7 +3,7 @@
 ghost use Rattle.std.specs.Prelude.{◌≡◌, ◌==◌, ◌∷◌, [], position};
 ghost use Rattle.std.specs.Option.{option_map_or};
 ghost use Rattle.iface_names.specs.Answers.{Answers};
-ghost use Rattle.iface_names.specs.Interfaces.{kind_of, interface_parts, joint_of, reference_of, interface_of};
+ghost use Rattle.iface_names.specs.Interfaces.{kind_named, interface_parts, joint_of, reference_of, interface_of};
 
 use crate::kind::Kind;
 use crate::name::{Name, NameFault};
@@ -57,7 +57,7 @@ impl IfaceName {
 
 /// `joint/kind`.
 fn joint(alloc: Global, joint: &[u8], kind: &[u8]) -> Result<IfaceName, NameFault>
-    ensures { Answers NameFault.Memory (joint_of joint.now (kind_of kind.now)) result }
+    ensures { Answers NameFault.Memory (joint_of joint.now (kind_named kind.now)) result }
 {
     let Some(kind) = Kind::read(kind) else {
         return Err(NameFault::BadName);
@@ -75,7 +75,7 @@ fn reference(
     joint: &[u8],
     kind: &[u8],
 ) -> Result<IfaceName, NameFault>
-    ensures { Answers NameFault.Memory (reference_of controller.now joint.now (kind_of kind.now)) result }
+    ensures { Answers NameFault.Memory (reference_of controller.now joint.now (kind_named kind.now)) result }
 {
     let Some(kind) = Kind::read(kind) else {
         return Err(NameFault::BadName);

@@ -3,7 +3,7 @@
 ghost use Rattle.std.specs.Prelude.{◌≡◌, [], find};
 ghost use Rattle.std.specs.Option.{option_map, option_map_or};
 ghost use Rattle.iface_names.specs.Names.{same_name};
-ghost use Rattle.iface_names.specs.Interfaces.{kind_of, kind_word, same_kind};
+ghost use Rattle.iface_names.specs.Interfaces.{kind_named, kind_word, same_kind};
 
 use std::fmt;
 use std::fmt::{Display, Formatter, Write};
@@ -29,7 +29,7 @@ pub const KINDS: [(&str, Kind); 3] = [
 impl Kind {
     /// The kind whose word this is.
     pub fn read(word: &[u8]) -> Option<Kind>
-        ensures { result ≡ kind_of word.now }
+        ensures { result ≡ kind_named word.now }
     {
         meaning_in(&KINDS, word)
     }

@@ -36,6 +36,10 @@ pub fn what_is_read_prints_back(text: &[u8])
 /// A name that is held keeps its place whatever is added, and one that is added has the place that it was given.
 #[tactic(auto, using(crate::proofs::RegistryLemmas::keeping_places))]
 pub fn a_place_stays()
-    ensures given { (held : Numbered) (name : IfaceName) (place : ℕ) → (added held name).0 ≡ Ok place → interface_place name (added held name).1.names ≡ Some place }
-    ensures kept { (held : Numbered) (name other : IfaceName) (place : ℕ) → interface_place name held.names ≡ Some place → interface_place name (added held other).1.names ≡ Some place }
+    ensures given { (held : Numbered) (name : IfaceName) (place : ℕ)
+        → (added held name).0 ≡ Ok place
+        → interface_place name (added held name).1.names ≡ Some place }
+    ensures kept { (held : Numbered) (name other : IfaceName) (place : ℕ)
+        → interface_place name held.names ≡ Some place
+        → interface_place name (added held other).1.names ≡ Some place }
 {}

@@ -24,7 +24,8 @@ impl Model for Body {
 
     ghost Value = { Simulated };
 
-    ghost view = { λ b. record { plant = record { vmax = b.vmax; gain = b.gain; damping = b.damping }; state = b.state } };
+    ghost view = { λ b.
+        record { plant = record { vmax = b.vmax; gain = b.gain; damping = b.damping }; state = b.state } };
 
     ghost invariant = { λ b. IsPlant (record { vmax = b.vmax; gain = b.gain; damping = b.damping }) };
 }

@@ -15,7 +15,8 @@ use fixed_num::{Fx, JointMode, Value};
 #[tactic(auto, using(crate::proofs::BodyLemmas::approach_arrives), unfolding(fixed_num::specs::Bodies::stepped))]
 pub fn a_position_is_approached(body: &Body, command: Fx, dt_us: u32)
     ensures near { IsWithin (reach body.now dt_us) ((approaching body.now command dt_us).x -ℤ body.now.state.x) }
-    ensures arrives { IsWithin (reach body.now dt_us) (command -ℤ body.now.state.x) → (approaching body.now command dt_us).x ≡ command }
+    ensures arrives { IsWithin (reach body.now dt_us) (command -ℤ body.now.state.x)
+        → (approaching body.now command dt_us).x ≡ command }
 {
     body.state().x.micro();
     command.micro();

@@ -1,5 +1,5 @@
 -- A source and a sink in memory, as contracts see them.
-use Rattle.std.specs.Prelude.{ℕ, ◌==◌, ◌&&◌, ◌||◌, nat_lt, Bool, List, length}
+use Rattle.std.specs.Prelude.{ℕ, ◌==◌, ◌&&◌, ◌||◌, nat_lt, Bool, List, [], length}
 use Rattle.outside_io.specs.Failing.{is_listed}
 
 -- The bytes still to come, the most that one read gives, the numbers of the reads that fail, and how many reads there were and failed.
@@ -20,6 +20,14 @@ pub record SinkView : Type 0 where
   pub fails : List ℕ
   pub calls : ℕ
   pub faults : ℕ
+
+-- a source of these bytes that was not read yet
+abbrev pub unread : List ℕ → ℕ → List ℕ → SourceView
+unread bytes step fails = record { left = bytes; step = step; fails = fails; calls = 0; faults = 0 }
+
+-- a sink that was not written to yet
+abbrev pub unwritten : ℕ → ℕ → List ℕ → SinkView
+unwritten room step fails = record { taken = []; flushed = 0; room = room; step = step; fails = fails; calls = 0; faults = 0 }
 
 -- The next write fails if it is of this piece: its number is listed, or the piece has a byte and there is no room.
 abbrev pub write_fails : SinkView → List ℕ → Bool

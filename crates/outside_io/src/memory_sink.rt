@@ -1,10 +1,11 @@
 //! A sink in memory, for tests.
 
-ghost use Rattle.std.specs.Prelude.{◌≡◌, ◌+◌, ◌<◌, ◌≤◌, [], length, Some, IfOk, MatchResult};
+ghost use Rattle.std.specs.Prelude.{◌≡◌, ◌+◌, ◌<◌, ◌≤◌, length, Some, IfOk, MatchResult};
 ghost use Rattle.std.specs.Io.KnownBytes.{Keeps, WriteAppends};
 ghost use Rattle.outside_io.specs.Bytes.{AllFlushed, IsSomeOf};
 ghost use Rattle.outside_io.specs.Faults.{HasCause};
 ghost use Rattle.outside_io.specs.Calls.MemorySink.{Takes, Flushes};
+ghost use Rattle.outside_io.specs.InMemory.{unwritten};
 
 use crate::failures::Failures;
 use crate::{Failed, Sink};
@@ -48,13 +49,7 @@ impl MemSink {
     /// whose numbers are listed; both are numbered together, from 0. `Memory` where the room can't be had.
     pub fn make(alloc: Global, room: usize, step: usize, fails: Vec<u64>) -> Result<MemSink, Memory>
         requires { 0 < step }
-        ensures taken { IfOk result (λ sink. sink.taken ≡ []) }
-        ensures flushed { IfOk result (λ sink. sink.flushed ≡ 0) }
-        ensures room { IfOk result (λ sink. sink.room ≡ room) }
-        ensures step { IfOk result (λ sink. sink.step ≡ step) }
-        ensures fails { IfOk result (λ sink. sink.fails ≡ fails.items) }
-        ensures calls { IfOk result (λ sink. sink.calls ≡ 0) }
-        ensures faults { IfOk result (λ sink. sink.faults ≡ 0) }
+        ensures { IfOk result (λ sink. sink ≡ unwritten room step fails.items) }
     {
         Ok(MemSink {
             bytes: Vec::with_capacity(alloc, room)?,
@@ -103,7 +98,8 @@ impl Sink for MemSink {
     /// Remembers how many bytes were taken; a listed flush fails, remembers nothing and is a fault.
     fn flush(&mut self) -> Result<(), Failed>
         ensures bytes { Keeps (Some self.old.taken) (Some self.new.taken) }
-        ensures flushed { MatchResult result (λ _. AllFlushed (Some self.new.taken) (Some self.new.flushed)) (λ _. Some self.new.flushed ≡ Some self.old.flushed) }
+        ensures flushed { MatchResult result (λ _. AllFlushed (Some self.new.taken) (Some self.new.flushed))
+            (λ _. Some self.new.flushed ≡ Some self.old.flushed) }
         ensures cause { HasCause self.old.faults self.new.faults result }
         ensures flushes { Flushes self.old self.new result }
     {

@@ -4,6 +4,7 @@ ghost use Rattle.std.specs.Prelude.{◌≡◌, ◌<◌, ◌≤◌, length, Some,
 ghost use Rattle.std.specs.Io.KnownBytes.{ReadConsumes};
 ghost use Rattle.outside_io.specs.Faults.{HasCause};
 ghost use Rattle.outside_io.specs.Calls.MemorySource.{Gives};
+ghost use Rattle.outside_io.specs.InMemory.{unread};
 
 use crate::failures::Failures;
 use crate::{Failed, Source};
@@ -39,11 +40,7 @@ impl MemSource {
     /// A source of these bytes, which gives at most `step` of them a read and fails in the reads whose numbers, from 0, are listed.
     pub fn make(bytes: Vec<u8>, step: usize, fails: Vec<u64>) -> MemSource
         requires { 0 < step }
-        ensures left { result.left ≡ bytes.items }
-        ensures step { result.step ≡ step }
-        ensures fails { result.fails ≡ fails.items }
-        ensures calls { result.calls ≡ 0 }
-        ensures faults { result.faults ≡ 0 }
+        ensures { result ≡ unread bytes.items step fails.items }
     {
         MemSource {
             bytes,

@@ -30,6 +30,7 @@ pub trait Sink {
     fn flush(&mut self) -> Result<(), Failed>
         // A flush takes no byte, whether it fails or not.
         ensures bytes { Keeps (taken self.old) (taken self.new) }
-        ensures flushed { MatchResult result (λ _. AllFlushed (taken self.new) (flushed self.new)) (λ _. flushed self.new ≡ flushed self.old) }
+        ensures flushed { MatchResult result (λ _. AllFlushed (taken self.new) (flushed self.new))
+            (λ _. flushed self.new ≡ flushed self.old) }
         ensures cause { HasCause (faults self.old) (faults self.new) result };
 }

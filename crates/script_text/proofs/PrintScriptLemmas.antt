@@ -1,6 +1,6 @@
 -- A printed script reads back: its sessions, then its schedule.
 use Rattle.std.proofs.Common.{◌≡◌, ℕ, zero, suc, ◌+◌, ◌<◌, ◌≤◌, true, false, List, [], ◌∷◌, ◌++◌, length, Option, Some, None, Ok, refl, sym, ap, ◌∙◌, subst, arith, rules, append_assoc, length-append}
-use Rattle.std.specs.Prelude.{IsTrue, nat_le, nat_lt, flat_map, sum_by, codes, position, option_to_list}
+use Rattle.std.specs.Prelude.{IsTrue, nat_le, nat_lt, flat_map, sum_by, codes, position}
 use Rattle.std.specs.List.{AllByRecursion, list_any, list_all, position_from}
 use Rattle.std.proofs.lemmas.Bool.Decides.{nat_tests}
 use Rattle.std.proofs.lemmas.Bool.{and_from}
@@ -8,12 +8,13 @@ use Rattle.std.proofs.lemmas.Cmp.{nat_list_eq_equiv}
 use Rattle.std.proofs.lemmas.Iterator.Adapters.{position_from-zero}
 use Rattle.std.proofs.lemmas.List.{append-nil}
 use Rattle.std.proofs.lemmas.List.Folds.{list_any-append}
-use Rattle.std.proofs.lemmas.List.Sums.{sum_by-cons}
+use Rattle.std.proofs.lemmas.List.Sums.{sum_by-cons, sum_by_push}
 use Rattle.iface_names.specs.Names.{same_name}
 use Rattle.cm_document.specs.Reading.{◌>>=◌}
 use Rattle.cm_document.specs.Lines.{raw_lines}
 use Rattle.cm_document.specs.CallText.{call_text, session_text, session_name, turn_text, schedule_text, script_text}
-use Rattle.cm_document.specs.ScriptRules.{Standing, nothing, sessions_in, session_accepted, mail_fits, call_fits, with_lines, script_in, script_with}
+use Rattle.cm_document.specs.ScriptRules.{Draft, nothing, script_in, session_accepted, mail_fits, call_fits, then_calling, with_lines, script_with}
+use Rattle.cm_document.specs.declared.limits.TheConstants.{MOST_SESSIONS, MOST_CALLS}
 use Rattle.cm_document.specs.ScriptLaws.{IsName, ArePointsAfter, CanBeSent, CanBeWritten, IsSession, AreApart, IsTurnAmong, MeetsRules, has_form, UsesForms}
 use Rattle.cm_document.specs.declared.call.Call.{Call}
 use Rattle.cm_document.specs.declared.call.Call.TheVariants as call
@@ -28,6 +29,7 @@ use Rattle.cm_document.specs.declared.script.Turn.TheVariants as turn
 use Rattle.script_text.proofs.PrintWordLemmas.{Reads, Reads-nil, Reads-append, Reads-line}
 use Rattle.script_text.proofs.PrintValueLemmas.{name_IsWord, name_short}
 use Rattle.script_text.proofs.PrintCallLemmas.{call_says, one_behind}
+use Rattle.sequence.proofs.ListLemmas.{in_last_push, not_empty, not_empty_push}
 
 -- ---- Calls
 
@@ -62,40 +64,46 @@ call_fits_written (call.End n) can = refl
 call_fits_written call.Close can = refl
 
 -- what stands while a session is written
-abbrev writing : List SessionText → List ℕ → List Call → ℕ → Standing
-writing done name lines count = record { finished = done; current = Some (record { name = name; lines = lines }); turns = None; count = count }
+abbrev writing : List SessionText → List ℕ → List Call → Draft
+writing done name lines = record { sessions = done ++ record { name = name; lines = lines } ∷ []; turns = None }
+
+-- how many calls sessions have
+abbrev calls_of : List SessionText → ℕ
+calls_of sessions = sum_by (λ t. length t.lines) sessions
+
+-- so few leave room for one more
+room_for : (k : ℕ) → k < MOST_CALLS → nat_lt k MOST_CALLS ≡ true
+room_for k few = grind (arith, nat_tests)
 
 -- a call's line
-call_read : (forms : Forms) (done : List SessionText) (name : List ℕ) (lines : List Call) (c : Call) (k : ℕ)
-    → CanBeWritten c → has_form forms c ≡ true → k < 10000
-    → Reads forms (call_text c ++ codes "\n") (writing done name lines k) (writing done name (lines ++ c ∷ []) (k + 1))
-call_read forms done name lines c k can accepted few =
+call_read : (forms : Forms) (done : List SessionText) (name : List ℕ) (lines : List Call) (c : Call)
+    → CanBeWritten c → has_form forms c ≡ true → calls_of done + length lines < MOST_CALLS
+    → Reads forms (call_text c ++ codes "\n") (writing done name lines) (writing done name (lines ++ c ∷ []))
+call_read forms done name lines c can accepted few =
+    let s : SessionText = record { name = name; lines = lines } in
     let said = call_says c can in
-    let below : nat_lt k 10000 ≡ true = grind (arith, nat_tests) in
+    let sum = sum_by_push (λ t. length t.lines) done s in
+    let below = room_for (calls_of (done ++ s ∷ []) + 0) (omega (arith, few)) in
     let fits = call_fits_written c can in
-    let read = Reads-line forms said.0 said.1 (writing done name lines k) (writing done name (lines ++ c ∷ []) (k + 1)) said.2.shape
-    (λ n. rw (said.2.says forms accepted, below, fits) refl) in
-    subst (λ t. Reads forms (t ++ codes "\n") (writing done name lines k) (writing done name (lines ++ c ∷ []) (k + 1))) (sym said.2.text) read
+    let read = Reads-line forms said.0 said.1 (writing done name lines) (writing done name (lines ++ c ∷ [])) said.2.shape
+    (λ n. rw (said.2.says forms accepted, not_empty_push done s, below, fits, in_last_push (then_calling c) done s) refl) in
+    subst (λ t. Reads forms (t ++ codes "\n") (writing done name lines) (writing done name (lines ++ c ∷ []))) (sym said.2.text) read
 
 -- the lines of calls
 abbrev calls_text : List Call → List ℕ
 calls_text cs = flat_map (λ c. call_text c ++ codes "\n") cs
 
-calls_read : (forms : Forms) (done : List SessionText) (name : List ℕ) (lines cs : List Call) (k : ℕ)
-    → AllByRecursion CanBeWritten cs → AllByRecursion (λ c. IsTrue (has_form forms c)) cs → k + length cs ≤ 10000
-    → Reads forms (calls_text cs) (writing done name lines k) (writing done name (lines ++ cs) (k + length cs))
-calls_read forms done name lines [] k can accepted few =
-    let none : k ≡ k + length {A = Call} [] = omega arith in
-    subst (λ w. Reads forms [] (writing done name lines k) w) (ap (λ ls. writing done name ls k) (sym (append-nil lines)) ∙ ap (λ m. writing done name (lines ++ []) m) none)
-    (Reads-nil forms (writing done name lines k))
-calls_read forms done name lines (c ∷ cs) k can accepted few =
-    let count : (k + 1) + length cs ≡ k + suc (length cs) = omega arith in
-    let after : writing done name ((lines ++ c ∷ []) ++ cs) ((k + 1) + length cs) ≡ writing done name (lines ++ c ∷ cs) (k + suc (length cs))
-    = ap (λ ls. writing done name ls ((k + 1) + length cs)) (append_assoc lines (c ∷ []) cs) ∙ ap (λ m. writing done name (lines ++ c ∷ cs) m) count in
-    let rest = calls_read forms done name (lines ++ c ∷ []) cs (k + 1) can.1 accepted.1 (omega arith) in
-    Reads-append forms (call_text c ++ codes "\n") (calls_text cs) (writing done name lines k) (writing done name (lines ++ c ∷ []) (k + 1)) (writing done name (lines ++ c ∷ cs) (k + suc (length cs)))
-    (call_read forms done name lines c k can.0 accepted.0 (omega arith))
-    (subst (λ w. Reads forms (calls_text cs) (writing done name (lines ++ c ∷ []) (k + 1)) w) after rest)
+calls_read : (forms : Forms) (done : List SessionText) (name : List ℕ) (lines cs : List Call)
+    → AllByRecursion CanBeWritten cs → AllByRecursion (λ c. IsTrue (has_form forms c)) cs → calls_of done + (length lines + length cs) ≤ MOST_CALLS
+    → Reads forms (calls_text cs) (writing done name lines) (writing done name (lines ++ cs))
+calls_read forms done name lines [] can accepted few =
+    subst (λ ls. Reads forms [] (writing done name lines) (writing done name ls)) (sym (append-nil lines)) (Reads-nil forms (writing done name lines))
+calls_read forms done name lines (c ∷ cs) can accepted few =
+    let more = length-append lines (c ∷ []) in
+    let rest = calls_read forms done name (lines ++ c ∷ []) cs can.1 accepted.1 (omega arith) in
+    Reads-append forms (call_text c ++ codes "\n") (calls_text cs) (writing done name lines) (writing done name (lines ++ c ∷ [])) (writing done name (lines ++ c ∷ cs))
+    (call_read forms done name lines c can.0 accepted.0 (omega arith))
+    (subst (λ ls. Reads forms (calls_text cs) (writing done name (lines ++ c ∷ [])) (writing done name ls)) (append_assoc lines (c ∷ []) cs) rest)
 
 -- ---- Sessions
 
@@ -103,42 +111,37 @@ calls_read forms done name lines (c ∷ cs) k can accepted few =
 abbrev IsNew : List SessionText → List ℕ → Type 0
 IsNew sessions name = list_any (λ s. same_name name s.name) sessions ≡ false
 
--- a session can be read behind those that are done and the one before it
-record CanFollow (forms : Forms) (sessions : List SessionText) (current : Option SessionText) (s : SessionText) (k : ℕ) : Type 0 where
+-- these sessions stand, and no schedule
+abbrev standing : List SessionText → Draft
+standing sessions = record { sessions = sessions; turns = None }
+
+-- a session can be read behind those that stand
+record CanFollow (forms : Forms) (sessions : List SessionText) (s : SessionText) : Type 0 where
   session : IsSession s
-  accepted : session_accepted forms current ≡ true
+  accepted : session_accepted forms (standing sessions) ≡ true
   new : IsNew sessions s.name
-  few : length sessions < 8
+  few : length sessions < MOST_SESSIONS
   calls : AllByRecursion (λ c. IsTrue (has_form forms c)) s.lines
-  room : k + length s.lines ≤ 10000
+  room : calls_of sessions + length s.lines ≤ MOST_CALLS
 
 -- a session's line
-name_read : (forms : Forms) (done : List SessionText) (current : Option SessionText) (s : SessionText) (k : ℕ) → CanFollow forms (done ++ option_to_list current) current s k
-    → Reads forms ((codes "session " ++ s.name) ++ codes "\n") (record { finished = done; current = current; turns = None; count = k }) (writing (done ++ option_to_list current) s.name [] k)
-name_read forms done current s k can =
-    let few : nat_le 8 (length (done ++ option_to_list current)) ≡ false = grind (arith, nat_tests, can.few) in
+name_read : (forms : Forms) (sessions : List SessionText) (s : SessionText) → CanFollow forms sessions s
+    → Reads forms ((codes "session " ++ s.name) ++ codes "\n") (standing sessions) (writing sessions s.name [])
+name_read forms sessions s can =
+    let few : nat_le MOST_SESSIONS (length sessions) ≡ false = grind (arith, nat_tests, can.few) in
     let named = can.session.named in
     let shape = one_behind (codes "session") s.name (search (arith, rules)) refl (omega arith) (name_IsWord s.name named) (name_short s.name named) in
-    let read = Reads-line forms (codes "session") (s.name ∷ []) (record { finished = done; current = current; turns = None; count = k }) (writing (done ++ option_to_list current) s.name [] k) shape
+    let read = Reads-line forms (codes "session") (s.name ∷ []) (standing sessions) (writing sessions s.name []) shape
     (λ n. rw (named, can.accepted, can.session.not_loop, can.new, few) refl) in
-    subst (λ t. Reads forms ((codes "session " ++ t) ++ codes "\n") (record { finished = done; current = current; turns = None; count = k }) (writing (done ++ option_to_list current) s.name [] k)) (append-nil s.name) read
+    subst (λ t. Reads forms ((codes "session " ++ t) ++ codes "\n") (standing sessions) (writing sessions s.name [])) (append-nil s.name) read
 
 -- a session
-session_read : (forms : Forms) (done : List SessionText) (current : Option SessionText) (s : SessionText) (k : ℕ) → CanFollow forms (done ++ option_to_list current) current s k
-    → Reads forms (session_text s) (record { finished = done; current = current; turns = None; count = k }) (record { finished = done ++ option_to_list current; current = Some s; turns = None; count = k + length s.lines })
-session_read forms done current s k can =
-    let sessions = done ++ option_to_list current in
-    Reads-append forms ((codes "session " ++ s.name) ++ codes "\n") (calls_text s.lines) (record { finished = done; current = current; turns = None; count = k }) (writing sessions s.name [] k) (writing sessions s.name s.lines (k + length s.lines))
-    (name_read forms done current s k can)
-    (calls_read forms sessions s.name [] s.lines k can.session.written can.calls can.room)
-
--- reading this text leads to these sessions, without a schedule so far, and to so many calls
-record LeadsTo (forms : Forms) (text : List ℕ) (before : Standing) (sessions : List SessionText) (count : ℕ) : Type 0 where
-  after : Standing
-  reads : Reads forms text before after
-  all : sessions_in after ≡ sessions
-  unscheduled : after.turns ≡ None
-  counted : after.count ≡ count
+session_read : (forms : Forms) (sessions : List SessionText) (s : SessionText) → CanFollow forms sessions s
+    → Reads forms (session_text s) (standing sessions) (standing (sessions ++ s ∷ []))
+session_read forms sessions s can =
+    Reads-append forms ((codes "session " ++ s.name) ++ codes "\n") (calls_text s.lines) (standing sessions) (writing sessions s.name []) (writing sessions s.name s.lines)
+    (name_read forms sessions s can)
+    (calls_read forms sessions s.name [] s.lines can.session.written can.calls (omega (arith, can.room)))
 
 -- sessions that are new stay so behind one that is apart from them
 still_new : (sessions : List SessionText) (s : SessionText) (later : List SessionText)
@@ -148,68 +151,41 @@ still_new sessions s (t ∷ later) new apart =
     let e = list_any-append (λ s. same_name t.name s.name) sessions (s ∷ []) in
     (rw (e, new.0, apart.0) refl, still_new sessions s later new.1 apart.1)
 
--- the sessions behind the first
-more_read : (forms : Forms) (done : List SessionText) (last : SessionText) (later : List SessionText) (k : ℕ)
-    → AllByRecursion IsSession later → AreApart later → AllByRecursion (λ t. IsNew (done ++ last ∷ []) t.name) later
-    → AllByRecursion (λ t. AllByRecursion (λ c. IsTrue (has_form forms c)) t.lines) later → (0 < length later → IsTrue forms.further_session)
-    → length (done ++ last ∷ []) + length later ≤ 8 → k + sum_by (λ t. length t.lines) later ≤ 10000
-    → LeadsTo forms (flat_map session_text later) (record { finished = done; current = Some last; turns = None; count = k }) ((done ++ last ∷ []) ++ later) (k + sum_by (λ t. length t.lines) later)
-more_read forms done last [] k sessions apart new calls further few room = record {
-  after = record { finished = done; current = Some last; turns = None; count = k };
-  reads = Reads-nil forms (record { finished = done; current = Some last; turns = None; count = k });
-  all = sym (append-nil (done ++ last ∷ []));
-  unscheduled = refl;
-  counted = omega arith;
-}
-more_read forms done last (s ∷ later) k sessions apart new calls further few room =
-    let all = done ++ last ∷ [] in
-    let sum : sum_by (λ t. length t.lines) (s ∷ later) ≡ length s.lines + sum_by (λ t. length t.lines) later = sum_by-cons (λ t. length t.lines) s later in
-    let accepted : IsTrue forms.further_session = further (omega arith) in
-    let first = session_read forms done (Some last) s k (record { session = sessions.0; accepted = accepted; new = new.0; few = omega arith; calls = calls.0; room = omega arith }) in
-    let long = length-append all (s ∷ []) in
-    let rest = more_read forms all s later (k + length s.lines) sessions.1 apart.1 (still_new all s later new.1 apart.0) calls.1 (λ _. accepted) (omega arith) (omega arith) in
-    let counted = rest.counted in
-    record {
-      after = rest.after;
-      reads = Reads-append forms (session_text s) (flat_map session_text later) (record { finished = done; current = Some last; turns = None; count = k })
-          (record { finished = all; current = Some s; turns = None; count = k + length s.lines }) rest.after first rest.reads;
-      all = rest.all ∙ append_assoc all (s ∷ []) later;
-      unscheduled = rest.unscheduled;
-      counted = omega arith;
-    }
-
 -- before any session all are new
 all_new : (sessions : List SessionText) → AllByRecursion (λ t. IsNew [] t.name) sessions
 all_new [] = tt
 all_new (s ∷ sessions) = (refl, all_new sessions)
 
--- all sessions
-sessions_read : (forms : Forms) (sessions : List SessionText) → AllByRecursion IsSession sessions → AreApart sessions
-    → AllByRecursion (λ t. AllByRecursion (λ c. IsTrue (has_form forms c)) t.lines) sessions
-    → (0 < length sessions → IsTrue forms.first_session) → (1 < length sessions → IsTrue forms.further_session)
-    → length sessions ≤ 8 → sum_by (λ t. length t.lines) sessions ≤ 10000
-    → LeadsTo forms (flat_map session_text sessions) nothing sessions (sum_by (λ t. length t.lines) sessions)
-sessions_read forms [] are apart calls first further few room = record { after = nothing; reads = Reads-nil forms nothing; all = refl; unscheduled = refl; counted = refl }
-sessions_read forms (s ∷ later) are apart calls first further few room =
-    let sum : sum_by (λ t. length t.lines) (s ∷ later) ≡ length s.lines + sum_by (λ t. length t.lines) later = sum_by-cons (λ t. length t.lines) s later in
-    let accepted : IsTrue forms.first_session = first (omega arith) in
-    let one = session_read forms [] None s 0 (record { session = are.0; accepted = accepted; new = refl; few = omega arith; calls = calls.0; room = omega arith }) in
-    let rest = more_read forms [] s later (0 + length s.lines) are.1 apart.1 (still_new [] s later (all_new later) apart.0) calls.1 (λ some. further (omega arith)) (omega arith) (omega arith) in
-    let counted = rest.counted in
-    record {
-      after = rest.after;
-      reads = Reads-append forms (session_text s) (flat_map session_text later) nothing
-          (record { finished = []; current = Some s; turns = None; count = 0 + length s.lines }) rest.after one rest.reads;
-      all = rest.all;
-      unscheduled = rest.unscheduled;
-      counted = omega arith;
-    }
+-- a session's line is accepted behind these, where first and further ones are
+accepted_behind : (forms : Forms) (done : List SessionText) → IsTrue forms.first_session → (0 < length done → IsTrue forms.further_session) → session_accepted forms (standing done) ≡ true
+accepted_behind forms [] first further = first
+accepted_behind forms (s ∷ done) first further = rw (not_empty (s ∷ done) (omega arith)) (further (omega arith))
+
+-- all sessions, behind those that are done
+sessions_read : (forms : Forms) (done later : List SessionText)
+    → AllByRecursion IsSession later → AreApart later → AllByRecursion (λ t. IsNew done t.name) later
+    → AllByRecursion (λ t. AllByRecursion (λ c. IsTrue (has_form forms c)) t.lines) later
+    → (0 < length later → IsTrue forms.first_session) → (1 < length done + length later → IsTrue forms.further_session)
+    → length done + length later ≤ MOST_SESSIONS → calls_of done + calls_of later ≤ MOST_CALLS
+    → Reads forms (flat_map session_text later) (standing done) (standing (done ++ later))
+sessions_read forms done [] sessions apart new calls first further few room =
+    subst (λ ss. Reads forms [] (standing done) (standing ss)) (sym (append-nil done)) (Reads-nil forms (standing done))
+sessions_read forms done (s ∷ later) sessions apart new calls first further few room =
+    let all = done ++ s ∷ [] in
+    let sum : calls_of (s ∷ later) ≡ length s.lines + calls_of later = sum_by-cons (λ t. length t.lines) s later in
+    let pushed : calls_of all ≡ calls_of done + length s.lines = sum_by_push (λ t. length t.lines) done s in
+    let long = length-append done (s ∷ []) in
+    let accepted = accepted_behind forms done (first (omega arith)) (λ some. further (omega arith)) in
+    let one = session_read forms done s (record { session = sessions.0; accepted = accepted; new = new.0; few = omega arith; calls = calls.0; room = omega arith }) in
+    let rest = sessions_read forms all later sessions.1 apart.1 (still_new done s later new.1 apart.0) calls.1 (λ _. first (omega arith)) (λ many. further (omega arith)) (omega arith) (omega arith) in
+    Reads-append forms (session_text s) (flat_map session_text later) (standing done) (standing all) (standing (done ++ s ∷ later)) one
+    (subst (λ ss. Reads forms (flat_map session_text later) (standing all) (standing ss)) (append_assoc done (s ∷ []) later) rest)
 
 -- ---- The schedule
 
--- the state with these turns and this count
-abbrev turning : Standing → List Turn → ℕ → Standing
-turning w ts k = record { finished = w.finished; current = w.current; turns = Some ts; count = k }
+-- these sessions stand, and these turns
+abbrev turning : List SessionText → List Turn → Draft
+turning sessions ts = record { sessions = sessions; turns = Some ts }
 
 -- a later session's name is not the first one's
 apart_at : (first : List ℕ) (later : List SessionText) (who : ℕ) → who < length later → AllByRecursion (λ t. same_name t.name first ≡ false) later → same_name (session_name later who) first ≡ false
@@ -242,49 +218,46 @@ found sessions who within apart =
     position_from-zero (λ s. same_name (session_name sessions who) s.name) sessions ∙ found_from sessions who 0 within apart ∙ ap Some e
 
 -- the schedule's first line
-schedule_read : (forms : Forms) (w : Standing) → IsTrue forms.schedule → w.turns ≡ None → Reads forms (codes "schedule\n") w (turning w [] w.count)
-schedule_read forms w accepted none = Reads-line forms (codes "schedule") [] w (turning w [] w.count) (search (arith, rules)) (λ n. rw (accepted, none) refl)
+schedule_read : (forms : Forms) (sessions : List SessionText) → IsTrue forms.schedule → Reads forms (codes "schedule\n") (standing sessions) (turning sessions [])
+schedule_read forms sessions accepted = Reads-line forms (codes "schedule") [] (standing sessions) (turning sessions []) (search (arith, rules)) (λ n. rw accepted refl)
 
 -- a turn's line
-turn_read : (forms : Forms) (w : Standing) (ts : List Turn) (t : Turn) (k : ℕ) → IsTrue forms.schedule → IsTurnAmong (length (sessions_in w)) t
-    → AllByRecursion IsSession (sessions_in w) → AreApart (sessions_in w) → k < 10000
-    → Reads forms (turn_text (sessions_in w) t) (turning w ts k) (turning w (ts ++ t ∷ []) (k + 1))
-turn_read forms w ts (turn.Step who) k accepted among sessions apart few =
-    let below : nat_lt k 10000 ≡ true = grind (arith, nat_tests) in
-    let name = session_name (sessions_in w) who in
-    let named = named_at (sessions_in w) who among sessions in
-    let number : position (λ s. same_name name s.name) (sessions_in w) ≡ Some who = found (sessions_in w) who among apart in
+turn_read : (forms : Forms) (sessions : List SessionText) (ts : List Turn) (t : Turn) → IsTrue forms.schedule → IsTurnAmong (length sessions) t
+    → AllByRecursion IsSession sessions → AreApart sessions → calls_of sessions + length ts < MOST_CALLS
+    → Reads forms (turn_text sessions t) (turning sessions ts) (turning sessions (ts ++ t ∷ []))
+turn_read forms sessions ts (turn.Step who) accepted among all apart few =
+    let below = room_for (calls_of sessions + length ts) few in
+    let name = session_name sessions who in
+    let named = named_at sessions who among all in
+    let number : position (λ s. same_name name s.name) sessions ≡ Some who = found sessions who among apart in
     let shape = one_behind (codes "step") name (search (arith, rules)) refl (omega arith) (name_IsWord name named) (name_short name named) in
-    let read = Reads-line forms (codes "step") (name ∷ []) (turning w ts k) (turning w (ts ++ turn.Step who ∷ []) (k + 1)) shape (λ n. rw (accepted, named, number, below) refl) in
-    subst (λ t. Reads forms ((codes "step " ++ t) ++ codes "\n") (turning w ts k) (turning w (ts ++ turn.Step who ∷ []) (k + 1))) (append-nil name) read
-turn_read forms w ts turn.Begin k accepted among sessions apart few =
-    let below : nat_lt k 10000 ≡ true = grind (arith, nat_tests) in
-    Reads-line forms (codes "begin") [] (turning w ts k) (turning w (ts ++ turn.Begin ∷ []) (k + 1)) (search (arith, rules)) (λ n. rw (accepted, below) refl)
-turn_read forms w ts turn.End k accepted among sessions apart few =
-    let below : nat_lt k 10000 ≡ true = grind (arith, nat_tests) in
-    Reads-line forms (codes "end") [] (turning w ts k) (turning w (ts ++ turn.End ∷ []) (k + 1)) (search (arith, rules)) (λ n. rw (accepted, below) refl)
+    let read = Reads-line forms (codes "step") (name ∷ []) (turning sessions ts) (turning sessions (ts ++ turn.Step who ∷ [])) shape (λ n. rw (accepted, named, number, below) refl) in
+    subst (λ t. Reads forms ((codes "step " ++ t) ++ codes "\n") (turning sessions ts) (turning sessions (ts ++ turn.Step who ∷ []))) (append-nil name) read
+turn_read forms sessions ts turn.Begin accepted among all apart few =
+    let below = room_for (calls_of sessions + length ts) few in
+    Reads-line forms (codes "begin") [] (turning sessions ts) (turning sessions (ts ++ turn.Begin ∷ [])) (search (arith, rules)) (λ n. rw (accepted, below) refl)
+turn_read forms sessions ts turn.End accepted among all apart few =
+    let below = room_for (calls_of sessions + length ts) few in
+    Reads-line forms (codes "end") [] (turning sessions ts) (turning sessions (ts ++ turn.End ∷ [])) (search (arith, rules)) (λ n. rw (accepted, below) refl)
 
 -- all turns
-turns_read : (forms : Forms) (w : Standing) (ts more : List Turn) (k : ℕ) → IsTrue forms.schedule → AllByRecursion (IsTurnAmong (length (sessions_in w))) more
-    → AllByRecursion IsSession (sessions_in w) → AreApart (sessions_in w) → k + length more ≤ 10000
-    → Reads forms (flat_map (turn_text (sessions_in w)) more) (turning w ts k) (turning w (ts ++ more) (k + length more))
-turns_read forms w ts [] k accepted among sessions apart few =
-    let none : k ≡ k + length {A = Turn} [] = omega arith in
-    subst (λ v. Reads forms [] (turning w ts k) v) (ap (λ us. turning w us k) (sym (append-nil ts)) ∙ ap (λ m. turning w (ts ++ []) m) none) (Reads-nil forms (turning w ts k))
-turns_read forms w ts (t ∷ more) k accepted among sessions apart few =
-    let count : (k + 1) + length more ≡ k + suc (length more) = omega arith in
-    let after : turning w ((ts ++ t ∷ []) ++ more) ((k + 1) + length more) ≡ turning w (ts ++ t ∷ more) (k + suc (length more))
-    = ap (λ us. turning w us ((k + 1) + length more)) (append_assoc ts (t ∷ []) more) ∙ ap (λ m. turning w (ts ++ t ∷ more) m) count in
-    let rest = turns_read forms w (ts ++ t ∷ []) more (k + 1) accepted among.1 sessions apart (omega arith) in
-    Reads-append forms (turn_text (sessions_in w) t) (flat_map (turn_text (sessions_in w)) more) (turning w ts k) (turning w (ts ++ t ∷ []) (k + 1)) (turning w (ts ++ t ∷ more) (k + suc (length more)))
-    (turn_read forms w ts t k accepted among.0 sessions apart (omega arith))
-    (subst (λ v. Reads forms (flat_map (turn_text (sessions_in w)) more) (turning w (ts ++ t ∷ []) (k + 1)) v) after rest)
+turns_read : (forms : Forms) (sessions : List SessionText) (ts more : List Turn) → IsTrue forms.schedule → AllByRecursion (IsTurnAmong (length sessions)) more
+    → AllByRecursion IsSession sessions → AreApart sessions → calls_of sessions + (length ts + length more) ≤ MOST_CALLS
+    → Reads forms (flat_map (turn_text sessions) more) (turning sessions ts) (turning sessions (ts ++ more))
+turns_read forms sessions ts [] accepted among all apart few =
+    subst (λ us. Reads forms [] (turning sessions ts) (turning sessions us)) (sym (append-nil ts)) (Reads-nil forms (turning sessions ts))
+turns_read forms sessions ts (t ∷ more) accepted among all apart few =
+    let long = length-append ts (t ∷ []) in
+    let rest = turns_read forms sessions (ts ++ t ∷ []) more accepted among.1 all apart (omega arith) in
+    Reads-append forms (turn_text sessions t) (flat_map (turn_text sessions) more) (turning sessions ts) (turning sessions (ts ++ t ∷ [])) (turning sessions (ts ++ t ∷ more))
+    (turn_read forms sessions ts t accepted among.0 all apart (omega arith))
+    (subst (λ us. Reads forms (flat_map (turn_text sessions) more) (turning sessions (ts ++ t ∷ [])) (turning sessions us)) (append_assoc ts (t ∷ []) more) rest)
 
 -- ---- Scripts
 
--- reading all of this text leads to a state that is this script
+-- reading all of this text leads to what is this script
 record IsRead (forms : Forms) (text : List ℕ) (s : Script) : Type 0 where
-  after : Standing
+  after : Draft
   reads : Reads forms text nothing after
   script : script_in after ≡ s
 
@@ -294,28 +267,23 @@ script_read : (forms : Forms) (sessions : List SessionText) (schedule : List Tur
     → IsRead forms (flat_map session_text sessions ++ schedule_text sessions schedule) (record { sessions = sessions; schedule = schedule })
 script_read forms sessions [] meets uses =
     let few = meets.few_calls in
-    let front = sessions_read forms sessions meets.sessions meets.apart uses.calls uses.first uses.further meets.few_sessions (omega arith) in
+    let front = sessions_read forms [] sessions meets.sessions meets.apart (all_new sessions) uses.calls uses.first (λ many. uses.further (omega arith)) (omega (arith, meets.few_sessions)) (omega arith) in
     record {
-      after = front.after;
-      reads = Reads-append forms (flat_map session_text sessions) [] nothing front.after front.after front.reads (Reads-nil forms front.after);
-      script = rw (front.all, front.unscheduled) refl;
+      after = standing sessions;
+      reads = Reads-append forms (flat_map session_text sessions) [] nothing (standing sessions) (standing sessions) front (Reads-nil forms (standing sessions));
+      script = refl;
     }
 script_read forms sessions (t ∷ ts) meets uses =
     let few = meets.few_calls in
-    let front = sessions_read forms sessions meets.sessions meets.apart uses.calls uses.first uses.further meets.few_sessions (omega arith) in
-    let w = front.after in
+    let front = sessions_read forms [] sessions meets.sessions meets.apart (all_new sessions) uses.calls uses.first (λ many. uses.further (omega arith)) (omega (arith, meets.few_sessions)) (omega arith) in
     let accepted = uses.turns (omega arith) in
-    let counted = front.counted in
-    let among : AllByRecursion (IsTurnAmong (length (sessions_in w))) (t ∷ ts) = subst (λ ss. AllByRecursion (IsTurnAmong (length ss)) (t ∷ ts)) (sym front.all) meets.turns in
-    let turns = turns_read forms w [] (t ∷ ts) w.count accepted among (subst (AllByRecursion IsSession) (sym front.all) meets.sessions) (subst AreApart (sym front.all) meets.apart) (omega arith) in
-    let last = turning w (t ∷ ts) (w.count + length (t ∷ ts)) in
-    let behind = Reads-append forms (codes "schedule\n") (flat_map (turn_text (sessions_in w)) (t ∷ ts)) w (turning w [] w.count) last
-    (schedule_read forms w accepted front.unscheduled) turns in
-    let shown : Reads forms (schedule_text sessions (t ∷ ts)) w last = subst (λ ss. Reads forms (schedule_text ss (t ∷ ts)) w last) front.all behind in
+    let turns = turns_read forms sessions [] (t ∷ ts) accepted meets.turns meets.sessions meets.apart (omega arith) in
+    let behind = Reads-append forms (codes "schedule\n") (flat_map (turn_text sessions) (t ∷ ts)) (standing sessions) (turning sessions []) (turning sessions (t ∷ ts))
+    (schedule_read forms sessions accepted) turns in
     record {
-      after = last;
-      reads = Reads-append forms (flat_map session_text sessions) (schedule_text sessions (t ∷ ts)) nothing w last front.reads shown;
-      script = rw front.all refl;
+      after = turning sessions (t ∷ ts);
+      reads = Reads-append forms (flat_map session_text sessions) (schedule_text sessions (t ∷ ts)) nothing (standing sessions) (turning sessions (t ∷ ts)) front behind;
+      script = refl;
     }
 
 -- what is printed of a script that meets the rules reads back

@@ -1,14 +1,15 @@
 -- Words parted by single spaces are the words of their line, and lines with a feed behind each are the lines of their text.
 use Rattle.std.proofs.Common.{◌≡◌, ℕ, suc, ◌+◌, ◌*◌, ◌<◌, ◌≤◌, false, List, [], ◌∷◌, ◌++◌, length, Ok, refl, ap, ◌∙◌, arith, append_assoc, length-append}
 use Rattle.std.specs.Prelude.{flat_map, nat_lt, ◌==◌}
-use Rattle.std.specs.List.{AllByRecursion}
+use Rattle.std.specs.List.{AllByRecursion, onto_first, slice_split}
 use Rattle.std.proofs.lemmas.Bool.{le-ltb}
 use Rattle.std.proofs.lemmas.Bool.Decides.{nat_tests}
 use Rattle.std.proofs.lemmas.List.{append-nil}
+use Rattle.sequence.proofs.ListLemmas.{not_empty}
 use Rattle.cm_document.specs.Reading.{◌>>=◌}
-use Rattle.cm_document.specs.Lines.{onto_first, raw_lines, without_last, bare, is_blank, words, is_comment}
+use Rattle.cm_document.specs.Lines.{raw_lines, without_last, bare, is_blank, words, is_comment}
 use Rattle.cm_document.specs.LineForms.{line_of}
-use Rattle.cm_document.specs.ScriptRules.{Standing, with_said, with_line, with_lines}
+use Rattle.cm_document.specs.ScriptRules.{Draft, with_said, with_line, with_lines}
 use Rattle.cm_document.specs.declared.script.Forms.{Forms}
 
 -- bytes from the space on: none of them ends a line
@@ -29,34 +30,20 @@ spaced ws = flat_map (λ w. 32 ∷ w) ws
 not_blank : (b : ℕ) → 32 < b → is_blank b ≡ false
 not_blank b h = grind (arith, nat_tests)
 
--- a blank in front goes
-blank_first : (rest : List ℕ) → words (32 ∷ rest) ≡ words rest
-blank_first [] = refl
-blank_first (b ∷ bs) = refl
+-- a word before a space is a part of the text
+word_then : (word rest : List ℕ) → AllByRecursion (λ b. 32 < b) word → slice_split is_blank (word ++ 32 ∷ rest) ≡ word ∷ slice_split is_blank rest
+word_then [] rest shown = refl
+word_then (b ∷ bs) rest shown = rw (not_blank b shown.0, word_then bs rest shown.1) refl
 
--- a byte before a byte of its word
-word_goes_on : (b c : ℕ) (bs : List ℕ) → is_blank b ≡ false → is_blank c ≡ false → words (b ∷ c ∷ bs) ≡ onto_first b (words (c ∷ bs))
-word_goes_on b c bs h k = rw (h, k) refl
-
--- a word before a space
-word_then : (word rest : List ℕ) → 0 < length word → AllByRecursion (λ b. 32 < b) word → words (word ++ 32 ∷ rest) ≡ word ∷ words rest
-word_then [] rest some shown = absurd (omega (arith, some))
-word_then (b ∷ []) rest some shown = rw (not_blank b shown.0) (ap (λ ws. (b ∷ []) ∷ ws) (blank_first rest))
-word_then (b ∷ c ∷ bs) rest some shown =
-    word_goes_on b c (bs ++ 32 ∷ rest) (not_blank b shown.0) (not_blank c shown.1.0)
-    ∙ ap (onto_first b) (word_then (c ∷ bs) rest (omega arith) shown.1)
-
--- a word alone
-word_alone : (word : List ℕ) → 0 < length word → AllByRecursion (λ b. 32 < b) word → words word ≡ word ∷ []
-word_alone [] some shown = absurd (omega (arith, some))
-word_alone (b ∷ []) some shown = rw (not_blank b shown.0) refl
-word_alone (b ∷ c ∷ bs) some shown =
-    word_goes_on b c bs (not_blank b shown.0) (not_blank c shown.1.0) ∙ ap (onto_first b) (word_alone (c ∷ bs) (omega arith) shown.1)
+-- a word alone is all of it
+word_alone : (word : List ℕ) → AllByRecursion (λ b. 32 < b) word → slice_split is_blank word ≡ word ∷ []
+word_alone [] shown = refl
+word_alone (b ∷ bs) shown = rw (not_blank b shown.0, word_alone bs shown.1) refl
 
 -- words parted by single spaces
 pub words_spaced : (word : List ℕ) (ws : List (List ℕ)) → IsWord word → AllByRecursion IsWord ws → words (word ++ spaced ws) ≡ word ∷ ws
-words_spaced word [] one more = rw append-nil (word_alone word one.some one.shown)
-words_spaced word (w ∷ ws) one more = word_then word (w ++ spaced ws) one.some one.shown ∙ ap (λ ws. word ∷ ws) (words_spaced w ws more.0 more.1)
+words_spaced word [] one more = rw (append-nil, word_alone word one.shown, not_empty word one.some) refl
+words_spaced word (w ∷ ws) one more = rw (word_then word (w ++ spaced ws) one.shown, not_empty word one.some) (ap (λ ws. word ∷ ws) (words_spaced w ws more.0 more.1))
 
 -- ---- Lines
 
@@ -99,15 +86,15 @@ spaced_IsPrinted (w ∷ ws) all = (omega arith, IsPrinted-append w (spaced ws) (
 -- ---- Reading
 
 -- reading this text leads from what stands before it to what stands behind it, whatever text follows
-abbrev pub Reads : Forms → List ℕ → Standing → Standing → Type 0
+abbrev pub Reads : Forms → List ℕ → Draft → Draft → Type 0
 Reads forms text before behind = (n : ℕ) (rest : List ℕ) → (m : ℕ) × (with_lines forms n before (raw_lines (text ++ rest)) ≡ with_lines forms m behind (raw_lines rest))
 
 -- no text leads nowhere
-pub Reads-nil : (forms : Forms) (w : Standing) → Reads forms [] w w
+pub Reads-nil : (forms : Forms) (w : Draft) → Reads forms [] w w
 Reads-nil forms w = λ n rest. (n, refl)
 
 -- one text after another
-pub Reads-append : (forms : Forms) (xs ys : List ℕ) (a b c : Standing) → Reads forms xs a b → Reads forms ys b c → Reads forms (xs ++ ys) a c
+pub Reads-append : (forms : Forms) (xs ys : List ℕ) (a b c : Draft) → Reads forms xs a b → Reads forms ys b c → Reads forms (xs ++ ys) a c
 Reads-append forms xs ys a b c f g = λ n rest.
     let first = f n (ys ++ rest) in
     let second = g first.0 rest in
@@ -120,7 +107,7 @@ pub record IsLine (word : List ℕ) (ws : List (List ℕ)) : Type 0 where
   pub said : is_comment word ≡ false
   pub short : length (word ++ spaced ws) ≤ 65536
 
-line_read : (forms : Forms) (n : ℕ) (word : List ℕ) (ws : List (List ℕ)) (before : Standing) → IsLine word ws
+line_read : (forms : Forms) (n : ℕ) (word : List ℕ) (ws : List (List ℕ)) (before : Draft) → IsLine word ws
     → with_line forms n before ((word ++ spaced ws) ++ 10 ∷ []) ≡ with_said forms n before (line_of forms (word ∷ ws))
 unfolding with_line
 line_read forms n word ws before line =
@@ -129,7 +116,7 @@ line_read forms n word ws before line =
     rw (bare_line (word ++ spaced ws) printed, words_spaced word ws line.first line.others, line.said, fits) refl
 
 -- reading a line is what it says
-pub Reads-line : (forms : Forms) (word : List ℕ) (ws : List (List ℕ)) (before behind : Standing) → IsLine word ws
+pub Reads-line : (forms : Forms) (word : List ℕ) (ws : List (List ℕ)) (before behind : Draft) → IsLine word ws
     → ((n : ℕ) → with_said forms n before (line_of forms (word ∷ ws)) ≡ Ok behind) → Reads forms ((word ++ spaced ws) ++ 10 ∷ []) before behind
 Reads-line forms word ws before behind line says = λ n rest.
     let text = word ++ spaced ws in

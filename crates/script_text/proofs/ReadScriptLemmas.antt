@@ -1,6 +1,6 @@
 -- A script that is read meets the rules and uses accepted forms alone.
 use Rattle.std.proofs.Common.{◌≡◌, ℕ, ◌<◌, ◌+◌, Bool, true, false, List, [], ◌∷◌, ◌++◌, length, Option, Some, None, Result, Ok, Err, refl, ap, subst, arith, length-append, ltb-true}
-use Rattle.std.specs.Prelude.{IfOk, IfSome, IsTrue, is_some, unwrap_or, option_to_list, position, sum_by, nat_le, nat_lt, not, ◌&&◌, ◌||◌, if◌then◌else◌, codes}
+use Rattle.std.specs.Prelude.{◌==◌, IfOk, IfSome, IsTrue, is_some, position, sum_by, nat_le, nat_lt, not, ◌&&◌, ◌||◌, if◌then◌else◌, codes}
 use Rattle.std.specs.List.{AllByRecursion, list_any}
 use Rattle.std.proofs.lemmas.Bool.{and_parts, cond_both}
 use Rattle.std.proofs.lemmas.Bool.Decides.{nat_tests}
@@ -9,7 +9,8 @@ use Rattle.std.proofs.lemmas.List.Quantifiers.{position-Some}
 use Rattle.iface_names.specs.Names.{same_name}
 use Rattle.cm_document.specs.Lines.{raw_lines, bare, words, is_skipped}
 use Rattle.cm_document.specs.LineForms.{line_of}
-use Rattle.cm_document.specs.ScriptRules.{Standing, nothing, sessions_in, session_accepted, is_session_line, with_session, call_fits, with_call, with_schedule, with_turn, session_number, with_step, with_said, with_line, with_lines, script_in, script_with}
+use Rattle.cm_document.specs.declared.limits.TheConstants.{LONGEST_LINE, MOST_SESSIONS, MOST_CALLS}
+use Rattle.cm_document.specs.ScriptRules.{Draft, nothing, script_in, calls_and_turns, has_room, session_accepted, is_session_line, with_session, call_fits, then_calling, with_call, with_schedule, with_turn, session_number, with_step, with_said, with_line, with_lines, script_with}
 use Rattle.cm_document.specs.ScriptLaws.{IsName, CanBeWritten, IsSession, AreApart, IsTurnAmong, MeetsRules, has_form, UsesForms}
 use Rattle.cm_document.specs.declared.call.Call.{Call}
 use Rattle.cm_document.specs.declared.script.Forms.{Forms}
@@ -21,20 +22,13 @@ use Rattle.cm_document.specs.declared.script.Turn.{Turn}
 use Rattle.cm_document.specs.declared.script.Turn.TheVariants as turn
 use Rattle.cm_document.specs.declared.faults.ScriptFault.{ScriptFault}
 use Rattle.cm_document.specs.declared.faults.ScriptFault.TheVariants.{BadLine, NoSession}
-use Rattle.sequence.proofs.ListLemmas.{all_push}
+use Rattle.sequence.specs.Last.{in_last}
+use Rattle.sequence.proofs.ListLemmas.{all_push, not_empty, length_in_last, all_in_last}
 use Rattle.cm_document.proofs.ReadingLemmas.{bind_keeps}
 use Rattle.script_text.proofs.ReadCallLemmas.{Says, line_of_Says}
+use Rattle.script_text.proofs.RuleLemmas.{count_calling}
 
--- ---- Lists that grow at their end
-
--- another last one
-last_changed : {A : Type 0} (P : A → Type 0) (xs : List A) (a b : A) → AllByRecursion P (xs ++ a ∷ []) → (P a → P b) → AllByRecursion P (xs ++ b ∷ [])
-last_changed P [] a b all change = (change all.0, tt)
-last_changed P (x ∷ xs) a b all change = (all.0, last_changed P xs a b all.1 change)
-
--- as many
-long_push : {A : Type 0} (xs : List A) (x : A) → length (xs ++ x ∷ []) ≡ length xs + 1
-long_push xs x = length-append xs (x ∷ [])
+-- ---- Sessions
 
 -- a new session is apart from those that are there
 or_parts : (x y : Bool) → (x || y) ≡ false → (x ≡ false) × (y ≡ false)
@@ -48,58 +42,47 @@ apart_push (x ∷ xs) s apart new =
     (all_push (λ later. same_name later.name x.name ≡ false) xs s apart.0 both.0, apart_push xs s apart.1 both.1)
 
 -- and stays so, whatever its calls
-apart_changed : (xs : List SessionText) (name : List ℕ) (before after : List Call)
-    → AreApart (xs ++ record { name = name; lines = before } ∷ []) → AreApart (xs ++ record { name = name; lines = after } ∷ [])
-apart_changed [] name before after apart = (tt, tt)
-apart_changed (x ∷ xs) name before after apart = (
-  last_changed (λ later. same_name later.name x.name ≡ false) xs (record { name = name; lines = before }) (record { name = name; lines = after }) apart.0 (λ h. h),
-  apart_changed xs name before after apart.1,
+apart_calling : (made : Call) (xs : List SessionText) → AreApart xs → AreApart (in_last (then_calling made) xs)
+apart_calling made [] apart = tt
+apart_calling made (x ∷ []) apart = (tt, tt)
+apart_calling made (x ∷ y ∷ xs) apart = (
+  all_in_last (λ later. same_name later.name x.name ≡ false) (then_calling made) (y ∷ xs) apart.0 (λ later h. h),
+  apart_calling made (y ∷ xs) apart.1,
 )
 
 -- ---- What is kept from line to line
 
--- only before its first session's line a script has no session that is being written
-abbrev Begun : List SessionText → Option SessionText → Type 0
-Begun finished None = finished ≡ []
-Begun finished (Some s) = Unit {0}
-
--- what stands meets the rules, and calls and turns are counted
-record Keeps (forms : Forms) (w : Standing) : Type 0 where
+-- what stands meets the rules and uses accepted forms alone
+record Keeps (forms : Forms) (w : Draft) : Type 0 where
   meets : MeetsRules (script_in w)
   uses : UsesForms forms (script_in w)
-  begun : Begun w.finished w.current
-  counted : sum_by (λ t. length t.lines) (sessions_in w) + length (unwrap_or w.turns []) ≡ w.count
-
--- ---- Sessions
 
 -- what a session's line keeps
-record IsNewSession (forms : Forms) (finished : List SessionText) (current : Option SessionText) (name : List ℕ) : Type 0 where
-  accepted : session_accepted forms current ≡ true
+record IsNewSession (forms : Forms) (sessions : List SessionText) (name : List ℕ) : Type 0 where
+  accepted : session_accepted forms (record { sessions = sessions; turns = None }) ≡ true
   named : IsName name
   not_loop : same_name name (codes "loop") ≡ false
-  new : list_any (λ s. same_name name s.name) (finished ++ option_to_list current) ≡ false
-  few : length (finished ++ option_to_list current) < 8
+  new : list_any (λ s. same_name name s.name) sessions ≡ false
+  few : length sessions < MOST_SESSIONS
 
 -- a new session is the first, or a further one
-first_accepted : (forms : Forms) (finished : List SessionText) (current : Option SessionText) → session_accepted forms current ≡ true
-    → (0 < length (finished ++ option_to_list current) → IsTrue forms.first_session) → IsTrue forms.first_session
-first_accepted forms finished None accepted first = accepted
-first_accepted forms finished (Some s) accepted first = let long = length-append finished (s ∷ []) in first (omega arith)
+first_accepted : (forms : Forms) (sessions : List SessionText) → session_accepted forms (record { sessions = sessions; turns = None }) ≡ true
+    → (0 < length sessions → IsTrue forms.first_session) → IsTrue forms.first_session
+first_accepted forms [] accepted first = accepted
+first_accepted forms (s ∷ sessions) accepted first = first (omega arith)
 
-further_accepted : (forms : Forms) (finished : List SessionText) (current : Option SessionText) → session_accepted forms current ≡ true → Begun finished current
-    → 1 < length (finished ++ option_to_list current) + 1 → IsTrue forms.further_session
-further_accepted forms finished None accepted begun many = let none = ap (length {A = SessionText}) begun in let long = length-append finished [] in absurd (omega arith)
-further_accepted forms finished (Some s) accepted begun many = accepted
+further_accepted : (forms : Forms) (sessions : List SessionText) → session_accepted forms (record { sessions = sessions; turns = None }) ≡ true
+    → 1 < length sessions + 1 → IsTrue forms.further_session
+further_accepted forms [] accepted many = absurd (omega arith)
+further_accepted forms (s ∷ sessions) accepted many = rw (not_empty (s ∷ sessions) (omega arith)) at accepted
 
-session_added : (forms : Forms) (finished : List SessionText) (current : Option SessionText) (count : ℕ) (name : List ℕ)
-    → Keeps forms (record { finished = finished; current = current; turns = None; count = count }) → IsNewSession forms finished current name
-    → Keeps forms (record { finished = finished ++ option_to_list current; current = Some (record { name = name; lines = [] }); turns = None; count = count })
-session_added forms finished current count name keeps new =
-    let sessions = finished ++ option_to_list current in
+session_added : (forms : Forms) (sessions : List SessionText) (name : List ℕ)
+    → Keeps forms (record { sessions = sessions; turns = None }) → IsNewSession forms sessions name
+    → Keeps forms (record { sessions = sessions ++ record { name = name; lines = [] } ∷ []; turns = None })
+session_added forms sessions name keeps new =
     let s : SessionText = record { name = name; lines = [] } in
-    let long = long_push sessions s in
+    let long = length-append sessions (s ∷ []) in
     let sum = sum_by_push (λ t. length t.lines) sessions s in
-    let counted = keeps.counted in
     let few = keeps.meets.few_calls in
     record {
       meets = record {
@@ -110,13 +93,11 @@ session_added forms finished current count name keeps new =
         turns = tt;
       };
       uses = record {
-        first = λ _. first_accepted forms finished current new.accepted keeps.uses.first;
-        further = λ many. further_accepted forms finished current new.accepted keeps.begun (omega arith);
+        first = λ _. first_accepted forms sessions new.accepted keeps.uses.first;
+        further = λ many. further_accepted forms sessions new.accepted (omega arith);
         calls = all_push (λ t. AllByRecursion (λ c. IsTrue (has_form forms c)) t.lines) sessions s keeps.uses.calls tt;
         turns = keeps.uses.turns;
       };
-      begun = tt;
-      counted = omega arith;
     }
 
 -- a session's line
@@ -128,176 +109,157 @@ not_false : (b : Bool) → not b ≡ false → b ≡ true
 not_false true h = refl
 not_false false h = cc
 
-with_session_keeps : (forms : Forms) (n : ℕ) (finished : List SessionText) (current : Option SessionText) (turns : Option (List Turn)) (count : ℕ) (name : List ℕ)
-    → Keeps forms (record { finished = finished; current = current; turns = turns; count = count }) → IsName name
-    → IfOk (with_session forms n (record { finished = finished; current = current; turns = turns; count = count }) name) (Keeps forms)
-with_session_keeps forms n finished current (Some ts) count name keeps named =
-    cond_both (not (is_session_line forms (record { finished = finished; current = current; turns = Some ts; count = count }) name)) _ _ (λ r. IfOk r (Keeps forms)) (λ _. tt)
+with_session_keeps : (forms : Forms) (n : ℕ) (sessions : List SessionText) (turns : Option (List Turn)) (name : List ℕ)
+    → Keeps forms (record { sessions = sessions; turns = turns }) → IsName name
+    → IfOk (with_session forms n (record { sessions = sessions; turns = turns }) name) (Keeps forms)
+with_session_keeps forms n sessions (Some ts) name keeps named =
+    cond_both (not (is_session_line forms (record { sessions = sessions; turns = Some ts }) name)) _ _ (λ r. IfOk r (Keeps forms)) (λ _. tt)
     (λ line.
     let a = and_parts _ _ (not_false _ line) in
     let b = and_parts _ _ a.0 in
-    let c = and_parts (session_accepted forms current) _ b.0 in
+    let c = and_parts (session_accepted forms (record { sessions = sessions; turns = Some ts })) _ b.0 in
     let no = c.1 in cc)
-with_session_keeps forms n finished current None count name keeps named =
-    cond_both (not (is_session_line forms (record { finished = finished; current = current; turns = None; count = count }) name)) _ _ (λ r. IfOk r (Keeps forms)) (λ _. tt)
-    (λ line. cond_both (nat_le 8 (length (finished ++ option_to_list current))) _ _ (λ r. IfOk r (Keeps forms)) (λ _. tt)
+with_session_keeps forms n sessions None name keeps named =
+    cond_both (not (is_session_line forms (record { sessions = sessions; turns = None }) name)) _ _ (λ r. IfOk r (Keeps forms)) (λ _. tt)
+    (λ line. cond_both (nat_le MOST_SESSIONS (length sessions)) _ _ (λ r. IfOk r (Keeps forms)) (λ _. tt)
     (λ room.
     let a = and_parts _ _ (not_false _ line) in
     let b = and_parts _ _ a.0 in
-    let c = and_parts (session_accepted forms current) _ b.0 in
-    session_added forms finished current count name keeps
+    let c = and_parts (session_accepted forms (record { sessions = sessions; turns = None })) _ b.0 in
+    session_added forms sessions name keeps
     (record { accepted = c.0; named = named; not_loop = not_true _ b.1; new = not_true _ a.1; few = grind (arith, nat_tests) })))
 
 -- ---- Calls
 
--- a call more in the session that is being written
-call_added : (forms : Forms) (finished : List SessionText) (name : List ℕ) (lines : List Call) (count : ℕ) (c : Call)
-    → Keeps forms (record { finished = finished; current = Some (record { name = name; lines = lines }); turns = None; count = count })
-    → CanBeWritten c → has_form forms c ≡ true → count < 10000
-    → Keeps forms (record { finished = finished; current = Some (record { name = name; lines = lines ++ c ∷ [] }); turns = None; count = count + 1 })
-call_added forms finished name lines count c keeps can accepted room =
-    let s : SessionText = record { name = name; lines = lines } in
-    let t : SessionText = record { name = name; lines = lines ++ c ∷ [] } in
-    let long = long_push finished s in
-    let still = long_push finished t in
-    let more = long_push lines c in
-    let sum = sum_by_push (λ t. length t.lines) finished s in
-    let sums = sum_by_push (λ t. length t.lines) finished t in
-    let counted = keeps.counted in
+-- a call more in the last session
+call_added : (forms : Forms) (w : Draft) (c : Call) → Keeps forms w → CanBeWritten c → has_form forms c ≡ true → (length w.sessions == 0) ≡ false
+    → calls_and_turns (script_in w) < MOST_CALLS → Keeps forms (record w { sessions = in_last (then_calling c) w.sessions })
+call_added forms w c keeps can accepted some room =
+    let long = length_in_last (then_calling c) w.sessions in
+    let sum = count_calling c w.sessions some in
     let few = keeps.meets.few_sessions in
     record {
       meets = record {
         few_sessions = omega arith;
         few_calls = omega arith;
-        sessions = last_changed IsSession finished s t keeps.meets.sessions (λ is. record { named = is.named; not_loop = is.not_loop; written = all_push CanBeWritten lines c is.written can });
-        apart = apart_changed finished name lines (lines ++ c ∷ []) keeps.meets.apart;
-        turns = tt;
+        sessions = all_in_last IsSession (then_calling c) w.sessions keeps.meets.sessions
+            (λ s is. record { named = is.named; not_loop = is.not_loop; written = all_push CanBeWritten s.lines c is.written can });
+        apart = apart_calling c w.sessions keeps.meets.apart;
+        turns = rw long keeps.meets.turns;
       };
       uses = record {
-        first = λ _. keeps.uses.first (omega arith);
+        first = λ some'. keeps.uses.first (omega arith);
         further = λ many. keeps.uses.further (omega arith);
-        calls = last_changed (λ t. AllByRecursion (λ c. IsTrue (has_form forms c)) t.lines) finished s t keeps.uses.calls (λ all. all_push (λ c. IsTrue (has_form forms c)) lines c all accepted);
+        calls = all_in_last (λ t. AllByRecursion (λ c. IsTrue (has_form forms c)) t.lines) (then_calling c) w.sessions keeps.uses.calls
+            (λ t all. all_push (λ c. IsTrue (has_form forms c)) t.lines c all accepted);
         turns = keeps.uses.turns;
       };
-      begun = tt;
-      counted = omega arith;
     }
 
 -- a call's line
-with_call_keeps : (forms : Forms) (n : ℕ) (finished : List SessionText) (current : Option SessionText) (turns : Option (List Turn)) (count : ℕ) (c : Call)
-    → Keeps forms (record { finished = finished; current = current; turns = turns; count = count }) → (call_fits c ≡ true → CanBeWritten c) → has_form forms c ≡ true
-    → IfOk (with_call n (record { finished = finished; current = current; turns = turns; count = count }) c) (Keeps forms)
-with_call_keeps forms n finished current (Some ts) count c keeps can accepted = tt
-with_call_keeps forms n finished None None count c keeps can accepted = tt
-with_call_keeps forms n finished (Some s) None count c keeps can accepted =
-    cond_both (nat_lt count 10000 && call_fits c) _ _ (λ r. IfOk r (Keeps forms))
+with_call_keeps : (forms : Forms) (n : ℕ) (w : Draft) (c : Call) → Keeps forms w → (call_fits c ≡ true → CanBeWritten c) → has_form forms c ≡ true → IfOk (with_call n w c) (Keeps forms)
+with_call_keeps forms n w c keeps can accepted =
+    cond_both (is_some w.turns) _ _ (λ r. IfOk r (Keeps forms)) (λ _. tt)
+    (λ _. cond_both (length w.sessions == 0) _ _ (λ r. IfOk r (Keeps forms)) (λ _. tt)
+    (λ some. cond_both (has_room w && call_fits c) _ _ (λ r. IfOk r (Keeps forms))
     (λ fits.
-    let both = and_parts (nat_lt count 10000) (call_fits c) fits in
-    call_added forms finished s.name s.lines count c keeps (can both.1) accepted (ltb-true _ _ both.0))
-    (λ _. tt)
+    let both = and_parts (has_room w) (call_fits c) fits in
+    call_added forms w c keeps (can both.1) accepted some (ltb-true _ _ both.0))
+    (λ _. tt)))
 
 -- ---- The schedule
 
 -- the schedule's line
-with_schedule_keeps : (forms : Forms) (n : ℕ) (finished : List SessionText) (current : Option SessionText) (turns : Option (List Turn)) (count : ℕ)
-    → Keeps forms (record { finished = finished; current = current; turns = turns; count = count })
-    → IfOk (with_schedule n (record { finished = finished; current = current; turns = turns; count = count })) (Keeps forms)
-with_schedule_keeps forms n finished current (Some ts) count keeps = tt
-with_schedule_keeps forms n finished current None count keeps = record { meets = keeps.meets; uses = keeps.uses; begun = keeps.begun; counted = keeps.counted }
+with_schedule_keeps : (forms : Forms) (n : ℕ) (sessions : List SessionText) (turns : Option (List Turn)) → Keeps forms (record { sessions = sessions; turns = turns })
+    → IfOk (with_schedule n (record { sessions = sessions; turns = turns })) (Keeps forms)
+with_schedule_keeps forms n sessions (Some ts) keeps = tt
+with_schedule_keeps forms n sessions None keeps = record { meets = keeps.meets; uses = keeps.uses }
 
 -- a turn more
-turn_added : (forms : Forms) (finished : List SessionText) (current : Option SessionText) (ts : List Turn) (count : ℕ) (t : Turn)
-    → Keeps forms (record { finished = finished; current = current; turns = Some ts; count = count })
-    → IsTurnAmong (length (finished ++ option_to_list current)) t → forms.schedule ≡ true → count < 10000
-    → Keeps forms (record { finished = finished; current = current; turns = Some (ts ++ t ∷ []); count = count + 1 })
-turn_added forms finished current ts count t keeps among accepted room =
-    let more = long_push ts t in
-    let counted = keeps.counted in
+turn_added : (forms : Forms) (sessions : List SessionText) (ts : List Turn) (t : Turn) → Keeps forms (record { sessions = sessions; turns = Some ts })
+    → IsTurnAmong (length sessions) t → forms.schedule ≡ true → calls_and_turns (record { sessions = sessions; schedule = ts }) < MOST_CALLS
+    → Keeps forms (record { sessions = sessions; turns = Some (ts ++ t ∷ []) })
+turn_added forms sessions ts t keeps among accepted room =
+    let more = length-append ts (t ∷ []) in
     record {
       meets = record {
         few_sessions = keeps.meets.few_sessions;
         few_calls = omega arith;
         sessions = keeps.meets.sessions;
         apart = keeps.meets.apart;
-        turns = all_push (IsTurnAmong (length (finished ++ option_to_list current))) ts t keeps.meets.turns among;
+        turns = all_push (IsTurnAmong (length sessions)) ts t keeps.meets.turns among;
       };
       uses = record { first = keeps.uses.first; further = keeps.uses.further; calls = keeps.uses.calls; turns = λ _. accepted };
-      begun = keeps.begun;
-      counted = omega arith;
     }
 
 -- a turn's line
-with_turn_keeps : (forms : Forms) (n : ℕ) (finished : List SessionText) (current : Option SessionText) (turns : Option (List Turn)) (count : ℕ) (t : Turn)
-    → Keeps forms (record { finished = finished; current = current; turns = turns; count = count })
-    → IsTurnAmong (length (finished ++ option_to_list current)) t → forms.schedule ≡ true
-    → IfOk (with_turn n (record { finished = finished; current = current; turns = turns; count = count }) t) (Keeps forms)
-with_turn_keeps forms n finished current None count t keeps among accepted = tt
-with_turn_keeps forms n finished current (Some ts) count t keeps among accepted =
-    cond_both (nat_lt count 10000) _ _ (λ r. IfOk r (Keeps forms))
-    (λ room. turn_added forms finished current ts count t keeps among accepted (ltb-true _ _ room))
+with_turn_keeps : (forms : Forms) (n : ℕ) (sessions : List SessionText) (turns : Option (List Turn)) (t : Turn) → Keeps forms (record { sessions = sessions; turns = turns })
+    → IsTurnAmong (length sessions) t → forms.schedule ≡ true → IfOk (with_turn n (record { sessions = sessions; turns = turns }) t) (Keeps forms)
+with_turn_keeps forms n sessions None t keeps among accepted = tt
+with_turn_keeps forms n sessions (Some ts) t keeps among accepted =
+    cond_both (has_room (record { sessions = sessions; turns = Some ts })) _ _ (λ r. IfOk r (Keeps forms))
+    (λ room. turn_added forms sessions ts t keeps among accepted (ltb-true _ _ room))
     (λ _. tt)
 
 -- a step's line, once its session is looked for
-step_keeps : (forms : Forms) (n : ℕ) (w : Standing) (found : Option ℕ) → Keeps forms w → ((who : ℕ) → found ≡ Some who → who < length (sessions_in w)) → forms.schedule ≡ true
+step_keeps : (forms : Forms) (n : ℕ) (w : Draft) (found : Option ℕ) → Keeps forms w → ((who : ℕ) → found ≡ Some who → who < length w.sessions) → forms.schedule ≡ true
     → IfOk (elim found [ None ↦ Err (NoSession n) | Some who ↦ with_turn n w (turn.Step who) ]) (Keeps forms)
 step_keeps forms n w None keeps within accepted = tt
-step_keeps forms n w (Some who) keeps within accepted = with_turn_keeps forms n w.finished w.current w.turns w.count (turn.Step who) keeps (within who refl) accepted
+step_keeps forms n w (Some who) keeps within accepted = with_turn_keeps forms n w.sessions w.turns (turn.Step who) keeps (within who refl) accepted
 
 -- a session that is found is there
 found_within : (sessions : List SessionText) (name : List ℕ) (who : ℕ) → position (λ s. same_name name s.name) sessions ≡ Some who → who < length sessions
 found_within sessions name who h = (position-Some (λ s. same_name name s.name) sessions who (record { name = []; lines = [] }) h).0
 
-with_step_keeps : (forms : Forms) (n : ℕ) (w : Standing) (name : List ℕ) → Keeps forms w → forms.schedule ≡ true → IfOk (with_step n w name) (Keeps forms)
+with_step_keeps : (forms : Forms) (n : ℕ) (w : Draft) (name : List ℕ) → Keeps forms w → forms.schedule ≡ true → IfOk (with_step n w name) (Keeps forms)
 with_step_keeps forms n w name keeps accepted =
     cond_both (not (is_some w.turns)) _ _ (λ r. IfOk r (Keeps forms)) (λ _. tt)
-    (λ _. step_keeps forms n w (session_number name w) keeps (found_within (sessions_in w) name) accepted)
+    (λ _. step_keeps forms n w (session_number name w) keeps (found_within w.sessions name) accepted)
 
 -- ---- Lines
 
 -- what a line says
-with_said_keeps : (forms : Forms) (n : ℕ) (w : Standing) (o : Option ScriptLine) → Keeps forms w → IfSome o (Says forms) → IfOk (with_said forms n w o) (Keeps forms)
+with_said_keeps : (forms : Forms) (n : ℕ) (w : Draft) (o : Option ScriptLine) → Keeps forms w → IfSome o (Says forms) → IfOk (with_said forms n w o) (Keeps forms)
 with_said_keeps forms n w None keeps says = tt
-with_said_keeps forms n w (Some (line.Session name)) keeps says = with_session_keeps forms n w.finished w.current w.turns w.count name keeps says
-with_said_keeps forms n w (Some (line.Call c)) keeps says = with_call_keeps forms n w.finished w.current w.turns w.count c keeps says.0 says.1
-with_said_keeps forms n w (Some line.Schedule) keeps says = with_schedule_keeps forms n w.finished w.current w.turns w.count keeps
+with_said_keeps forms n w (Some (line.Session name)) keeps says = with_session_keeps forms n w.sessions w.turns name keeps says
+with_said_keeps forms n w (Some (line.Call c)) keeps says = with_call_keeps forms n w c keeps says.0 says.1
+with_said_keeps forms n w (Some line.Schedule) keeps says = with_schedule_keeps forms n w.sessions w.turns keeps
 with_said_keeps forms n w (Some (line.Step name)) keeps says = with_step_keeps forms n w name keeps says
-with_said_keeps forms n w (Some line.Begin) keeps says = with_turn_keeps forms n w.finished w.current w.turns w.count turn.Begin keeps tt says
-with_said_keeps forms n w (Some line.End) keeps says = with_turn_keeps forms n w.finished w.current w.turns w.count turn.End keeps tt says
+with_said_keeps forms n w (Some line.Begin) keeps says = with_turn_keeps forms n w.sessions w.turns turn.Begin keeps tt says
+with_said_keeps forms n w (Some line.End) keeps says = with_turn_keeps forms n w.sessions w.turns turn.End keeps tt says
 
 -- a skipped line keeps what stands, and so does one that is read
-read_keeps : (forms : Forms) (skipped long : Bool) (n : ℕ) (w : Standing) (r : Result Standing ScriptFault) → Keeps forms w → IfOk r (Keeps forms)
+read_keeps : (forms : Forms) (skipped long : Bool) (n : ℕ) (w : Draft) (r : Result Draft ScriptFault) → Keeps forms w → IfOk r (Keeps forms)
     → IfOk (if skipped then Ok w else if long then Err (BadLine n) else r) (Keeps forms)
 read_keeps forms true long n w r keeps read = keeps
 read_keeps forms false true n w r keeps read = tt
 read_keeps forms false false n w r keeps read = read
 
 -- a line
-with_line_keeps : (forms : Forms) (n : ℕ) (w : Standing) (text : List ℕ) → Keeps forms w → IfOk (with_line forms n w text) (Keeps forms)
+with_line_keeps : (forms : Forms) (n : ℕ) (w : Draft) (text : List ℕ) → Keeps forms w → IfOk (with_line forms n w text) (Keeps forms)
 unfolding with_line
 with_line_keeps forms n w text keeps =
     let said = words (bare text) in
-    read_keeps forms (is_skipped said) (nat_lt 65536 (length (bare text))) n w (with_said forms n w (line_of forms said)) keeps
+    read_keeps forms (is_skipped said) (nat_lt LONGEST_LINE (length (bare text))) n w (with_said forms n w (line_of forms said)) keeps
     (with_said_keeps forms n w (line_of forms said) keeps (line_of_Says forms said))
 
 -- all lines
-with_lines_keeps : (forms : Forms) (n : ℕ) (w : Standing) (texts : List (List ℕ)) → Keeps forms w → IfOk (with_lines forms n w texts) (Keeps forms)
+with_lines_keeps : (forms : Forms) (n : ℕ) (w : Draft) (texts : List (List ℕ)) → Keeps forms w → IfOk (with_lines forms n w texts) (Keeps forms)
 with_lines_keeps forms n w [] keeps = keeps
 with_lines_keeps forms n w (text ∷ texts) keeps =
     bind_keeps (Keeps forms) (Keeps forms) (with_line forms n w text) (λ more. with_lines forms (n + 1) more texts) (with_line_keeps forms n w text keeps)
     (λ more kept. with_lines_keeps forms (n + 1) more texts kept)
 
--- what both laws say
-record Lawful (forms : Forms) (s : Script) : Type 0 where
-  meets : MeetsRules s
-  uses : UsesForms forms s
-
 nothing_keeps : (forms : Forms) → Keeps forms nothing
 nothing_keeps forms = record {
   meets = record { few_sessions = omega arith; few_calls = omega arith; sessions = tt; apart = tt; turns = tt };
   uses = record { first = λ some. absurd (omega arith); further = λ some. absurd (omega arith); calls = tt; turns = λ some. absurd (omega arith) };
-  begun = refl;
-  counted = omega arith;
 }
+
+-- what both laws say
+record Lawful (forms : Forms) (s : Script) : Type 0 where
+  meets : MeetsRules s
+  uses : UsesForms forms s
 
 script_with_Lawful : (forms : Forms) (n : ℕ) (text : List ℕ) → IfOk (script_with forms n text) (Lawful forms)
 unfolding script_with

@@ -55,7 +55,8 @@ fn point_after(
     at: &[u8],
     text: &[u8],
 ) -> Result<Option<Point2>, ScriptFault>
-    ensures { Answers ScriptFault.Memory (Ok (later before (point_at (time_word at.now) (values_in (untimed (words text.now)))))) result }
+    ensures { Answers ScriptFault.Memory
+        (Ok (later before (point_at (time_word at.now) (values_in (untimed (words text.now)))))) result }
 {
     let Some(at_us) = time(at) else {
         return Ok(None);

@@ -48,7 +48,9 @@ fn push_session(text: &mut String, session: &SessionText) -> Result<(), Memory>
 }
 
 fn push_calls(text: &mut String, calls: &[Call]) -> Result<(), Memory>
-    ensures { OnOk result (string_bytes text.new ≡ string_bytes text.old ++ flat_map (λ call. call_text call ++ codes "\n") calls.now) }
+    ensures { OnOk result
+        (string_bytes text.new
+        ≡ string_bytes text.old ++ flat_map (λ call. call_text call ++ codes "\n") calls.now) }
 {
     for call in calls {
         write!(text, "{call}\n")?;
@@ -68,7 +70,8 @@ fn push_schedule(text: &mut String, sessions: &[SessionText], turns: &[Turn]) ->
 }
 
 fn push_turns(text: &mut String, sessions: &[SessionText], turns: &[Turn]) -> Result<(), Memory>
-    ensures { OnOk result (string_bytes text.new ≡ string_bytes text.old ++ flat_map (turn_text sessions.now) turns.now) }
+    ensures { OnOk result
+        (string_bytes text.new ≡ string_bytes text.old ++ flat_map (turn_text sessions.now) turns.now) }
 {
     for turn in turns {
         push_turn(text, sessions, turn)?;

@@ -34,7 +34,7 @@ pub fn read_script_with(
     requires fits { first_line + length (raw_lines text.now) < 2 ^ 32 }
     ensures { Answers ScriptFault.Memory (script_with forms first_line text.now) result }
 {
-    read_lines(alloc, forms, text, first_line)?.into_script(alloc)
+    Ok(read_lines(alloc, forms, text, first_line)?.into_script(alloc))
 }
 
 /// What stands after all lines, of which the first has this number.

@@ -5,10 +5,10 @@ mod sessions;
 
 ghost use Rattle.std.specs.Prelude.{◌≡◌, Ok};
 ghost use Rattle.sequence.specs.Answers.{Answers};
-ghost use Rattle.cm_document.specs.ScriptRules.{nothing, with_session, with_call_in, with_call, with_said, script_in};
+ghost use Rattle.cm_document.specs.ScriptRules.{nothing, script_in, with_session, with_call, with_said};
 
 use crate::limits::call_fits;
-use crate::rules::sessions::closed;
+use crate::rules::sessions::calling_last;
 use cm_document::{
     Call, Forms, MOST_CALLS, MOST_SESSIONS, Name, Script, ScriptFault, ScriptLine, Seq,
     SessionText, Turn,
@@ -16,25 +16,27 @@ use cm_document::{
 use std::alloc::Global;
 use std::marker::Model;
 
-/// What stands after some lines. Contracts see it as `Standing`.
+/// What stands after some lines. How many calls and turns that makes is counted along.
 #[derive(Debug, Drop)]
 pub struct Draft {
-    finished: Seq<SessionText>,
-    current: Option<SessionText>,
+    sessions: Seq<SessionText>,
     turns: Option<Seq<Turn>>,
     count: u32,
 }
 
 impl Model for Draft {
-    ghost use Rattle.std.specs.Prelude.{◌≤◌, ◌<◌, length};
+    ghost use Rattle.std.specs.Prelude.{◌≡◌, ◌≤◌, length};
     ghost use Rattle.cm_document.specs.declared.limits.TheConstants.{MOST_SESSIONS, MOST_CALLS};
-    ghost use Rattle.cm_document.specs.ScriptRules.{Standing};
+    ghost use Rattle.cm_document.specs.ScriptRules.{Draft, script_in, calls_and_turns};
 
-    ghost Value = { Standing };
+    ghost Value = { Draft };
 
-    ghost view = { λ s. record { finished = s.finished; current = s.current; turns = s.turns; count = s.count } };
+    ghost view = { λ s. record { sessions = s.sessions; turns = s.turns } };
 
-    ghost invariant = { λ s. (length s.finished < MOST_SESSIONS) × (s.count ≤ MOST_CALLS) };
+    ghost invariant = { λ s.
+        (length s.sessions ≤ MOST_SESSIONS)
+        × (s.count ≤ MOST_CALLS)
+        × (calls_and_turns (script_in (record { sessions = s.sessions; turns = s.turns })) ≡ s.count) };
 }
 
 impl Draft {
@@ -43,8 +45,7 @@ impl Draft {
         ensures { result ≡ nothing }
     {
         Draft {
-            finished: Seq::new(alloc),
-            current: None,
+            sessions: Seq::new(alloc),
             turns: None,
             count: 0,
         }
@@ -71,7 +72,8 @@ impl Draft {
         }
     }
 
-    /// A session begins; 8 are the most.
+    /// A session begins, where there are not the most that there may be.
+    #[tactic(auto, using(crate::proofs::RuleLemmas::session_counts))]
     fn with_session(
         self,
         alloc: Global,
@@ -84,74 +86,52 @@ impl Draft {
         if !self.is_session_line(forms, &name) {
             return Err(ScriptFault::BadLine(line));
         }
-        if self.session_count() >= MOST_SESSIONS {
+        if self.sessions.as_slice().len() >= MOST_SESSIONS {
             return Err(ScriptFault::TooMany(line));
         }
         let Draft {
-            finished,
-            current,
+            mut sessions,
             turns,
             count,
         } = self;
+        sessions.push(SessionText {
+            name,
+            lines: Seq::new(alloc),
+        })?;
         Ok(Draft {
-            finished: closed(finished, current)?,
-            current: Some(SessionText {
-                name,
-                lines: Seq::new(alloc),
-            }),
+            sessions,
             turns,
             count,
         })
     }
 
-    /// A call, which stands before the schedule.
+    /// A call, which stands before the schedule and is the last session's.
     fn with_call(self, line: u32, call: Call) -> Result<Draft, ScriptFault>
         ensures { Answers ScriptFault.Memory (with_call line self call) result }
     {
         if self.turns.is_some() {
             return Err(ScriptFault::BadLine(line));
         }
-        self.with_call_in(line, call)
-    }
-
-    /// One call more in the session that is being written.
-    fn with_call_in(self, line: u32, call: Call) -> Result<Draft, ScriptFault>
-        ensures { Answers ScriptFault.Memory (with_call_in line self self.current call) result }
-    {
-        let Draft {
-            finished,
-            current,
-            turns,
-            count,
-        } = self;
-        let Some(mut session) = current else {
+        if self.sessions.as_slice().is_empty() {
             return Err(ScriptFault::NoSession(line));
-        };
-        if count >= MOST_CALLS || !call_fits(&call) {
+        }
+        if self.count >= MOST_CALLS || !call_fits(&call) {
             return Err(ScriptFault::TooMany(line));
         }
-        session.lines.push(call)?;
         Ok(Draft {
-            finished,
-            current: Some(session),
-            turns,
-            count: count + 1,
+            sessions: calling_last(self.sessions, call)?,
+            turns: self.turns,
+            count: self.count + 1,
         })
     }
 
     /// The script of what stands at the end.
-    pub fn into_script(self, alloc: Global) -> Result<Script, ScriptFault>
-        ensures { Answers ScriptFault.Memory (Ok (script_in self)) result }
+    pub fn into_script(self, alloc: Global) -> Script
+        ensures { result ≡ script_in self }
     {
-        let Draft {
-            finished,
-            current,
-            turns,
-            ..
-        } = self;
-        Ok(Script {
-            sessions: closed(finished, current)?,
-            schedule: turns.unwrap_or(Seq::new(alloc)),
-        })
+        Script {
+            sessions: self.sessions,
+            schedule: self.turns.unwrap_or(Seq::new(alloc)),
+        }
     }
 }

@@ -1,9 +1,11 @@
 -- Lemmas on lists, for whoever reasons about them.
-use Rattle.std.proofs.Common.{◌≡◌, ℕ, zero, suc, ◌+◌, ◌<◌, ◌≤◌, List, [], ◌∷◌, ◌++◌, map, length, get_or, set, take, drop, Bool, ◌||◌, refl, ap, ◌∙◌, add-one, arith}
-use Rattle.std.specs.Prelude.{flat_map}
+use Rattle.std.proofs.Common.{◌≡◌, ℕ, zero, suc, ◌+◌, ◌<◌, ◌≤◌, List, [], ◌∷◌, ◌++◌, map, length, get_or, set, take, drop, Bool, false, ◌||◌, refl, ap, ◌∙◌, add-one, arith, length-append}
+use Rattle.std.specs.Prelude.{◌==◌, flat_map}
 use Rattle.std.specs.List.{list_any, AllByRecursion}
+use Rattle.std.proofs.lemmas.Bool.Decides.{nat_tests}
 use Rattle.std.proofs.lemmas.List.{take_all, drop_all, append-nil}
 use Rattle.std.proofs.lemmas.List.Folds.{list_any-append}
+use Rattle.sequence.specs.Last.{in_last}
 
 -- ---- Whether some item passes a test
 
@@ -60,3 +62,29 @@ pub written_all : {A B : Type 0} (f : A → B) (xs : List A) (ys zs : List B) (i
     → ys ≡ map f (take i xs) ++ drop i zs → ys ≡ map f xs
 written_all f xs ys zs i past same so_far =
     so_far ∙ rw (take_all i xs past, drop_all i zs (omega (arith, same))) (append-nil (map f xs))
+
+-- ---- The last item
+
+-- a list with an item is not empty
+pub not_empty : {A : Type 0} (xs : List A) → 0 < length xs → (length xs == 0) ≡ false
+not_empty xs some = grind (arith, nat_tests)
+
+-- such as one that ends
+pub not_empty_push : {A : Type 0} (xs : List A) (x : A) → (length (xs ++ x ∷ []) == 0) ≡ false
+not_empty_push xs x = let long = length-append xs (x ∷ []) in not_empty (xs ++ x ∷ []) (omega arith)
+
+pub in_last_push : {A : Type 0} (f : A → A) (xs : List A) (x : A) → in_last f (xs ++ x ∷ []) ≡ xs ++ f x ∷ []
+in_last_push f [] x = refl
+in_last_push f (y ∷ []) x = refl
+in_last_push f (y ∷ z ∷ xs) x = ap (λ ys. y ∷ ys) (in_last_push f (z ∷ xs) x)
+
+pub length_in_last : {A : Type 0} (f : A → A) (xs : List A) → length (in_last f xs) ≡ length xs
+length_in_last f [] = refl
+length_in_last f (x ∷ []) = refl
+length_in_last f (x ∷ y ∷ xs) = ap suc (length_in_last f (y ∷ xs))
+
+-- what a change keeps of each item stays
+pub all_in_last : {A : Type 0} (P : A → Type 0) (f : A → A) (xs : List A) → AllByRecursion P xs → ((x : A) → P x → P (f x)) → AllByRecursion P (in_last f xs)
+all_in_last P f [] all kept = tt
+all_in_last P f (x ∷ []) all kept = (kept x all.0, tt)
+all_in_last P f (x ∷ y ∷ xs) all kept = (all.0, all_in_last P f (y ∷ xs) all.1 kept)

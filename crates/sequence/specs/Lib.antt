@@ -1,3 +1,4 @@
 pub mod Answers
+pub mod Last
 pub mod Makes
 pub mod Room

@@ -1,11 +1,12 @@
 -- What a call of `run_alone` promises, and `run` where its words are accepted.
-use Rattle.std.specs.Prelude.{◌≡◌, ℕ, ◌+◌, ◌≤◌, List, Option, IfSome, IsSome, ◌⊎◌}
+use Rattle.std.specs.Prelude.{◌≡◌, ℕ, ◌+◌, ◌≤◌, ◌↔◌, false, List, Option, IfSome, IsSome, ◌⊎◌}
 use Rattle.std.specs.Io.KnownBytes.{IsAtEnd}
 use Rattle.cm_document.specs.declared.limits.TheConstants.{LONGEST_DOCUMENT}
 use Rattle.outside_io.specs.Bytes.{TakesAtMost}
 use Rattle.outside_io.specs.Faults.{Rose}
 use Rattle.cm_model.specs.declared.blanks.Blanks.{Blanks}
-use Rattle.cm_top.specs.Status.{Histories, Ran, IsPlain, status_of}
+use Rattle.cm_model.specs.Words.{is_asked}
+use Rattle.cm_top.specs.Status.{Histories, EndedWith, IsPlain, ComesOfBytes, status_of}
 use Rattle.cm_top.specs.declared.status.Status.{Status}
 use Rattle.cm_top.specs.declared.status.Status.TheVariants as status
 
@@ -20,10 +21,31 @@ pub record SinkTold : Type 0 where
   pub flushed : Option ℕ
   pub faults : ℕ
 
+-- what a source of this kind tells now, and what a sink of this kind does
+abbrev pub source_told : {S : Type 0} → (S → Option (List ℕ)) → (S → ℕ) → S → SourceTold
+source_told left faults source = record { left = left source; faults = faults source }
+
+abbrev pub sink_told : {K : Type 0} → (K → Option (List ℕ)) → (K → Option ℕ) → (K → ℕ) → K → SinkTold
+sink_told taken flushed faults sink = record { taken = taken sink; flushed = flushed sink; faults = faults sink }
+
+-- Words that are not accepted, and they alone, are answered so; then nothing was read and nothing written.
+pub record RefusesWords {S K : Type 0} (words : List (List ℕ)) (source source' : S) (sink sink' : K) (ended : Status) : Type 0 where
+  pub exactly : (ended ≡ status.BadWords) ↔ (is_asked words ≡ false)
+  pub nothing_read : ended ≡ status.BadWords → source' ≡ source
+  pub nothing_written : ended ≡ status.BadWords → sink' ≡ sink
+
+-- A run of these bytes into this sink, before and after, with its status.
+pub record RunsBytes (made : Histories) (blanks : Blanks) (bytes : List ℕ) (sink sink' : SinkTold) (ended : Status) : Type 0 where
+  pub ran : EndedWith made bytes blanks sink.taken sink'.taken sink'.flushed ended
+  pub of_bytes : ComesOfBytes ended
+  pub plain : IsPlain ended
+  pub write_fault : ended ≡ status.WriteFault → Rose sink.faults sink'.faults
+  pub later : sink.faults ≤ sink'.faults
+
 -- A run from this source, before and after, into this sink, before and after, with its status. The job made these histories.
 pub record Runs (made : Histories) (blanks : Blanks) (source source' : SourceTold) (sink sink' : SinkTold) (ended : Status) : Type 0 where
   -- by the bytes of the source, where they are told
-  pub ran : IfSome source.left (λ bytes. Ran made bytes blanks sink.taken sink'.taken sink'.flushed ended)
+  pub ran : IfSome source.left (λ bytes. EndedWith made bytes blanks sink.taken sink'.taken sink'.flushed ended)
   -- the words are none of its business
   pub never_words : ended ≡ status.BadWords → ⊥
   -- a run that went well has read its source to the end

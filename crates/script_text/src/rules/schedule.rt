@@ -17,14 +17,12 @@ impl Draft {
             return Err(ScriptFault::BadLine(line));
         }
         let Draft {
-            finished,
-            current,
+            sessions,
             count,
             ..
         } = self;
         Ok(Draft {
-            finished,
-            current,
+            sessions,
             turns: Some(Seq::new(alloc)),
             count,
         })
@@ -35,8 +33,7 @@ impl Draft {
         ensures { Answers ScriptFault.Memory (with_turn line self turn) result }
     {
         let Draft {
-            finished,
-            current,
+            sessions,
             turns,
             count,
         } = self;
@@ -48,8 +45,7 @@ impl Draft {
         }
         turns.push(turn)?;
         Ok(Draft {
-            finished,
-            current,
+            sessions,
             turns: Some(turns),
             count: count + 1,
         })

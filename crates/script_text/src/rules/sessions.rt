@@ -1,13 +1,13 @@
 //! The sessions of a script: which names may begin one, and which number each has.
 
-ghost use Rattle.std.specs.Prelude.{◌≡◌, ◌<◌, ◌++◌, Ok, IfSome, length, position, option_to_list};
-ghost use Rattle.std.specs.List.{list_any};
+ghost use Rattle.std.specs.Prelude.{◌≡◌, ◌<◌, Ok, IfSome, length, position};
 ghost use Rattle.sequence.specs.Answers.{Answers};
+ghost use Rattle.sequence.specs.Last.{in_last};
 ghost use Rattle.iface_names.specs.Names.{same_name};
-ghost use Rattle.cm_document.specs.ScriptRules.{sessions_in, is_used, session_accepted, is_session_line, session_number};
+ghost use Rattle.cm_document.specs.ScriptRules.{is_used, session_accepted, is_session_line, then_calling, session_number};
 
 use crate::rules::Draft;
-use cm_document::{Forms, Name, ScriptFault, Seq, SessionText};
+use cm_document::{Call, Forms, Name, ScriptFault, Seq, SessionText};
 
 impl Draft {
     /// Whether a session of this name may begin: the name is new and not `loop`, and no schedule stands.
@@ -22,68 +22,32 @@ impl Draft {
 
     /// Whether a session's line is accepted, as the first one or as a further one.
     fn accepts_session(&self, forms: Forms) -> bool
-        ensures { result ≡ session_accepted forms self.now.current }
+        ensures { result ≡ session_accepted forms self.now }
     {
-        match &self.current {
-            None => forms.first_session,
-            Some(_) => forms.further_session,
+        if self.sessions.as_slice().is_empty() {
+            forms.first_session
+        } else {
+            forms.further_session
         }
     }
 
     /// Whether a session of this name is there.
-    #[tactic(auto, using(sequence::proofs::ListLemmas::any_append))]
     fn is_used(&self, name: &Name) -> bool
         ensures { result ≡ is_used name.now self.now }
     {
-        has_session(self.finished.as_slice(), name) || self.is_current(name)
-    }
-
-    /// Whether the session that is being written has this name.
-    fn is_current(&self, name: &Name) -> bool
-        ensures { result ≡ list_any (λ s. same_name name.now s.name) (option_to_list self.now.current) }
-    {
-        match &self.current {
-            Some(session) => *name == session.name,
-            None => false,
-        }
-    }
-
-    /// How many sessions there are.
-    pub fn session_count(&self) -> usize
-        ensures { result ≡ length (sessions_in self.now) }
-    {
-        let finished = self.finished.as_slice().len();
-        match &self.current {
-            Some(_) => finished + 1,
-            None => finished,
-        }
+        self.sessions
+            .as_slice()
+            .iter()
+            .any(|session| *name == session.name)
     }
 
     /// The number of the session of this name.
-    #[tactic(auto, using(crate::proofs::RuleLemmas::place_in_finished, crate::proofs::RuleLemmas::place_of_current, crate::proofs::RuleLemmas::no_place))]
     pub fn session_number(&self, name: &Name) -> Option<u32>
         ensures { result ≡ session_number name.now self.now }
     {
-        let finished = self.finished.as_slice();
-        match place_of(finished, name) {
-            Some(place) => Some(place as u32),
-            None if self.is_current(name) => Some(finished.len() as u32),
-            None => None,
-        }
+        let place = place_of(self.sessions.as_slice(), name)?;
+        Some(place as u32)
     }
-}
-
-/// The sessions with the one that is being written.
-pub fn closed(
-    mut finished: Seq<SessionText>,
-    current: Option<SessionText>,
-) -> Result<Seq<SessionText>, ScriptFault>
-    ensures { Answers ScriptFault.Memory (Ok (finished ++ option_to_list current)) result }
-{
-    if let Some(session) = current {
-        finished.push(session)?;
-    }
-    Ok(finished)
 }
 
 /// Where the session of this name stands among these.
@@ -94,9 +58,17 @@ fn place_of(sessions: &[SessionText], name: &Name) -> Option<usize>
     sessions.iter().position(|session| *name == session.name)
 }
 
-/// Whether a session of this name is among these.
-fn has_session(sessions: &[SessionText], name: &Name) -> bool
-    ensures { result ≡ list_any (λ s. same_name name.now s.name) sessions.now }
+/// The sessions, of which the last has this call behind its others.
+#[tactic(auto, using(sequence::proofs::ListLemmas::in_last_push))]
+pub fn calling_last(sessions: Seq<SessionText>, call: Call) -> Result<Seq<SessionText>, ScriptFault>
+    ensures { Answers ScriptFault.Memory (Ok (in_last (then_calling call) sessions)) result }
 {
-    sessions.iter().any(|session| *name == session.name)
+    let mut sessions = sessions.into_vec();
+    let Some(mut session) = sessions.pop() else {
+        return Ok(Seq::from_vec(sessions));
+    };
+    session.lines.push(call)?;
+    let mut sessions = Seq::from_vec(sessions);
+    sessions.push(session)?;
+    Ok(sessions)
 }

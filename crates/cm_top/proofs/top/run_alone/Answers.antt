@@ -1,21 +1,21 @@
 use Rattle.cm_model.specs.Scheduled.{scheduled}
-use Rattle.cm_top.proofs.TopLemmas.{read-Ran, read-end, Ran-exact}
+use Rattle.cm_top.proofs.TopLemmas.{read-EndedWith, read-end, EndedWith-exact}
 use Rattle.cm_top.proofs.top.run_alone.Goals as goal
 
 -- what was read is all that the source told, and the rest is what its bytes came to
 pub returns-in-Ok-clause-runs : goal.returns-in-Ok-clause-runs
 returns-in-Ok-clause-runs g c =
-    let ran = rw c.as_slice.ensures.value at c.run_bytes.ensures.ran in
+    let ran = rw c.as_slice.ensures.value at c.run_bytes.ensures.runs.ran in
     record {
-      ran = read-Ran _ _ c.in-Ok.bytes.items _ c.in-Ok.ensures.whole ran;
-      never_words = λ words. rw words at c.run_bytes.ensures.of_bytes;
+      ran = read-EndedWith _ _ c.in-Ok.bytes.items _ c.in-Ok.ensures.whole ran;
+      never_words = λ words. rw words at c.run_bytes.ensures.runs.of_bytes;
       read_whole = λ well told. read-end _ _ c.in-Ok.bytes.items c.in-Ok.ensures.whole told;
       read_at_most = c.read_whole.ensures.at_most;
-      read_fault = λ failed. absurd (rw failed at c.run_bytes.ensures.of_bytes);
-      write_fault = c.run_bytes.ensures.write_fault;
+      read_fault = λ failed. absurd (rw failed at c.run_bytes.ensures.runs.of_bytes);
+      write_fault = c.run_bytes.ensures.runs.write_fault;
       read_later = c.read_whole.ensures.cause.later;
-      write_later = c.run_bytes.ensures.later;
-      plain = c.run_bytes.ensures.plain;
-      exact = read-Ran _ _ c.in-Ok.bytes.items _ c.in-Ok.ensures.whole
-          (Ran-exact (λ d. scheduled d c.args.stock) c.in-Ok.bytes.items _ _ _ _ _ _ _ ran (λ failed. absurd (rw failed at c.run_bytes.ensures.of_bytes)) c.run_bytes.ensures.write_fault);
+      write_later = c.run_bytes.ensures.runs.later;
+      plain = c.run_bytes.ensures.runs.plain;
+      exact = read-EndedWith _ _ c.in-Ok.bytes.items _ c.in-Ok.ensures.whole
+          (EndedWith-exact (λ d. scheduled d c.args.stock) c.in-Ok.bytes.items _ _ _ _ _ _ _ ran (λ failed. absurd (rw failed at c.run_bytes.ensures.runs.of_bytes)) c.run_bytes.ensures.runs.write_fault);
     }
