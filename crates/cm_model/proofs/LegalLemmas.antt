@@ -4,7 +4,7 @@ use Rattle.std.specs.Prelude.{IsSomeAnd}
 use Rattle.cm_document.proofs.ReadingLemmas.{cases_Option}
 use Rattle.cm_model.specs.State.{State, boot}
 use Rattle.cm_model.specs.Machine.{step, LegalFrom, IsLegal, state_after}
-use Rattle.cm_model.specs.Scheduled.{Session, Advanced, Progress, with_entry, settle, settle_from, settle_all, looped, cycle, cycles, finish, start, scheduled}
+use Rattle.cm_model.specs.Scheduled.{Session, Advanced, Progress, with_entry, settle, settle_from, settle_all, looped, with_cycle, cycles, finish, start, scheduled}
 use Rattle.cm_model.proofs.AdvanceLemmas.{settle-keeps}
 use Rattle.cm_document.specs.declared.call.Call.{Call}
 use Rattle.cm_document.specs.declared.call.Call.TheVariants.{Begin, End, Close}
@@ -70,13 +70,13 @@ looped-Leads call from p leads =
       | inr (q, some) ↦ rw (some, looped) (Leads-step p.made from p.state p.state.sessions call q.0 q.1 leads some)
     ]
 
-cycle-Leads : (n : ℕ) (from : State) (p : Progress) → LeadsOn from p → LeadsOn from (cycle n p)
-unfolding cycle
-cycle-Leads n from p leads = looped-Leads (End n) from _ (looped-Leads (Begin n) from _ (settle_all-Leads from p leads))
+with_cycle-Leads : (n : ℕ) (from : State) (p : Progress) → LeadsOn from p → LeadsOn from (with_cycle n p)
+unfolding with_cycle
+with_cycle-Leads n from p leads = looped-Leads (End n) from _ (looped-Leads (Begin n) from _ (settle_all-Leads from p leads))
 
 cycles-Leads : (n : ℕ) (from : State) (p : Progress) → LeadsOn from p → LeadsOn from (cycles n p)
 cycles-Leads zero from p leads = leads
-cycles-Leads (suc n) from p leads = cycle-Leads n from (cycles n p) (cycles-Leads n from p leads)
+cycles-Leads (suc n) from p leads = with_cycle-Leads n from (cycles n p) (cycles-Leads n from p leads)
 
 finish-Leads : (from : State) (p : Progress) → LeadsOn from p → LeadsOn from (finish p)
 unfolding finish

@@ -8,3 +8,4 @@ pub mod ControllerLemmas
 mod KindRows
 mod ComponentRows
 mod SwitchRows
+mod CycleRows

@@ -10,7 +10,7 @@ use Rattle.cm_document.proofs.ReadingLemmas.{cases_Option, chosen}
 use Rattle.cm_model.specs.Held.{nothing_in}
 use Rattle.cm_model.specs.State.{State, boot, controller_lines}
 use Rattle.cm_model.specs.Machine.{step, unless_refused, load_refusals, place_of, with_controller, with_loaded, load_effect, can_begin, can_end, can_close}
-use Rattle.cm_model.specs.Scheduled.{Session, Advanced, Progress, with_entry, ticket_in, advance, advances, settle, settle_from, settle_all, looped, cycle, cycles, finish, start, scheduled}
+use Rattle.cm_model.specs.Scheduled.{Session, Advanced, Progress, with_entry, ticket_in, advance, advances, settle, settle_from, settle_all, looped, with_cycle, cycles, finish, start, scheduled}
 use Rattle.cm_document.specs.Built.{built}
 use Rattle.cm_document.specs.ScriptLaws.{has_form}
 use Rattle.cm_model.specs.Sessions.{entries_by, calls_of, is_told, with_its_told, asked, Follows, cycle_calls, loop_calls, IsWhole}
@@ -320,7 +320,7 @@ cycle-Cycled n total who sessions p ran more =
 -- the first n cycles
 cycles-Cycled : (n total who : ℕ) (sessions : List (List Call)) (p : Progress) → Cycled 0 total who sessions (settle_all p) → n ≤ total
     → Cycled n total who sessions (settle_all (cycles n p))
-unfolding cycle
+unfolding with_cycle
 cycles-Cycled zero total who sessions p ran fits = ran
 cycles-Cycled (suc n) total who sessions p ran fits =
     cycle-Cycled n total who sessions (settle_all (cycles n p)) (cycles-Cycled n total who sessions p ran (omega arith)) (omega arith)

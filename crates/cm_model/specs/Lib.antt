@@ -3,11 +3,13 @@ pub mod Words
 pub mod Ran
 pub mod Happened
 pub mod Components
+pub mod Values
 pub mod State
 pub mod Kinds
 pub mod Pids
 pub mod Ways
 pub mod Controllers
+pub mod Cycle
 pub mod Machine
 pub mod Scheduled
 pub mod Sessions

@@ -99,13 +99,13 @@ looped call p =
     ]
 
 -- the sessions settle, and the n-th cycle begins and ends
-unfoldable pub cycle : ℕ → Progress → Progress
-cycle n p = looped (End n) (looped (Begin n) (settle_all p))
+unfoldable pub with_cycle : ℕ → Progress → Progress
+with_cycle n p = looped (End n) (looped (Begin n) (settle_all p))
 
 -- the first n cycles
 abbrev pub cycles : ℕ → Progress → Progress
 cycles zero p = p
-cycles (suc n) p = cycle n (cycles n p)
+cycles (suc n) p = with_cycle n (cycles n p)
 
 -- after the last cycle the sessions settle, the loop closes, and they settle once more
 unfoldable pub finish : Progress → Progress

@@ -1,9 +1,12 @@
 -- The state of the manager: all that it knows at one moment, its opening, and what is read off it.
-use Rattle.std.specs.Prelude.{ℕ, ◌-◌, Bool, false, ◌&&◌, List, [], slice_get, filter_map, Option, Some, None, option_map, is_some}
+use Rattle.std.specs.Prelude.{ℕ, ◌+◌, ◌-◌, ◌==◌, Bool, false, ◌&&◌, if◌then◌else◌, List, [], ◌∷◌, map, flat_map, find, slice_get, filter_map, Option, Some, None, option_map, is_some}
 use Rattle.std.specs.List.{list_any}
 use Rattle.std.specs.Option.{option_map_or}
+use Rattle.fixed_num.specs.declared.value.BodyState.{BodyState}
+use Rattle.iface_names.specs.declared.interface.IfaceName.{IfaceName}
 use Rattle.cm_document.specs.Params.{kind_of}
-use Rattle.cm_document.specs.Links.{precedes}
+use Rattle.cm_document.specs.Links.{is_among, precedes}
+use Rattle.cm_document.specs.Places.{Whose, of_joint, of_controller, Interface, interfaces_of}
 use Rattle.cm_document.specs.declared.call.Mail.{Mail}
 use Rattle.cm_document.specs.declared.description.CtlKind.{CtlKind}
 use Rattle.cm_document.specs.declared.description.CtlKind.TheVariants.{Forward, Passthrough, Pid, Trajectory, Broadcaster, Mock}
@@ -11,8 +14,12 @@ use Rattle.cm_document.specs.declared.description.CtlDesc.{CtlDesc}
 use Rattle.cm_document.specs.declared.description.Description.{Description}
 use Rattle.cm_document.specs.declared.life.Life.{Life}
 use Rattle.cm_document.specs.declared.life.Life.TheVariants.{Unconfigured, Inactive, Active}
+use Rattle.cm_model.specs.Components.{bodies_at_start}
+use Rattle.cm_model.specs.Values.{InterfaceValue, unset, running, after_reads}
 use Rattle.cm_model.specs.declared.data.CtlData.{CtlData}
+use Rattle.cm_model.specs.declared.lines.CompLine.{CompLine}
 use Rattle.cm_model.specs.declared.lines.CtlLine.{CtlLine}
+use Rattle.cm_model.specs.declared.lines.IfaceLine.{IfaceLine}
 use Rattle.cm_model.specs.declared.blanks.Blanks.{Blanks}
 
 -- A loaded controller: the number that its load gave, its place in the description, its update rate, in how many cycles it is
@@ -26,19 +33,34 @@ pub record Loaded : Type 0 where
   pub mail : Option Mail
 
 -- The state: the description, which nothing changes; the number of sessions, which is also the loop's number as a caller; the
--- blanks that are left; how many loads were given a serial; the loaded controllers, by serial; how many cycles have ended;
--- whether one has begun that has not ended; whether the loop is closed.
+-- blanks that are left; how many loads were given a serial; the loaded controllers, by serial; the lifecycle states of the
+-- components, the bodies of the joints, and the interfaces with what they hold, each by place; how many cycles have ended; whether
+-- one has begun that has not ended; whether the loop is closed.
 pub record State : Type 0 where
   pub description : Description
   pub sessions : ℕ
   pub blanks : Blanks
   pub loads : ℕ
   pub loaded : List Loaded
+  pub lives : List Life
+  pub bodies : List BodyState
+  pub values : List InterfaceValue
   pub ended : ℕ
   pub aloft : Bool
   pub closed : Bool
 
--- At boot nothing is loaded, aloft or ended, and the loop is open.
+-- At start each component is in the described lifecycle state, and each body where it is described to be.
+abbrev pub lives_at_start : Description → List Life
+lives_at_start d = map (λ c. c.initial) d.components
+
+abbrev pub all_bodies_at_start : Description → List BodyState
+all_bodies_at_start d = flat_map bodies_at_start d.components
+
+-- The state interfaces of inactive and active components hold their bodies' numbers, and every other interface is Unset.
+abbrev pub values_at_start : Description → List InterfaceValue
+values_at_start d = after_reads (running (lives_at_start d)) (all_bodies_at_start d) (map unset (interfaces_of d))
+
+-- At boot nothing is loaded, aloft or ended, the loop is open, and the hardware is as at start.
 abbrev pub boot : Description → Blanks → ℕ → State
 boot description blanks sessions = record {
   description = description;
@@ -46,6 +68,9 @@ boot description blanks sessions = record {
   blanks = blanks;
   loads = 0;
   loaded = [];
+  lives = lives_at_start description;
+  bodies = all_bodies_at_start description;
+  values = values_at_start description;
   ended = 0;
   aloft = false;
   closed = false;
@@ -97,6 +122,32 @@ precedes_described described c l = option_map_or (λ d. precedes d c) (slice_get
 abbrev pub is_chained : State → CtlDesc → Bool
 is_chained s c = list_any (λ l. is_active l && precedes_described s.description.controllers c l) s.loaded
 
+-- there is an active controller of this place in the description
+abbrev pub active : State → ℕ → Bool
+active s place = list_any (λ l. is_active l && l.place == place) s.loaded
+
+-- ---- Interfaces
+
+-- A component's interface is available where the component is inactive or active, a reference where the controller that exports it
+-- is among these.
+abbrev pub available_in : List Life → (ℕ → Bool) → Whose → Bool
+available_in lives controllers (of_joint component joint) = running lives component
+available_in lives controllers (of_controller place) = controllers place
+
+-- the interface is available
+abbrev pub available : State → Interface → Bool
+available s i = available_in s.lives (active s) i.whose
+
+-- the loaded controller claims what has this name
+abbrev pub claims_name : List CtlDesc → IfaceName → Loaded → Bool
+claims_name described name l = option_map_or (λ c. is_among name c.claims) (slice_get described l.place) false
+
+-- The owner of a command interface or a reference is the active controller that claims it. A state interface has none.
+abbrev pub owner : State → Interface → Option ℕ
+owner s i =
+    if i.called.is_command then option_map (λ l. l.serial) (find (λ l. is_active l && claims_name s.description.controllers i.called.name l) s.loaded)
+    else None
+
 -- ---- Lists
 
 -- the line of a loaded controller
@@ -113,3 +164,31 @@ controller_line s l = option_map (λ c. record {
 -- the list of controllers, by serial
 abbrev pub controller_lines : State → List CtlLine
 controller_lines s = filter_map (controller_line s) s.loaded
+
+-- the line of an interface at a place
+abbrev pub interface_line : State → ℕ → InterfaceValue → IfaceLine
+interface_line s place v = record {
+  value = v.value;
+  place = place;
+  owner = owner s v.interface;
+  command = v.interface.called.is_command;
+  available = available s v.interface;
+}
+
+-- those of interfaces, the first of which stands at this place
+abbrev pub interface_lines_from : State → ℕ → List InterfaceValue → List IfaceLine
+interface_lines_from s place [] = []
+interface_lines_from s place (v ∷ vs) = interface_line s place v ∷ interface_lines_from s (place + 1) vs
+
+-- the list of interfaces, by place
+abbrev pub interface_lines : State → List IfaceLine
+interface_lines s = interface_lines_from s 0 s.values
+
+-- the lines of components, the first of which stands at this place
+abbrev pub component_lines_from : ℕ → List Life → List CompLine
+component_lines_from place [] = []
+component_lines_from place (life ∷ lives) = record { place = place; life = life } ∷ component_lines_from (place + 1) lives
+
+-- the list of components, by place
+abbrev pub component_lines : State → List CompLine
+component_lines s = component_lines_from 0 s.lives

@@ -14,8 +14,8 @@ pub use cm_document::{
 pub use component::JointInterface;
 pub use data::{CtlData, RunData};
 pub use entry::{Entry, KeptCall};
-pub use fixed_num::{BodyState, JointMode, StoredValue, Value};
 pub use fault_kind::{FAULT_KINDS, FaultKind};
+pub use fixed_num::{BodyState, JointMode, StoredValue, Value};
 pub use lines::{CompLine, CtlLine, IfaceLine};
 pub use member::Member;
 pub use planned::Planned;
@@ -46,6 +46,9 @@ mod ran_room;
 mod record;
 mod record_room;
 mod reply;
+mod seen;
 mod shape;
 mod tick;
-mod seen;
+
+/// A second, in microseconds.
+pub const SECOND_US: u32 = 1_000_000;

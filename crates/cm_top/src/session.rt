@@ -58,7 +58,7 @@ impl<'a> Model for Job<'a> {
 }
 
 impl<'a> Job<'a> {
-    ghost use Rattle.cm_model.specs.Scheduled.{settle_all, looped, cycle, cycles, finish};
+    ghost use Rattle.cm_model.specs.Scheduled.{settle_all, looped, with_cycle, cycles, finish};
     ghost use Rattle.cm_document.specs.declared.call.Call.TheVariants as call;
     ghost use Rattle.cm_top.specs.Room.{IsLoops};
 
@@ -111,9 +111,9 @@ impl<'a> Job<'a> {
     }
 
     /// The sessions settle, and the cycle of this number begins and ends.
-    #[tactic(auto, unfolding(cm_model::specs::Scheduled::cycle))]
+    #[tactic(auto, unfolding(cm_model::specs::Scheduled::with_cycle))]
     fn cycle(&mut self, alloc: Global, number: u64) -> Result<(), Memory>
-        ensures { OnOk result (self.new ≡ cycle number self.old) }
+        ensures { OnOk result (self.new ≡ with_cycle number self.old) }
     {
         self.settle_all(alloc)?;
         self.looped(alloc, &Call::Begin(number))?;

@@ -58,6 +58,7 @@ pub all_in_last : {A : Type 0} (P : A → Type 0) (f : A → A) (xs : List A) �
 all_in_last P f [] all kept = tt
 all_in_last P f (x ∷ []) all kept = (kept x all.0, tt)
 all_in_last P f (x ∷ y ∷ xs) all kept = (all.0, all_in_last P f (y ∷ xs) all.1 kept)
+
 -- ---- Loops that write a place for each item
 
 -- the places up to this one hold what is made of the items up to it, and the next place is written
