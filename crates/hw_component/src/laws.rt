@@ -18,5 +18,6 @@ pub fn described_components_can_be_made(checked: &Checked)
 /// The commands of a component that is not active move nothing: in a step each of its joints stands still.
 #[tactic(auto, using(crate::proofs::JointLemmas::not_active))]
 pub fn commands_move_active_components_alone()
-    ensures { (h : Hardware) (dt_us : ℕ) → write_runs h.life ≡ false → (after_step h dt_us).bodies ≡ map stopped h.bodies }
+    ensures { (h : Hardware) (dt_us : ℕ) → write_runs h.life ≡ false
+        → (after_step h dt_us).bodies ≡ map stopped h.bodies }
 {}
