@@ -88,7 +88,8 @@ impl Links {
 fn followers(alloc: Global, controllers: &[CtlDesc], place: u32) -> Result<Seq<u32>, Memory>
     requires few { length controllers.now < 2 ^ 32 }
     requires within { place < length controllers.now }
-    ensures { IfOk result (λ places. places ≡ places_below (precedes_at controllers.now place) (length controllers.now)) }
+    ensures { IfOk result (λ places. places
+        ≡ places_below (precedes_at controllers.now place) (length controllers.now)) }
 {
     let mut places = Seq::new(alloc);
     for other in 0..controllers.len() as u32 {
@@ -103,7 +104,8 @@ fn followers(alloc: Global, controllers: &[CtlDesc], place: u32) -> Result<Seq<u
 fn leaders(alloc: Global, controllers: &[CtlDesc], place: u32) -> Result<Seq<u32>, Memory>
     requires few { length controllers.now < 2 ^ 32 }
     requires within { place < length controllers.now }
-    ensures { IfOk result (λ places. places ≡ places_below (λ q. precedes_at controllers.now q place) (length controllers.now)) }
+    ensures { IfOk result (λ places. places
+        ≡ places_below (λ q. precedes_at controllers.now q place) (length controllers.now)) }
 {
     let mut places = Seq::new(alloc);
     for other in 0..controllers.len() as u32 {
