@@ -40,5 +40,6 @@ pub fn sessions_make_console_calls()
 
 /// No step of a controller changes whether it runs, and whether it takes its references from the interfaces.
 pub fn steps_keep_whether_a_controller_is_chained()
-    ensures { (ctl : CtlData) (tick : Tick) (states : List ℤ) (refs : List Value) (mail : Option Mail) → KeepsChained ctl (ctl_step ctl tick states refs mail).after }
+    ensures { (ctl : CtlData) (tick : Tick) (states : List ℤ) (refs : List Value) (mail : Option Mail)
+        → KeepsChained ctl (ctl_step ctl tick states refs mail).after }
 {}

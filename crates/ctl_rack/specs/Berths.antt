@@ -1,6 +1,8 @@
 -- The rack: each loaded controller has a berth, by its serial.
 use Rattle.std.specs.Prelude.{◌≡◌, ℕ, suc, ◌≤◌, nat_lt, ◌==◌, not, if◌then◌else◌, List, [], ◌∷◌, ◌++◌, map, Option, Some, None, IsSome, IsNone, IsSomeAnd}
 use Rattle.std.specs.List.{find, filter}
+use Rattle.cm_document.specs.declared.description.CtlKind.{CtlKind}
+use Rattle.cm_model.specs.State.{fresh, with_one_less}
 use Rattle.cm_model.specs.declared.blanks.Blanks.{Blanks}
 use Rattle.cm_model.specs.declared.data.CtlData.{CtlData}
 use Rattle.ctl_rack.specs.declared.rack.Whereabouts.{Whereabouts}
@@ -63,6 +65,10 @@ abbrev pub with_berth : ℕ → CtlData → List Berth → List Berth
 with_berth serial ctl berths =
     filter (λ b. nat_lt b.serial serial) berths
     ++ record { serial = serial; parked = Some ctl } ∷ filter (λ b. nat_lt serial b.serial) berths
+
+-- the rack once a blank of the kind was loaded under the serial
+abbrev pub after_load : ℕ → CtlKind → Racked → Racked
+after_load serial kind rack = record { berths = with_berth serial (fresh kind) rack.berths; blanks = with_one_less rack.blanks kind }
 
 -- the serials rise from this number on
 abbrev pub Rises : ℕ → List Berth → Type 0

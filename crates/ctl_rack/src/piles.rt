@@ -83,7 +83,8 @@ impl<C: Controller> Piles<C> {
     pub(crate) fn take(&mut self, kind: CtlKind) -> Option<C>
         ensures { MatchOption result
             ((blanks_of self.old kind ≡ 0) × (self.new ≡ self.old))
-            (λ c. (C.meaning c ≡ fresh kind) × (0 < blanks_of self.old kind) × (self.new ≡ with_one_less self.old kind)) }
+            (λ c. (C.meaning c ≡ fresh kind) × (0 < blanks_of self.old kind)
+            × (self.new ≡ with_one_less self.old kind)) }
     {
         match kind {
             CtlKind::Forward => self.forward.pop(),

@@ -2,8 +2,8 @@
 
 ghost use Rattle.std.specs.Prelude.{◌≡◌, ◌<◌, ◌↔◌, nat_lt, [], length, Err, IfOk, OnOk, OnErr};
 ghost use Rattle.std.specs.List.{prefix_len};
-ghost use Rattle.cm_model.specs.State.{blanks_of, with_one_less, fresh};
-ghost use Rattle.ctl_rack.specs.Berths.{IsFree, IsParked, IsParkedWith, IsLent, IsAt, with_parked, without, with_berth};
+ghost use Rattle.cm_model.specs.State.{blanks_of};
+ghost use Rattle.ctl_rack.specs.Berths.{IsFree, IsParked, IsParkedWith, IsLent, IsAt, after_load, with_parked, without};
 
 use crate::berth::Seat;
 use crate::fault::RackFault;
@@ -62,7 +62,7 @@ impl<C: Controller> Rack<C> {
     pub fn load(&mut self, kind: CtlKind, serial: u32) -> Result<(), RackFault>
         requires free { IsFree serial self.old }
         requires room { length self.old.berths < MOST_CONTROLLERS }
-        ensures loaded { OnOk result (self.new ≡ record { berths = with_berth serial (fresh kind) self.old.berths; blanks = with_one_less self.old.blanks kind }) }
+        ensures loaded { OnOk result (self.new ≡ after_load serial kind self.old) }
         ensures sold_out { (result ≡ Err RackFault.StockEmpty) ↔ (blanks_of self.old.blanks kind ≡ 0) }
         ensures unchanged { OnErr result (self.new ≡ self.old) }
     {
