@@ -59,7 +59,7 @@ pub fn written_out(alloc: Global, text: &str) -> Result<String, AllocError> {
 
 /// A text in which `<3..6 * PIECE>`, between these brackets, stood for the piece three times: for the numbers 3, 4
 /// and 5. In it `#` stands for the number and `#'` for the next one.
-fn repeated(alloc: Global, text: &str, open: char, close: char) -> Result<String, Fail> {
+pub fn repeated(alloc: Global, text: &str, open: char, close: char) -> Result<String, Fail> {
     let mut whole = String::new(alloc);
     for (index, part) in text.split(open).enumerate() {
         if index == 0 {
