@@ -1,11 +1,12 @@
 -- The kinds of controllers, by their parameters: what each has, with which parameters it is configured, and which mail it takes.
 use Rattle.std.specs.Prelude.{◌≡◌, ℕ, ℤ, Bool, true, false, not, ◌&&◌, ◌==◌, List, length, Option, Some, None}
-use Rattle.std.specs.List.{list_any, list_all}
+use Rattle.std.specs.List.{list_all}
 use Rattle.cm_document.specs.Valid.{not_negative, claims_fit}
 use Rattle.cm_document.specs.declared.call.Mail.{Mail}
 use Rattle.cm_document.specs.declared.call.Mail.TheVariants.{Values, Points}
 use Rattle.cm_document.specs.declared.description.Params.{Params}
 use Rattle.cm_document.specs.declared.description.Params.TheVariants.{Forward, Passthrough, Pid, Trajectory, Broadcaster, Mock}
+use Rattle.cm_model.specs.Components.{is_listed}
 use Rattle.cm_model.specs.declared.shape.Shape.{Shape}
 
 -- ---- What a controller has
@@ -43,18 +44,14 @@ is_refused _ = false
 
 -- ---- What its parameters say of a cycle
 
--- the cycle is one of these
-abbrev pub is_one_of : List ℕ → ℕ → Bool
-is_one_of cycles cycle = list_any (λ c. c == cycle) cycles
-
 -- A mock is not ready in the cycles that are listed for it. Every other kind always is.
 abbrev pub is_ready_in : Params → ℕ → Bool
-is_ready_in (Mock outs refuse_config not_ready fail_update) cycle = not (is_one_of not_ready cycle)
+is_ready_in (Mock outs refuse_config not_ready fail_update) cycle = not (is_listed not_ready cycle)
 is_ready_in _ cycle = true
 
 -- The update of a mock gives an error in the cycles that are listed for it. No other update does.
 abbrev pub fails_in : Params → ℕ → Bool
-fails_in (Mock outs refuse_config not_ready fail_update) cycle = is_one_of fail_update cycle
+fails_in (Mock outs refuse_config not_ready fail_update) cycle = is_listed fail_update cycle
 fails_in _ cycle = false
 
 -- ---- What it takes as mail

@@ -1,7 +1,7 @@
 //! The mock.
 
 ghost use Rattle.std.specs.Prelude.{◌≡◌};
-ghost use Rattle.cm_model.specs.Kinds.{is_one_of};
+ghost use Rattle.cm_model.specs.Components.{is_listed};
 ghost use Rattle.cm_model.specs.State.{fresh};
 ghost use Rattle.cm_document.specs.declared.description.CtlKind.TheVariants as kind;
 
@@ -63,7 +63,7 @@ impl Controller for Mock {
 
     fn ready(&self, cycle: u64) -> bool {
         match &self.kept {
-            Some(kept) => !is_one_of(kept.not_ready.as_slice(), cycle),
+            Some(kept) => !is_listed(kept.not_ready.as_slice(), cycle),
             None => true,
         }
     }
@@ -105,10 +105,10 @@ impl Kept {
     /// Gives the values that are set, unless it fails in this cycle.
     fn update(&self, cycle: u64, outs: &mut [Value]) -> Done
         requires { length outs.old ≡ length self.now.part.set }
-        ensures answer { result ≡ (if is_one_of self.now.fail_update cycle then done.Error else done.Ok) }
-        ensures outputs { outs.new ≡ (if is_one_of self.now.fail_update cycle then outs.old else self.now.part.set) }
+        ensures answer { result ≡ (if is_listed self.now.fail_update cycle then done.Error else done.Ok) }
+        ensures outputs { outs.new ≡ (if is_listed self.now.fail_update cycle then outs.old else self.now.part.set) }
     {
-        if is_one_of(self.fail_update.as_slice(), cycle) {
+        if is_listed(self.fail_update.as_slice(), cycle) {
             return Done::Error;
         }
         outs.copy_from_slice(self.part.set());
@@ -117,8 +117,8 @@ impl Kept {
 }
 
 /// Whether the cycle is one of these.
-fn is_one_of(cycles: &[u64], cycle: u64) -> bool
-    ensures { result ≡ is_one_of cycles.now cycle }
+fn is_listed(cycles: &[u64], cycle: u64) -> bool
+    ensures { result ≡ is_listed cycles.now cycle }
 {
     cycles.iter().any(|c| *c == cycle)
 }
