@@ -3,6 +3,8 @@
 #![tactic(auto)]
 
 #[cfg(test)]
+mod boards;
+#[cfg(test)]
 mod checks;
 #[cfg(test)]
 mod descriptions;
