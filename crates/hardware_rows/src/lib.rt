@@ -1,9 +1,11 @@
-//! Tests of the public calls of hardware components, act by act: a page has for each case a component, and line by line
-//! what is done and what is told of it.
+//! Tests of the public calls of hardware components and of the board, act by act: a page has for each case a component,
+//! and line by line what is done and what is told of it; or what is done to a board, and what stands at its places.
 #![tactic(auto)]
 
 #[cfg(test)]
 mod acts;
+#[cfg(test)]
+mod boards;
 #[cfg(test)]
 mod failures;
 #[cfg(test)]

@@ -31,7 +31,8 @@ fn push_components(
     components: &[CompDesc],
     is_command: bool,
 ) -> Result<(), Memory>
-    ensures { OnOk result (loans.new.items ≡ loans.old.items ++ map (λ _. idle is_command) (flat_map (λ c. flat_map (kinds_of is_command) c.joints) components.now)) }
+    ensures { OnOk result (loans.new.items ≡ loans.old.items
+        ++ map (λ _. idle is_command) (flat_map (λ c. flat_map (kinds_of is_command) c.joints) components.now)) }
 {
     for component in components {
         push_joints(loans, component.joints.as_slice(), is_command)?;
@@ -41,7 +42,8 @@ fn push_components(
 
 /// The command interfaces of joints, or else their state interfaces.
 fn push_joints(loans: &mut Vec<Loan>, joints: &[JointDesc], is_command: bool) -> Result<(), Memory>
-    ensures { OnOk result (loans.new.items ≡ loans.old.items ++ map (λ _. idle is_command) (flat_map (kinds_of is_command) joints.now)) }
+    ensures { OnOk result (loans.new.items ≡ loans.old.items
+        ++ map (λ _. idle is_command) (flat_map (kinds_of is_command) joints.now)) }
 {
     for joint in joints {
         push_kinds(loans, kinds_of(joint, is_command), is_command)?;
@@ -72,7 +74,8 @@ fn push_kinds(loans: &mut Vec<Loan>, kinds: &[Kind], is_command: bool) -> Result
 
 /// The references of controllers.
 fn push_references(loans: &mut Vec<Loan>, controllers: &[CtlDesc]) -> Result<(), Memory>
-    ensures { OnOk result (loans.new.items ≡ loans.old.items ++ map (λ _. idle true) (flat_map (λ c. exported_for c.params c) controllers.now)) }
+    ensures { OnOk result (loans.new.items ≡ loans.old.items
+        ++ map (λ _. idle true) (flat_map (λ c. exported_for c.params c) controllers.now)) }
 {
     for controller in controllers {
         push_references_for(loans, controller.exported_for())?;

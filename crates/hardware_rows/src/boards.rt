@@ -1,0 +1,170 @@
+//! Loan boards, act by act: what stands at each place in the end.
+
+ghost use Rattle.std.specs.Prelude.{◌<◌, length};
+
+use desc_check::check;
+use desc_text::read_description;
+use fixed_num::{Fx, Value};
+use ground_rows::pages::{Teller, differences_in_lines};
+use loan_board::{Board, Loan};
+use std::alloc::Global;
+use std::test::Fail;
+
+/// A state interface, two command interfaces and a reference.
+const DESCRIPTION: &str = r#"version = 1
+update_rate = 100
+cycles = 1
+[[component]]
+name = "arm"
+kind = "system"
+[[component.joint]]
+name = "j1"
+vmax = 1
+command = ["position", "velocity"]
+state = ["position"]
+[[controller]]
+name = "pid"
+type = "pid"
+claims = ["j1/velocity"]
+reads = ["j1/position"]
+"#;
+
+/// Tells the places of a board after some acts: `on P`, `off P`, `set P VALUE`, `claim P SERIAL`, `release P`. An act
+/// whose condition is not met is a fault of the case.
+#[derive(Clone, Copy)]
+struct Acts;
+
+impl Teller for Acts {
+    fn told(&self, alloc: Global, text: &str) -> Result<String, Fail> {
+        let mut board = board_of(alloc, DESCRIPTION)?;
+        for act in text.trim_end().split(", ") {
+            if act != "nothing" {
+                carry_out(&mut board, act)?;
+            }
+        }
+        let mut told = String::new(alloc);
+        for loan in board.loans() {
+            push_loan(&mut told, loan)?;
+        }
+        Ok(told)
+    }
+}
+
+/// Tells how many state interfaces the board of a description has, and how many commands and references.
+#[derive(Clone, Copy)]
+pub struct Sides;
+
+impl Teller for Sides {
+    fn told(&self, alloc: Global, text: &str) -> Result<String, Fail> {
+        let board = board_of(alloc, text)?;
+        let commands = board.loans().iter().filter(|loan| loan.is_command).count();
+        let states = board.loans().len().saturating_sub(commands);
+        Ok(format!(in alloc; "{states} states, {commands} commands")?)
+    }
+}
+
+/// The board of a described robot.
+fn board_of(alloc: Global, text: &str) -> Result<Board, Fail> {
+    let description = read_description(alloc, text.as_bytes())?;
+    Ok(Board::make(alloc, &check(alloc, description)?)?)
+}
+
+fn carry_out(board: &mut Board, act: &str) -> Result<(), Fail> {
+    let (verb, rest) = act.split_once(" ").ok_or("an act of one word")?;
+    let (place, rest) = rest.split_once(" ").unwrap_or((rest, ""));
+    let place: u32 = place.parse()?;
+    if place as usize >= board.loans().len() {
+        return Err(Fail::from("no such place"));
+    }
+    match verb {
+        "set" => board.set(place, value_of(rest)?),
+        "claim" => claim(board, place, rest.parse()?)?,
+        "release" => release(board, place)?,
+        "on" => make_available(board, place, true)?,
+        "off" => make_available(board, place, false)?,
+        _ => return Err(Fail::from("no such act")),
+    }
+    Ok(())
+}
+
+fn value_of(text: &str) -> Result<Value, Fail> {
+    match text {
+        "unset" => Ok(Value::Unset),
+        _ => Ok(Value::Num(Fx::read(text.as_bytes())?)),
+    }
+}
+
+fn claim(board: &mut Board, place: u32, serial: u32) -> Result<(), Fail>
+    requires { place < length board.old }
+{
+    let is_command = board.loans()[place as usize].is_command;
+    if !is_command || !board.available(place) || board.owner(place).is_some() {
+        return Err(Fail::from("it cannot be claimed"));
+    }
+    board.claim(place, serial);
+    Ok(())
+}
+
+fn release(board: &mut Board, place: u32) -> Result<(), Fail>
+    requires { place < length board.old }
+{
+    if board.owner(place).is_none() {
+        return Err(Fail::from("nobody claims it"));
+    }
+    board.release(place);
+    Ok(())
+}
+
+fn make_available(board: &mut Board, place: u32, yes: bool) -> Result<(), Fail>
+    requires { place < length board.old }
+{
+    if board.owner(place).is_some() {
+        return Err(Fail::from("it is claimed"));
+    }
+    board.set_available(place, yes);
+    Ok(())
+}
+
+/// A place: its side, what it holds, `off` where it is not available, else its owner or `free`.
+fn push_loan(told: &mut String, loan: &Loan) -> Result<(), Fail> {
+    if !told.is_empty() {
+        told.push_str(", ")?;
+    }
+    told.push_str(if loan.is_command {
+        "command "
+    } else {
+        "state "
+    })?;
+    match loan.value.get() {
+        Value::Unset => told.push_str("unset ")?,
+        Value::Num(number) => write!(told, "{number} ")?,
+    }
+    match loan.owner {
+        Some(serial) => write!(told, "{serial}")?,
+        None => told.push_str(if loan.is_available { "free" } else { "off" })?,
+    }
+    Ok(())
+}
+
+#[test]
+fn boards_keep_what_was_done_at_each_place(rt: HostRuntime) -> Result<(), Fail> {
+    let alloc = rt.alloc();
+    assert_eq!(rt; differences_in_lines(alloc, &Acts, "", ACTS)?.as_str(), "");
+    Ok(())
+}
+
+/// Values that come and go, claims of neighbours, releases, and interfaces that are no longer available.
+const ACTS: &str = "\
+nothing => state unset off, command unset off, command unset off, command unset off
+on 0, set 0 0.25 => state 0.250000 free, command unset off, command unset off, command unset off
+on 1, on 2, set 1 -0.5, set 2 7, set 1 unset => state unset off, \
+    command unset free, command 7.000000 free, command unset off
+on 1, claim 1 7, set 1 -0.5 => state unset off, command -0.500000 7, command unset off, command unset off
+on 1, claim 1 7, set 1 2, release 1 => state unset off, command unset free, command unset off, command unset off
+on 1, on 2, claim 1 0, claim 2 1, set 1 1, set 2 2, release 1 => state unset off, \
+    command unset free, command 2.000000 1, command unset off
+on 3, claim 3 4294967295, release 3, claim 3 5, set 3 0 => state unset off, \
+    command unset off, command unset off, command 0.000000 5
+on 0, set 0 1, on 3, set 3 9, off 3 => state 1.000000 free, command unset off, command unset off, command unset off
+on 2, set 2 4, on 2 => state unset off, command unset off, command 4.000000 free, command unset off
+set 2 4, off 1 => state unset off, command unset off, command 4.000000 off, command unset off";
