@@ -2,13 +2,13 @@
 //! above some size meets its contract. Answers are compared by how many bytes they have and by their checksum
 //! Adler-32, which `scripts/largest_answers` makes from the rules, without this program.
 
-use crate::boards::Sides;
 use crate::checks::Checks;
 use crate::descriptions::Shows;
 use crate::pages::{Teller, differences};
 use crate::runs::Runs;
 use crate::scripts::Prints;
 use cm_model::IfaceName;
+use ground_rows::largest::AT_ALL_LIMITS;
 use iface_names::Registry;
 use outside_io::{MemSink, MemSource, read_whole, write_whole};
 use std::alloc::{AllocError, Global};
@@ -61,9 +61,6 @@ fn the_largest_texts(rt: HostRuntime) -> Result<(), Fail> {
     let checked = format!(in alloc; "{AT_ALL_LIMITS}=> valid")?;
     let checked = differences(alloc, &Checks, "", checked.as_str())?;
     assert_eq!(rt; checked.as_str(), "");
-    let boarded = format!(in alloc; "{AT_ALL_LIMITS}=> 96 states, 192 commands")?;
-    let boarded = differences(alloc, &Sides, "", boarded.as_str())?;
-    assert_eq!(rt; boarded.as_str(), "");
     let prints = Summed { teller: Prints };
     assert_eq!(rt; differences(alloc, &prints, "", SCRIPT)?.as_str(), "");
     Ok(())
@@ -145,45 +142,6 @@ claims = [<0..3000 * "j#/position", >]
 reads = [<0..3000 * "j#/position", >]
 #<0..32964 * x>
 => 1048576 bytes: 869542 38ffa619"#;
-
-/// All limits of the checks at once: 16 components of two joints each, with every kind of command and state; and 64
-/// controllers, which export 96 references, claim 192 interfaces and read 256.
-const AT_ALL_LIMITS: &str = r#"version = 1
-update_rate = 10000
-cycles = 100000
-<0..16 * [[component]]
-name = "c#"
-kind = "system"
-[[component.joint]]
-name = "l#"
-vmax = 1
-command = ["position", "velocity", "effort"]
-state = ["position", "velocity", "effort"]
-[[component.joint]]
-name = "r#"
-vmax = 1
-command = ["position", "velocity", "effort"]
-state = ["position", "velocity", "effort"]
->\
-<0..3 * [[controller]]
-name = "p#"
-type = "passthrough"
-claims = [(0..16 * "l#/position", "r#/position", )]
-[[controller]]
-name = "f#"
-type = "forward"
-claims = [(0..16 * "l#/position", "r#/position", )]
->\
-<0..8 * [[controller]]
-name = "b#"
-type = "broadcaster"
-reads = [(0..16 * "l#/position", "r#/position", )]
->\
-<0..50 * [[controller]]
-name = "m#"
-type = "mock"
->\
-"#;
 
 /// 8 sessions of 1,250 calls: values, a switch of as many names as there may be, and points of as many values.
 const SCRIPT: &str = r"<0..8 * session s#

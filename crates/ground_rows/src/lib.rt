@@ -5,6 +5,7 @@
 mod bodies;
 #[cfg(test)]
 mod edge;
+pub mod largest;
 #[cfg(test)]
 mod lists;
 #[cfg(test)]

@@ -5,7 +5,8 @@ ghost use Rattle.std.specs.Prelude.{◌<◌, length};
 use desc_check::check;
 use desc_text::read_description;
 use fixed_num::{Fx, Value};
-use ground_rows::pages::{Teller, differences_in_lines};
+use ground_rows::largest::AT_ALL_LIMITS;
+use ground_rows::pages::{Teller, differences, differences_in_lines};
 use loan_board::{Board, Loan};
 use std::alloc::Global;
 use std::test::Fail;
@@ -52,7 +53,7 @@ impl Teller for Acts {
 
 /// Tells how many state interfaces the board of a description has, and how many commands and references.
 #[derive(Clone, Copy)]
-pub struct Sides;
+struct Sides;
 
 impl Teller for Sides {
     fn told(&self, alloc: Global, text: &str) -> Result<String, Fail> {
@@ -150,6 +151,9 @@ fn push_loan(told: &mut String, loan: &Loan) -> Result<(), Fail> {
 fn boards_keep_what_was_done_at_each_place(rt: HostRuntime) -> Result<(), Fail> {
     let alloc = rt.alloc();
     assert_eq!(rt; differences_in_lines(alloc, &Acts, "", ACTS)?.as_str(), "");
+    let largest = format!(in alloc; "{AT_ALL_LIMITS}=> 96 states, 192 commands")?;
+    let largest = differences(alloc, &Sides, "", largest.as_str())?;
+    assert_eq!(rt; largest.as_str(), "");
     Ok(())
 }
 
