@@ -1,11 +1,10 @@
 -- What holds of every accepted document.
-use Rattle.std.proofs.Common.{◌≡◌, ℕ, List, Result, Ok, Err, subst, sym}
-use Rattle.std.specs.Prelude.{◌==◌, length}
+use Rattle.std.proofs.Common.{◌≡◌, ℕ, List, Result, Ok, Err}
 use Rattle.cm_document.specs.Reading.{◌>>=◌, told_as}
 use Rattle.cm_document.specs.Described.{tree_of, description_in}
 use Rattle.cm_document.specs.Valid.{valid, IsValid}
 use Rattle.cm_document.specs.Lines.{Parts, parts_of}
-use Rattle.cm_document.specs.Document.{without_components, accepted_description, accepted_script, document_of, document}
+use Rattle.cm_document.specs.Document.{accepted_description, accepted_script, document_of, document}
 use Rattle.cm_document.specs.declared.description.Description.{Description}
 use Rattle.cm_document.specs.declared.document.Document.{Document}
 use Rattle.cm_document.specs.declared.faults.DescProblem.{DescProblem}
@@ -13,7 +12,7 @@ use Rattle.cm_document.specs.declared.faults.DescProblem.TheVariants.{Text, Chec
 use Rattle.cm_document.specs.declared.faults.ScriptFault.{ScriptFault}
 use Rattle.cm_document.specs.declared.faults.DocumentFault.TheVariants as fault
 use Rattle.cm_document.specs.declared.script.Script.{Script}
-use Rattle.cm_document.proofs.ReadingLemmas.{bind_Ok, chosen}
+use Rattle.cm_document.proofs.ReadingLemmas.{bind_Ok}
 use Rattle.cm_document.proofs.ValidLemmas.{read_IsDescribed, checked_IsValid}
 
 -- what is told as another fault has the same value
@@ -21,19 +20,13 @@ told_value : {A E F : Type 0} (f : E → F) (r : Result A E) (x : A) → told_as
 told_value f (Ok y) x e = cc
 told_value f (Err fault) x e = cc
 
--- a description without components is given back as it is
-without_components_same : (d e : Description) → without_components d ≡ Ok e → e ≡ d
-without_components_same d e = chosen (λ (r : Result Description DescProblem). r ≡ Ok e → e ≡ d) (length d.components == 0) _ _ (λ h. cc) (λ h. cc)
-
 -- an accepted description is valid
 accepted_description-IsValid : (bytes : List ℕ) (d : Description) → accepted_description bytes ≡ Ok d → IsValid d
 unfolding accepted_description
 accepted_description-IsValid bytes d e =
     let read = bind_Ok (told_as Text (description_in (tree_of bytes))) _ d e in
-    let checked = bind_Ok (told_as Check (valid read.0)) _ d read.2 in
     let described = read_IsDescribed (tree_of bytes) read.0 (told_value Text _ read.0 read.1) in
-    let is_valid = checked_IsValid read.0 checked.0 described (told_value Check _ checked.0 checked.1) in
-    subst IsValid (sym (without_components_same checked.0 d checked.2)) is_valid
+    checked_IsValid read.0 d described (told_value Check _ d read.2)
 
 -- The description of these parts is accepted, and so is their script.
 pub record AcceptedParts (parts : Parts) (d : Document) : Type 0 where

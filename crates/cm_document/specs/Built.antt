@@ -1,4 +1,4 @@
--- Which forms of a script's lines are accepted today: the first session, loads, and the list of controllers.
+-- Which forms of a script's lines are accepted today: the first session, loads, and the lists of controllers, interfaces and components.
 use Rattle.std.specs.Prelude.{true, false}
 use Rattle.cm_document.specs.declared.script.Forms.{Forms}
 
@@ -17,8 +17,8 @@ built = record {
   hardware = false;
   await_cycles = false;
   list_controllers = true;
-  list_interfaces = false;
-  list_components = false;
+  list_interfaces = true;
+  list_components = true;
   schedule = false;
 }
 

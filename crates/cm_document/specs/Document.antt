@@ -1,5 +1,5 @@
 -- A whole document: a description, the separator, a script. Either all of it is accepted, or its first fault is told.
-use Rattle.std.specs.Prelude.{ℕ, ◌+◌, ◌==◌, if◌then◌else◌, List, length, codes, Option, Some, None, Result, Ok, Err}
+use Rattle.std.specs.Prelude.{ℕ, ◌+◌, List, Option, Some, None, Result, Ok, Err}
 use Rattle.cm_document.specs.Reading.{◌>>=◌, told_as}
 use Rattle.cm_document.specs.Described.{tree_of, description_in}
 use Rattle.cm_document.specs.Valid.{valid}
@@ -9,7 +9,6 @@ use Rattle.cm_document.specs.ScriptRules.{script_with}
 use Rattle.cm_document.specs.declared.description.Description.{Description}
 use Rattle.cm_document.specs.declared.script.Script.{Script}
 use Rattle.cm_document.specs.declared.document.Document.{Document}
-use Rattle.cm_document.specs.declared.faults.DescFault.TheVariants.{BadKey}
 use Rattle.cm_document.specs.declared.faults.DescProblem.{DescProblem}
 use Rattle.cm_document.specs.declared.faults.DescProblem.TheVariants.{Text, Check}
 use Rattle.cm_document.specs.declared.faults.ScriptFault.{ScriptFault}
@@ -17,17 +16,9 @@ use Rattle.cm_document.specs.declared.faults.ScriptFault.TheVariants.{BadLine}
 use Rattle.cm_document.specs.declared.faults.DocumentFault.{DocumentFault}
 use Rattle.cm_document.specs.declared.faults.DocumentFault.TheVariants as fault
 
--- Components are not built yet: a description that has one is refused at their key.
-abbrev pub without_components : Description → Result Description DescProblem
-without_components d = if length d.components == 0 then Ok d else Err (Text (BadKey (codes "component")))
-
--- a description that was read is checked, and then it may have no component
-abbrev pub checked : Description → Result Description DescProblem
-checked described = told_as Check (valid described) >>= without_components
-
 -- the description that these bytes are: read by the walk, and then checked
 unfoldable pub accepted_description : List ℕ → Result Description DescProblem
-accepted_description bytes = told_as Text (description_in (tree_of bytes)) >>= checked
+accepted_description bytes = told_as Text (description_in (tree_of bytes)) >>= λ described. told_as Check (valid described)
 
 -- The script after so many lines and a separator, by the forms that are built. Without a separator the line after the last is bad.
 abbrev pub accepted_script : ℕ → Option (List ℕ) → Result Script ScriptFault

@@ -59,8 +59,8 @@ pub fn built() -> Forms
         hardware: false,
         await_cycles: false,
         list_controllers: true,
-        list_interfaces: false,
-        list_components: false,
+        list_interfaces: true,
+        list_components: true,
         schedule: false,
     }
 }

@@ -9,3 +9,5 @@ mod KindRows
 mod ComponentRows
 mod SwitchRows
 mod CycleRows
+mod ConsoleRows
+pub mod RangedLemmas

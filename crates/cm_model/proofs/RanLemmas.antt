@@ -1,12 +1,18 @@
--- One updated controller more, in the flat list.
-use Rattle.std.proofs.Common.{◌≡◌, suc, ◌+◌, ◌≤◌, ℤ, List, [], ◌∷◌, ◌++◌, length, take, drop, refl, sym, ap, ◌∙◌, arith, length-append, length-drop}
-use Rattle.std.specs.Prelude.{sum_by}
+-- One updated controller more in the flat list, and records in which nothing stands.
+use Rattle.std.proofs.Common.{◌≡◌, ℕ, suc, ◌+◌, ◌≤◌, true, ℤ, List, [], ◌∷◌, ◌++◌, length, take, drop, refl, sym, ap, ◌∙◌, arith, length-append, length-drop}
+use Rattle.std.specs.Prelude.{◌==◌, ◌&&◌, sum_by}
+use Rattle.std.proofs.lemmas.Bool.{and_parts}
 use Rattle.std.proofs.lemmas.List.{take_all, take-append-le, drop-append-le}
 use Rattle.std.proofs.lemmas.List.Sums.{sum_by-cons, sum_by-append}
 use Rattle.fixed_num.specs.declared.value.Value.{Value}
+use Rattle.sequence.proofs.ListLemmas.{not_empty}
+use Rattle.cm_model.specs.Held.{nothing_in, told_of_parts, tells_nothing}
 use Rattle.cm_model.specs.Ran.{Ran}
 use Rattle.cm_model.specs.Rans.{rans, IsWhole}
 use Rattle.cm_model.specs.declared.ran.RanHead.{RanHead}
+use Rattle.cm_model.specs.declared.record.CycleParts.{CycleParts}
+use Rattle.cm_model.specs.declared.record.FailedPart.{FailedPart}
+use Rattle.fixed_num.specs.declared.value.BodyState.{BodyState}
 
 -- what a head stands for with these values and numbers
 abbrev pub ran_with : RanHead → List Value → List ℤ → Ran
@@ -58,3 +64,27 @@ pub ruleset one_more = (one_ran_more, one_head_more)
 pub rans_length : (hs : List RanHead) (vs : List Value) (ns : List ℤ) → length (rans hs vs ns) ≡ length hs
 rans_length [] vs ns = refl
 rans_length (h ∷ hs) vs ns = ap (λ n. suc n) (rans_length hs (drop h.outs vs) (drop h.published ns))
+
+-- ---- Nothing to tell
+
+-- as many controllers as heads
+pub as_many_heads : (hs : List RanHead) (vs : List Value) (ns : List ℤ) → length (rans hs vs ns) ≡ length hs
+as_many_heads [] vs ns = refl
+as_many_heads (h ∷ hs) vs ns = ap suc (as_many_heads hs (drop h.outs vs) (drop h.published ns))
+
+no_item : {A : Type 0} (xs : List A) → (length xs == 0) ≡ true → xs ≡ []
+no_item [] none = refl
+no_item (x ∷ xs) none = let some = not_empty (x ∷ xs) (omega arith) in cc
+
+quiet_is : (n : ℕ) (failed : List FailedPart) (ran : List Ran) (bodies : List BodyState) (stops : List ℕ) → failed ≡ [] → ran ≡ [] → bodies ≡ [] → stops ≡ []
+    → nothing_in n ≡ record { cycle = n; failed = failed; ran = ran; bodies = bodies; stops = stops }
+quiet_is n failed ran bodies stops no_failure none_ran no_body none_stopped = rw (no_failure, none_ran, no_body, none_stopped) refl
+
+-- parts that tell nothing are those of a cycle of which there is nothing to tell
+pub nothing_told : (p : CycleParts) → tells_nothing (told_of_parts p) ≡ true → nothing_in p.cycle ≡ told_of_parts p
+nothing_told p none =
+    let h = told_of_parts p in
+    let others = and_parts ((length h.failed == 0 && length h.ran == 0) && length h.bodies == 0) (length h.stops == 0) none in
+    let parts = and_parts (length h.failed == 0 && length h.ran == 0) (length h.bodies == 0) others.0 in
+    let first = and_parts (length h.failed == 0) (length h.ran == 0) parts.0 in
+    quiet_is h.cycle h.failed h.ran h.bodies h.stops (no_item h.failed first.0) (no_item h.ran first.1) (no_item h.bodies parts.1) (no_item h.stops others.1)

@@ -7,8 +7,8 @@ use Rattle.std.proofs.lemmas.List.Elements.{filter-append}
 use Rattle.std.proofs.lemmas.Bool.Decides.{nat_tests}
 use Rattle.std.proofs.lemmas.Option.{same_Some, slice_get-map, slice_get_within}
 use Rattle.cm_document.proofs.ReadingLemmas.{cases_Option, chosen}
-use Rattle.cm_model.specs.Held.{nothing_in}
-use Rattle.cm_model.specs.State.{State, boot, controller_lines}
+use Rattle.cm_model.specs.Cycle.{CycleResult, cycle, after_cycle}
+use Rattle.cm_model.specs.State.{State, boot, controller_lines, interface_lines, component_lines}
 use Rattle.cm_model.specs.Machine.{step, unless_refused, load_refusals, place_of, with_controller, with_loaded, load_effect, can_begin, can_end, can_close}
 use Rattle.cm_model.specs.Scheduled.{Session, Advanced, Progress, with_entry, ticket_in, advance, advances, settle, settle_from, settle_all, looped, with_cycle, cycles, finish, start, scheduled}
 use Rattle.cm_document.specs.Built.{built}
@@ -16,7 +16,7 @@ use Rattle.cm_document.specs.ScriptLaws.{has_form}
 use Rattle.cm_model.specs.Sessions.{entries_by, calls_of, is_told, with_its_told, asked, Follows, cycle_calls, loop_calls, IsWhole}
 use Rattle.cm_model.proofs.AdvanceLemmas.{settle-stays}
 use Rattle.cm_document.specs.declared.call.Call.{Call}
-use Rattle.cm_document.specs.declared.call.Call.TheVariants.{Load, ListControllers, Begin, End, Close}
+use Rattle.cm_document.specs.declared.call.Call.TheVariants.{Load, ListControllers, ListInterfaces, ListComponents, Begin, End, Close}
 use Rattle.cm_model.specs.declared.entry.Entry.{Entry}
 use Rattle.cm_model.specs.declared.reply.Reply.{Reply}
 use Rattle.cm_model.specs.declared.reply.Reply.TheVariants as reply
@@ -95,6 +95,22 @@ built-step s who (Load name) built known =
 built-step s who ListControllers built known = record {
   next = s;
   answer = reply.Controllers (controller_lines s);
+  stepped = rw known refl;
+  loop = same s;
+  no_told = refl;
+  unqueued = refl;
+}
+built-step s who ListInterfaces built known = record {
+  next = s;
+  answer = reply.Interfaces (interface_lines s);
+  stepped = rw known refl;
+  loop = same s;
+  no_told = refl;
+  unqueued = refl;
+}
+built-step s who ListComponents built known = record {
+  next = s;
+  answer = reply.Components (component_lines s);
   stepped = rw known refl;
   loop = same s;
   no_told = refl;
@@ -259,12 +275,24 @@ end-enabled s n aloft ended = rw (aloft, ended) (grind (arith, nat_tests))
 close-enabled : (s : State) → s.aloft ≡ false → s.closed ≡ false → (s.sessions == s.sessions && can_close s) ≡ true
 close-enabled s aloft closed = rw (aloft, closed) (grind (arith, nat_tests))
 
+-- the end of a cycle leaves sessions, description and what is closed as they are
+record EndsCycle (s t : State) : Type 0 where
+  sessions : t.sessions ≡ s.sessions
+  description : t.description ≡ s.description
+  ended : t.ended ≡ s.ended + 1
+  aloft : t.aloft ≡ false
+  closed : t.closed ≡ s.closed
+
+after_cycle-Ends : (s : State) (c : CycleResult) → EndsCycle s (after_cycle s c)
+unfolding after_cycle
+after_cycle-Ends s c = record { sessions = refl; description = refl; ended = refl; aloft = refl; closed = refl }
+
 -- the progress after each call of the loop
 abbrev begun : ℕ → Progress → Progress
 begun n p = record p { state = record p.state { aloft = true }; made = with_entry p.made p.state.sessions (Begin n) (reply.Decisions []) }
 
 abbrev ended_at : ℕ → Progress → Progress
-ended_at n p = record p { state = record p.state { aloft = false; ended = p.state.ended + 1 }; made = with_entry p.made p.state.sessions (End n) (reply.Cycle (nothing_in n)) }
+ended_at n p = record p { state = after_cycle p.state (cycle p.state); made = with_entry p.made p.state.sessions (End n) (reply.Cycle (cycle p.state).happened) }
 
 abbrev closed_at : Progress → Progress
 closed_at p = record p { state = record p.state { closed = true }; made = with_entry p.made p.state.sessions Close (reply.Decisions []) }
@@ -277,7 +305,7 @@ looped-begun n p aloft closed ended more =
 looped-ended : (n : ℕ) (p : Progress) → p.state.aloft ≡ true → p.state.ended ≡ n → looped (End n) p ≡ ended_at n p
 unfolding step
 looped-ended n p aloft ended =
-    looped-calls (End n) p (record p.state { aloft = false; ended = p.state.ended + 1 }, reply.Cycle (nothing_in n)) (rw (end-enabled p.state n aloft ended) refl)
+    looped-calls (End n) p (after_cycle p.state (cycle p.state), reply.Cycle (cycle p.state).happened) (rw (end-enabled p.state n aloft ended) refl)
 
 looped-closed : (p : Progress) → p.state.aloft ≡ false → p.state.closed ≡ false → looped Close p ≡ closed_at p
 unfolding step
@@ -305,16 +333,18 @@ cycle-Cycled n total who sessions p ran more =
     let more' : n < p.state.description.cycles = rw ran.total_is more in
     let first = looped-begun n p ran.aloft ran.closed ran.ended more' in
     let second = looped-ended n (begun n p) refl ran.ended in
+    let aloft = (begun n p).state in
+    let after = after_cycle-Ends aloft (cycle aloft) in
     let last = settle_all-Stays (ended_at n (begun n p)) ran.settled in
     rw (first, second) (record {
       settled = last.settled;
       calls = ap callers last.made_is ∙ two_calls p.made who p.state.sessions (Begin n) (End n) _ _ (by_sessions 0 sessions) (cycle_calls n) ran.known ran.calls;
-      plain = rw last.made_is (plain_one_more _ p.state.sessions (End n) (reply.Cycle (nothing_in n)) (plain_one_more p.made p.state.sessions (Begin n) (reply.Decisions []) ran.plain refl refl) refl refl);
-      known = ap (λ (s : State). s.sessions) last.state_is ∙ ran.known;
-      total_is = ap (λ (s : State). s.description.cycles) last.state_is ∙ ran.total_is;
-      ended = ap (λ (s : State). s.ended) last.state_is ∙ rw ran.ended (omega arith);
-      aloft = ap (λ (s : State). s.aloft) last.state_is;
-      closed = ap (λ (s : State). s.closed) last.state_is ∙ ran.closed;
+      plain = rw last.made_is (plain_one_more _ p.state.sessions (End n) (reply.Cycle (cycle aloft).happened) (plain_one_more p.made p.state.sessions (Begin n) (reply.Decisions []) ran.plain refl refl) refl refl);
+      known = ap (λ (s : State). s.sessions) last.state_is ∙ after.sessions ∙ ran.known;
+      total_is = ap (λ (s : State). s.description.cycles) last.state_is ∙ ap (λ (t : Description). t.cycles) after.description ∙ ran.total_is;
+      ended = ap (λ (s : State). s.ended) last.state_is ∙ after.ended ∙ rw ran.ended (omega arith);
+      aloft = ap (λ (s : State). s.aloft) last.state_is ∙ after.aloft;
+      closed = ap (λ (s : State). s.closed) last.state_is ∙ after.closed ∙ ran.closed;
     })
 
 -- the first n cycles

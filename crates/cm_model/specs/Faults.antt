@@ -11,7 +11,8 @@ use Rattle.cm_document.specs.declared.description.CompDesc.{CompDesc}
 use Rattle.cm_document.specs.declared.description.CtlDesc.{CtlDesc}
 use Rattle.cm_document.specs.declared.life.Life.TheVariants.{Unconfigured}
 use Rattle.cm_model.specs.Order.{Places}
-use Rattle.cm_model.specs.Scene.{Scene, is_up, controllers_in, described, is_ready, claims_at, order}
+use Rattle.cm_model.specs.Components.{is_available}
+use Rattle.cm_model.specs.Scene.{Scene, controllers_in, described, is_ready, claims_at, order}
 use Rattle.cm_model.specs.declared.cause.Cause.{Cause}
 use Rattle.cm_model.specs.declared.cause.Cause.TheVariants as cause
 use Rattle.cm_model.specs.declared.fault_kind.FaultKind.{FaultKind}
@@ -43,7 +44,7 @@ component_with components (Reference controller joint kind) = None
 -- it is a component's that is neither inactive nor active
 abbrev pub is_unavailable : Scene → IfaceName → Bool
 is_unavailable scene i =
-    option_map_or (λ k. not (is_up (slice_index_or scene.components k Unconfigured))) (component_with scene.description.components i) false
+    option_map_or (λ k. not (is_available (slice_index_or scene.components k Unconfigured))) (component_with scene.description.components i) false
 
 -- the first other member, by order, that claims it
 abbrev pub rival : Scene → Places → ℕ → IfaceName → Option Member

@@ -1,5 +1,5 @@
 -- A record of a cycle as it is kept stands for what happened.
-use Rattle.std.specs.Prelude.{ℕ, []}
+use Rattle.std.specs.Prelude.{ℕ, ◌==◌, Bool, ◌&&◌, [], length}
 use Rattle.cm_model.specs.Happened.{Happened}
 use Rattle.cm_model.specs.declared.record.CycleParts.{CycleParts}
 use Rattle.cm_model.specs.declared.record.Held.{Held}
@@ -8,6 +8,10 @@ use Rattle.cm_model.specs.declared.record.Held.TheVariants.{Quiet, Whole}
 -- nothing happened in this cycle but that it ended
 abbrev pub nothing_in : ℕ → Happened
 nothing_in n = record { cycle = n; failed = []; ran = []; bodies = []; stops = [] }
+
+-- there is nothing to tell of a cycle but its number
+abbrev pub tells_nothing : Happened → Bool
+tells_nothing h = ((length h.failed == 0 && length h.ran == 0) && length h.bodies == 0) && length h.stops == 0
 
 -- what these parts tell
 abbrev pub told_of_parts : CycleParts → Happened

@@ -24,8 +24,8 @@ pub record Names : Type 0 where
   pub interfaces : List (List ℕ)
 
 -- the name at this place; nothing past the last
-abbrev pub name_at : List (List ℕ) → ℕ → List ℕ
-name_at names n = unwrap_or (slice_get names n) []
+abbrev pub nth_name : List (List ℕ) → ℕ → List ℕ
+nth_name names n = unwrap_or (slice_get names n) []
 
 -- the name of the component at this place
 abbrev pub component_name : Names → ℕ → List ℕ
@@ -66,7 +66,7 @@ component_text names l = described_component (slice_get names.components l.place
 -- the controller that claims a command interface, or `free`
 abbrev pub owner_text : Names → Option ℕ → List ℕ
 owner_text names None = codes "free"
-owner_text names (Some serial) = name_at names.controllers serial
+owner_text names (Some serial) = nth_name names.controllers serial
 
 -- an interface, as `state j1/position 0.000000` or `command j1/velocity unset free`
 abbrev pub held_text : Names → IfaceLine → List ℕ
@@ -76,7 +76,7 @@ held_text names l =
 
 abbrev pub iface_text : Names → IfaceLine → List ℕ
 iface_text names l =
-    (if l.command then codes "command " else codes "state ") ++ name_at names.interfaces l.place ++ codes " " ++ held_text names l
+    (if l.command then codes "command " else codes "state ") ++ nth_name names.interfaces l.place ++ codes " " ++ held_text names l
 
 -- ---- Items of a cycle's record
 
@@ -98,7 +98,7 @@ done_text r done.Error = codes " error"
 
 -- an updated controller, as `run fwd ok 0.500000`
 abbrev pub ran_text : Names → Ran → List ℕ
-ran_text names r = codes "run " ++ name_at names.controllers r.serial ++ done_text r r.done
+ran_text names r = codes "run " ++ nth_name names.controllers r.serial ++ done_text r r.done
 
 -- the body of a joint, as `joint j1 0.000000 0.000000 0.000000`
 abbrev pub body_text : List ℕ → BodyState → List ℕ
@@ -107,11 +107,11 @@ body_text joint b = codes "joint " ++ joint ++ codes " " ++ spelled b.x ++ codes
 -- the bodies of the joints from this place on
 abbrev pub body_texts : Names → ℕ → List BodyState → List (List ℕ)
 body_texts names place [] = []
-body_texts names place (b ∷ bs) = body_text (name_at names.joints place) b ∷ body_texts names (suc place) bs
+body_texts names place (b ∷ bs) = body_text (nth_name names.joints place) b ∷ body_texts names (suc place) bs
 
 -- a stopped controller
 abbrev pub stop_text : Names → ℕ → List ℕ
-stop_text names serial = codes "stop " ++ name_at names.controllers serial
+stop_text names serial = codes "stop " ++ nth_name names.controllers serial
 
 -- all items of a record: what failed, what was updated, the bodies, what was stopped
 abbrev pub record_items : Names → Happened → List (List ℕ)

@@ -9,13 +9,14 @@ pub mod Kinds
 pub mod Pids
 pub mod Ways
 pub mod Controllers
+pub mod Order
+pub mod Console
 pub mod Cycle
 pub mod Machine
 pub mod Scheduled
 pub mod Sessions
 pub mod Causes
--- switches, and the order of updates
-pub mod Order
+-- switches
 pub mod Scene
 pub mod Faults
 pub mod Switches

@@ -1,15 +1,15 @@
 -- The written manager as a machine: one call, one step. A history is legal where each of its entries is such a step.
-use Rattle.std.specs.Prelude.{◌≡◌, ℕ, ◌+◌, ◌==◌, nat_lt, Bool, true, false, not, ◌&&◌, ◌||◌, if◌then◌else◌, List, [], ◌∷◌, ◌++◌, position, slice_get, Option, Some, None, is_some, option_map, IsSomeAnd}
+use Rattle.std.specs.Prelude.{◌≡◌, ℕ, ◌+◌, ◌==◌, nat_lt, Bool, true, false, not, ◌&&◌, ◌||◌, if◌then◌else◌, List, [], ◌∷◌, ◌++◌, slice_get, Option, Some, None, is_some, option_map, IsSomeAnd}
 use Rattle.std.specs.List.{list_any}
 use Rattle.std.specs.Option.{option_map_or}
-use Rattle.iface_names.specs.Names.{same_name}
 use Rattle.cm_document.specs.Params.{kind_of}
 use Rattle.cm_document.specs.declared.call.Call.{Call}
 use Rattle.cm_document.specs.declared.call.Call.TheVariants.{Load, Configure, Cleanup, Unload, Rate, Send, Switch, Hardware, Told, Await, ListControllers, ListInterfaces, ListComponents, Begin, End, Close}
 use Rattle.cm_document.specs.declared.description.CtlDesc.{CtlDesc}
 use Rattle.cm_document.specs.declared.description.Description.{Description}
-use Rattle.cm_model.specs.Held.{nothing_in}
-use Rattle.cm_model.specs.State.{State, boot, blanks_of, with_one_less, newly_loaded, controller_lines}
+pub use Rattle.cm_model.specs.Console.{unless_refused, place_of}
+use Rattle.cm_model.specs.Cycle.{cycle, after_cycle}
+use Rattle.cm_model.specs.State.{State, boot, blanks_of, with_one_less, newly_loaded, controller_lines, interface_lines, component_lines}
 use Rattle.cm_model.specs.declared.entry.Entry.{Entry}
 use Rattle.cm_model.specs.declared.reply.Reply.{Reply}
 use Rattle.cm_model.specs.declared.reply.Reply.TheVariants as reply
@@ -57,15 +57,6 @@ is_enabled s who _ = is_session s who
 
 -- ---- Replies
 
--- the first of these refusals that applies, else this reply
-abbrev pub unless_refused : List (Bool × Why) → Reply → Reply
-unless_refused [] r = r
-unless_refused (refusal ∷ refusals) r = if refusal.0 then reply.Not refusal.1 else unless_refused refusals r
-
--- the place of the described controller of this name
-abbrev pub place_of : State → List ℕ → Option ℕ
-place_of s name = position (λ c. same_name c.name name) s.description.controllers
-
 -- the controller at this place is loaded
 abbrev pub is_loaded_at : State → ℕ → Bool
 is_loaded_at s place = list_any (λ l. l.place == place) s.loaded
@@ -104,14 +95,11 @@ reply_of s (Told ticket) = None
 -- not built yet
 reply_of s (Await n) = None
 reply_of s ListControllers = Some (reply.Controllers (controller_lines s))
--- not built yet
-reply_of s ListInterfaces = None
--- not built yet
-reply_of s ListComponents = None
+reply_of s ListInterfaces = Some (reply.Interfaces (interface_lines s))
+reply_of s ListComponents = Some (reply.Components (component_lines s))
 -- no request can wait yet
 reply_of s (Begin n) = Some (reply.Decisions [])
--- no component can be described yet, and no controller be active
-reply_of s (End n) = Some (reply.Cycle (nothing_in n))
+reply_of s (End n) = Some (reply.Cycle (cycle s).happened)
 -- no request can wait yet
 reply_of s Close = Some (reply.Decisions [])
 
@@ -140,7 +128,7 @@ load_effect s name _ = s
 abbrev pub effect : State → Call → Reply → State
 effect s (Load name) r = load_effect s name r
 effect s (Begin n) r = record s { aloft = true }
-effect s (End n) r = record s { aloft = false; ended = s.ended + 1 }
+effect s (End n) r = after_cycle s (cycle s)
 effect s Close r = record s { closed = true }
 effect s _ r = s
 

@@ -32,12 +32,6 @@ is_configured Inactive = true
 is_configured Active = true
 is_configured _ = false
 
--- the interfaces of a component in this state are available
-abbrev pub is_up : Life → Bool
-is_up Inactive = true
-is_up Active = true
-is_up _ = false
-
 -- ---- Controllers
 
 -- the described controllers, by place

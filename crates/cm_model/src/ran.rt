@@ -62,7 +62,7 @@ pub struct RanRef<'a> {
 }
 
 impl RanList {
-    ghost use Rattle.std.specs.Prelude.{[]};
+    ghost use Rattle.std.specs.Prelude.{[], length, ◌==◌};
 
     /// Of no controller. It takes no memory.
     pub fn new(alloc: Global) -> RanList
@@ -73,6 +73,14 @@ impl RanList {
             values: Vec::new(alloc),
             numbers: Vec::new(alloc),
         }
+    }
+
+    /// Whether it is of no controller.
+    #[tactic(auto, using(crate::proofs::RanLemmas::as_many_heads))]
+    pub fn is_empty(&self) -> bool
+        ensures { result ≡ (length self.now == 0) }
+    {
+        self.heads.is_empty()
     }
 
     /// The controllers one by one.

@@ -1,0 +1,287 @@
+-- Worked rows of the console's calls, computed from the definitions alone: the replies written down here are by hand.
+use Rattle.std.proofs.Common.{◌≡◌, ℕ, Bool, true, false, List, [], ◌∷◌, ◌++◌, map, pos, Some, None, refl}
+use Rattle.std.specs.Prelude.{codes, decimal, flat_map}
+use Rattle.std.specs.Fmt.{digits}
+use Rattle.std.specs.List.{range_with_len}
+use Rattle.fixed_num.specs.declared.value.Value.TheVariants.{Unset}
+use Rattle.iface_names.specs.declared.interface.IfaceName.{IfaceName}
+use Rattle.iface_names.specs.declared.interface.IfaceName.TheVariants.{Joint, Reference}
+use Rattle.iface_names.specs.declared.kind.Kind.TheVariants.{Position, Velocity}
+use Rattle.cm_document.specs.Described.{a_controller, a_description}
+use Rattle.cm_document.specs.declared.call.Call.{Call}
+use Rattle.cm_document.specs.declared.call.Call.TheVariants.{Load, Configure, Cleanup, Unload, Rate, Send, ListControllers}
+use Rattle.cm_document.specs.declared.call.Mail.{Mail}
+use Rattle.cm_document.specs.declared.call.Mail.TheVariants.{Values, Points}
+use Rattle.cm_document.specs.declared.description.CtlDesc.{CtlDesc}
+use Rattle.cm_document.specs.declared.description.CtlKind.{CtlKind}
+use Rattle.cm_document.specs.declared.description.CtlKind.TheVariants as kind
+use Rattle.cm_document.specs.declared.description.Description.{Description}
+use Rattle.cm_document.specs.declared.description.Params.{Params}
+use Rattle.cm_document.specs.declared.description.Params.TheVariants.{Forward, Pid, Trajectory, Broadcaster, Mock}
+use Rattle.cm_model.specs.Console.{unless_refused, place_of, configure_reply, cleanup_reply, unload_reply, rate_reply, send_reply, configure_effect, cleanup_effect, unload_effect, rate_effect, send_effect, moves_out}
+use Rattle.cm_model.specs.Machine.{load_refusals, load_effect}
+use Rattle.cm_model.specs.State.{State, Loaded, boot, fresh, controller_lines}
+use Rattle.cm_model.specs.Trace.{reply_text, names_in}
+use Rattle.cm_model.specs.declared.blanks.Blanks.{Blanks}
+use Rattle.cm_model.specs.declared.data.CtlData.{CtlData}
+use Rattle.cm_model.specs.declared.data.RunData.{RunData}
+use Rattle.cm_model.specs.declared.data.RunData.TheVariants as run
+use Rattle.cm_model.specs.declared.reply.Reply.{Reply}
+use Rattle.cm_model.specs.declared.reply.Reply.TheVariants as reply
+
+-- ---- The description
+
+abbrev j1_position : IfaceName
+j1_position = Joint (codes "j1") Position
+
+abbrev j1_velocity : IfaceName
+j1_velocity = Joint (codes "j1") Velocity
+
+abbrev pid_reference : IfaceName
+pid_reference = Reference (codes "pid") (codes "j1") Position
+
+abbrev gains : Params
+gains = Pid (pos 2000000) (pos 0) (pos 0) (pos 0) (pos 10000000)
+
+-- a forward, a pid, a trajectory above it, a broadcaster, a mock that refuses, and one that does not
+abbrev controllers : List CtlDesc
+controllers =
+    a_controller (codes "fwd") 0 (j1_position ∷ []) [] (Forward 1)
+    ∷ a_controller (codes "pid") 0 (j1_velocity ∷ []) (j1_position ∷ []) gains
+    ∷ a_controller (codes "traj") 33 (pid_reference ∷ []) (j1_position ∷ []) (Trajectory 1)
+    ∷ a_controller (codes "jsb") 0 [] (j1_position ∷ j1_velocity ∷ []) (Broadcaster 2)
+    ∷ a_controller (codes "mk") 0 [] [] (Mock 0 true [] [])
+    ∷ a_controller (codes "mk2") 0 [] [] (Mock 0 false [] [])
+    ∷ []
+
+abbrev robot : Description
+robot = a_description 1 100 0 [] controllers
+
+-- two forwards, and one of each other kind that is described
+abbrev stock : Blanks
+stock = record { forward = 2; passthrough = 0; pid = 1; trajectory = 1; broadcaster = 1; mock = 1 }
+
+-- ---- Calls
+
+-- the state after a call, with the reply
+abbrev answered_so : (Reply → State) → Reply → State × Reply
+answered_so effect r = (effect r, r)
+
+abbrev answered : State → Call → State × Reply
+answered s (Load name) = answered_so (load_effect s name) (unless_refused (load_refusals s (place_of s name)) (reply.Serial s.loads))
+answered s (Configure name) = answered_so (configure_effect s name) (configure_reply s name)
+answered s (Cleanup name) = answered_so (cleanup_effect s name) (cleanup_reply s name)
+answered s (Unload name) = answered_so (unload_effect s name) (unload_reply s name)
+answered s (Rate name hz) = answered_so (rate_effect s name hz) (rate_reply s name)
+answered s (Send name mail) = answered_so (send_effect s name mail) (send_reply s name mail)
+answered s _ = (s, reply.Controllers (controller_lines s))
+
+-- how a reply prints
+abbrev text : Reply → List ℕ
+text r = reply_text (names_in robot []) r
+
+-- the replies to calls, one after the other
+abbrev told : State → List Call → List (List ℕ)
+told s [] = []
+told s (call ∷ calls) = text (answered s call).1 ∷ told (answered s call).0 calls
+
+-- the state after calls, one after the other
+abbrev after : State → List Call → State
+after s [] = s
+after s (call ∷ calls) = after (answered s call).0 calls
+
+-- mail of one value, and of two
+abbrev one : Mail
+one = Values (pos 500000 ∷ [])
+
+abbrev two : Mail
+two = Values (pos 1 ∷ pos 2 ∷ [])
+
+-- the replies to the five calls on one controller, each in this same state: configure, cleanup, unload, rate, send
+abbrev each : State → List ℕ → List (List ℕ)
+each s name = map (λ call. text (answered s call).1) (Configure name ∷ Cleanup name ∷ Unload name ∷ Rate name 25 ∷ Send name one ∷ [])
+
+-- ---- A session
+
+-- a controller is loaded, configured, given a rate, configured again, cleaned up and unloaded
+a_session : told (boot robot stock 1) (
+    Load (codes "fwd") ∷ Configure (codes "fwd") ∷ Rate (codes "fwd") 25 ∷ Configure (codes "fwd") ∷ ListControllers
+    ∷ Cleanup (codes "fwd") ∷ ListControllers ∷ Send (codes "fwd") (Values (pos 1000000 ∷ [])) ∷ Unload (codes "fwd") ∷ Unload (codes "fwd") ∷ [])
+    ≡ codes "ok 0" ∷ codes "ok" ∷ codes "ok" ∷ codes "ok" ∷ codes "fwd forward inactive 0 every 4"
+    ∷ codes "ok" ∷ codes "fwd forward unconfigured 0" ∷ codes "not_active" ∷ codes "ok" ∷ codes "not_loaded" ∷ []
+unfolding digits
+a_session = refl
+
+-- the rate counts from the next configure on, and outlives a cleanup
+a_rate_counts_later : told (boot robot stock 1) (
+    Load (codes "fwd") ∷ Configure (codes "fwd") ∷ Rate (codes "fwd") 30 ∷ ListControllers ∷ Configure (codes "fwd") ∷ ListControllers
+    ∷ Cleanup (codes "fwd") ∷ Configure (codes "fwd") ∷ ListControllers ∷ [])
+    ≡ codes "ok 0" ∷ codes "ok" ∷ codes "ok" ∷ codes "fwd forward inactive 0 every 1" ∷ codes "ok" ∷ codes "fwd forward inactive 0 every 3"
+    ∷ codes "ok" ∷ codes "ok" ∷ codes "fwd forward inactive 0 every 3" ∷ []
+unfolding digits
+a_rate_counts_later = refl
+
+-- A described rate counts at the first configure. A rate of 0, and one of at least the manager's, is every cycle.
+rates_of_all_sorts : told (boot robot stock 1) (
+    Load (codes "traj") ∷ Configure (codes "traj") ∷ ListControllers ∷ Rate (codes "traj") 0 ∷ Configure (codes "traj") ∷ ListControllers
+    ∷ Rate (codes "traj") 1000 ∷ Configure (codes "traj") ∷ ListControllers ∷ Rate (codes "traj") 1 ∷ Configure (codes "traj") ∷ ListControllers ∷ [])
+    ≡ codes "ok 0" ∷ codes "ok" ∷ codes "traj trajectory inactive 0 every 3" ∷ codes "ok" ∷ codes "ok" ∷ codes "traj trajectory inactive 0 every 1"
+    ∷ codes "ok" ∷ codes "ok" ∷ codes "traj trajectory inactive 0 every 1" ∷ codes "ok" ∷ codes "ok" ∷ codes "traj trajectory inactive 0 every 100" ∷ []
+unfolding digits
+rates_of_all_sorts = refl
+
+-- Controllers are loaded in another order than described. The one in the middle moves out; the others stay as they are, and the
+-- next load gets a serial that was never used.
+one_of_three_moves_out : told (boot robot stock 1) (
+    Load (codes "jsb") ∷ Load (codes "fwd") ∷ Load (codes "pid") ∷ Configure (codes "pid") ∷ Unload (codes "fwd") ∷ ListControllers
+    ∷ Load (codes "fwd") ∷ ListControllers ∷ [])
+    ≡ codes "ok 0" ∷ codes "ok 1" ∷ codes "ok 2" ∷ codes "ok" ∷ codes "ok" ∷ codes "jsb broadcaster unconfigured 0; pid pid inactive 2 every 1"
+    ∷ codes "ok 3" ∷ codes "jsb broadcaster unconfigured 0; pid pid inactive 2 every 1; fwd forward unconfigured 3" ∷ []
+unfolding digits
+one_of_three_moves_out = refl
+
+-- ---- The stock
+
+-- a controller that was unloaded brings no blank back
+a_blank_serves_once : told (boot robot stock 1) (Load (codes "fwd") ∷ Unload (codes "fwd") ∷ Load (codes "fwd") ∷ Unload (codes "fwd") ∷ Load (codes "fwd") ∷ [])
+    ≡ codes "ok 0" ∷ codes "ok" ∷ codes "ok 1" ∷ codes "ok" ∷ codes "stock_empty" ∷ []
+unfolding digits
+a_blank_serves_once = refl
+
+-- so 32 blanks serve 32 loads
+blanks_serve_as_often : told (boot robot (record stock { forward = 32 }) 1) (flat_map (λ n. Load (codes "fwd") ∷ Unload (codes "fwd") ∷ []) (range_with_len 0 32) ++ Load (codes "fwd") ∷ [])
+    ≡ flat_map (λ n. (codes "ok " ++ decimal n) ∷ codes "ok" ∷ []) (range_with_len 0 32) ++ codes "stock_empty" ∷ []
+unfolding digits
+blanks_serve_as_often = refl
+
+-- A load asks first whether the controller is described, then whether it is loaded, then for a blank.
+what_refuses_a_load : told (boot robot stock 1) (Load (codes "nosuch") ∷ Load (codes "mk") ∷ Load (codes "mk") ∷ Load (codes "mk2") ∷ Load (codes "nosuch") ∷ [])
+    ≡ codes "not_described" ∷ codes "ok 0" ∷ codes "loaded" ∷ codes "stock_empty" ∷ codes "not_described" ∷ []
+unfolding digits
+what_refuses_a_load = refl
+
+-- ---- Controllers in each lifecycle state
+
+-- a loaded controller by its serial, its place and its data
+abbrev loaded : ℕ → ℕ → CtlData → Loaded
+loaded serial place ctl = record { serial = serial; place = place; rate = 0; divisor = None; ctl = ctl; mail = None }
+
+abbrev inactive : CtlKind → Params → CtlData
+inactive kind params = record { kind = kind; params = Some params; run = None }
+
+abbrev active : CtlKind → Params → RunData → CtlData
+active kind params r = record { kind = kind; params = Some params; run = Some r }
+
+-- the state with these loaded controllers
+abbrev with : List Loaded → State
+with ls = record (boot robot stock 1) { loaded = ls; loads = 9 }
+
+-- what runs of a forward, a pid, a trajectory, a broadcaster and a mock
+abbrev set : RunData
+set = run.Set false (Unset ∷ [])
+
+abbrev integrating : Bool → RunData
+integrating chained = run.Pid chained Unset (pos 0) None
+
+abbrev holding : RunData
+holding = run.Trajectory (pos 0 ∷ []) false 0 (pos 0 ∷ []) []
+
+abbrev publishing : RunData
+publishing = run.Broadcaster (pos 0 ∷ pos 0 ∷ [])
+
+-- the state with the forward alone, in each lifecycle state
+abbrev fwd_unconfigured : State
+fwd_unconfigured = with (loaded 4 0 (fresh kind.Forward) ∷ [])
+
+abbrev fwd_inactive : State
+fwd_inactive = with (loaded 4 0 (inactive kind.Forward (Forward 1)) ∷ [])
+
+abbrev fwd_active : State
+fwd_active = with (loaded 4 0 (active kind.Forward (Forward 1) set) ∷ [])
+
+where_it_is_not_loaded : each fwd_active (codes "pid") ≡ codes "not_loaded" ∷ codes "not_loaded" ∷ codes "not_loaded" ∷ codes "not_loaded" ∷ codes "not_loaded" ∷ []
+where_it_is_not_loaded = refl
+
+where_it_is_not_described : each fwd_active (codes "nosuch") ≡ codes "not_loaded" ∷ codes "not_loaded" ∷ codes "not_loaded" ∷ codes "not_loaded" ∷ codes "not_loaded" ∷ []
+where_it_is_not_described = refl
+
+where_it_is_unconfigured : each fwd_unconfigured (codes "fwd") ≡ codes "ok" ∷ codes "not_inactive" ∷ codes "ok" ∷ codes "ok" ∷ codes "not_active" ∷ []
+where_it_is_unconfigured = refl
+
+where_it_is_inactive : each fwd_inactive (codes "fwd") ≡ codes "ok" ∷ codes "ok" ∷ codes "ok" ∷ codes "ok" ∷ codes "not_active" ∷ []
+where_it_is_inactive = refl
+
+where_it_is_active : each fwd_active (codes "fwd") ≡ codes "active" ∷ codes "not_inactive" ∷ codes "active" ∷ codes "active" ∷ codes "ok" ∷ []
+where_it_is_active = refl
+
+-- A mock that refuses is asked only where it is not active. (No history leads to an active one.)
+a_mock_refuses : told (with (loaded 0 4 (fresh kind.Mock) ∷ [])) (Configure (codes "mk") ∷ ListControllers ∷ Cleanup (codes "mk") ∷ [])
+    ≡ codes "refused" ∷ codes "mk mock unconfigured 0" ∷ codes "not_inactive" ∷ []
+unfolding digits
+a_mock_refuses = refl
+
+active_comes_before_refused : each (with (loaded 0 4 (active kind.Mock (Mock 0 true [] []) (run.Set false [])) ∷ [])) (codes "mk")
+    ≡ codes "active" ∷ codes "not_inactive" ∷ codes "active" ∷ codes "active" ∷ codes "takes_none" ∷ []
+active_comes_before_refused = refl
+
+-- ---- What refuses mail
+
+-- an active trajectory above a pid
+abbrev chain : State
+chain = with (loaded 0 1 (active kind.Pid gains (integrating true)) ∷ loaded 1 2 (active kind.Trajectory (Trajectory 1) holding) ∷ [])
+
+-- Chained comes before a wrong count.
+mail_for_a_chained_pid : map (λ mail. text (answered chain (Send (codes "pid") mail)).1) (one ∷ two ∷ []) ≡ codes "chained" ∷ codes "chained" ∷ []
+mail_for_a_chained_pid = refl
+
+-- Without the trajectory it takes one value.
+mail_for_a_pid : map (λ mail. text (answered (with (loaded 0 1 (active kind.Pid gains (integrating false)) ∷ [])) (Send (codes "pid") mail)).1)
+    (one ∷ two ∷ Values [] ∷ Points [] ∷ [])
+    ≡ codes "ok" ∷ codes "wrong_count" ∷ codes "wrong_count" ∷ codes "wrong_count" ∷ []
+mail_for_a_pid = refl
+
+-- The trajectory takes points alone, each with a value for its one claim.
+mail_for_a_trajectory : map (λ mail. text (answered chain (Send (codes "traj") mail)).1)
+    (one ∷ Points (record { at_us = 20000; values = pos 100000 ∷ [] } ∷ []) ∷ Points (record { at_us = 20000; values = pos 1 ∷ [] } ∷ record { at_us = 30000; values = [] } ∷ []) ∷ [])
+    ≡ codes "wrong_count" ∷ codes "ok" ∷ codes "wrong_count" ∷ []
+mail_for_a_trajectory = refl
+
+-- a broadcaster, and a mock without claims
+abbrev no_takers : State
+no_takers = with (loaded 0 3 (active kind.Broadcaster (Broadcaster 2) publishing) ∷ loaded 1 5 (active kind.Mock (Mock 0 false [] []) (run.Set false [])) ∷ [])
+
+-- That none is taken comes before a wrong count.
+mail_for_those_that_take_none : map (λ mail. text (answered no_takers (Send (codes "jsb") mail)).1) (one ∷ two ∷ Points [] ∷ [])
+    ++ map (λ mail. text (answered no_takers (Send (codes "mk2") mail)).1) (one ∷ Values [] ∷ [])
+    ≡ codes "takes_none" ∷ codes "takes_none" ∷ codes "takes_none" ∷ codes "takes_none" ∷ codes "takes_none" ∷ []
+mail_for_those_that_take_none = refl
+
+-- That it is not active comes before all that its parameters say of mail.
+not_active_comes_first : map (λ call. text (answered (with (loaded 0 3 (inactive kind.Broadcaster (Broadcaster 2)) ∷ loaded 1 0 (inactive kind.Forward (Forward 1)) ∷ [])) call).1)
+    (Send (codes "jsb") one ∷ Send (codes "fwd") two ∷ Send (codes "fwd") (Points []) ∷ [])
+    ≡ codes "not_active" ∷ codes "not_active" ∷ codes "not_active" ∷ []
+not_active_comes_first = refl
+
+-- ---- What is left
+
+-- newer mail replaces what waits
+the_last_mail_waits : (after fwd_active (Send (codes "fwd") (Values (pos 1 ∷ [])) ∷ Send (codes "fwd") one ∷ Send (codes "fwd") two ∷ [])).loaded
+    ≡ record (loaded 4 0 (active kind.Forward (Forward 1) set)) { mail = Some one } ∷ []
+the_last_mail_waits = refl
+
+-- a configure of an inactive controller replaces its parameters
+parameters_are_replaced : (after (with (loaded 4 0 (inactive kind.Forward (Forward 7)) ∷ [])) (Configure (codes "fwd") ∷ [])).loaded
+    ≡ record (loaded 4 0 (inactive kind.Forward (Forward 1))) { divisor = Some 1 } ∷ []
+parameters_are_replaced = refl
+
+-- a refused one leaves those that it has
+a_refusal_leaves_all : after (with (loaded 0 4 (inactive kind.Mock (Mock 3 false [] [])) ∷ [])) (Configure (codes "mk") ∷ [])
+    ≡ with (loaded 0 4 (inactive kind.Mock (Mock 3 false [] [])) ∷ [])
+a_refusal_leaves_all = refl
+
+-- the box that moves out has the data that it had; a refused unload gives none out
+a_box_moves_out : moves_out fwd_inactive (codes "fwd") reply.Done ≡ Some (inactive kind.Forward (Forward 1))
+a_box_moves_out = refl
+
+no_box_moves_out : moves_out fwd_active (codes "fwd") (unload_reply fwd_active (codes "fwd")) ≡ None
+no_box_moves_out = refl

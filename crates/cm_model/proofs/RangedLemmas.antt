@@ -1,0 +1,184 @@
+-- A controller of a valid description has parameters with which it can be configured.
+use Rattle.std.proofs.Common.{◌≡◌, ℕ, zero, suc, ◌+◌, ◌≤◌, ◌^◌, ◌-◌, ℤ, Bool, true, false, List, [], ◌∷◌, ◌++◌, length, min, Option, Some, None, Result, Ok, Err, refl, sym, subst, ap, ap₂, ◌∙◌, arith}
+use Rattle.std.specs.Prelude.{IfOk, codes, nat_le, ◌==◌, ◌&&◌, slice_get}
+use Rattle.std.specs.List.{AllByRecursion}
+use Rattle.std.proofs.lemmas.Bool.{leb-true, and_parts}
+use Rattle.iface_names.specs.declared.interface.IfaceName.{IfaceName}
+use Rattle.cm_document.specs.Forms.{item_path, inside, tables_of}
+use Rattle.cm_document.specs.Tables.{walk}
+use Rattle.cm_document.specs.Described.{count, a_description, claiming_table, pid_table, trajectory_table, broadcaster_table, mock_table, controller_table, controller_form, type_of, top_table, described_states, description_form}
+use Rattle.cm_document.specs.Valid.{few_enough, named_apart, not_negative, ranged, each_ranged, component_ranged, controller_ranged, claims_fit, reads_fit, limits_ranged, in_range, valid, IsDescribed, IsValid}
+use Rattle.cm_document.specs.declared.description.CompDesc.{CompDesc}
+use Rattle.cm_document.specs.declared.description.CtlDesc.{CtlDesc}
+use Rattle.cm_document.specs.declared.description.CtlKind.{CtlKind}
+use Rattle.cm_document.specs.declared.description.CtlKind.TheVariants as kind
+use Rattle.cm_document.specs.declared.description.Description.{Description}
+use Rattle.cm_document.specs.declared.description.Params.{Params}
+use Rattle.cm_document.specs.declared.description.Params.TheVariants.{Forward, Passthrough, Pid, Trajectory, Broadcaster, Mock}
+use Rattle.cm_document.specs.declared.limits.TheConstants.{VERSION, HIGHEST_RATE, MOST_CYCLES}
+use Rattle.cm_document.proofs.GivenLemmas.{Gives, filled_gives, next_key, any_key, defaulted_gives, walk_gives, tables_give}
+use Rattle.cm_document.proofs.ReadingLemmas.{bind_keeps, bind_Ok}
+use Rattle.cm_model.specs.Kinds.{are_ranged}
+
+-- ---- Parameters count the claims
+
+-- these parameters are of so many claims, where they tell of any
+abbrev IsCountOf : Params → ℕ → Type 0
+IsCountOf (Forward outs) n = outs ≡ n
+IsCountOf (Passthrough outs) n = outs ≡ n
+IsCountOf (Trajectory outs) n = outs ≡ n
+IsCountOf (Mock outs refuse_config not_ready fail_update) n = outs ≡ n
+IsCountOf _ n = Unit {0}
+
+-- the parameters of a described controller are of as many claims as it has
+abbrev Counts : CtlDesc → Type 0
+Counts c = IsCountOf c.params (count c.claims)
+
+claiming_gives : (make : ℕ → Params) → ((n : ℕ) → IsCountOf (make n) n) → Gives (claiming_table make).form.read Counts
+claiming_gives make holds =
+    any_key {A = List IfaceName} _ _ _ (any_key {A = ℕ} _ _ _ (any_key {A = CtlKind} _ _ _ (any_key {A = List ℕ} _ _ _ (filled_gives _ _
+    (λ name type rate claims. holds (count claims))))))
+
+pid_gives : Gives pid_table.form.read Counts
+pid_gives =
+    any_key {A = ℤ} _ _ _ (any_key {A = ℤ} _ _ _ (any_key {A = ℤ} _ _ _ (any_key {A = ℤ} _ _ _ (any_key {A = ℤ} _ _ _
+    (any_key {A = List IfaceName} _ _ _ (any_key {A = List IfaceName} _ _ _
+    (any_key {A = ℕ} _ _ _ (any_key {A = CtlKind} _ _ _ (any_key {A = List ℕ} _ _ _ (filled_gives _ _
+    (λ name type rate claims reads kp ki kd imax omax. tt)))))))))))
+
+trajectory_gives : Gives trajectory_table.form.read Counts
+trajectory_gives =
+    any_key {A = List IfaceName} _ _ _ (any_key {A = List IfaceName} _ _ _
+    (any_key {A = ℕ} _ _ _ (any_key {A = CtlKind} _ _ _ (any_key {A = List ℕ} _ _ _ (filled_gives _ _
+    (λ name type rate claims reads. refl))))))
+
+broadcaster_gives : (states : List IfaceName) → Gives (broadcaster_table states).form.read Counts
+broadcaster_gives states =
+    any_key {A = List IfaceName} _ _ _
+    (any_key {A = ℕ} _ _ _ (any_key {A = CtlKind} _ _ _ (any_key {A = List ℕ} _ _ _ (filled_gives _ _
+    (λ name type rate reads. tt)))))
+
+mock_gives : Gives mock_table.form.read Counts
+mock_gives =
+    any_key {A = List ℕ} _ _ _ (any_key {A = List ℕ} _ _ _ (any_key {A = Bool} _ _ _
+    (any_key {A = List IfaceName} _ _ _ (any_key {A = List IfaceName} _ _ _
+    (any_key {A = ℕ} _ _ _ (any_key {A = CtlKind} _ _ _ (any_key {A = List ℕ} _ _ _ (filled_gives _ _
+    (λ name type rate claims reads refuse_config not_ready fail_update. refl)))))))))
+
+-- a controller of each type is read so
+table_gives : (states : List IfaceName) (kind : CtlKind) → Gives (controller_table states kind).form.read Counts
+unfolding controller_table
+table_gives states kind.Forward = claiming_gives Forward (λ n. refl)
+table_gives states kind.Passthrough = claiming_gives Passthrough (λ n. refl)
+table_gives states kind.Pid = pid_gives
+table_gives states kind.Trajectory = trajectory_gives
+table_gives states kind.Broadcaster = broadcaster_gives states
+table_gives states kind.Mock = mock_gives
+
+-- of what is read, nothing need be known
+anything : {A E : Type 0} (r : Result A E) → IfOk r (λ _. Unit {0})
+anything (Ok x) = tt
+anything (Err e) = tt
+
+controller_gives : (states : List IfaceName) → Gives (controller_form states).read Counts
+controller_gives states = record {
+  given = λ prefix ms. bind_keeps (λ _. Unit {0}) Counts (type_of prefix ms) _ (anything _)
+      (λ kind _. (walk_gives (controller_table states kind) Counts (table_gives states kind)).given prefix ms);
+}
+
+-- and so is each of a description
+abbrev AllCount : Description → Type 0
+AllCount d = AllByRecursion Counts d.controllers
+
+top_gives : (states : List IfaceName) → Gives (top_table states).form.read AllCount
+unfolding top_table
+top_gives states =
+    next_key _ _ (AllByRecursion Counts) AllCount
+    (any_key {A = List CompDesc} _ _ _ (any_key {A = ℕ} _ _ _ (any_key {A = ℕ} _ _ _ (any_key {A = ℕ} _ _ _ (filled_gives a_description _
+    (λ version update_rate cycles components controllers counted. counted))))))
+    (defaulted_gives (codes "controller") (tables_of (controller_form states)) [] _ (tables_give (controller_form states) Counts (controller_gives states)) tt)
+
+IsDescribed-AllCount : (d : Description) → IsDescribed d → AllCount d
+unfolding description_form
+IsDescribed-AllCount d (ms, e) =
+    subst (λ r. IfOk r AllCount) e ((walk_gives (top_table (described_states ms)) AllCount (top_gives (described_states ms))).given [] ms)
+
+-- ---- Ranges
+
+-- what was found within its range is so
+ranged_so : (fits : Bool) (path : List ℕ) (u : Unit {0}) → ranged fits path ≡ Ok u → fits ≡ true
+ranged_so true path u e = refl
+ranged_so false path u e = cc
+
+-- at most 32 claims are counted
+few : (n : ℕ) → n ≤ 32 → min n (2 ^ 32 - 1) ≡ n
+few n le = omega (arith, le)
+
+-- from one to 32 of them
+some_few : (outs n : ℕ) → outs ≡ min n (2 ^ 32 - 1) → (nat_le 1 n && nat_le n 32) ≡ true → ((nat_le 1 outs && nat_le outs 32) && true) ≡ true
+some_few outs n e fits =
+    let both = and_parts (nat_le 1 n) (nat_le n 32) fits in
+    let same : outs ≡ n = e ∙ few n (leb-true n 32 both.1) in
+    rw (same, both.0, both.1) refl
+
+-- none, or up to 32
+not_many : (outs n : ℕ) → outs ≡ min n (2 ^ 32 - 1) → nat_le n 32 ≡ true → (nat_le outs 32 && true) ≡ true
+not_many outs n e fits =
+    let same : outs ≡ n = e ∙ few n (leb-true n 32 fits) in
+    rw (same, fits) refl
+
+both_true : (a b : Bool) → a ≡ true → b ≡ true → (a && b) ≡ true
+both_true a b p q = rw (p, q) refl
+
+params_so : (path : List ℕ) (p : Params) (n : ℕ) (u : Unit {0}) → IsCountOf p (min n (2 ^ 32 - 1)) → claims_fit p n ≡ true → limits_ranged path p ≡ Ok u → are_ranged p ≡ true
+params_so path (Forward outs) n u counted fits limits = some_few outs n counted fits
+params_so path (Passthrough outs) n u counted fits limits = some_few outs n counted fits
+params_so path (Trajectory outs) n u counted fits limits = some_few outs n counted fits
+params_so path (Mock outs refuse_config not_ready fail_update) n u counted fits limits = not_many outs n counted fits
+params_so path (Broadcaster ins) n u counted fits limits = refl
+params_so path (Pid kp ki kd imax omax) n u counted fits limits =
+    let integral = bind_Ok (ranged (not_negative imax) _) _ u limits in
+    both_true (not_negative imax) (not_negative omax) (ranged_so _ _ integral.0 integral.1) (ranged_so _ _ u integral.2)
+
+controller_so : (path : List ℕ) (c : CtlDesc) (u : Unit {0}) → Counts c → controller_ranged path c ≡ Ok u → are_ranged c.params ≡ true
+controller_so path c u counted e =
+    let rate = bind_Ok (ranged (nat_le c.rate HIGHEST_RATE) _) _ u e in
+    let claims = bind_Ok (ranged (claims_fit c.params (length c.claims)) _) _ u rate.2 in
+    let reads = bind_Ok (ranged (reads_fit c.params (length c.claims) (length c.reads)) _) _ u claims.2 in
+    params_so _ c.params (length c.claims) u counted (ranged_so _ _ claims.0 claims.1) reads.2
+
+-- each controller of a list whose items are within their ranges
+controllers_so : (key : List ℕ) (k : ℕ) (cs : List CtlDesc) (u : Unit {0}) → AllByRecursion Counts cs → each_ranged controller_ranged key k cs ≡ Ok u
+    → (place : ℕ) (c : CtlDesc) → slice_get cs place ≡ Some c → are_ranged c.params ≡ true
+controllers_so key k [] u counted e place c at = cc
+controllers_so key k (x ∷ xs) u counted e zero c at =
+    let here = bind_Ok (controller_ranged (inside (item_path key k)) x) _ u e in
+    let ranged = controller_so _ x here.0 counted.0 here.1 in
+    cc
+controllers_so key k (x ∷ xs) u counted e (suc place) c at =
+    let here = bind_Ok (controller_ranged (inside (item_path key k)) x) _ u e in
+    controllers_so key (k + 1) xs u counted.1 here.2 place c at
+
+-- The parameters of each controller of a valid description are in their ranges.
+pub described_params_are_ranged : (d : Description) → IsValid d → (place : ℕ) (c : CtlDesc) → slice_get d.controllers place ≡ Some c → are_ranged c.params ≡ true
+unfolding valid
+described_params_are_ranged d sound =
+    let few = bind_Ok (few_enough d) _ d sound.no_fault in
+    let named = bind_Ok (named_apart d) _ d few.2 in
+    let ranges = bind_Ok (in_range d) _ d named.2 in
+    let version = bind_Ok (ranged (d.version == VERSION) (codes "version")) _ ranges.0 ranges.1 in
+    let rate = bind_Ok (ranged (nat_le 1 d.update_rate && nat_le d.update_rate HIGHEST_RATE) (codes "update_rate")) _ ranges.0 version.2 in
+    let cycles = bind_Ok (ranged (nat_le d.cycles MOST_CYCLES) (codes "cycles")) _ ranges.0 rate.2 in
+    let components = bind_Ok (each_ranged component_ranged (codes "component") 0 d.components) _ ranges.0 cycles.2 in
+    controllers_so (codes "controller") 0 d.controllers ranges.0 (IsDescribed-AllCount d sound.described) components.2
+
+-- the update rate of a valid description is at least 1
+pub described_rate_is_some : (d : Description) → IsValid d → 1 ≤ d.update_rate
+unfolding valid
+described_rate_is_some d sound =
+    let few = bind_Ok (few_enough d) _ d sound.no_fault in
+    let named = bind_Ok (named_apart d) _ d few.2 in
+    let ranges = bind_Ok (in_range d) _ d named.2 in
+    let version = bind_Ok (ranged (d.version == VERSION) (codes "version")) _ ranges.0 ranges.1 in
+    let rate = bind_Ok (ranged (nat_le 1 d.update_rate && nat_le d.update_rate HIGHEST_RATE) (codes "update_rate")) _ ranges.0 version.2 in
+    leb-true 1 d.update_rate (and_parts (nat_le 1 d.update_rate) (nat_le d.update_rate HIGHEST_RATE) (ranged_so _ _ rate.0 rate.1)).0
