@@ -1,8 +1,12 @@
 -- What can be made of a description: the components of a valid one.
-use Rattle.std.proofs.Common.{◌≡◌, ℕ, ◌+◌, ◌≤◌, ℤ, pos, negsuc, ◌≤ℤ◌, Bool, true, false, List, [], ◌∷◌, length, Result, Ok, Err, refl, arith, length-append}
+use Rattle.std.proofs.Common.{◌≡◌, ℕ, ◌+◌, ◌*◌, div-le_self, ◌<◌, ◌≤◌, ◌^◌, ℤ, pos, negsuc, ◌≤ℤ◌, Bool, true, false, List, [], ◌∷◌, length, Result, Ok, Err, refl, arith, length-append}
 use Rattle.std.specs.Prelude.{nat_lt, nat_le, ◌==◌, ◌&&◌, codes, if◌then◌else◌}
 use Rattle.std.specs.List.{All}
-use Rattle.std.proofs.lemmas.Bool.{ltb-false}
+use Rattle.std.proofs.lemmas.Bool.{ltb-false, leb-true, and_parts}
+use Rattle.std.proofs.lemmas.Nat.{le-div}
+use Rattle.joint_body.specs.declared.TheConstants.{LONGEST_STEP}
+use Rattle.cm_model.specs.Cycle.{period}
+use Rattle.cm_model.specs.declared.TheConstants.{SECOND_US}
 use Rattle.std.proofs.lemmas.Int.{ints}
 use Rattle.std.proofs.lemmas.List.Elements.{All-nil, All-cons}
 use Rattle.fixed_num.specs.Bodies.{IsPlant}
@@ -78,11 +82,32 @@ joints_fit n (c ∷ cs) few =
     let both = length-append c.joints (joints_of cs) in
     All-cons (λ c. length c.joints ≤ n) c cs (omega (arith, both, few)) (joints_fit n cs (omega (arith, both, few)))
 
--- ---- Components
-
 -- both together
 both_so : (cs : List CompDesc) → All (λ c. All (λ joint. IsPlant (plant_of joint)) c.joints) cs → All (λ c. length c.joints ≤ MOST_JOINTS) cs → All CanBeMade cs
 both_so cs plants few k d below = record { plants = plants k d below; joints = let n = few k d below in omega (arith, n) }
+
+-- ---- The period
+
+-- the update rate of a valid description is one that is allowed
+valid_rate : (d : Description) → IsValid d → (1 ≤ d.update_rate) × (d.update_rate ≤ HIGHEST_RATE)
+unfolding valid
+valid_rate d sound =
+    let few = bind_Ok (few_enough d) _ d sound.no_fault in
+    let named = bind_Ok (named_apart d) _ d few.2 in
+    let ranges = bind_Ok (in_range d) _ d named.2 in
+    let version = bind_Ok (ranged (d.version == VERSION) (codes "version")) _ ranges.0 ranges.1 in
+    let rate = bind_Ok (ranged (nat_le 1 d.update_rate && nat_le d.update_rate HIGHEST_RATE) (codes "update_rate")) _ ranges.0 version.2 in
+    let both = and_parts (nat_le 1 d.update_rate) (nat_le d.update_rate HIGHEST_RATE) (ranged_so _ _ rate.0 rate.1) in
+    (leb-true 1 d.update_rate both.0, leb-true d.update_rate HIGHEST_RATE both.1)
+
+-- so its period is a time by which bodies can step
+pub valid_period : (d : Description) → IsValid d → (1 ≤ d.update_rate) × (1 ≤ period d) × (period d ≤ LONGEST_STEP)
+valid_period d sound =
+    let rate = valid_rate d sound in
+    let fits : 1 * d.update_rate ≤ SECOND_US = omega (arith, rate.1) in
+    (rate.0, le-div 1 SECOND_US d.update_rate rate.0 fits, div-le_self SECOND_US d.update_rate)
+
+-- ---- Components
 
 -- each component of a valid description can be made
 pub valid_can_be_made : (d : Description) → IsValid d → All CanBeMade d.components
@@ -100,3 +125,12 @@ valid_can_be_made d sound =
     both_so d.components
     (each_so (λ c. All (λ joint. IsPlant (plant_of joint)) c.joints) component_ranged component_so (codes "component") 0 d.components each.0 each.1)
     (joints_fit MOST_JOINTS d.components (limited_so Joints (length (joints_of d.components)) MOST_JOINTS joints.0 joints.1))
+
+-- there are few components in a valid description
+pub valid_has_few : (d : Description) → IsValid d → length d.components < 2 ^ 32
+unfolding valid
+valid_has_few d sound =
+    let few = bind_Ok (few_enough d) _ d sound.no_fault in
+    let components = bind_Ok (limited Components (length d.components) MOST_COMPONENTS) _ few.0 few.1 in
+    let so = limited_so Components (length d.components) MOST_COMPONENTS components.0 components.1 in
+    omega (arith, so)

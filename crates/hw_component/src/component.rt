@@ -1,7 +1,7 @@
 //! The component and its calls.
 
 ghost use Rattle.std.specs.Prelude.{◌≡◌, ◌<◌, ◌≤◌, ◌&&◌, true, length, slice_get, Some, None};
-ghost use Rattle.cm_model.specs.Components.{read_runs, write_runs, ends, state_interfaces, command_interfaces, mode_fault};
+ghost use Rattle.cm_model.specs.Components.{read_runs, write_runs, ends, state_interfaces, command_interfaces, measured_states, mode_fault};
 ghost use Rattle.hw_component.specs.Hardware.{IsHardware, Prepares, after_read, after_write, after_step, with_claims, moves, after_move};
 
 use crate::claims::{claim_joints, is_contested};
@@ -81,6 +81,15 @@ impl Component {
         self.bodies[joint as usize].state()
     }
 
+    /// Sets the places of its state interfaces, in their order, to what its bodies measure at the moment, whatever its lifecycle state
+    /// is.
+    pub fn measure(&self, states: &mut [Value])
+        requires { length states.old ≡ length (state_interfaces self.now.description) }
+        ensures { states.new ≡ measured_states self.now.description self.now.bodies }
+    {
+        measure(states, self.states.as_slice(), self.bodies.as_slice());
+    }
+
     /// Reads the component in a cycle: sets the places of its state interfaces, in their order, to what its bodies measure. A read
     /// that fails leaves them.
     pub fn read(&mut self, cycle: u64, states: &mut [Value]) -> Done
@@ -93,7 +102,7 @@ impl Component {
         if self.failing_reads.has(cycle) {
             return Done::Error;
         }
-        measure(states, self.states.as_slice(), self.bodies.as_slice());
+        self.measure(states);
         Done::Ok
     }
 

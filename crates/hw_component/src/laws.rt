@@ -1,16 +1,17 @@
 //! Laws of components: each is the contract of a function that does nothing.
 
-ghost use Rattle.std.specs.Prelude.{◌≡◌, ℕ, false, map, All};
+ghost use Rattle.std.specs.Prelude.{◌≡◌, ◌<◌, ◌^◌, ℕ, false, length, map, All};
 ghost use Rattle.fixed_num.specs.Bodies.{stopped};
 ghost use Rattle.cm_model.specs.Components.{write_runs};
 ghost use Rattle.hw_component.specs.Hardware.{Hardware, CanBeMade, after_step};
 
 use cm_model::Checked;
 
-/// Each component of a valid description can be made.
-#[tactic(auto, using(crate::proofs::MakingLemmas::valid_can_be_made))]
+/// Each component of a valid description can be made, and has a number of 32 bits.
+#[tactic(auto, using(crate::proofs::MakingLemmas::valid_can_be_made, crate::proofs::MakingLemmas::valid_has_few))]
 pub fn described_components_can_be_made(checked: &Checked)
-    ensures { All CanBeMade checked.now.components }
+    ensures each { All CanBeMade checked.now.components }
+    ensures few { length checked.now.components < 2 ^ 32 }
 {
     checked.description();
 }

@@ -1,0 +1,87 @@
+-- What is told of the failures of a cycle, and how many can be told.
+use Rattle.std.proofs.Common.{◌≡◌, ℕ, ◌+◌, ◌≤◌, Bool, true, false, List, [], ◌∷◌, ◌++◌, map, length, refl, sym, ap, ap₂, ◌∙◌, arith}
+use Rattle.std.specs.Prelude.{◌==◌, not, ◌&&◌, ◌||◌, filter}
+use Rattle.std.specs.List.{range_with_len}
+use Rattle.std.proofs.lemmas.List.{length-map}
+use Rattle.sequence.proofs.ListLemmas.{not_empty}
+use Rattle.cm_model.specs.Components.{is_listed, is_available, write_runs, read_fails, write_fails}
+use Rattle.cm_model.specs.Cycle.{component_is, failed_in}
+use Rattle.cm_model.specs.State.{State}
+use Rattle.cm_model.specs.declared.record.FailedPart.{FailedPart}
+use Rattle.cm_hardware.specs.Wiring.{Mounted, Wired, IsWired, failure, failures, read, fails_read, fails_write, failed_reads, failed_writes, failures_told, one_if, count, can_fail, most_failures}
+use Rattle.cm_hardware.proofs.ReadLemmas.{Agrees}
+use Rattle.cm_hardware.proofs.StateLemmas.{asked_of, agrees_in}
+
+-- ---- Which are told
+
+-- what is told of the component at a place
+abbrev part : Bool → ℕ → FailedPart
+part reading place = record { place = place; reading = reading }
+
+told_next : (reading : Bool) (test : ℕ → Bool) (holds : Mounted → Bool) (k : ℕ) (m : Mounted) (ms : List Mounted) (here : Bool) → holds m ≡ here → test k ≡ here
+    → failures reading holds (k + 1) ms ≡ map (part reading) (filter test (range_with_len (k + 1) (length ms)))
+    → failures reading holds k (m ∷ ms) ≡ map (part reading) (filter test (range_with_len k (length (m ∷ ms))))
+told_next reading test holds k m ms true is at rest = rw (is, at) (ap (λ (l : List FailedPart). part reading k ∷ l) rest)
+told_next reading test holds k m ms false is at rest = rw (is, at) rest
+
+-- of the components from this place on those are told whose places pass the test
+told : (reading : Bool) (test : ℕ → Bool) (holds : Mounted → Bool) (k : ℕ) (ms : List Mounted) → Agrees test holds k ms
+    → failures reading holds k ms ≡ map (part reading) (filter test (range_with_len k (length ms)))
+told reading test holds k [] agrees = refl
+told reading test holds k (m ∷ ms) agrees = told_next reading test holds k m ms (holds m) refl agrees.0 (told reading test holds (k + 1) ms agrees.1)
+
+-- whether a write fails is asked of a component after its read
+writes_told : (n k : ℕ) (ms : List Mounted) → failed_writes n k (map (read n) ms) ≡ failures false (asked_of write_fails n) k ms
+writes_told n k [] = refl
+writes_told n k (m ∷ ms) = ap (λ (l : List FailedPart). failure k false (fails_write n (read n m)) ++ l) (writes_told n (k + 1) ms)
+
+-- What is told is what a cycle of the state tells.
+pub failures_are : (s : State) (w : Wired) → IsWired s w.components → failures_told s.ended w ≡ failed_in s
+failures_are s w wired =
+    let number : length w.components ≡ length s.description.components =
+    sym (length-map w.components (λ (m : Mounted). m.hardware.description)) ∙ ap length (sym wired.components) in
+    let reads : failed_reads s.ended 0 w.components ≡ map (part true) (filter (component_is read_fails s) (range_with_len 0 (length s.description.components))) =
+    rw (sym number) (told true (component_is read_fails s) (fails_read s.ended) 0 w.components (agrees_in read_fails s w.components wired)) in
+    let writes : failed_writes s.ended 0 (map (read s.ended) w.components) ≡ map (part false) (filter (component_is write_fails s) (range_with_len 0 (length s.description.components))) =
+    writes_told s.ended 0 w.components
+    ∙ rw (sym number) (told false (component_is write_fails s) (asked_of write_fails s.ended) 0 w.components (agrees_in write_fails s w.components wired)) in
+    ap₂ (λ (xs ys : List FailedPart). xs ++ ys) reads writes
+
+-- ---- How many
+
+-- a list in which something is listed is not empty
+listed_some : (cycles : List ℕ) (n : ℕ) → is_listed cycles n ≡ true → (length cycles == 0) ≡ false
+listed_some [] n listed = cc
+listed_some (c ∷ cycles) n listed = not_empty (c ∷ cycles) (omega arith)
+
+-- both of two
+pub both_first : (a b : Bool) → (a && b) ≡ true → a ≡ true
+both_first true b e = refl
+both_first false b e = cc
+
+pub both_second : (a b : Bool) → (a && b) ≡ true → b ≡ true
+both_second true b e = e
+both_second false b e = cc
+
+-- Of a read and a write one fails at most, and then something is listed.
+one_fails : (r f l a b : Bool) → (f ≡ true → a ≡ false) → (l ≡ true → b ≡ false) → one_if f + one_if ((r && not f) && l) ≤ one_if (not a || not b)
+one_fails r true l true b reads writes = let e : true ≡ false = reads refl in cc
+one_fails true true l false b reads writes = omega arith
+one_fails false true l false b reads writes = omega arith
+one_fails r false true a true reads writes = let e : true ≡ false = writes refl in cc
+one_fails true false true true false reads writes = omega arith
+one_fails true false true false false reads writes = omega arith
+one_fails false false true a false reads writes = omega arith
+one_fails true false false a b reads writes = omega arith
+one_fails false false false a b reads writes = omega arith
+
+-- No more failures can be told in a cycle than there are components that can fail.
+pub failures_fit : (n : ℕ) (ms : List Mounted) → count (fails_read n) ms + count (fails_write n) (map (read n) ms) ≤ most_failures ms
+failures_fit n [] = omega arith
+failures_fit n (m ∷ ms) =
+    let c = m.hardware.description in
+    let here : one_if (fails_read n m) + one_if (fails_write n (read n m)) ≤ one_if (can_fail c) =
+    one_fails (write_runs m.hardware.life) (fails_read n m) (is_listed c.fail_write n) (length c.fail_read == 0) (length c.fail_write == 0)
+    (λ (fails : fails_read n m ≡ true). listed_some c.fail_read n (both_second (is_available m.hardware.life) (is_listed c.fail_read n) fails))
+    (listed_some c.fail_write n) in
+    omega (arith, here, failures_fit n ms)

@@ -1,0 +1,12 @@
+pub mod ReadLemmas
+pub mod StateLemmas
+pub mod FreeLemmas
+pub mod StillLemmas
+pub mod FailureLemmas
+pub mod StepLemmas
+pub mod MoveLemmas
+pub mod KeepLemmas
+pub mod CycleLemmas
+pub mod ListLemmas
+pub mod StartLemmas
+pub mod SameLemmas

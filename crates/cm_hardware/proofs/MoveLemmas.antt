@@ -1,0 +1,224 @@
+-- The board after failures holds what the interfaces of the state hold after the moves of components.
+use Rattle.std.proofs.Common.{◌≡◌, ℕ, zero, suc, ◌+◌, Bool, true, false, List, [], ◌∷◌, ◌++◌, map, length, Option, refl, sym, subst, ap, ap₂, ◌∙◌, arith, append_assoc, length-append, inl, inr}
+use Rattle.std.specs.Prelude.{not, ◌&&◌, slice_get, zip, if◌then◌else◌}
+use Rattle.std.specs.List.{AllByRecursion}
+use Rattle.std.specs.Option.{option_map_or}
+use Rattle.fixed_num.specs.declared.value.BodyState.{BodyState}
+use Rattle.fixed_num.specs.declared.value.Value.{Value}
+use Rattle.fixed_num.specs.declared.value.Value.TheVariants.{Unset}
+use Rattle.cm_document.specs.Places.{Called, Whose, of_joint, of_controller, Interface}
+use Rattle.cm_document.specs.declared.description.CompDesc.{CompDesc}
+use Rattle.cm_document.specs.declared.life.Life.{Life}
+use Rattle.cm_model.specs.Components.{is_available, read_succeeds, is_listed}
+use Rattle.cm_model.specs.State.{available_in}
+use Rattle.cm_model.specs.Values.{InterfaceValue, unset, running, belongs_to, is_state_of, shown, read_of, cleared_of}
+use Rattle.loan_board.specs.declared.board.Loan.{Loan}
+use Rattle.loan_board.specs.Loans.{with_loan, made_available}
+use Rattle.cm_hardware.specs.Wiring.{Mounted, loan_of, component_of, leaves, has_left, after_failures_of}
+use Rattle.cm_hardware.proofs.FailureLemmas.{both_first, both_second}
+use Rattle.cm_hardware.proofs.StillLemmas.{if_both}
+use Rattle.cm_hardware.proofs.StepLemmas.{Fate}
+
+-- ---- The board, place by place
+
+-- the place after the first ones changes
+pub with_loan_at : (pre loans : List Loan) (loan : Loan) (change : Loan → Loan) → with_loan (pre ++ loan ∷ loans) (length pre) change ≡ pre ++ change loan ∷ loans
+with_loan_at [] loans loan change = refl
+with_loan_at (p ∷ pre) loans loan change = ap (λ (l : List Loan). p ∷ l) (with_loan_at pre loans loan change)
+
+pub place_changes : (left : Bool) (pre loans : List Loan) (loan next : Loan) (change : Loan → Loan) → (if left then change loan else loan) ≡ next
+    → (if left then with_loan (pre ++ loan ∷ loans) (length pre) change else pre ++ loan ∷ loans) ≡ pre ++ next ∷ loans
+place_changes true pre loans loan next change is = with_loan_at pre loans loan change ∙ ap (λ (l : Loan). pre ++ l ∷ loans) is
+place_changes false pre loans loan next change is = ap (λ (l : Loan). pre ++ l ∷ loans) is
+
+-- what a place keeps, where its component leaves
+abbrev pub after_leave : List Mounted → Option ℕ → Loan → Loan
+after_leave ms component loan = if has_left ms component then made_available false loan else loan
+
+-- the component of each interface
+abbrev pub component_at : InterfaceValue → Option ℕ
+component_at v = component_of v.interface.whose
+
+-- Where each place changes as its interface does, the board does so.
+pub places_change : (own own' : Interface → Option ℕ) (there there' : Interface → Bool) (next : InterfaceValue → InterfaceValue) (ms : List Mounted) (pre : List Loan) (vs : List InterfaceValue)
+    → AllByRecursion (λ (v : InterfaceValue). after_leave ms (component_at v) (loan_of own there v) ≡ loan_of own' there' (next v)) vs
+    → after_failures_of ms (length pre) (map component_at vs) (pre ++ map (loan_of own there) vs) ≡ pre ++ map (loan_of own' there') (map next vs)
+places_change own own' there there' next ms pre [] all = refl
+places_change own own' there there' next ms pre (v ∷ vs) all =
+    let loan = loan_of own' there' (next v) in
+    let others = map (loan_of own there) vs in
+    let here : (if has_left ms (component_at v) then with_loan (pre ++ loan_of own there v ∷ others) (length pre) (made_available false) else pre ++ loan_of own there v ∷ others) ≡ (pre ++ loan ∷ []) ++ others =
+    place_changes (has_left ms (component_at v)) pre others (loan_of own there v) loan (made_available false) all.0 ∙ sym (append_assoc pre (loan ∷ []) others) in
+    let at : length pre + 1 ≡ length (pre ++ loan ∷ []) = omega (arith, length-append pre (loan ∷ [])) in
+    ap₂ (λ (k : ℕ) (loans : List Loan). after_failures_of ms k (map component_at vs) loans) at here
+    ∙ places_change own own' there there' next ms (pre ++ loan ∷ []) vs all.1
+    ∙ append_assoc pre (loan ∷ []) (map (loan_of own' there') (map next vs))
+
+-- ---- One interface
+
+no_more : (a : Bool) → (a && false) ≡ false
+no_more true = refl
+no_more false = refl
+
+not_both : (a : Bool) → (a && not a) ≡ false
+not_both true = refl
+not_both false = refl
+
+-- an interface that is not available, by these lifecycle states and active controllers, holds nothing
+abbrev pub IsEmpty : List Life → (ℕ → Bool) → InterfaceValue → Type 0
+IsEmpty lives controllers v = available_in lives controllers v.interface.whose ≡ false → v.value ≡ Unset
+
+-- what a cycle's moves make of an interface
+abbrev pub moved_of : List Life → List Life → List BodyState → InterfaceValue → InterfaceValue
+moved_of before after bodies v = read_of (λ c. running after c && not (running before c)) bodies (cleared_of (λ c. not (running after c)) v)
+
+-- an interface of these parts
+abbrev of_parts : Called → Whose → Value → InterfaceValue
+of_parts called whose value = record { interface = record { called = called; whose = whose }; value = value }
+
+-- what is not read stays
+not_read : (test : ℕ → Bool) (bodies : List BodyState) (v : InterfaceValue) → is_state_of test v.interface ≡ false → read_of test bodies v ≡ v
+not_read test bodies v unread =
+    ap (λ (b : Bool). if b then record v { value = shown bodies v.interface.called.name v.interface.whose } else v) unread
+
+module _ (before after : List Life) (bodies : List BodyState) (called : Called) where
+  -- a reference stays as it is
+  moved_reference : (place : ℕ) (value : Value) → moved_of before after bodies (of_parts called (of_controller place) value) ≡ of_parts called (of_controller place) value
+  moved_reference place value =
+      not_read (λ c. running after c && not (running before c)) bodies (of_parts called (of_controller place) value) (no_more (not called.is_command))
+
+  -- what is not available after is Unset
+  moved_off : (c j : ℕ) (value : Value) → running after c ≡ false → moved_of before after bodies (of_parts called (of_joint c j) value) ≡ of_parts called (of_joint c j) Unset
+  moved_off c j value there =
+      let unread : (not called.is_command && (running after c && not (running before c))) ≡ false =
+      ap (λ (b : Bool). not called.is_command && (b && not (running before c))) there ∙ no_more (not called.is_command) in
+      ap (λ (b : Bool). read_of (λ c. running after c && not (running before c)) bodies (if not b then of_parts called (of_joint c j) Unset else of_parts called (of_joint c j) value)) there
+      ∙ not_read (λ c. running after c && not (running before c)) bodies (of_parts called (of_joint c j) Unset) unread
+
+  -- what was available and is so after stays
+  moved_on : (c j : ℕ) (value : Value) → running after c ≡ true → running before c ≡ true → moved_of before after bodies (of_parts called (of_joint c j) value) ≡ of_parts called (of_joint c j) value
+  moved_on c j value there was =
+      let unread : (not called.is_command && (running after c && not (running before c))) ≡ false =
+      ap₂ (λ (a b : Bool). not called.is_command && (a && not b)) there was ∙ no_more (not called.is_command) in
+      ap (λ (b : Bool). read_of (λ c. running after c && not (running before c)) bodies (if not b then of_parts called (of_joint c j) Unset else of_parts called (of_joint c j) value)) there
+      ∙ not_read (λ c. running after c && not (running before c)) bodies (of_parts called (of_joint c j) value) unread
+
+module _ (own : Interface → Option ℕ) (controllers : ℕ → Bool) (ms : List Mounted) (before after : List Life) (bodies : List BodyState) where
+  -- its place changes as it does
+  abbrev pub Moves : InterfaceValue → Type 0
+  Moves v =
+      after_leave ms (component_at v) (loan_of own (λ (i : Interface). available_in before controllers i.whose) v)
+      ≡ loan_of own (λ (i : Interface). available_in after controllers i.whose) (moved_of before after bodies v)
+
+  -- and where it is not available after, it holds nothing
+  abbrev pub Empties : InterfaceValue → Type 0
+  Empties v = IsEmpty after controllers (moved_of before after bodies v)
+
+  -- what is kept of an interface of a component
+  abbrev kept : Called → ℕ → ℕ → Value → Bool → Loan
+  kept called c j value there =
+      record { value = value; owner = own (record { called = called; whose = of_joint c j }); is_command = called.is_command; is_available = there }
+
+  -- what its place keeps after a component of these left
+  abbrev left_or_not : Loan → Bool → Loan
+  left_or_not loan left = if left then made_available false loan else loan
+
+  moves_off : (called : Called) (c j : ℕ) (value : Value) → option_map_or leaves (slice_get ms c) false ≡ true → running after c ≡ false → Moves (of_parts called (of_joint c j) value)
+  moves_off called c j value left there =
+      ap (left_or_not (kept called c j value (running before c))) left
+      ∙ ap (kept called c j Unset) (sym there)
+      ∙ ap (loan_of own (λ (i : Interface). available_in after controllers i.whose)) (sym (moved_off before after bodies called c j value there))
+
+  moves_not : (called : Called) (c j : ℕ) (value : Value) (here : Bool) → IsEmpty before controllers (of_parts called (of_joint c j) value)
+      → option_map_or leaves (slice_get ms c) false ≡ false → running after c ≡ here → running before c ≡ here → Moves (of_parts called (of_joint c j) value)
+  moves_not called c j value true empty left there was =
+      ap (left_or_not (kept called c j value (running before c))) left
+      ∙ ap (kept called c j value) (was ∙ sym there)
+      ∙ ap (loan_of own (λ (i : Interface). available_in after controllers i.whose)) (sym (moved_on before after bodies called c j value there was))
+  moves_not called c j value false empty left there was =
+      let nothing : value ≡ Unset = empty was in
+      ap (left_or_not (kept called c j value (running before c))) left
+      ∙ ap₂ (kept called c j) nothing (was ∙ sym there)
+      ∙ ap (loan_of own (λ (i : Interface). available_in after controllers i.whose)) (sym (moved_off before after bodies called c j value there))
+
+  moves_part : (called : Called) (whose : Whose) (value : Value) → ((c : ℕ) → Fate (option_map_or leaves (slice_get ms c) false) (running before c) (running after c))
+      → IsEmpty before controllers (of_parts called whose value) → Moves (of_parts called whose value)
+  moves_part called (of_controller place) value fate empty =
+      ap (loan_of own (λ (i : Interface). available_in after controllers i.whose)) (sym (moved_reference before after bodies called place value))
+  moves_part called (of_joint c j) value fate empty = elim (fate c) [
+    | inl (left, there) ↦ moves_off called c j value left there
+    | inr (left, there) ↦ moves_not called c j value (running before c) empty left there refl
+  ]
+
+  pub moves : (v : InterfaceValue) → ((c : ℕ) → Fate (option_map_or leaves (slice_get ms c) false) (running before c) (running after c)) → IsEmpty before controllers v → Moves v
+  moves v fate empty = moves_part v.interface.called v.interface.whose v.value fate empty
+
+  empties_case : (called : Called) (c j : ℕ) (value : Value) (here : Bool) → running after c ≡ here → (running after c ≡ true → running before c ≡ true)
+      → Empties (of_parts called (of_joint c j) value)
+  empties_case called c j value true is was =
+      subst (IsEmpty after controllers) (sym (moved_on before after bodies called c j value is (was is)))
+      (λ (gone : running after c ≡ false). let e : true ≡ false = sym is ∙ gone in cc)
+  empties_case called c j value false is was =
+      subst (IsEmpty after controllers) (sym (moved_off before after bodies called c j value is)) (λ (gone : running after c ≡ false). refl)
+
+  empties_part : (called : Called) (whose : Whose) (value : Value) → ((c : ℕ) → running after c ≡ true → running before c ≡ true)
+      → IsEmpty before controllers (of_parts called whose value) → Empties (of_parts called whose value)
+  empties_part called (of_controller place) value still empty = subst (IsEmpty after controllers) (sym (moved_reference before after bodies called place value)) empty
+  empties_part called (of_joint c j) value still empty = empties_case called c j value (running after c) refl (still c)
+
+  pub empties : (v : InterfaceValue) → ((c : ℕ) → running after c ≡ true → running before c ≡ true) → IsEmpty before controllers v → Empties v
+  empties v still empty = empties_part v.interface.called v.interface.whose v.value still empty
+
+-- what was available after was so before
+pub was_there : (left before after : Bool) → Fate left before after → after ≡ true → before ≡ true
+was_there left before after (inl (gone, there)) here = let e : true ≡ false = sym here ∙ there in cc
+was_there left before after (inr (stays, there)) here = sym there ∙ here
+
+-- ---- Reads
+
+-- a component whose read succeeds is inactive or active
+pub reads_run : (n : ℕ) (cs : List CompDesc) (lives : List Life) (k : ℕ)
+    → option_map_or (λ (p : CompDesc × Life). read_succeeds p.0 p.1 n) (slice_get (zip cs lives) k) false ≡ true → running lives k ≡ true
+reads_run n [] lives k reads = cc
+reads_run n (c ∷ cs) [] k reads = cc
+reads_run n (c ∷ cs) (life ∷ lives) zero reads = both_first (is_available life) (not (is_listed c.fail_read n)) reads
+reads_run n (c ∷ cs) (life ∷ lives) (suc k) reads = reads_run n cs lives k reads
+
+module _ (lives : List Life) (controllers : ℕ → Bool) (test : ℕ → Bool) (bodies : List BodyState) where
+  -- what is not available is not read
+  unread_part : (called : Called) (whose : Whose) (value : Value) → ((c : ℕ) → test c ≡ true → running lives c ≡ true)
+      → IsEmpty lives controllers (of_parts called whose value) → IsEmpty lives controllers (read_of test bodies (of_parts called whose value))
+  unread_part called (of_controller place) value runs empty = rw (no_more (not called.is_command)) empty
+  unread_part called (of_joint c j) value runs empty = unread_case (not called.is_command && test c) refl
+    where
+      unread_case : (here : Bool) → (not called.is_command && test c) ≡ here → IsEmpty lives controllers (read_of test bodies (of_parts called (of_joint c j) value))
+      unread_case true is =
+          let runs_here : running lives c ≡ true = runs c (both_second (not called.is_command) (test c) is) in
+          rw (is, runs_here) (λ (gone : true ≡ false). cc)
+      unread_case false is = rw is empty
+
+  pub unread : (v : InterfaceValue) → ((c : ℕ) → test c ≡ true → running lives c ≡ true) → IsEmpty lives controllers v → IsEmpty lives controllers (read_of test bodies v)
+  unread v runs empty = unread_part v.interface.called v.interface.whose v.value runs empty
+
+-- ---- What stays of an interface
+
+pub read_keeps : (test : ℕ → Bool) (bodies : List BodyState) (v : InterfaceValue) → (read_of test bodies v).interface ≡ v.interface
+read_keeps test bodies v =
+    if_both (λ (x : InterfaceValue). x.interface) (is_state_of test v.interface) (record v { value = shown bodies v.interface.called.name v.interface.whose }) v v.interface refl refl
+
+pub moved_keeps : (before after : List Life) (bodies : List BodyState) (v : InterfaceValue) → (moved_of before after bodies v).interface ≡ v.interface
+moved_keeps before after bodies v =
+    read_keeps (λ c. running after c && not (running before c)) bodies (cleared_of (λ c. not (running after c)) v)
+    ∙ if_both (λ (x : InterfaceValue). x.interface) (belongs_to (λ c. not (running after c)) v.interface.whose) (unset v.interface) v v.interface refl refl
+
+pub interfaces_stay : (f : InterfaceValue → InterfaceValue) → ((v : InterfaceValue) → (f v).interface ≡ v.interface) → (vs : List InterfaceValue)
+    → map (λ (v : InterfaceValue). v.interface) (map f vs) ≡ map (λ (v : InterfaceValue). v.interface) vs
+interfaces_stay f keeps [] = refl
+interfaces_stay f keeps (v ∷ vs) = ap₂ (λ (i : Interface) (is : List Interface). i ∷ is) (keeps v) (interfaces_stay f keeps vs)
+
+-- ---- Lists
+
+-- what holds of each makes something else hold of each, also of what each becomes
+pub all_of_each : {A B : Type 0} (P : A → Type 0) (Q : B → Type 0) (f : A → B) → ((x : A) → P x → Q (f x)) → (xs : List A) → AllByRecursion P xs → AllByRecursion Q (map f xs)
+all_of_each P Q f each [] all = tt
+all_of_each P Q f each (x ∷ xs) all = (each x all.0, all_of_each P Q f each xs all.1)

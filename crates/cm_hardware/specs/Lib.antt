@@ -1,0 +1,4 @@
+pub mod Wiring
+pub mod Holding
+pub mod Listed
+pub mod Starting

@@ -1,0 +1,228 @@
+-- Components over a board: what the calls of a cycle make of them, one component after the other.
+use Rattle.std.specs.Prelude.{◌≡◌, ℕ, zero, suc, ◌+◌, ◌<◌, ◌≤◌, ◌^◌, ◌==◌, not, ◌&&◌, ◌||◌, Bool, true, false, if◌then◌else◌, List, [], ◌∷◌, ◌++◌, length, map, flat_map, slice_get, Option, None, Some}
+use Rattle.std.specs.List.{AllByRecursion}
+use Rattle.std.specs.Option.{option_map_or}
+use Rattle.fixed_num.specs.declared.value.BodyState.{BodyState}
+use Rattle.fixed_num.specs.declared.value.Value.{Value}
+use Rattle.cm_document.specs.Places.{Interface, Whose, of_joint, of_controller, interfaces_of}
+use Rattle.cm_document.specs.declared.description.CompDesc.{CompDesc}
+use Rattle.cm_model.specs.Components.{write_runs, is_available, is_listed, read_succeeds, read_fails, measured_states, state_interfaces, command_interfaces}
+use Rattle.cm_model.specs.State.{State}
+use Rattle.cm_model.specs.Values.{InterfaceValue}
+use Rattle.cm_model.specs.declared.record.FailedPart.{FailedPart}
+use Rattle.hw_component.specs.Hardware.{Hardware, after_write, after_step, after_move}
+use Rattle.loan_board.specs.Loans.{set, made_available, loan_at, with_loan}
+use Rattle.loan_board.specs.declared.board.Loan.{Loan}
+
+-- what the board keeps of an interface, by who owns which and which are available
+abbrev pub loan_of : (Interface → Option ℕ) → (Interface → Bool) → InterfaceValue → Loan
+loan_of own there v = record { value = v.value; owner = own v.interface; is_command = v.interface.called.is_command; is_available = there v.interface }
+
+-- a component at work, and whether its read or its write failed in the cycle that is aloft
+pub record Mounted : Type 0 where
+  pub hardware : Hardware
+  pub failed : Bool
+
+-- components at work, and the board on which their interfaces stand, with the component of each place
+pub record Wired : Type 0 where
+  pub components : List Mounted
+  pub loans : List Loan
+  pub places : List (Option ℕ)
+
+-- how many state interfaces a component has
+abbrev pub states_count : Mounted → ℕ
+states_count m = length (state_interfaces m.hardware.description)
+
+-- those of all
+abbrev pub all_states : List Mounted → ℕ
+all_states [] = 0
+all_states (m ∷ ms) = states_count m + all_states ms
+
+-- ---- Reads
+
+-- these values are set, from this place on
+abbrev pub with_values : List Loan → ℕ → List Value → List Loan
+with_values loans at [] = loans
+with_values loans at (v ∷ vs) = with_values (with_loan loans at (set v)) (at + 1) vs
+
+-- its read fails in this cycle
+abbrev pub fails_read : ℕ → Mounted → Bool
+fails_read n m = read_fails m.hardware.description m.hardware.life n
+
+-- a component after its read
+abbrev pub read : ℕ → Mounted → Mounted
+read n m = record m { failed = fails_read n m }
+
+-- the board after the read of a component, whose state interfaces begin at this place
+abbrev pub after_read_of : ℕ → ℕ → List Loan → Hardware → List Loan
+after_read_of n at loans h = if read_succeeds h.description h.life n then with_values loans at (measured_states h.description h.bodies) else loans
+
+-- and after the reads of components, one after the other
+abbrev pub after_reads_of : ℕ → ℕ → List Loan → List Mounted → List Loan
+after_reads_of n at loans [] = loans
+after_reads_of n at loans (m ∷ ms) = after_reads_of n (at + states_count m) (after_read_of n at loans m.hardware) ms
+
+-- what is told of a component at this place whose read failed, or else its write; nothing where none did
+abbrev pub failure : ℕ → Bool → Bool → List FailedPart
+failure place reading true = record { place = place; reading = reading } ∷ []
+failure place reading false = []
+
+-- what is told of those that failed so, of components the first of which stands at this place
+abbrev pub failures : Bool → (Mounted → Bool) → ℕ → List Mounted → List FailedPart
+failures reading fails place [] = []
+failures reading fails place (m ∷ ms) = failure place reading (fails m) ++ failures reading fails (place + 1) ms
+
+-- 1 where it is so
+abbrev pub one_if : Bool → ℕ
+one_if true = 1
+one_if false = 0
+
+-- of how many components this holds
+abbrev pub count : (Mounted → Bool) → List Mounted → ℕ
+count holds [] = 0
+count holds (m ∷ ms) = one_if (holds m) + count holds ms
+
+-- of the reads that failed
+abbrev pub failed_reads : ℕ → ℕ → List Mounted → List FailedPart
+failed_reads n place ms = failures true (fails_read n) place ms
+
+-- ---- In a state
+
+-- These components are those of the state: as described, in its lifecycle states and with its bodies; and its values are those of the
+-- interfaces, each at its place.
+pub record IsWired (s : State) (ms : List Mounted) : Type 0 where
+  pub components : s.description.components ≡ map (λ m. m.hardware.description) ms
+  pub lives : s.lives ≡ map (λ m. m.hardware.life) ms
+  pub bodies : s.bodies ≡ flat_map (λ m. m.hardware.bodies) ms
+  pub joints : AllByRecursion (λ m. length m.hardware.bodies ≡ length m.hardware.description.joints) ms
+  pub interfaces : map (λ v. v.interface) s.values ≡ interfaces_of s.description
+
+-- ---- Writes
+
+-- how many command interfaces a component has
+abbrev pub commands_count : Mounted → ℕ
+commands_count m = length (command_interfaces m.hardware.description)
+
+-- those of all
+abbrev pub all_commands : List Mounted → ℕ
+all_commands [] = 0
+all_commands (m ∷ ms) = commands_count m + all_commands ms
+
+-- what the board holds at so many places, from this one on
+abbrev pub values_at : List Loan → ℕ → ℕ → List Value
+values_at loans at zero = []
+values_at loans at (suc n) = (loan_at loans at).value ∷ values_at loans (at + 1) n
+
+-- its turn to be written comes: it is active, and its read of that cycle did not fail
+abbrev pub is_due : Mounted → Bool
+is_due m = write_runs m.hardware.life && not m.failed
+
+-- its write fails in this cycle
+abbrev pub fails_write : ℕ → Mounted → Bool
+fails_write n m = is_due m && is_listed m.hardware.description.fail_write n
+
+-- a component after its write, with what the board holds from its first command interface on
+abbrev pub written : ℕ → ℕ → List Loan → Mounted → Mounted
+written n at loans m =
+    if is_due m then record { hardware = after_write m.hardware n (values_at loans at (commands_count m)); failed = is_listed m.hardware.description.fail_write n }
+    else m
+
+-- components after their writes, the first of which has its first command interface at this place
+abbrev pub all_written : ℕ → ℕ → List Loan → List Mounted → List Mounted
+all_written n at loans [] = []
+all_written n at loans (m ∷ ms) = written n at loans m ∷ all_written n (at + commands_count m) loans ms
+
+-- what is told of the writes that failed
+abbrev pub failed_writes : ℕ → ℕ → List Mounted → List FailedPart
+failed_writes n place ms = failures false (fails_write n) place ms
+
+-- its description lists a cycle in which its read or its write fails
+abbrev pub can_fail : CompDesc → Bool
+can_fail c = not (length c.fail_read == 0) || not (length c.fail_write == 0)
+
+-- How many failures a cycle can tell: one of each component that can fail.
+abbrev pub most_failures : List Mounted → ℕ
+most_failures ms = count (λ m. can_fail m.hardware.description) ms
+
+-- ---- Steps
+
+-- a component after a step of its bodies
+abbrev pub stepped_on : ℕ → Mounted → Mounted
+stepped_on dt_us m = record m { hardware = after_step m.hardware dt_us }
+
+-- the bodies of all joints
+abbrev pub all_bodies : List Mounted → List BodyState
+all_bodies ms = flat_map (λ m. m.hardware.bodies) ms
+
+-- how many joints all components have
+abbrev pub all_joints : List Mounted → ℕ
+all_joints [] = 0
+all_joints (m ∷ ms) = length m.hardware.description.joints + all_joints ms
+
+-- none has 2^32 joints
+abbrev pub AreFew : List Mounted → Type 0
+AreFew ms = AllByRecursion (λ m. length m.hardware.description.joints < 2 ^ 32) ms
+
+-- ---- Failures
+
+-- nobody claims any interface
+abbrev pub AreFree : List Loan → Type 0
+AreFree loans = AllByRecursion (λ loan. loan.owner ≡ None) loans
+
+-- the component whose an interface is; none where a controller exports it
+abbrev pub component_of : Whose → Option ℕ
+component_of (of_joint component joint) = Some component
+component_of (of_controller place) = None
+
+-- a component that failed goes to its state on error
+abbrev pub after_failure : Mounted → Mounted
+after_failure m = if m.failed then record { hardware = after_move m.hardware m.hardware.description.on_error; failed = false } else m
+
+-- it failed, and in its state on error its interfaces are not available
+abbrev pub leaves : Mounted → Bool
+leaves m = m.failed && not (is_available m.hardware.description.on_error)
+
+-- the component of this place does so; no controller does
+abbrev pub has_left : List Mounted → Option ℕ → Bool
+has_left ms None = false
+has_left ms (Some place) = option_map_or leaves (slice_get ms place) false
+
+-- The interfaces of those that leave become unavailable and Unset; these are the components of the places from this one on.
+abbrev pub after_failures_of : List Mounted → ℕ → List (Option ℕ) → List Loan → List Loan
+after_failures_of ms at [] loans = loans
+after_failures_of ms at (c ∷ cs) loans =
+    after_failures_of ms (at + 1) cs (if has_left ms c then with_loan loans at (made_available false) else loans)
+
+-- ---- A cycle
+
+-- the board after the reads of a cycle
+abbrev pub loans_read : ℕ → Wired → List Loan
+loans_read n w = after_reads_of n 0 w.loans w.components
+
+-- the components when they were read and written and their bodies stepped
+abbrev pub components_run : ℕ → ℕ → Wired → List Mounted
+components_run n dt_us w = map (stepped_on dt_us) (all_written n (all_states w.components) (loans_read n w) (map (read n) w.components))
+
+-- the hardware after the cycle, when those that failed went to their states on error
+abbrev pub after_run : ℕ → ℕ → Wired → Wired
+after_run n dt_us w = record {
+  components = map after_failure (components_run n dt_us w);
+  loans = after_failures_of (components_run n dt_us w) 0 w.places (loans_read n w);
+  places = w.places;
+}
+
+-- what is told of its failures: reads come before writes
+abbrev pub failures_told : ℕ → Wired → List FailedPart
+failures_told n w = failed_reads n 0 w.components ++ failed_writes n 0 (map (read n) w.components)
+
+-- ---- What is kept
+
+-- The command interfaces of all components follow their state interfaces, the first of them at this place; the numbers of components
+-- and of a component's joints have 32 bits; each place has its component told, and nobody claims any interface.
+pub record IsManaged (first_command : ℕ) (w : Wired) : Type 0 where
+  pub first : first_command ≡ all_states w.components
+  pub fits : first_command + all_commands w.components ≤ length w.loans
+  pub places : length w.places ≡ length w.loans
+  pub few : length w.components < 2 ^ 32
+  pub joints : AreFew w.components
+  pub free : AreFree w.loans
