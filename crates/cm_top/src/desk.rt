@@ -1,12 +1,16 @@
 //! The manager at work: one state, changed in place by each step.
 
-ghost use Rattle.std.specs.Prelude.{◌≡◌, ◌+◌, ◌<◌, ◌^◌, false, IfOk, OnOk, OnErr, Some, map, length, ◌++◌, option_to_list};
+ghost use Rattle.std.specs.Prelude.{◌≡◌, ◌+◌, ◌<◌, ◌≤◌, ◌^◌, false, IfOk, OnOk, OnErr, Some, map, length, ◌++◌, option_to_list};
 ghost use Rattle.cm_model.specs.State.{blanks_of, with_one_less};
 ghost use Rattle.cm_document.specs.declared.call.Call.TheVariants as call;
+ghost use Rattle.joint_body.specs.declared.TheConstants.{LONGEST_STEP};
+ghost use Rattle.cm_model.specs.Cycle.{period};
+ghost use Rattle.cm_hardware.specs.Wiring.{most_failures, all_joints};
 
+use cm_hardware::ResourceManager;
 use cm_model::{
-    Blanks, Boxed, Call, CtlDesc, CtlKind, CtlLine, CycleRecord, Description, Life, Memory, Name,
-    Rare, Reply, Seq, Shared, Why,
+    Blanks, Boxed, Call, Checked, CtlDesc, CtlKind, CtlLine, Description, Life, Memory, Name, Rare,
+    RecordRoom, RecordSize, Reply, SECOND_US, Seq, Shared, Why,
 };
 use std::alloc::Global;
 use std::marker::Model;
@@ -46,8 +50,12 @@ pub struct Desk<'a> {
     blanks: Blanks,
     loads: u32,
     loaded: Vec<Slot>,
+    hardware: ResourceManager,
+    /// The time from one cycle to the next, in microseconds.
+    period_us: u32,
     ended: u64,
-    aloft: bool,
+    /// The record of the cycle that is aloft, with room for all that it can tell.
+    begun: Option<RecordRoom>,
     closed: bool,
 }
 
@@ -60,25 +68,27 @@ impl<'a> Model for Desk<'a> {
 
     ghost view = { state_of };
 
-    ghost invariant = { λ a. IsKept a.names.items (state_of a) };
+    ghost invariant = { IsKept };
 }
 
 impl<'a> Desk<'a> {
     ghost use Rattle.sequence.specs.Makes.{Makes};
-    ghost use Rattle.cm_model.specs.State.{boot, controller_line, is_chained, controller_lines};
+    ghost use Rattle.cm_model.specs.State.{boot, controller_line, is_chained, controller_lines, interface_lines, component_lines};
     ghost use Rattle.cm_model.specs.Machine.{place_of, is_loaded_at, is_sold_out_at, with_loaded, load_effect, reply_of, can_begin, can_end, can_close, step};
     ghost use Rattle.cm_top.specs.Room.{serials_of};
 
-    /// The manager at boot: nothing is loaded, aloft or ended.
+    /// The manager at boot: nothing is loaded, aloft or ended, and the hardware is as described.
     pub fn boot(
         alloc: Global,
-        description: &'a Description,
+        checked: &'a Checked,
         blanks: Blanks,
         sessions: u32,
     ) -> Result<Desk<'a>, Memory>
-        ensures { IfOk result (λ desk. desk ≡ boot description.now blanks sessions) }
+        ensures { IfOk result (λ desk. desk ≡ boot checked.now blanks sessions) }
     {
+        let description = checked.description();
         let names = names_of(alloc, description.controllers.as_slice())?;
+        let hardware = ResourceManager::make(alloc, checked)?;
         Ok(Desk {
             description,
             names,
@@ -86,8 +96,10 @@ impl<'a> Desk<'a> {
             blanks,
             loads: 0,
             loaded: Vec::new(alloc),
+            hardware,
+            period_us: period_us(checked),
             ended: 0,
-            aloft: false,
+            begun: None,
             closed: false,
         })
     }
@@ -108,43 +120,56 @@ impl<'a> Desk<'a> {
     {
         match call {
             Call::Load(name) if who < self.sessions => Ok(Some(self.load(name)?)),
-            Call::ListControllers if who < self.sessions => Ok(Some(self.list(alloc)?)),
-            Call::Begin(cycle) if who == self.sessions => Ok(self.begin(*cycle)),
+            Call::ListControllers if who < self.sessions => Ok(Some(self.controllers(alloc)?)),
+            Call::ListInterfaces if who < self.sessions => Ok(Some(self.interfaces(alloc)?)),
+            Call::ListComponents if who < self.sessions => Ok(Some(self.components(alloc)?)),
+            Call::Begin(cycle) if who == self.sessions => self.begin(alloc, *cycle),
             Call::End(cycle) if who == self.sessions => Ok(self.end(*cycle)),
             Call::Close if who == self.sessions => Ok(self.close()),
             _ => Ok(None),
         }
     }
 
-    /// The loop begins a cycle, where it can. Nothing can wait to be decided yet.
+    /// The loop begins a cycle, where it can, and takes the memory that the cycle needs. Nothing can wait to be decided yet.
     #[tactic(auto, unfolding(cm_model::specs::Machine::step))]
-    fn begin(&mut self, cycle: u64) -> Option<Reply>
-        ensures { Makes (step self.old self.old.sessions (call.Begin cycle)) self.old self.new result }
+    fn begin(&mut self, alloc: Global, cycle: u64) -> Result<Option<Reply>, Memory>
+        ensures made { IfOk result
+            (Makes (step self.old self.old.sessions (call.Begin cycle)) self.old self.new) }
+        ensures kept { OnErr result (self.new ≡ self.old) }
     {
         if !self.can_begin(cycle) {
-            return None;
+            return Ok(None);
         }
-        self.aloft = true;
-        Some(Reply::Decisions(Rare::none()))
+        self.begun = Some(RecordRoom::with_room(alloc, record_size(&self.hardware))?);
+        Ok(Some(Reply::Decisions(Rare::none())))
     }
 
     fn can_begin(&self, cycle: u64) -> bool
         ensures { result ≡ can_begin self.now cycle }
     {
-        !self.aloft && !self.closed && self.ended == cycle && cycle < self.description.cycles
+        self.begun.is_none()
+            && !self.closed
+            && self.ended == cycle
+            && cycle < self.description.cycles
     }
 
-    /// The loop ends the cycle that is aloft. Nothing can happen in one yet.
+    /// The loop ends the cycle that is aloft: the hardware makes it, and its record tells of it. It takes no memory.
     #[tactic(auto, unfolding(cm_model::specs::Machine::step))]
     fn end(&mut self, cycle: u64) -> Option<Reply>
         ensures { Makes (step self.old self.old.sessions (call.End cycle)) self.old self.new result }
     {
-        if !self.aloft || self.ended != cycle {
+        if self.ended != cycle {
             return None;
         }
+        let mut record = self.begun.take()?;
+        self.hardware.cycle(
+            cycle,
+            self.period_us,
+            &mut record.failed,
+            &mut record.bodies,
+        );
         self.ended = one_more(self.ended, self.description.cycles);
-        self.aloft = false;
-        Some(Reply::Cycle(CycleRecord::quiet(cycle)))
+        Some(Reply::Cycle(record.land(cycle)))
     }
 
     /// The loop closes, where no cycle is aloft.
@@ -152,7 +177,7 @@ impl<'a> Desk<'a> {
     fn close(&mut self) -> Option<Reply>
         ensures { Makes (step self.old self.old.sessions call.Close) self.old self.new result }
     {
-        if self.aloft || self.closed {
+        if self.begun.is_some() || self.closed {
             return None;
         }
         self.closed = true;
@@ -256,11 +281,58 @@ impl<'a> Desk<'a> {
     }
 
     /// The list of controllers.
-    fn list(&self, alloc: Global) -> Result<Reply, Memory>
+    fn controllers(&self, alloc: Global) -> Result<Reply, Memory>
         ensures { IfOk result (λ reply. reply ≡ Reply.Controllers (controller_lines self.now)) }
     {
         Ok(Reply::Controllers(Boxed::new(alloc, self.lines(alloc)?)?))
     }
+
+    /// The list of interfaces.
+    fn interfaces(&self, alloc: Global) -> Result<Reply, Memory>
+        ensures { IfOk result (λ reply. reply ≡ Reply.Interfaces (interface_lines self.now)) }
+    {
+        let lines = self.hardware.interface_lines(alloc)?;
+        Ok(Reply::Interfaces(Boxed::new(alloc, lines)?))
+    }
+
+    /// The list of components.
+    fn components(&self, alloc: Global) -> Result<Reply, Memory>
+        ensures { IfOk result (λ reply. reply ≡ Reply.Components (component_lines self.now)) }
+    {
+        let lines = self.hardware.component_lines(alloc)?;
+        Ok(Reply::Components(Boxed::new(alloc, lines)?))
+    }
+}
+
+/// How much one cycle of this hardware can have to tell. No controller can be active yet.
+fn record_size(hardware: &ResourceManager) -> RecordSize
+    ensures { result ≡ record {
+      failed = most_failures hardware.now.components;
+      ran = 0;
+      values = 0;
+      numbers = 0;
+      bodies = all_joints hardware.now.components;
+      stops = 0;
+    } }
+{
+    RecordSize {
+        failed: hardware.most_failures(),
+        ran: 0,
+        values: 0,
+        numbers: 0,
+        bodies: hardware.joints(),
+        stops: 0,
+    }
+}
+
+/// The time from one cycle to the next, in microseconds.
+#[tactic(auto, using(hw_component::proofs::MakingLemmas::valid_period))]
+fn period_us(checked: &Checked) -> u32
+    ensures period { result ≡ period checked.now }
+    ensures some_time { 1 ≤ result }
+    ensures no_longer { result ≤ LONGEST_STEP }
+{
+    SECOND_US / checked.description().update_rate
 }
 
 /// The next number, which a greater one leaves room for.

@@ -4,14 +4,14 @@ ghost use Rattle.std.specs.Prelude.{◌≡◌, ◌+◌, ◌<◌, ◌≤◌, ◌^
 ghost use Rattle.sequence.specs.Answers.{Answers};
 ghost use Rattle.cm_document.specs.declared.limits.TheConstants.{LONGEST_DOCUMENT};
 ghost use Rattle.cm_document.specs.Reading.{told_as};
-ghost use Rattle.cm_document.specs.Document.{without_components, checked, accepted_description, accepted_script, document_of, document};
-ghost use Rattle.cm_document.specs.Valid.{IsDescribed};
+ghost use Rattle.cm_document.specs.Document.{accepted_description, accepted_script, document_of, document};
+ghost use Rattle.cm_document.specs.Valid.{valid, IsDescribed};
 ghost use Rattle.cm_top.specs.Status.{IsPlainFault};
 
 use crate::parts::divide;
 use cm_model::{
     CheckFault, Checked, DescFault, DescProblem, Description, Document, DocumentFault, Script,
-    ScriptFault, Text,
+    ScriptFault,
 };
 use desc_check::check;
 use desc_text::read_description;
@@ -34,7 +34,7 @@ pub fn read_document(alloc: Global, bytes: &[u8]) -> Result<Document, DocumentFa
     })
 }
 
-/// The description in its text: read, then checked, and then without a component; or its first fault.
+/// The description in its text: read, and then checked; or its first fault.
 #[tactic(auto, unfolding(cm_document::specs::Document::accepted_description), using(crate::proofs::PlainLemmas::plain_faults))]
 fn description(alloc: Global, text: &[u8]) -> Result<Checked, DocumentFault>
     ensures reads { Answers DocumentFault.Memory (told_as DocumentFault.Description (accepted_description text.now))
@@ -48,31 +48,19 @@ fn description(alloc: Global, text: &[u8]) -> Result<Checked, DocumentFault>
     }
 }
 
-/// A description that was read: checked, and then without a component.
+/// A description that was read, checked.
 #[tactic(auto, using(crate::proofs::PlainLemmas::plain_faults))]
 fn checked(alloc: Global, description: Description) -> Result<Checked, DocumentFault>
     requires described { IsDescribed description }
-    ensures reads { Answers DocumentFault.Memory (told_as DocumentFault.Description (checked description)) result }
+    ensures reads { Answers DocumentFault.Memory
+        (told_as DocumentFault.Description (told_as DescProblem.Check (valid description))) result }
     ensures plain { IfErr result IsPlainFault }
 {
     match check(alloc, description) {
-        Ok(checked) => without_components(alloc, checked),
+        Ok(checked) => Ok(checked),
         Err(CheckFault::Memory) => Err(DocumentFault::Memory),
         Err(fault) => Err(DocumentFault::Description(DescProblem::Check(fault))),
     }
-}
-
-/// Components are not built yet: a description that has one is refused at their key.
-fn without_components(alloc: Global, checked: Checked) -> Result<Checked, DocumentFault>
-    ensures reads { Answers DocumentFault.Memory (told_as DocumentFault.Description (without_components checked))
-        result }
-    ensures plain { IfErr result IsPlainFault }
-{
-    if checked.description().components.as_slice().is_empty() {
-        return Ok(checked);
-    }
-    let key = Text::from_string(String::from_str(alloc, "component")?);
-    Err(DocumentFault::Description(DescProblem::Text(DescFault::BadKey(key))))
 }
 
 /// The script after so many lines of description and a separator, or its first bad line. Lines are counted from 1 over

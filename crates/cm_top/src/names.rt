@@ -33,7 +33,7 @@ impl<'a> Model for Names<'a> {
 }
 
 impl<'a> Names<'a> {
-    ghost use Rattle.cm_model.specs.Items.{name_at};
+    ghost use Rattle.cm_model.specs.Items.{nth_name};
 
     /// What stands for each number in the trace of a history.
     pub fn of(
@@ -54,7 +54,7 @@ impl<'a> Names<'a> {
 
     /// The name of the controller with this serial.
     pub fn controller(&self, serial: u32) -> &str
-        ensures { result.now ≡ name_at self.now.controllers serial }
+        ensures { result.now ≡ nth_name self.now.controllers serial }
     {
         match self.controllers.get(serial as usize) {
             Some(name) => name.as_str(),
@@ -71,7 +71,7 @@ impl<'a> Names<'a> {
 
     /// The name of the joint at this place.
     pub fn joint(&self, place: usize) -> &str
-        ensures { result.now ≡ name_at self.now.joints place }
+        ensures { result.now ≡ nth_name self.now.joints place }
     {
         match self.joints.get(place) {
             Some(name) => name.as_str(),
@@ -81,7 +81,7 @@ impl<'a> Names<'a> {
 
     /// The name of the interface at this place.
     pub fn interface(&self, place: u32) -> &str
-        ensures { result.now ≡ name_at self.now.interfaces place }
+        ensures { result.now ≡ nth_name self.now.interfaces place }
     {
         match self.interfaces.get(place as usize) {
             Some(name) => name.as_str(),

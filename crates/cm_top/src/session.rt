@@ -76,7 +76,7 @@ impl<'a> Job<'a> {
     {
         let texts = script.sessions.as_slice();
         let sessions = waiting(alloc, texts)?;
-        let desk = Desk::boot(alloc, checked.description(), blanks, texts.len() as u32)?;
+        let desk = Desk::boot(alloc, checked, blanks, texts.len() as u32)?;
         Ok(Job {
             desk,
             made: Vec::new(alloc),
