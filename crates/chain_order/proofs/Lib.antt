@@ -5,3 +5,6 @@ pub mod PlaceLemmas
 pub mod RankLemmas
 pub mod RunLemmas
 pub mod FewLemmas
+pub mod CountLemmas
+pub mod DepthLemmas
+pub mod OrderLemmas

@@ -9,6 +9,7 @@ pub use orders::{by_rank, heights, in_order, is_chained, run_list};
 pub use places::PlaceSet;
 pub use rates::{divisor, due};
 
+pub mod laws;
 mod links;
 mod loops;
 mod orders;

@@ -1,0 +1,10 @@
+pub mod TestLemmas
+pub mod StayLemmas
+pub mod JoinLemmas
+pub mod StrictLemmas
+pub mod BestLemmas
+pub mod ElementLemmas
+pub mod DecisionLemmas
+pub mod CauseLemmas
+pub mod LeavingLemmas
+pub mod MaximalLemmas

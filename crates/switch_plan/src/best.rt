@@ -1,0 +1,288 @@
+//! Switches of which is done what can be done.
+
+ghost use Rattle.std.specs.Prelude.{◌≡◌, ◌<◌, ◌++◌, ◌&&◌, ◌||◌, length, find, filter_map, option_map, IfOk, OnOk, All};
+ghost use Rattle.cm_document.specs.Links.{refs_of, reference_for};
+ghost use Rattle.cm_model.specs.Order.{set_of};
+ghost use Rattle.cm_model.specs.Scene.{controllers_in, claims_at, is_claimed_by};
+ghost use Rattle.cm_model.specs.Switches.{planned};
+ghost use Rattle.cm_model.specs.BestEffort.{Joined, stays, stays_more, kept_drop, join, joining, best_leaving, best_asked, best};
+ghost use Rattle.chain_order.specs.Links.{each_below};
+ghost use Rattle.switch_plan.specs.View.{scene_of, IsPlace, HavePlaces, HasFlags};
+ghost use Rattle.switch_plan.specs.Settings.{set_scene, IsSetting};
+
+use crate::changes::{Change, done};
+use crate::faults::{Proposal, fault};
+use crate::interfaces::claims;
+use crate::lists::sifted;
+use crate::setting::{Setting, order};
+use crate::view::{View, controllers, described};
+use chain_order::{PlaceSet, by_rank, heights, is_chained};
+use cm_document::{CtlDesc, IfaceName, Memory, Name};
+use cm_model::{Cause, Dropped, Member, Planned};
+use std::alloc::Global;
+
+/// The plan of a switch of best effort.
+pub fn best(alloc: Global, setting: &Setting, off: &[Name], on: &[Name]) -> Result<Planned, Memory>
+    requires { IsSetting setting.now }
+    ensures { IfOk result (λ plan. plan
+        ≡ planned (set_scene setting.now) (best (set_scene setting.now) off.now on.now)) }
+{
+    let mut dropped = Vec::new(alloc);
+    let asked = sifted(alloc, &setting.view, None, off, &mut dropped)?;
+    let plan = best_asked(alloc, setting, &asked, dropped, on)?;
+    Ok(plan)
+}
+
+/// The plan, once it is known which of those to deactivate have no fault of the list.
+fn best_asked(
+    alloc: Global,
+    setting: &Setting,
+    asked: &[Member],
+    dropped: Vec<Dropped>,
+    on: &[Name],
+) -> Result<Planned, Memory>
+    requires setting { IsSetting setting.now }
+    requires within { HavePlaces (set_scene setting.now) asked.now }
+    ensures { IfOk result (λ plan. plan
+        ≡ planned (set_scene setting.now) (best_asked (set_scene setting.now) asked.now dropped.items on.now)) }
+{
+    let mut dropped = dropped;
+    let leaving = PlaceSet::of(alloc, controllers(&setting.view).len(), asked)?;
+    let staying = stays(alloc, setting, &leaving)?;
+    drop_kept(setting, &staying, asked, &mut dropped)?;
+    let leaving = leaving.without(alloc, &staying)?;
+    let plan = best_leaving(alloc, setting, &leaving, dropped, on)?;
+    Ok(plan)
+}
+
+/// The plan, once it is known which controllers leave.
+fn best_leaving(
+    alloc: Global,
+    setting: &Setting,
+    leaving: &PlaceSet,
+    dropped: Vec<Dropped>,
+    on: &[Name],
+) -> Result<Planned, Memory>
+    requires setting { IsSetting setting.now }
+    requires leaving { HasFlags (set_scene setting.now) leaving.now }
+    ensures { IfOk result (λ plan. plan ≡ planned (set_scene setting.now)
+        (best_leaving (set_scene setting.now) (set_of leaving.now) dropped.items on.now)) }
+{
+    let mut dropped = dropped;
+    let coming = sifted(alloc, &setting.view, Some(leaving), on, &mut dropped)?;
+    let set = joined(alloc, setting, leaving, &coming, &mut dropped)?;
+    let again = leaving.both(alloc, &set)?;
+    let change = Change {
+        setting: *setting,
+        set: &set,
+        again: &again,
+    };
+    let plan = done(alloc, &change, dropped)?;
+    Ok(plan)
+}
+
+/// The controllers that stay, where these are asked to leave.
+fn stays(alloc: Global, setting: &Setting, leaving: &PlaceSet) -> Result<PlaceSet, Memory>
+    requires { IsSetting setting.now }
+    ensures length { IfOk result (λ set. HasFlags (set_scene setting.now) set) }
+    ensures set { IfOk result (λ set. set_of set ≡ stays (set_scene setting.now) (set_of leaving.now)) }
+{
+    let mut staying = setting.active.without(alloc, leaving)?;
+    for _round in 0..controllers(&setting.view).len() {
+        let more = stays_besides(alloc, setting, &staying)?;
+        if more.flags() == staying.flags() {
+            return Ok(staying);
+        }
+        staying = more;
+    }
+    Ok(staying)
+}
+
+/// Those that stay, and each active one that one of them precedes.
+fn stays_besides(alloc: Global, setting: &Setting, staying: &PlaceSet) -> Result<PlaceSet, Memory>
+    requires { IsSetting setting.now }
+    ensures { IfOk result (λ set. set
+        ≡ each_below (stays_more (set_scene setting.now) (set_of staying.now))
+        (length (controllers_in (set_scene setting.now)))) }
+{
+    let mut flags = Vec::new(alloc);
+    for place in 0..setting.leaders.len() {
+        flags.push(stays_more(setting, staying, place))?;
+    }
+    Ok(PlaceSet::from_flags(flags))
+}
+
+/// Whether a controller stays, or is active and one that stays precedes it.
+fn stays_more(setting: &Setting, staying: &PlaceSet, place: u32) -> bool
+    requires setting { IsSetting setting.now }
+    requires within { IsPlace (set_scene setting.now) place }
+    ensures { result ≡ stays_more (set_scene setting.now) (set_of staying.now) place }
+{
+    stays_or_chained(
+        staying.has(place),
+        setting.active.has(place),
+        is_chained(setting.leaders, staying, place),
+    )
+}
+
+/// Whether it stays, or is active and chained by one that does.
+fn stays_or_chained(staying: bool, active: bool, chained: bool) -> bool
+    ensures { result ≡ (staying || (active && chained)) }
+{
+    staying || (active && chained)
+}
+
+/// Drops each that was asked to leave and stays.
+fn drop_kept(
+    setting: &Setting,
+    staying: &PlaceSet,
+    asked: &[Member],
+    dropped: &mut Vec<Dropped>,
+) -> Result<(), Memory>
+    requires setting { IsSetting setting.now }
+    requires within { HavePlaces (set_scene setting.now) asked.now }
+    ensures { OnOk result (dropped.new.items
+        ≡ dropped.old.items ++ filter_map (kept_drop (set_scene setting.now) (set_of staying.now)) asked.now) }
+{
+    for member in asked {
+        if let Some(kept) = kept_drop(setting, staying, member)? {
+            dropped.push(kept)?;
+        }
+    }
+    Ok(())
+}
+
+/// A controller that was asked to leave and stays, with the reference that would be missing.
+fn kept_drop(
+    setting: &Setting,
+    staying: &PlaceSet,
+    member: &Member,
+) -> Result<Option<Dropped>, Memory>
+    requires setting { IsSetting setting.now }
+    requires within { IsPlace (set_scene setting.now) member.now.place }
+    ensures { IfOk result (λ kept. kept ≡ kept_drop (set_scene setting.now) (set_of staying.now) member.now) }
+{
+    if !staying.has(member.place) {
+        return Ok(None);
+    }
+    let controller = described(&setting.view, member.place);
+    let Some(reference) = needed_reference(&setting.view, staying, controller)? else {
+        return Ok(None);
+    };
+    Ok(Some(Dropped {
+        name: controller.name.clone()?,
+        cause: Cause::MissingFollower(reference),
+    }))
+}
+
+/// The first reference of a controller that one claims which stays.
+fn needed_reference(
+    view: &View,
+    staying: &PlaceSet,
+    controller: &CtlDesc,
+) -> Result<Option<IfaceName>, Memory>
+    ensures { IfOk result (λ found. found
+        ≡ find (is_claimed_by (controllers_in (scene_of view.now)) (set_of staying.now)) (refs_of controller.now)) }
+{
+    for own in controller.exported_for() {
+        let reference = reference_for(controller, own)?;
+        if is_claimed(controllers(view), staying, &reference) {
+            return Ok(Some(reference));
+        }
+    }
+    Ok(None)
+}
+
+/// The reference of a controller that stands for one of its own interfaces.
+fn reference_for(controller: &CtlDesc, own: &IfaceName) -> Result<IfaceName, Memory>
+    ensures { IfOk result (λ reference. reference ≡ reference_for controller.now.name own.now) }
+{
+    let (IfaceName::Joint { joint, kind } | IfaceName::Reference { joint, kind, .. }) = own;
+    Ok(IfaceName::Reference {
+        controller: controller.name.clone()?,
+        joint: joint.clone()?,
+        kind: *kind,
+    })
+}
+
+/// Whether a member of a set claims an interface.
+fn is_claimed(controllers: &[CtlDesc], set: &PlaceSet, interface: &IfaceName) -> bool
+    ensures { result ≡ is_claimed_by controllers.now (set_of set.now) interface.now }
+{
+    for place in 0..controllers.len() {
+        if is_claimed_at(controllers, set, place, interface) {
+            return true;
+        }
+    }
+    false
+}
+
+/// Whether the controller at a place is a member and claims an interface.
+fn is_claimed_at(
+    controllers: &[CtlDesc],
+    set: &PlaceSet,
+    place: usize,
+    interface: &IfaceName,
+) -> bool
+    requires { place < length controllers.now }
+    ensures { result ≡ (set_of set.now place && claims_at controllers.now place interface.now) }
+{
+    set.holds(place) && claims(&controllers[place], interface)
+}
+
+/// The controllers that are active once these have joined one by one; those that cannot are dropped.
+fn joined(
+    alloc: Global,
+    setting: &Setting,
+    leaving: &PlaceSet,
+    coming: &[Member],
+    dropped: &mut Vec<Dropped>,
+) -> Result<PlaceSet, Memory>
+    requires setting { IsSetting setting.now }
+    requires within { HavePlaces (set_scene setting.now) coming.now }
+    ensures length { IfOk result (λ set. HasFlags (set_scene setting.now) set) }
+    ensures joined { IfOk result (λ set. record { set = set_of set; dropped = dropped.new.items }
+        ≡ joining (set_scene setting.now) (set_of leaving.now) dropped.old.items coming.now) }
+{
+    let on = PlaceSet::of(alloc, controllers(&setting.view).len(), coming)?;
+    let heights = heights(alloc, setting.view.checked)?;
+    let ordered = by_rank(alloc, &heights, coming)?;
+    let mut set = setting.active.without(alloc, leaving)?;
+    for member in &ordered {
+        set = join(alloc, setting, &on, set, member, dropped)?;
+    }
+    Ok(set)
+}
+
+/// One more where it has no fault beside those that are active by then; else it is dropped.
+fn join(
+    alloc: Global,
+    setting: &Setting,
+    on: &PlaceSet,
+    set: PlaceSet,
+    member: &Member,
+    dropped: &mut Vec<Dropped>,
+) -> Result<PlaceSet, Memory>
+    requires setting { IsSetting setting.now }
+    requires within { IsPlace (set_scene setting.now) member.now.place }
+    requires flags { HasFlags (set_scene setting.now) set }
+    ensures length { IfOk result (λ after. HasFlags (set_scene setting.now) after) }
+    ensures joined { IfOk result (λ after. record { set = set_of after; dropped = dropped.new.items }
+        ≡ join (set_scene setting.now) (set_of on.now)
+        (record { set = set_of set; dropped = dropped.old.items }) member.now) }
+{
+    let tried = set.with(alloc, member.place)?;
+    let members = order(alloc, setting, &tried)?;
+    let proposal = Proposal {
+        view: setting.view,
+        set: &tried,
+        on,
+        order: &members,
+    };
+    let Some(cause) = fault(&proposal, member.place)? else {
+        return Ok(tried);
+    };
+    let name = described(&setting.view, member.place).name.clone()?;
+    dropped.push(Dropped { name, cause })?;
+    Ok(set)
+}

@@ -1,0 +1,19 @@
+//! Plans of switches: what becomes of a request, and which controllers are deactivated and activated for it, in which order.
+//! A plan is exactly the one of the written rules; nothing is done here.
+#![tactic(auto)]
+
+pub use cm_model::{Dropped, Outcome, Planned, Seen, SwitchRequest};
+pub use requests::plan;
+pub use view::View;
+
+mod best;
+mod changes;
+mod faults;
+mod interfaces;
+pub mod laws;
+mod lists;
+mod members;
+mod requests;
+mod setting;
+mod strict;
+mod view;

@@ -1,0 +1,72 @@
+//! What a decision rests on.
+
+ghost use Rattle.std.specs.Prelude.{◌≡◌, ℕ, ◌<◌, length, map, filter, IfOk, All};
+ghost use Rattle.cm_model.specs.Order.{set_of};
+ghost use Rattle.cm_model.specs.Scene.{controllers_in, is_running, has_seen, active, members, order};
+ghost use Rattle.switch_plan.specs.View.{scene_of, IsView, HavePlaces, HasFlags};
+ghost use Rattle.switch_plan.specs.Settings.{set_scene, IsSetting};
+
+use crate::members::{is_running, member};
+use crate::view::{View, controllers};
+use chain_order::{Links, PlaceSet, in_order};
+use cm_document::Memory;
+use cm_model::{Member, Seen};
+use std::alloc::Global;
+
+/// What a decision rests on: the view, with what is worked out of it once.
+#[derive(Clone, Copy)]
+pub struct Setting<'a> {
+    /// What is decided by.
+    pub view: View<'a>,
+    /// Each controller with those that precede it.
+    pub leaders: &'a Links,
+    /// The active controllers.
+    pub active: &'a PlaceSet,
+}
+
+/// The active controllers.
+pub fn active(alloc: Global, view: &View) -> Result<PlaceSet, Memory>
+    requires { IsView view.now }
+    ensures length { IfOk result (λ set. HasFlags (scene_of view.now) set) }
+    ensures set { IfOk result (λ set. (p : ℕ) → set_of set p ≡ active (scene_of view.now) p) }
+{
+    let mut flags = Vec::new(alloc);
+    for place in 0..controllers(view).len() {
+        flags.push(is_active_at(view.loaded, place))?;
+    }
+    Ok(PlaceSet::from_flags(flags))
+}
+
+/// Whether the controller at a place is active.
+fn is_active_at(loaded: &[Seen], place: usize) -> bool
+    ensures { result ≡ has_seen (λ l. is_running l.life) loaded.now place }
+{
+    loaded.iter().any(|seen| seen.place as usize == place && is_running(seen.life))
+}
+
+/// The members of a set, by serial.
+fn members(alloc: Global, view: &View, set: &PlaceSet) -> Result<Vec<Member>, Memory>
+    requires { IsView view.now }
+    ensures within { IfOk result (λ list. HavePlaces (scene_of view.now) list.items) }
+    ensures members { IfOk result (λ list. list.items ≡ members (scene_of view.now) (set_of set.now)) }
+{
+    let mut list = Vec::new(alloc);
+    for seen in view.loaded {
+        if set.has(seen.place) {
+            list.push(member(seen))?;
+        }
+    }
+    Ok(list)
+}
+
+/// The members of a set in the order of their updates.
+pub fn order(alloc: Global, setting: &Setting, set: &PlaceSet) -> Result<Vec<Member>, Memory>
+    requires setting { IsSetting setting.now }
+    requires length { HasFlags (set_scene setting.now) set.now }
+    ensures within { IfOk result (λ list. HavePlaces (set_scene setting.now) list.items) }
+    ensures order { IfOk result (λ list. list.items ≡ order (set_scene setting.now) (set_of set.now)) }
+{
+    let list = members(alloc, &setting.view, set)?;
+    let ordered = in_order(alloc, setting.leaders, set, &list)?;
+    Ok(ordered)
+}

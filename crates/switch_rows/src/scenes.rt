@@ -1,0 +1,189 @@
+//! Pages of scenes, and how they are tried.
+
+ghost use Rattle.std.specs.Prelude.{◌<◌, IsTrue, All};
+
+use crate::causes::{LISTS, MEMBERS};
+use crate::efforts::EFFORTS;
+use crate::largest::{RISING, RISING_REQUESTS, SINKING, SINKING_REQUESTS};
+use crate::restarts::RESTARTS;
+use crate::robots::{ARM_AND_LEG, ONE_JOINT, SEVEN};
+use cm_model::{Checked, Life, Name, Seen, Seq};
+use desc_check::check;
+use desc_text::read_description;
+use ground_rows::pages::repeated;
+use std::alloc::Global;
+use std::test::Fail;
+use switch_plan::{Planned, SwitchRequest, View, plan};
+
+#[test]
+fn requests_have_their_plans(rt: HostRuntime) -> Result<(), Fail> {
+    let alloc = rt.alloc();
+    for (robot, page) in [
+        (SEVEN, ONE_JOINT),
+        (ARM_AND_LEG, LISTS),
+        (ARM_AND_LEG, MEMBERS),
+        (ARM_AND_LEG, RESTARTS),
+        (ARM_AND_LEG, EFFORTS),
+        (RISING, RISING_REQUESTS),
+        (SINKING, SINKING_REQUESTS),
+    ] {
+        assert_eq!(rt; differences(alloc, robot, page)?.as_str(), "");
+    }
+    Ok(())
+}
+
+/// Where a page is told otherwise than it says, a line for each request. A case is a paragraph: the scene, and lines
+/// `REQUEST => TOLD`, each decided in that scene. A line that ends with `\` goes on in the next.
+fn differences(alloc: Global, robot: &str, page: &str) -> Result<String, Fail> {
+    let robot = repeated(alloc, robot, '<', '>')?;
+    let page = page.replace(alloc, "\\\n", "")?;
+    let mut found = String::new(alloc);
+    for case in page.as_str().split("\n\n") {
+        let case = repeated(alloc, case, '<', '>')?;
+        let mut scene = Scene::of(alloc, robot.as_str())?;
+        for line in case.as_str().lines() {
+            match line.split_once(" => ") {
+                None => scene.add(line)?,
+                Some((request, want)) => {
+                    let got = scene.told(alloc, request)?;
+                    if got.as_str() != want {
+                        write!(found, "{line}: {got}\n")?;
+                    }
+                }
+            }
+        }
+    }
+    Ok(found)
+}
+
+/// A description with what is loaded of it; its components are active where nothing else is said.
+#[derive(Drop)]
+struct Scene {
+    checked: Checked,
+    loaded: Vec<Seen>,
+    components: Vec<Life>,
+}
+
+impl Scene {
+    /// The description of this text, with nothing loaded.
+    fn of(alloc: Global, text: &str) -> Result<Scene, Fail> {
+        let checked = check(alloc, read_description(alloc, text.as_bytes())?)?;
+        let count = checked.description().components.as_slice().len();
+        Ok(Scene {
+            checked,
+            loaded: Vec::new(alloc),
+            components: vec![in alloc; Life::Active; count]?,
+        })
+    }
+
+    /// `NAME STATE`: a controller that is loaded next, with `chained` for an active one that is, and `late` for an inactive
+    /// one that is not ready; or `PLACE STATE` of a component.
+    fn add(&mut self, line: &str) -> Result<(), Fail> {
+        let (name, word) = line.split_once(" ").ok_or("no state")?;
+        let life = match word {
+            "unconfigured" => Life::Unconfigured,
+            "inactive" | "late" => Life::Inactive,
+            "finalized" => Life::Finalized,
+            _ => Life::Active,
+        };
+        match name.parse() {
+            Ok(place) => self.set_component(place, life),
+            Err(_) => self.load(name, word, life),
+        }
+    }
+
+    /// A component's state.
+    fn set_component(&mut self, place: usize, life: Life) -> Result<(), Fail> {
+        if place >= self.components.len() {
+            return Err(Fail::from("no such component"));
+        }
+        self.components[place] = life;
+        Ok(())
+    }
+
+    /// A controller is loaded next.
+    fn load(&mut self, name: &str, word: &str, life: Life) -> Result<(), Fail> {
+        let place = self.place_of(name)?;
+        let serial = u32::try_from(self.loaded.len())?;
+        self.loaded.push(Seen {
+            serial,
+            place,
+            life,
+            chained: word == "chained",
+            ready: word != "late",
+        })?;
+        Ok(())
+    }
+
+    /// The place of a controller.
+    fn place_of(&self, name: &str) -> Result<u32, Fail> {
+        let controllers = self.checked.description().controllers.as_slice();
+        let place = controllers
+            .iter()
+            .position(|controller| controller.name.as_str() == name);
+        Ok(u32::try_from(place.ok_or("no such controller")?)?)
+    }
+
+    /// What is told of a request: the outcome, and the names of those to deactivate and to activate.
+    fn told(&self, alloc: Global, words: &str) -> Result<String, Fail> {
+        let request = request_of(alloc, words)?;
+        let planned = self.planned(alloc, &request)?;
+        let mut told = format!(in alloc; "{};", planned.outcome)?;
+        self.push_names(&mut told, " -", planned.off.as_slice())?;
+        told.push_str(";")?;
+        self.push_names(&mut told, " +", planned.on.as_slice())?;
+        Ok(told)
+    }
+
+    /// The plan of a request.
+    fn planned(&self, alloc: Global, request: &SwitchRequest) -> Result<Planned, Fail> {
+        let count = self.checked.description().controllers.as_slice().len();
+        if !are_below(&self.loaded, count) {
+            return Err(Fail::from("no such place"));
+        }
+        let view = View {
+            checked: &self.checked,
+            loaded: &self.loaded,
+            components: &self.components,
+        };
+        Ok(plan(alloc, &view, request)?)
+    }
+
+    /// The names of the controllers with these serials, each behind a sign.
+    fn push_names(&self, told: &mut String, sign: &str, serials: &[u32]) -> Result<(), Fail> {
+        let controllers = self.checked.description().controllers.as_slice();
+        for serial in serials {
+            let seen = self.loaded.iter().find(|seen| seen.serial == *serial);
+            let seen = seen.ok_or("no such serial")?;
+            let controller = controllers.get(seen.place as usize).ok_or("no such place")?;
+            write!(told, "{sign}{}", controller.name)?;
+        }
+        Ok(())
+    }
+}
+
+/// Whether each of these has its place below the count.
+fn are_below(loaded: &[Seen], count: usize) -> bool
+    ensures { IsTrue result → All (λ l. l.place < count) loaded.now }
+{
+    loaded.iter().all(|seen| (seen.place as usize) < count)
+}
+
+/// `strict` or `best`, and names behind `-` to deactivate and behind `+` to activate.
+fn request_of(alloc: Global, words: &str) -> Result<SwitchRequest, Fail> {
+    let mut request = SwitchRequest {
+        on: Seq::new(alloc),
+        off: Seq::new(alloc),
+        strict: false,
+    };
+    for word in words.split_whitespace() {
+        if let Some(name) = word.strip_prefix('-') {
+            request.off.push(Name::read(alloc, name.as_bytes())?)?;
+        } else if let Some(name) = word.strip_prefix('+') {
+            request.on.push(Name::read(alloc, name.as_bytes())?)?;
+        } else {
+            request.strict = word == "strict";
+        }
+    }
+    Ok(request)
+}
