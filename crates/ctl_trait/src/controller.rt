@@ -2,7 +2,8 @@
 
 ghost use Rattle.std.specs.Prelude.{◌≡◌, ◌↔◌, true, length, Err, OnOk, OnErr};
 ghost use Rattle.cm_model.specs.Kinds.{is_refused};
-ghost use Rattle.cm_model.specs.Controllers.{configured, cleaned_up, activated, deactivated, mailed, is_ready, update_step, put_out, IsIdle, IsRunning, CanBeConfigured, CanBeActivated, CanBeMailed, CanBeUpdated};
+ghost use Rattle.cm_model.specs.Controllers.{configured, cleaned_up, activated, deactivated, mailed, is_ready, update_step, put_out, IsIdle, IsRunning, CanBeConfigured, CanBeActivated, CanBeUpdated};
+ghost use Rattle.ctl_trait.specs.Taking.{CanTake};
 ghost use Rattle.cm_model.specs.declared.data.CtlData.{CtlData};
 
 use crate::fault::CfgFault;
@@ -38,9 +39,9 @@ pub trait Controller: Drop + Send {
         requires { CanBeActivated (meaning self.old) (length states.now) }
         ensures { meaning self.new ≡ activated (meaning self.old) states.now chained };
 
-    /// Takes new values to go for, which fit it. A chained controller takes none.
+    /// Takes new values to go for, which fit it. A chained controller takes none, and to a broadcaster any are as good as none.
     fn take(&mut self, mail: Mail)
-        requires { CanBeMailed (meaning self.old) mail }
+        requires { CanTake (meaning self.old) mail }
         ensures { meaning self.new ≡ mailed (meaning self.old) mail };
 
     /// Computes, from the states that it reads and from its references, a value for each of its claims. After an error the claims hold

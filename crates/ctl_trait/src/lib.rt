@@ -8,7 +8,7 @@ pub use cm_model::{
 pub use controller::Controller;
 pub use fault::CfgFault;
 pub use kinds::{shape_of, takes, takes_none};
-pub use set_part::SetPart;
+pub use set_part::{SetPart, set_numbers};
 
 mod controller;
 mod fault;

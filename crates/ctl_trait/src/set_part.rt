@@ -73,8 +73,8 @@ impl SetPart {
     }
 }
 
-/// Each place holds the number at its index.
-fn set_numbers(places: &mut [Value], numbers: &[Fx])
+/// Each place holds the number at its index, of as many as there are places.
+pub fn set_numbers(places: &mut [Value], numbers: &[Fx])
     requires { length numbers.now ≡ length places.old }
     ensures { places.new ≡ map Num numbers.now }
 {

@@ -1,0 +1,10 @@
+//! The controller that leads its claims through points in time.
+//! Each call does to the data what the table of controllers says.
+#![tactic(auto)]
+
+pub use trajectory::TrajCtl;
+
+pub mod laws;
+mod lead;
+mod line;
+mod trajectory;

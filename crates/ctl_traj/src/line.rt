@@ -1,0 +1,77 @@
+//! The straight line from one value to the next, exact on whole micro-units and rounded down.
+
+ghost use Rattle.std.specs.Prelude.{◌≡◌, ◌<◌, ◌≤◌, ◌-◌, ◌*◌, ◌*ℤ◌, ◌+ℤ◌, ◌-ℤ◌, ◌<ℤ◌, pos, nat_abs, IfSome};
+ghost use Rattle.fixed_num.specs.Micro.{clamped};
+ghost use Rattle.fixed_num.specs.Arithmetic.{floor_div};
+ghost use Rattle.cm_model.specs.Ways.{on_line};
+
+use ctl_trait::Fx;
+use fixed_num::LARGEST;
+
+/// The value at the time `t`, on the line from one at `t0` to one at `t1`.
+#[tactic(auto, using(crate::proofs::LineLemmas::sizes))]
+pub(crate) fn on_line(t: u64, t0: u64, t1: u64, from: Fx, to: Fx) -> Fx
+    requires begun { t0 ≤ t }
+    requires ahead { t < t1 }
+    ensures { result ≡ on_line t t0 t1 (from, to) }
+{
+    shifted(from, share(difference(to, from), t - t0, t1 - t0))
+}
+
+/// A number and a change of it, in the range.
+fn shifted(number: Fx, change: i64) -> Fx
+    requires { nat_abs change ≤ 2 * LARGEST }
+    ensures { result ≡ clamped (number +ℤ change) }
+{
+    Fx::from_micro(number.micro() + change)
+}
+
+/// How much more the one number is than the other.
+fn difference(more: Fx, less: Fx) -> i64
+    ensures value { result ≡ more -ℤ less }
+    ensures small { nat_abs result ≤ 2 * LARGEST }
+{
+    more.micro() - less.micro()
+}
+
+/// The part of a way that is gone in a part of its time. Nearly always the product fits 64 bits, which divide far faster than 128.
+#[tactic(auto, using(crate::proofs::LineLemmas::sizes))]
+fn share(way: i64, gone: u64, time: u64) -> i64
+    requires part { gone < time }
+    requires small { nat_abs way ≤ 2 * LARGEST }
+    ensures value { result ≡ floor_div (way *ℤ pos gone) (pos time) }
+    ensures no_more { nat_abs result ≤ nat_abs way }
+{
+    match narrow_share(way, gone, time) {
+        Some(share) => share,
+        None => wide_share(way, gone, time) as i64,
+    }
+}
+
+/// In 64 bits, where all fits them.
+#[tactic(auto, unfolding(fixed_num::specs::Arithmetic::floor_div))]
+fn narrow_share(way: i64, gone: u64, time: u64) -> Option<i64>
+    requires part { gone < time }
+    ensures { IfSome result (λ share. share ≡ floor_div (way *ℤ pos gone) (pos time)) }
+{
+    let gone = i64::try_from(gone).ok()?;
+    let time = i64::try_from(time).ok()?;
+    let product = way.checked_mul(gone)?;
+    Some(product.div_euclid(time))
+}
+
+/// In 128 bits, where all fits.
+fn wide_share(way: i64, gone: u64, time: u64) -> i128
+    requires { gone < time }
+    ensures { result ≡ floor_div (way *ℤ pos gone) (pos time) }
+{
+    wide_floor(way as i128 * gone as i128, time as i128)
+}
+
+#[tactic(auto, unfolding(fixed_num::specs::Arithmetic::floor_div))]
+fn wide_floor(product: i128, den: i128) -> i128
+    requires { pos 0 <ℤ den }
+    ensures { result ≡ floor_div product den }
+{
+    product.div_euclid(den)
+}
