@@ -2,67 +2,37 @@
 //! above some size meets its contract. Answers are compared by how many bytes they have and by their checksum
 //! Adler-32, which `scripts/largest_answers` makes from the rules, without this program.
 
-use crate::checks::Checks;
-use crate::descriptions::Shows;
-use crate::pages::{Teller, differences};
+use crate::pages::differences;
 use crate::runs::Runs;
-use crate::scripts::Prints;
 use cm_model::IfaceName;
-use ground_rows::largest::AT_ALL_LIMITS;
+use ground_rows::largest::{AT_ALL_LIMITS, Summed, count_and_checksum};
 use iface_names::Registry;
 use outside_io::{MemSink, MemSource, read_whole, write_whole};
-use std::alloc::{AllocError, Global};
 use std::test::Fail;
 
 /// The longest document.
 const LONGEST: usize = 1_048_576;
 
-/// How many bytes these are, and their checksum Adler-32.
-fn count_and_checksum(alloc: Global, bytes: &[u8]) -> Result<String, AllocError> {
-    let (mut sum, mut sums) = (1u64, 0u64);
-    for byte in bytes {
-        sum = sum.wrapping_add(u64::from(*byte)) % 65_521;
-        sums = sums.wrapping_add(sum) % 65_521;
-    }
-    format!(in alloc; "{} {sums:04x}{sum:04x}", bytes.len())
-}
-
-/// Tells how long a text is, and how long that is which another tells of it, with its checksum.
-#[derive(Clone, Copy)]
-struct Summed<T> {
-    teller: T,
-}
-
-impl<T: Teller> Teller for Summed<T> {
-    fn told(&self, alloc: Global, text: &str) -> Result<String, Fail> {
-        let told = self.teller.told(alloc, text)?;
-        let sum = count_and_checksum(alloc, told.as_bytes())?;
-        Ok(format!(in alloc; "{} bytes: {sum}", text.len())?)
-    }
-}
+/// Tells how long what a run prints is.
+const RUNS: Summed<Runs> = Summed {
+    teller: Runs {
+        step: 4096,
+        mocks: 64,
+    },
+};
 
 #[test]
 fn the_largest_run(rt: HostRuntime) -> Result<(), Fail> {
-    let teller = Summed {
-        teller: Runs {
-            step: 4096,
-            mocks: 64,
-        },
-    };
-    assert_eq!(rt; differences(rt.alloc(), &teller, "", RUN)?.as_str(), "");
+    assert_eq!(rt; differences(rt.alloc(), &RUNS, "", RUN)?.as_str(), "");
     Ok(())
 }
 
 #[test]
-fn the_largest_texts(rt: HostRuntime) -> Result<(), Fail> {
+fn a_run_of_the_largest_description(rt: HostRuntime) -> Result<(), Fail> {
     let alloc = rt.alloc();
-    let shows = Summed { teller: Shows };
-    assert_eq!(rt; differences(alloc, &shows, "", DESCRIPTION)?.as_str(), "");
-    let checked = format!(in alloc; "{AT_ALL_LIMITS}=> valid")?;
-    let checked = differences(alloc, &Checks, "", checked.as_str())?;
-    assert_eq!(rt; checked.as_str(), "");
-    let prints = Summed { teller: Prints };
-    assert_eq!(rt; differences(alloc, &prints, "", SCRIPT)?.as_str(), "");
+    let description = AT_ALL_LIMITS.replace(alloc, "cycles = 100000", "cycles = 10000")?;
+    let page = format!(in alloc; "{description}{SCRIPT}")?;
+    assert_eq!(rt; differences(alloc, &RUNS, "", page.as_str())?.as_str(), "");
     Ok(())
 }
 
@@ -117,36 +87,14 @@ session a
 #<0..391517 * x>
 => 1048576 bytes: 10322917 e9af76b6"#;
 
-/// A component of 5,000 joints and 28,000 cycles in which its read fails; 8,000 mocks, and one that claims and reads
-/// 3,000 interfaces; and such a comment.
-const DESCRIPTION: &str = r#"version = 1
-update_rate = 100
-cycles = 5
-[[component]]
-name = "c"
-kind = "system"
-fail_read = [<0..28000 * #, >]
-<0..5000 * [[component.joint]]
-name = "j#"
-vmax = 1
-state = ["effort", "position"]
+/// Behind the description at all limits, but for its cycles: its 50 mocks are loaded, and each list is asked for; then
+/// 10,000 cycles tell of 32 joints each, which make a trace longer than that of the longest document above.
+const SCRIPT: &str = r"--- script ---
+session a
+<0..50 * load m#
 >\
-<0..8000 * [[controller]]
-name = "m#"
-type = "mock"
+list controllers
+list components
+<0..100 * list interfaces
 >\
-[[controller]]
-name = "l"
-type = "mock"
-claims = [<0..3000 * "j#/position", >]
-reads = [<0..3000 * "j#/position", >]
-#<0..32964 * x>
-=> 1048576 bytes: 869542 38ffa619"#;
-
-/// 8 sessions of 1,250 calls: values, a switch of as many names as there may be, and points of as many values.
-const SCRIPT: &str = r"<0..8 * session s#
-(0..1248 * send c 1 1 1 1 1 1 1 1 1 1 1 1 1 1 1 1 1 1 1 1 1 1 1 1 1 1 1 1 1 1 1 1
-)switch strict(10..74 *  -off_name_# +on_name_#)
-send c(1..65 *  @# 1 1 1 1 1 1 1 1 1 1 1 1 1 1 1 1 1 1 1 1 1 1 1 1 1 1 1 1 1 1 1 1)
->\
-=> 756664 bytes: 3107767 b8c31bc3";
+=> 16761 bytes: 13241690 17767171";

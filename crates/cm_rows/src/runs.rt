@@ -1,5 +1,6 @@
 //! Whole runs between a source and a sink in memory: how each ends and what is printed, by the documents' rules.
 
+mod hardware;
 mod outside;
 mod pages;
 mod words;

@@ -1,6 +1,6 @@
 //! Whole documents, each with how its run ends and what is printed.
 
-/// Faults of the text, then of the checks, then a component, and all of them before those of the script.
+/// Faults of the text, then of the checks, with components and without, and all of them before those of the script.
 pub const DESCRIPTIONS: &str = r#"=> description: bad_key version
 
 version = 1
@@ -69,7 +69,7 @@ name = "j1"
 vmax = 1
 --- script ---
 jump
-=> description: bad_key component
+=> script: bad_line 11
 
 version = 1
 update_rate = 100

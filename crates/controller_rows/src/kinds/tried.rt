@@ -99,6 +99,7 @@ impl<C: Controller> Tried<C> {
     }
 
     /// It takes mail.
+    #[tactic(auto, using(ctl_trait::proofs::TakingLemmas::can_take))]
     pub fn take(&mut self, mail: Mail) -> &'static str {
         let (Some(params), Some(chained)) = (&self.params, self.chained) else {
             return "not active";

@@ -9,7 +9,7 @@ mod syntax;
 mod values;
 
 use crate::pages::{Teller, differences, differences_in_lines};
-use cm_model::DescFault;
+use cm_document::DescFault;
 use desc_text::read_description;
 use documents::{DEFAULTS, WHOLE};
 use faults::{AT_THE_TOP, OF_COMPONENTS, OF_CONTROLLERS};

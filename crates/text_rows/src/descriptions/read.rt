@@ -1,7 +1,7 @@
 //! All that is read of whole descriptions.
 
 use crate::pages::Teller;
-use cm_model::{CompDesc, CompKind, CtlDesc, Description, JointDesc, Params};
+use cm_document::{CompDesc, CompKind, CtlDesc, Description, JointDesc, Params};
 use desc_text::read_description;
 use std::alloc::{AllocError, Global};
 use std::fmt::Display;

@@ -2,7 +2,7 @@
 
 use super::LONGEST;
 use crate::pages::Teller;
-use cm_model::every_form;
+use cm_document::every_form;
 use script_text::{print_script, read_script_with};
 use std::alloc::Global;
 use std::str;

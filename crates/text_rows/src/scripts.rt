@@ -6,7 +6,7 @@ mod printed;
 mod sessions;
 
 use crate::pages::{Teller, differences, differences_in_lines};
-use cm_model::{Script, Turn, every_form};
+use cm_document::{Script, Turn, every_form};
 use lines::{BYTES, CALLS_ON_NAMES, POINTS, SWITCHES, VALUES, WHOLE_NUMBERS};
 use long::{CALLS_AND_TURNS, LONG_LINES, SIZES_OF_CALLS};
 use printed::PRINTED;

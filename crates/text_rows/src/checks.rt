@@ -12,7 +12,7 @@ mod ranges;
 use crate::descriptions::TOP;
 use crate::pages::{Teller, differences};
 use chains::{CHAINS, Loops};
-use cm_model::{DescProblem, Description};
+use cm_document::{DescProblem, Description};
 use counts::{CLAIMS, JOINTS, PARTS, SHARES};
 use desc_check::check;
 use desc_text::read_description;

@@ -202,7 +202,9 @@ pub const FORMS_OF_TODAY: &str = r"=> empty
 session a
 load mk
 list controllers
-=> |a|load mk|list controllers
+list interfaces
+list components
+=> |a|load mk|list controllers|list interfaces|list components
 
 session a
 session b
@@ -238,14 +240,6 @@ hw arm active
 
 session a
 await 1
-=> bad_line 21
-
-session a
-list interfaces
-=> bad_line 21
-
-session a
-list components
 => bad_line 21
 
 schedule
