@@ -1,8 +1,10 @@
 //! The numbers that the bodies get. They come from a seed given at run time, so the compiler knows none of them.
 
-ghost use Rattle.std.specs.Prelude.{pos, ◌<ℤ◌};
+ghost use Rattle.std.specs.Prelude.{pos, ◌<ℤ◌, ◌≤◌};
+ghost use Rattle.joint_body.specs.declared.TheConstants.{LONGEST_STEP};
 
-use fixed_num::{Fx, Memory};
+use fixed_num::{Fx, JointMode, Memory};
+use joint_body::LONGEST_STEP;
 use std::alloc::Global;
 
 /// How many cases a round has. They fit the nearest cache.
@@ -30,6 +32,26 @@ pub fn made(alloc: Global, seed: u64) -> Result<Vec<Case>, Memory> {
     Ok(cases)
 }
 
+/// What one step of a body is given: how its joint is driven, by which number, and for how long.
+#[derive(Clone, Copy, Debug)]
+pub struct Push {
+    pub mode: JointMode,
+    pub command: Fx,
+    pub dt_us: u32,
+    ghost some_time: { 1 ≤ dt_us },
+    ghost no_longer: { dt_us ≤ LONGEST_STEP },
+}
+
+/// As many pushes, of a seed.
+pub fn pushes(alloc: Global, seed: u64) -> Result<Vec<Push>, Memory> {
+    let mut source = Source::make(seed);
+    let mut pushes = Vec::with_capacity(alloc, COUNT)?;
+    for _ in 0..COUNT {
+        pushes.push(source.push())?;
+    }
+    Ok(pushes)
+}
+
 /// Gives numbers without visible order: the generator known as SplitMix64.
 #[derive(Drop)]
 pub struct Source {
@@ -47,6 +69,22 @@ impl Source {
             left: self.number(),
             right: self.number(),
             divisor: 1 + (self.next() % 1_000_000) as i64,
+        }
+    }
+
+    fn push(&mut self) -> Push {
+        Push {
+            mode: self.mode(),
+            command: self.number(),
+            dt_us: 1 + (self.next() % u64::from(LONGEST_STEP)) as u32,
+        }
+    }
+
+    fn mode(&mut self) -> JointMode {
+        match self.next() % 3 {
+            0 => JointMode::Position,
+            1 => JointMode::Velocity,
+            _ => JointMode::Effort,
         }
     }
 

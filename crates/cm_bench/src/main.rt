@@ -8,6 +8,7 @@ use std::process::ExitCode;
 use std::rt::{Clock, Env};
 use std::sync::Wait;
 use std::{env, io};
+use steps::{FastStep, PlainStep};
 use timing::{Course, Pair};
 use turns::{LockTurn, MutexTurn};
 
@@ -17,6 +18,7 @@ mod described;
 mod plain;
 mod plan;
 mod reading;
+mod steps;
 mod texts;
 mod timing;
 mod turns;
@@ -57,9 +59,25 @@ where
         &mut LockTurn::make(rt, alloc)?,
     )?;
     tell(rt, plan, "turn", "answers", &turn)?;
+    let stepped = compare_steps(rt, plan)?;
     let checked = compare_checks(rt, plan)?;
     let read = compare_readers(rt, plan)?;
-    Ok(mul.same && over.same && text.same && turn.same && checked && read)
+    Ok(mul.same && over.same && text.same && turn.same && stepped && checked && read)
+}
+
+/// Prints the line of a body's step.
+fn compare_steps<R>(rt: &R, plan: Plan) -> anyhow::Result<bool>
+where
+    R: Clock + Print + AllocGlobal,
+{
+    let pushes = cases::pushes(rt.alloc(), plan.seed)?;
+    let course = Course {
+        cases: pushes.as_slice(),
+        turns: plan.turns,
+    };
+    let step = course.compare(rt, &mut PlainStep::make(), &mut FastStep::make())?;
+    tell(rt, plan, "step", "answers", &step)?;
+    Ok(step.same)
 }
 
 /// Prints the line of the checks, over a description near every limit: what reading it takes, and what checking it takes besides.

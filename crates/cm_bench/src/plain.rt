@@ -28,7 +28,8 @@ pub fn plain_over(number: Fx, num: i64, den: i64) -> Fx
     in_range(quotient(number.micro(), num, den))
 }
 
-fn quotient(left: i64, right: i64, den: i64) -> i128
+/// The product of two numbers divided by a third, rounded down.
+pub fn quotient(left: i64, right: i64, den: i64) -> i128
     requires positive { pos 0 <ℤ den }
     ensures { result ≡ floor_div (left *ℤ right) den }
 {
@@ -43,8 +44,9 @@ fn floor(product: i128, den: i128) -> i128
     product.div_euclid(den)
 }
 
+/// The nearest number of the range.
 #[tactic(auto, unfolding(fixed_num::specs::Micro::clamped))]
-fn in_range(n: i128) -> Fx
+pub fn in_range(n: i128) -> Fx
     ensures { result ≡ clamped n }
 {
     Fx::from_micro(n.max(-LARGEST).min(LARGEST) as i64)
