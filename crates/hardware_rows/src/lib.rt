@@ -1,6 +1,5 @@
 //! Tests of the public calls of hardware components and of the board, act by act: a page has for each case a component,
-//! and line by line what is done and what is told of it; or what is done to a board, and what stands at its places. And
-//! of hardware as it starts: a description, and its two lists.
+//! and line by line what is done and what is told of it; or what is done to a board, and what stands at its places.
 #![tactic(auto)]
 
 #[cfg(test)]
@@ -13,7 +12,5 @@ mod failures;
 mod modes;
 #[cfg(test)]
 mod moves;
-#[cfg(test)]
-mod starts;
 #[cfg(test)]
 mod steps;
