@@ -8,10 +8,11 @@ use Rattle.fixed_num.specs.declared.value.BodyState.{BodyState}
 use Rattle.cm_document.specs.Places.{Interface, interfaces_of}
 use Rattle.cm_document.specs.declared.description.CompDesc.{CompDesc}
 use Rattle.cm_model.specs.Components.{claimed_by, read_succeeds, is_written}
-use Rattle.cm_model.specs.Cycle.{period, component_is, components_stepped, moved, lives_after, cycle, after_cycle}
+use Rattle.cm_model.specs.Cycle.{period, component_is, components_stepped, moved, lives_after, CycleResult, cycle, after_cycle}
 use Rattle.cm_model.specs.State.{State, owner, available, active}
 use Rattle.cm_model.specs.Values.{InterfaceValue, running, after_reads, read_of}
 use Rattle.cm_model.specs.declared.record.FailedPart.{FailedPart}
+use Rattle.cm_model.proofs.StillLemmas.{idle_cycle, idle_ended}
 use Rattle.loan_board.specs.declared.board.Loan.{Loan}
 use Rattle.cm_hardware.specs.Holding.{IsAtRest, IsHardwareOf, IsStill, RanCycle}
 use Rattle.cm_hardware.specs.Wiring.{Mounted, Wired, loan_of, component_of, leaves, after_failure, all_written, all_states, all_bodies, read, after_failures_of, loans_read, components_run, after_run, failures_told}
@@ -28,17 +29,15 @@ values_read s = after_reads (component_is read_succeeds s) s.bodies s.values
 abbrev bodies_stepped : State → List BodyState
 bodies_stepped s = components_stepped s (values_read s) 0 s.description.components s.bodies
 
--- the state after a cycle
+-- the state after a cycle in which no controller is active
 abbrev next : State → State
-next s = moved (record s { values = values_read s; bodies = bodies_stepped s; ended = s.ended + 1; aloft = false }) (lives_after s)
+next s = moved (record s { values = values_read s; bodies = bodies_stepped s; ended = s.ended + 1; aloft = false; mails = [] }) (lives_after s)
 
-next_is : (s : State) → after_cycle s (cycle s) ≡ next s
-unfolding cycle after_cycle
-next_is s = refl
+next_is : (s : State) → IsStill s → after_cycle s (cycle s) ≡ next s
+next_is s still = idle_ended s still
 
-bodies_are : (s : State) → (cycle s).bodies ≡ bodies_stepped s
-unfolding cycle
-bodies_are s = refl
+bodies_are : (s : State) → IsStill s → (cycle s).bodies ≡ bodies_stepped s
+bodies_are s still = ap (λ (c : CycleResult). c.bodies) (idle_cycle s still)
 
 -- components that are at rest, and of which none is claimed
 idle_from : (ms : List Mounted) → AllByRecursion IsAtRest ms → AllByRecursion (λ (m : Mounted). m.hardware.claimed ≡ claimed_by m.hardware.description []) ms
@@ -145,7 +144,7 @@ module _ (s : State) (w : Wired) (is : IsHardwareOf s w) (still : IsStill s) whe
 pub ran_cycle : (s : State) (w : Wired) (failed : List FailedPart) (bodies : List BodyState) → IsHardwareOf s w → IsStill s
     → RanCycle s (after_run s.ended (period s.description) w) failed (failed ++ failures_told s.ended w) bodies (bodies ++ all_bodies (components_run s.ended (period s.description) w))
 ran_cycle s w failed bodies is still = record {
-  hardware = rw (next_is s) (hardware_after s w is still);
+  hardware = rw (next_is s still) (hardware_after s w is still);
   failed = ap (λ (l : List FailedPart). failed ++ l) (failures_are s w is.wired);
-  bodies = ap (λ (l : List BodyState). bodies ++ l) (all_step s w is still ∙ sym (bodies_are s));
+  bodies = ap (λ (l : List BodyState). bodies ++ l) (all_step s w is still ∙ sym (bodies_are s still));
 }

@@ -6,7 +6,8 @@ use Rattle.fixed_num.specs.declared.value.Value.TheVariants.{Unset}
 use Rattle.cm_document.specs.Places.{interfaces_of}
 use Rattle.cm_model.specs.Components.{claimed_by}
 use Rattle.cm_model.specs.Cycle.{commands_at, claims_in, failed_in, cycle, after_cycle}
-use Rattle.cm_model.specs.State.{State, owner, available, is_active}
+use Rattle.cm_model.specs.State.{State, owner, available}
+pub use Rattle.cm_model.specs.State.{IsStill}
 use Rattle.cm_model.specs.Values.{InterfaceValue}
 use Rattle.cm_model.specs.declared.record.FailedPart.{FailedPart}
 use Rattle.cm_hardware.specs.Wiring.{Mounted, Wired, loan_of, component_of, IsWired}
@@ -34,10 +35,6 @@ pub record IsHardwareOf (s : State) (w : Wired) : Type 0 where
   pub claims : AreClaimed s 0 w.components
   pub rest : AllByRecursion IsAtRest w.components
   pub empty : AllByRecursion (IsEmptyUnlessAvailable s) s.values
-
--- no controller is active
-abbrev pub IsStill : State → Type 0
-IsStill s = AllByRecursion (λ l. is_active l ≡ false) s.loaded
 
 -- The hardware after the cycle of a state, and what was told of the cycle: the components that failed, and the bodies.
 pub record RanCycle (s : State) (after : Wired) (parts parts' : List FailedPart) (states states' : List BodyState) : Type 0 where

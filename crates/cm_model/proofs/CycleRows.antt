@@ -10,6 +10,7 @@ use Rattle.iface_names.specs.Interfaces.{interface_of}
 use Rattle.cm_document.specs.Described.{tree_of, description_in, joint_table, component_table, controller_table, top_table, described_states, description_form}
 use Rattle.cm_document.specs.declared.description.Description.{Description}
 use Rattle.cm_model.specs.State.{State, boot, component_lines, interface_lines}
+use Rattle.cm_model.specs.Commit.{commit}
 use Rattle.cm_model.specs.Cycle.{cycle, after_cycle}
 use Rattle.cm_model.specs.Items.{Names, component_text, iface_text, record_items}
 use Rattle.cm_model.specs.Trace.{joined, names_in}
@@ -47,7 +48,7 @@ one_joint : told 1 (codes "version = 1\nupdate_rate = 100\ncycles = 3\n[[compone
     ∷ codes "arm actuator active"
     ∷ codes "state j1/position 0.000000; command j1/position unset free"
     ∷ []
-unfolding tree_of is_utf8 chars toml_on_literals digits description_form top_table described_states component_table joint_table controller_table number_of spelled interface_of cycle after_cycle stepped
+unfolding tree_of is_utf8 chars toml_on_literals digits description_form top_table described_states component_table joint_table controller_table number_of spelled interface_of cycle after_cycle commit stepped
 one_joint = refl
 
 -- its read fails in cycle 1: it becomes unconfigured, and fails no more
@@ -64,7 +65,7 @@ a_read_fails : told 3 (codes "version = 1\nupdate_rate = 100\ncycles = 3\n[[comp
     ∷ codes "arm actuator unconfigured"
     ∷ codes "state j1/position unavailable; command j1/position unavailable"
     ∷ []
-unfolding tree_of is_utf8 chars toml_on_literals digits description_form top_table described_states component_table joint_table controller_table number_of spelled interface_of cycle after_cycle stepped
+unfolding tree_of is_utf8 chars toml_on_literals digits description_form top_table described_states component_table joint_table controller_table number_of spelled interface_of cycle after_cycle commit stepped
 a_read_fails = refl
 
 -- Two components of which both fail, one after the other. The described velocity shows before cycle 0 alone, and where a component no
@@ -79,7 +80,7 @@ both_fail : told 2 (codes "version = 1\nupdate_rate = 100\ncycles = 2\n[[compone
     ∷ codes "arm system finalized; imu sensor unconfigured"
     ∷ codes "state j1/position unavailable; state j1/velocity unavailable; state tilt/velocity unavailable; state tilt/position unavailable; command j1/position unavailable; command j1/velocity unavailable"
     ∷ []
-unfolding tree_of is_utf8 chars toml_on_literals digits description_form top_table described_states component_table joint_table controller_table number_of spelled interface_of cycle after_cycle stepped
+unfolding tree_of is_utf8 chars toml_on_literals digits description_form top_table described_states component_table joint_table controller_table number_of spelled interface_of cycle after_cycle commit stepped
 both_fail = refl
 
 -- A component whose read failed is not written, so its write cannot fail in that cycle too. One that starts unconfigured has no
@@ -91,5 +92,5 @@ a_read_fails_first : told 1 (codes "version = 1\nupdate_rate = 100\ncycles = 1\n
     ∷ codes "arm actuator unconfigured; leg system unconfigured"
     ∷ codes "state j2/position unavailable; command j1/effort unavailable"
     ∷ []
-unfolding tree_of is_utf8 chars toml_on_literals digits description_form top_table described_states component_table joint_table controller_table number_of spelled interface_of cycle after_cycle stepped
+unfolding tree_of is_utf8 chars toml_on_literals digits description_form top_table described_states component_table joint_table controller_table number_of spelled interface_of cycle after_cycle commit stepped
 a_read_fails_first = refl

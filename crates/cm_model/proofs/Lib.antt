@@ -5,9 +5,12 @@ pub mod WholeLemmas
 pub mod EnabledLemmas
 mod Rows
 pub mod ControllerLemmas
+pub mod StillLemmas
+pub mod UpdateLemmas
 mod KindRows
 mod ComponentRows
 mod SwitchRows
 mod CycleRows
+mod UpdateRows
 mod ConsoleRows
 pub mod RangedLemmas

@@ -106,7 +106,7 @@ IsDescribed-AllCount d (ms, e) =
 -- ---- Ranges
 
 -- what was found within its range is so
-ranged_so : (fits : Bool) (path : List ℕ) (u : Unit {0}) → ranged fits path ≡ Ok u → fits ≡ true
+pub ranged_so : (fits : Bool) (path : List ℕ) (u : Unit {0}) → ranged fits path ≡ Ok u → fits ≡ true
 ranged_so true path u e = refl
 ranged_so false path u e = cc
 
@@ -172,13 +172,18 @@ described_params_are_ranged d sound =
     let components = bind_Ok (each_ranged component_ranged (codes "component") 0 d.components) _ ranges.0 cycles.2 in
     controllers_so (codes "controller") 0 d.controllers ranges.0 (IsDescribed-AllCount d sound.described) components.2
 
--- the update rate of a valid description is at least 1
-pub described_rate_is_some : (d : Description) → IsValid d → 1 ≤ d.update_rate
+-- the update rate of a valid description is one that is allowed
+pub described_rate_fits : (d : Description) → IsValid d → (1 ≤ d.update_rate) × (d.update_rate ≤ HIGHEST_RATE)
 unfolding valid
-described_rate_is_some d sound =
+described_rate_fits d sound =
     let few = bind_Ok (few_enough d) _ d sound.no_fault in
     let named = bind_Ok (named_apart d) _ d few.2 in
     let ranges = bind_Ok (in_range d) _ d named.2 in
     let version = bind_Ok (ranged (d.version == VERSION) (codes "version")) _ ranges.0 ranges.1 in
     let rate = bind_Ok (ranged (nat_le 1 d.update_rate && nat_le d.update_rate HIGHEST_RATE) (codes "update_rate")) _ ranges.0 version.2 in
-    leb-true 1 d.update_rate (and_parts (nat_le 1 d.update_rate) (nat_le d.update_rate HIGHEST_RATE) (ranged_so _ _ rate.0 rate.1)).0
+    let both = and_parts (nat_le 1 d.update_rate) (nat_le d.update_rate HIGHEST_RATE) (ranged_so _ _ rate.0 rate.1) in
+    (leb-true 1 d.update_rate both.0, leb-true d.update_rate HIGHEST_RATE both.1)
+
+-- it is at least 1
+pub described_rate_is_some : (d : Description) → IsValid d → 1 ≤ d.update_rate
+described_rate_is_some d sound = (described_rate_fits d sound).0

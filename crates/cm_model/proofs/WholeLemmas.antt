@@ -7,6 +7,7 @@ use Rattle.std.proofs.lemmas.List.Elements.{filter-append}
 use Rattle.std.proofs.lemmas.Bool.Decides.{nat_tests}
 use Rattle.std.proofs.lemmas.Option.{same_Some, slice_get-map, slice_get_within}
 use Rattle.cm_document.proofs.ReadingLemmas.{cases_Option, chosen}
+use Rattle.cm_model.specs.Commit.{commit}
 use Rattle.cm_model.specs.Cycle.{CycleResult, cycle, after_cycle}
 use Rattle.cm_model.specs.State.{State, boot, controller_lines, interface_lines, component_lines}
 use Rattle.cm_model.specs.Machine.{step, unless_refused, load_refusals, place_of, with_controller, with_loaded, load_effect, can_begin, can_end, can_close}
@@ -284,7 +285,7 @@ record EndsCycle (s t : State) : Type 0 where
   closed : t.closed ≡ s.closed
 
 after_cycle-Ends : (s : State) (c : CycleResult) → EndsCycle s (after_cycle s c)
-unfolding after_cycle
+unfolding after_cycle commit
 after_cycle-Ends s c = record { sessions = refl; description = refl; ended = refl; aloft = refl; closed = refl }
 
 -- the progress after each call of the loop

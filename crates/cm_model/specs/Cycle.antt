@@ -1,19 +1,25 @@
--- One cycle: the components are read, the controllers updated, the components written, and every body steps by one period; and what follows at its end.
-use Rattle.std.specs.Prelude.{ℕ, ◌+◌, ◌/◌, ◌==◌, Bool, true, false, ◌&&◌, List, [], ◌∷◌, ◌++◌, length, map, filter, zip, take, drop, slice_get, is_some}
-use Rattle.std.specs.List.{range_with_len}
+-- One cycle: the components are read, the controllers updated, the components written, and every body steps by one period; what follows at its end; and what goes aloft at its begin.
+use Rattle.std.specs.Prelude.{◌≡◌, ℕ, zero, suc, ◌+◌, ◌*◌, ◌/◌, ◌==◌, Bool, true, false, not, ◌&&◌, ◌||◌, if◌then◌else◌, List, [], ◌∷◌, ◌++◌, length, map, filter, filter_map, find, zip, take, drop, slice_get, Option, None, option_map, unwrap_or, is_some}
+use Rattle.std.specs.List.{list_any, range_with_len}
 use Rattle.std.specs.Option.{option_map_or}
 use Rattle.fixed_num.specs.declared.value.BodyState.{BodyState}
-use Rattle.cm_document.specs.Places.{Interface}
+use Rattle.cm_document.specs.declared.call.Mail.{Mail}
 use Rattle.cm_document.specs.declared.description.CompDesc.{CompDesc}
 use Rattle.cm_document.specs.declared.description.Description.{Description}
 use Rattle.cm_document.specs.declared.life.Life.{Life}
-use Rattle.cm_model.specs.Components.{read_succeeds, read_fails, write_fails, is_written, life_after, claimed_by, bodies_after_step}
+use Rattle.cm_model.specs.Claims.{states_for, refs_for, given_by, uses}
+use Rattle.cm_model.specs.Commit.{described_of, commit}
+use Rattle.cm_model.specs.Components.{read_succeeds, read_fails, write_fails, has_failed, is_written, life_after, claimed_by, bodies_after_step}
+use Rattle.cm_model.specs.Controllers.{Stepped, ctl_step}
 use Rattle.cm_model.specs.Happened.{Happened}
+use Rattle.cm_model.specs.Order.{Places, precedes_at, some_below, by_rank, depth, is_due}
 use Rattle.cm_model.specs.Ran.{Ran}
-use Rattle.cm_model.specs.State.{State, owner}
+use Rattle.cm_model.specs.State.{State, Loaded, MailAloft, is_active, active, owner}
 use Rattle.cm_model.specs.Values.{InterfaceValue, belongs_to, after_reads, after_moves}
 use Rattle.cm_model.specs.declared.TheConstants.{SECOND_US}
+use Rattle.cm_model.specs.declared.ran.Done.TheVariants as done
 use Rattle.cm_model.specs.declared.record.FailedPart.{FailedPart}
+use Rattle.cm_model.specs.declared.tick.Tick.{Tick}
 
 -- the time from one cycle to the next, in whole microseconds
 abbrev pub period : Description → ℕ
@@ -37,19 +43,101 @@ failed_in s =
 
 -- ---- Controllers
 
--- What the updates of a cycle come to: the values after them, and what is told of each updated controller, in order.
+-- the active controllers in the order of their updates: by depth among them, and those of one depth by serial
+abbrev pub active_order : State → List Loaded
+active_order s =
+    by_rank (λ l. depth s.description.controllers (active s) l.place) (suc (length s.description.controllers)) (filter is_active s.loaded)
+
+-- In the cycle that is aloft it is due: the cycle is one of those in which it is updated.
+abbrev pub is_due_now : State → Loaded → Bool
+is_due_now s l = option_map_or (is_due s.ended) l.divisor false
+
+-- It is held off: it uses a component whose read failed.
+abbrev pub is_held_off : State → Loaded → Bool
+is_held_off s l = uses s.description.components (component_is read_fails s) (described_of s l)
+
+-- The controllers that the cycle updates, in order: the active ones that are due, but for those that are held off.
+abbrev pub updated_in : State → List Loaded
+updated_in s = filter (λ l. is_due_now s l && not (is_held_off s l)) (active_order s)
+
+-- when a controller is updated: the number and the time of the cycle, and its own time between two updates
+abbrev pub tick_of : State → Loaded → Tick
+tick_of s l = record { cycle = s.ended; time_us = s.ended * period s.description; dt_us = unwrap_or l.divisor 1 * period s.description }
+
+-- the mail that went aloft for the controller of this serial, where there is some
+abbrev pub mail_for : State → ℕ → Option Mail
+mail_for s serial = option_map (λ m. m.mail) (find (λ m. m.serial == serial) s.mails)
+
+-- the step of a controller in the cycle, while the interfaces hold these values
+abbrev pub step_of : State → List InterfaceValue → Loaded → Stepped
+step_of s values l =
+    ctl_step l.ctl (tick_of s l) (states_for values (described_of s l)) (refs_for values (described_of s l)) (mail_for s l.serial)
+
+-- a controller after the step of the one with this serial
+abbrev pub stepped_at : State → List InterfaceValue → ℕ → Loaded → Loaded
+stepped_at s values serial l = if l.serial == serial then record l { ctl = (step_of s values l).after } else l
+
+-- what is told of a step
+abbrev pub ran_by : Loaded → Stepped → Ran
+ran_by l step = record { serial = l.serial; done = step.done; outs = step.outs; published = step.published }
+
+-- What the updates of a cycle come to: the loaded controllers and the values after them, and what is told of each updated
+-- controller, in order.
 pub record Updates : Type 0 where
+  pub loaded : List Loaded
   pub values : List InterfaceValue
   pub ran : List Ran
 
--- The active controllers that are due are updated in order, but for those that use a component whose read failed. No controller can
--- be active yet, so none is updated.
-abbrev pub updates : State → List InterfaceValue → Updates
-updates s values = record { values = values; ran = [] }
+-- one update more, which is this step: its outputs stand in the claims, unless it failed
+abbrev pub with_step : State → Loaded → Stepped → Updates → Updates
+with_step s l step u = record {
+  loaded = map (stepped_at s u.values l.serial) u.loaded;
+  values = given_by (described_of s l).claims step u.values;
+  ran = u.ran ++ ran_by l step ∷ [];
+}
 
--- The active controllers that the end of the cycle stops, in order. No controller can be active yet.
-abbrev pub stops : State → List ℕ
-stops s = []
+-- these are updated one after the other, each with the states and the references as they stand then
+abbrev pub with_updates : State → Updates → List Loaded → Updates
+with_updates s u [] = u
+with_updates s u (l ∷ ls) = with_updates s (with_step s l (step_of s u.values l) u) ls
+
+-- The updates of the cycle, which begin with these values.
+abbrev pub updates : State → List InterfaceValue → Updates
+updates s values = with_updates s (record { loaded = s.loaded; values = values; ran = [] }) (updated_in s)
+
+-- ---- Stops
+
+-- the update of this controller failed
+abbrev pub has_erred : List Ran → ℕ → Bool
+has_erred ran serial = list_any (λ r. r.serial == serial && elim r.done [ done.Ok ↦ false | done.Error ↦ true ]) ran
+
+-- it uses a component whose read or write failed, or its update failed
+abbrev pub is_struck : State → List Ran → Loaded → Bool
+is_struck s ran l = uses s.description.components (component_is has_failed s) (described_of s l) || has_erred ran l.serial
+
+-- as the active controllers of which that holds
+abbrev pub struck : State → List Ran → Places
+struck s ran p = list_any (λ l. is_active l && (l.place == p && is_struck s ran l)) s.loaded
+
+-- A place comes to one that passes the test, over links among so many places: it passes itself, or is linked to a place that comes to
+-- one. This is told as far as so many links lead.
+unfoldable pub reaches : (ℕ → ℕ → Bool) → (ℕ → Bool) → ℕ → ℕ → ℕ → Bool
+reaches linked hit count zero p = hit p
+reaches linked hit count (suc n) p = hit p || some_below (λ q. linked p q && reaches linked hit count n q) count
+
+-- The end of the cycle stops those, and every active controller that precedes one of them at any distance.
+abbrev pub must_stop : State → List Ran → Places
+must_stop s ran p =
+    active s p
+    && reaches (λ p q. active s q && precedes_at s.description.controllers p q) (struck s ran) (length s.description.controllers) (length s.description.controllers) p
+
+-- the others stay active
+abbrev pub stays_active : State → List Ran → Places
+stays_active s ran p = active s p && not (must_stop s ran p)
+
+-- The controllers that the end of the cycle stops, by serial, in the order of updates.
+abbrev pub stops : State → List Ran → List ℕ
+stops s ran = map (λ l. l.serial) (filter (λ l. must_stop s ran l.place) (active_order s))
 
 -- ---- Bodies
 
@@ -79,8 +167,9 @@ components_stepped s values component (c ∷ cs) bodies =
 
 -- ---- A cycle
 
--- What a cycle makes: what the interfaces hold and the bodies are after it, and what its record tells.
+-- What a cycle makes: the loaded controllers, what the interfaces hold and the bodies after it, and what its record tells.
 pub record CycleResult : Type 0 where
+  pub loaded : List Loaded
   pub values : List InterfaceValue
   pub bodies : List BodyState
   pub happened : Happened
@@ -90,9 +179,10 @@ abbrev pub cycle_with : State → Updates → CycleResult
 cycle_with s u =
     let bodies = components_stepped s u.values 0 s.description.components s.bodies in
     record {
+      loaded = u.loaded;
       values = u.values;
       bodies = bodies;
-      happened = record { cycle = s.ended; failed = failed_in s; ran = u.ran; bodies = bodies; stops = stops s };
+      happened = record { cycle = s.ended; failed = failed_in s; ran = u.ran; bodies = bodies; stops = stops s u.ran };
     }
 
 -- A cycle: the components are read that are inactive or active, and their state interfaces hold their bodies' numbers where the read
@@ -110,7 +200,36 @@ moved s lives = record s { lives = lives; values = after_moves s.lives lives s.b
 abbrev pub lives_after : State → List Life
 lives_after s = map (λ p. life_after p.0 p.1 s.ended) (zip s.description.components s.lives)
 
--- At the end the values and bodies are those after the cycle, the components that failed move, and one cycle more has ended. No
--- controller can be active yet, so none is stopped.
+-- The controllers, values and bodies are those after the cycle, the components that failed have moved, one cycle more has ended, and
+-- nothing is aloft.
+abbrev pub landed : State → CycleResult → State
+landed s c =
+    moved (record s { loaded = c.loaded; values = c.values; bodies = c.bodies; ended = s.ended + 1; aloft = false; mails = [] }) (lives_after s)
+
+-- At the end of a cycle that has landed the controllers are stopped that failed, that use a component that failed, or that precede
+-- such a one. Those that stay and whose chained mode changes restart.
 unfoldable pub after_cycle : State → CycleResult → State
-after_cycle s c = moved (record s { values = c.values; bodies = c.bodies; ended = s.ended + 1; aloft = false }) (lives_after s)
+after_cycle s c = commit (landed s c) (stays_active s c.happened.ran) (λ p. false)
+
+-- ---- Its begin
+
+-- the mail of a controller that goes aloft, where it is active and due
+abbrev pub mail_off : State → Loaded → Option MailAloft
+mail_off s l = if is_active l && is_due_now s l then option_map (λ mail. record { serial = l.serial; mail = mail }) l.mail else None
+
+-- the controller without it
+abbrev pub without_mail_off : State → Loaded → Loaded
+without_mail_off s l = if is_active l && is_due_now s l then record l { mail = None } else l
+
+-- A cycle begins: the mail of each active controller that is due goes aloft with it.
+abbrev pub begun : State → State
+begun s = record s { loaded = map (without_mail_off s) s.loaded; aloft = true; mails = filter_map (mail_off s) s.loaded }
+
+-- ---- While no controller is active
+
+-- No controller was updated or stopped, and at the end nothing changes but what the components make of it.
+pub record IsIdle (s : State) (c : CycleResult) : Type 0 where
+  pub none_ran : c.happened.ran ≡ []
+  pub none_stopped : c.happened.stops ≡ []
+  pub loaded : c.loaded ≡ s.loaded
+  pub ended : after_cycle s c ≡ landed s c

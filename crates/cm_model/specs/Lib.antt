@@ -11,16 +11,19 @@ pub mod Ways
 pub mod Controllers
 pub mod Order
 pub mod Console
-pub mod Cycle
-pub mod Machine
-pub mod Scheduled
-pub mod Sessions
-pub mod Causes
 -- switches
 pub mod Scene
 pub mod Faults
 pub mod Switches
 pub mod BestEffort
+pub mod Claims
+pub mod Commit
+-- cycles and histories
+pub mod Cycle
+pub mod Machine
+pub mod Scheduled
+pub mod Sessions
+pub mod Causes
 -- the trace
 pub mod Items
 pub mod Trace

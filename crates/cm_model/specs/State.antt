@@ -1,6 +1,6 @@
 -- The state of the manager: all that it knows at one moment, its opening, and what is read off it.
-use Rattle.std.specs.Prelude.{ℕ, ◌+◌, ◌-◌, ◌==◌, Bool, false, ◌&&◌, if◌then◌else◌, List, [], ◌∷◌, map, flat_map, find, slice_get, filter_map, Option, Some, None, option_map, is_some}
-use Rattle.std.specs.List.{list_any}
+use Rattle.std.specs.Prelude.{◌≡◌, ℕ, ◌+◌, ◌-◌, ◌==◌, Bool, false, ◌&&◌, if◌then◌else◌, List, [], ◌∷◌, map, flat_map, find, slice_get, filter_map, Option, Some, None, option_map, is_some}
+use Rattle.std.specs.List.{AllByRecursion, list_any}
 use Rattle.std.specs.Option.{option_map_or}
 use Rattle.fixed_num.specs.declared.value.BodyState.{BodyState}
 use Rattle.iface_names.specs.declared.interface.IfaceName.{IfaceName}
@@ -32,10 +32,15 @@ pub record Loaded : Type 0 where
   pub ctl : CtlData
   pub mail : Option Mail
 
+-- mail that went aloft with a cycle, and the serial of the controller that it is for
+pub record MailAloft : Type 0 where
+  pub serial : ℕ
+  pub mail : Mail
+
 -- The state: the description, which nothing changes; the number of sessions, which is also the loop's number as a caller; the
 -- blanks that are left; how many loads were given a serial; the loaded controllers, by serial; the lifecycle states of the
 -- components, the bodies of the joints, and the interfaces with what they hold, each by place; how many cycles have ended; whether
--- one has begun that has not ended; whether the loop is closed.
+-- one has begun that has not ended, and the mails that went aloft with it; whether the loop is closed.
 pub record State : Type 0 where
   pub description : Description
   pub sessions : ℕ
@@ -47,6 +52,7 @@ pub record State : Type 0 where
   pub values : List InterfaceValue
   pub ended : ℕ
   pub aloft : Bool
+  pub mails : List MailAloft
   pub closed : Bool
 
 -- At start each component is in the described lifecycle state, and each body where it is described to be.
@@ -73,6 +79,7 @@ boot description blanks sessions = record {
   values = values_at_start description;
   ended = 0;
   aloft = false;
+  mails = [];
   closed = false;
 }
 
@@ -113,6 +120,10 @@ life_of ctl = elim ctl.params [ None ↦ Unconfigured | Some p ↦ elim ctl.run 
 -- it runs
 abbrev pub is_active : Loaded → Bool
 is_active l = is_some l.ctl.run
+
+-- no controller is active
+abbrev pub IsStill : State → Type 0
+IsStill s = AllByRecursion (λ l. is_active l ≡ false) s.loaded
 
 -- the loaded controller precedes this described one: it claims one of its references
 abbrev pub precedes_described : List CtlDesc → CtlDesc → Loaded → Bool

@@ -1,6 +1,6 @@
 //! Laws of the definitions of histories: each is the contract of a function that does nothing.
 
-ghost use Rattle.std.specs.Prelude.{◌≡◌, ◌<◌, ℕ, ℤ, true, List, length, Option, None};
+ghost use Rattle.std.specs.Prelude.{◌≡◌, ◌<◌, ℕ, ℤ, true, List, length, map, Option, None};
 ghost use Rattle.cm_document.specs.declared.call.Call.{Call};
 ghost use Rattle.cm_document.specs.declared.document.Document.{Document};
 ghost use Rattle.cm_document.specs.Built.{built};
@@ -11,8 +11,10 @@ ghost use Rattle.cm_document.specs.declared.call.Mail.{Mail};
 ghost use Rattle.cm_model.specs.declared.data.CtlData.{CtlData};
 ghost use Rattle.cm_model.specs.declared.tick.Tick.{Tick};
 ghost use Rattle.cm_model.specs.Controllers.{ctl_step, KeepsChained};
+ghost use Rattle.cm_model.specs.Cycle.{IsIdle, cycle, updated_in, updates};
 ghost use Rattle.cm_model.specs.Machine.{IsLegal, is_enabled};
-ghost use Rattle.cm_model.specs.State.{State};
+ghost use Rattle.cm_model.specs.State.{State, IsStill, active};
+ghost use Rattle.cm_model.specs.Values.{InterfaceValue};
 ghost use Rattle.cm_model.specs.Scheduled.{Advanced, advance, settle, scheduled};
 ghost use Rattle.cm_model.specs.Sessions.{IsConsole, IsWhole};
 
@@ -42,4 +44,20 @@ pub fn sessions_make_console_calls()
 pub fn steps_keep_whether_a_controller_is_chained()
     ensures { (ctl : CtlData) (tick : Tick) (states : List ℤ) (refs : List Value) (mail : Option Mail)
         → KeepsChained ctl (ctl_step ctl tick states refs mail).after }
+{}
+
+/// The updates of a cycle leave each controller active that was, and make none active.
+pub fn updates_leave_active_who_was()
+    ensures { (s : State) (values : List InterfaceValue) (place : ℕ)
+        → active (record s { loaded = (updates s values).loaded }) place ≡ active s place }
+{}
+
+/// A cycle tells of the controllers that it updates, in order, and of no other.
+pub fn cycles_tell_of_whom_they_update()
+    ensures { (s : State) → map (λ r. r.serial) (cycle s).happened.ran ≡ map (λ l. l.serial) (updated_in s) }
+{}
+
+/// While no controller is active a cycle updates none and stops none, and its end changes no more than the components make of it.
+pub fn idle_cycles_are_of_components_alone()
+    ensures { (s : State) → IsStill s → IsIdle s (cycle s) }
 {}

@@ -8,6 +8,7 @@ use Rattle.std.specs.List.{AllByRecursion, list_any}
 use Rattle.cm_document.specs.declared.description.CtlDesc.{CtlDesc}
 use Rattle.fixed_num.specs.declared.value.BodyState.{BodyState}
 use Rattle.cm_model.specs.Cycle.{failed_in, cycle, after_cycle}
+use Rattle.cm_model.proofs.StillLemmas.{still_any, idle_cycle, idle_ended}
 use Rattle.cm_model.specs.Happened.{Happened}
 use Rattle.cm_model.specs.Ran.{Ran}
 use Rattle.cm_model.specs.declared.record.FailedPart.{FailedPart}
@@ -21,16 +22,12 @@ use Rattle.cm_document.specs.declared.description.Description.{Description}
 use Rattle.cm_model.specs.Machine.{with_controller, can_end, step}
 use Rattle.cm_model.specs.declared.blanks.Blanks.{Blanks}
 use Rattle.cm_model.specs.declared.reply.Reply.TheVariants as reply
-use Rattle.cm_model.specs.State.{State, boot, Loaded, with_one_less, newly_loaded, is_active, is_chained, precedes_described, controller_line}
+use Rattle.cm_model.specs.State.{State, IsStill, boot, Loaded, with_one_less, newly_loaded, is_active, is_chained, precedes_described, controller_line}
 use Rattle.cm_model.specs.declared.lines.CtlLine.{CtlLine}
-
-still-none : (ls : List Loaded) (test : Loaded → Bool) → AllByRecursion (λ l. is_active l ≡ false) ls → list_any (λ l. is_active l && test l) ls ≡ false
-still-none [] test still = refl
-still-none (l ∷ ls) test still = rw (still.0) (still-none ls test still.1)
 
 -- where nobody is active, nobody is chained
 pub still-unchained : (s : State) (c : CtlDesc) → AllByRecursion (λ l. is_active l ≡ false) s.loaded → is_chained s c ≡ false
-still-unchained s c still = still-none s.loaded (precedes_described s.description.controllers c) still
+still-unchained s c still = still_any (precedes_described s.description.controllers c) s.loaded still
 
 -- the name at a place is that of the controller there
 named_at : (described : List CtlDesc) (names : List (List ℕ)) (place : ℕ) → names ≡ map (λ (c : CtlDesc). c.name) described
@@ -81,6 +78,7 @@ opened d blanks sessions = record {
   values = [];
   ended = 0;
   aloft = false;
+  mails = [];
   closed = false;
 }
 
@@ -93,27 +91,26 @@ hardware_booted d blanks sessions w h = subst (λ t. IsHardwareOf t w) (state_is
 
 -- what the desk counts at the end of a cycle
 abbrev pub counted : State → State
-counted s = record s { ended = s.ended + 1; aloft = false }
+counted s = record s { ended = s.ended + 1; aloft = false; mails = [] }
 
 -- with the hardware after the cycle that is the state after it
-pub cycle_ended : (s : State) (w : Wired) → IsHardwareOf (after_cycle s (cycle s)) w → after_cycle s (cycle s) ≡ with_hardware (counted s) w
-unfolding after_cycle
-cycle_ended s w h = state_is (after_cycle s (cycle s)) w h
+pub cycle_ended : (s : State) (w : Wired) → IsStill s → IsHardwareOf (after_cycle s (cycle s)) w → after_cycle s (cycle s) ≡ with_hardware (counted s) w
+cycle_ended s w still h =
+    state_is (after_cycle s (cycle s)) w h ∙ ap (λ (t : State). with_hardware t w) (idle_ended s still)
 
-pub hardware_ended : (s : State) (w : Wired) → IsHardwareOf (after_cycle s (cycle s)) w → IsHardwareOf (with_hardware (counted s) w) w
-hardware_ended s w h = subst (λ t. IsHardwareOf t w) (cycle_ended s w h) h
+pub hardware_ended : (s : State) (w : Wired) → IsStill s → IsHardwareOf (after_cycle s (cycle s)) w → IsHardwareOf (with_hardware (counted s) w) w
+hardware_ended s w still h = subst (λ t. IsHardwareOf t w) (cycle_ended s w still h) h
 
 -- what is told of a cycle in which no controller was updated or stopped
 pub happened_in : (s : State) (n : ℕ) (failed : List FailedPart) (ran : List Ran) (bodies : List BodyState) (stops : List ℕ)
-    → s.ended ≡ n → failed ≡ failed_in s → ran ≡ [] → bodies ≡ (cycle s).bodies → stops ≡ []
+    → IsStill s → s.ended ≡ n → failed ≡ failed_in s → ran ≡ [] → bodies ≡ (cycle s).bodies → stops ≡ []
     → ◌≡◌ {A = Happened} (record { cycle = n; failed = failed; ran = ran; bodies = bodies; stops = stops }) (cycle s).happened
-unfolding cycle
-happened_in s n failed ran bodies stops now parts none joints stopped = rw (sym now, parts, none, joints, stopped) refl
+happened_in s n failed ran bodies stops still now parts none joints stopped = rw (sym now, parts, none, joints, stopped, idle_cycle s still) refl
 
 -- The end of a cycle is the step.
-pub end_steps : (s : State) (n : ℕ) (w : Wired) (told : Happened) → s.aloft ≡ true → s.ended ≡ n → IsHardwareOf (after_cycle s (cycle s)) w → told ≡ (cycle s).happened
+pub end_steps : (s : State) (n : ℕ) (w : Wired) (told : Happened) → IsStill s → s.aloft ≡ true → s.ended ≡ n → IsHardwareOf (after_cycle s (cycle s)) w → told ≡ (cycle s).happened
     → step s s.sessions (End n) ≡ Some (with_hardware (counted s) w, reply.Cycle told)
 unfolding step
-end_steps s n w told aloft now hardware same =
+end_steps s n w told still aloft now hardware same =
     let enabled : (s.sessions == s.sessions && can_end s n) ≡ true = rw (aloft, now) (grind (arith, nat_tests)) in
-    rw (enabled, same) (ap (λ t. Some (t, reply.Cycle (cycle s).happened)) (cycle_ended s w hardware))
+    rw (enabled, same) (ap (λ t. Some (t, reply.Cycle (cycle s).happened)) (cycle_ended s w still hardware))

@@ -5,6 +5,7 @@ use Rattle.std.proofs.lemmas.Option.{same_Some}
 use Rattle.cm_document.specs.declared.call.Call.{Call}
 use Rattle.cm_document.specs.declared.call.Call.TheVariants.{Load, End}
 use Rattle.cm_document.specs.declared.description.CtlDesc.{CtlDesc}
+use Rattle.cm_model.specs.Commit.{commit}
 use Rattle.cm_model.specs.Cycle.{after_cycle}
 use Rattle.cm_model.specs.State.{State}
 use Rattle.cm_model.specs.Machine.{step, is_enabled, reply_of, effect, answered, place_of, with_controller, with_loaded, load_effect}
@@ -27,7 +28,7 @@ load_effect-loads s name _ = omega arith
 
 -- an effect takes as many serials as its call may
 effect-loads : (s : State) (call : Call) (r : Reply) → (effect s call r).loads ≤ s.loads + serials_of call
-unfolding after_cycle
+unfolding after_cycle commit
 effect-loads s (Load name) r = load_effect-loads s name r
 effect-loads s (End n) r = omega arith
 effect-loads s _ r = omega arith

@@ -22,6 +22,7 @@ state_of a = with_hardware (record {
   values = [];
   ended = a.ended;
   aloft = is_some a.begun;
+  mails = [];
   closed = a.closed;
 }) a.hardware
 

@@ -15,7 +15,7 @@ invariant_of-self-2 c =
     let ran = c.cycle.ensures.ran s old.hardware old.still now (sym old.timed) in
     record {
       named = old.named;
-      hardware = rw (c.one_more-self-inside.ensures, c.take.ensures.after) (hardware_ended s c.cycle.new.self ran.hardware);
+      hardware = rw (c.one_more-self-inside.ensures, c.take.ensures.after) (hardware_ended s c.cycle.new.self old.still ran.hardware);
       timed = old.timed;
       some_time = old.some_time;
       no_longer = old.no_longer;
@@ -36,6 +36,6 @@ returns c =
     let room : HasRoom c.self.inside.hardware r = rw begun at old.room in
     let failed = ran.failed ∙ ap (λ l. l ++ failed_in s) room.no_failure in
     let bodies = ran.bodies ∙ ap (λ l. l ++ (cycle s).bodies) room.no_body in
-    let told = c.land.ensures ∙ happened_in s c.args.cycle c.cycle.new.failed.items r.ran.rans c.cycle.new.bodies.items r.stops.items now failed room.none_ran bodies room.none_stopped in
+    let told = c.land.ensures ∙ happened_in s c.args.cycle c.cycle.new.failed.items r.ran.rans c.cycle.new.bodies.items r.stops.items old.still now failed room.none_ran bodies room.none_stopped in
     rw (← c.self.view_is, c.one_more-self-inside.ensures, c.take.ensures.after)
-    (end_steps s c.args.cycle c.cycle.new.self c.land.result (ap is_some begun) now ran.hardware told)
+    (end_steps s c.args.cycle c.cycle.new.self c.land.result old.still (ap is_some begun) now ran.hardware told)
