@@ -2,7 +2,7 @@
 use Rattle.std.proofs.Common.{◌≡◌, ℕ, ◌+◌, ◌*◌, div-le_self, ◌<◌, ◌≤◌, ◌^◌, ℤ, pos, negsuc, ◌≤ℤ◌, Bool, true, false, List, [], ◌∷◌, length, Result, Ok, Err, refl, arith, length-append}
 use Rattle.std.specs.Prelude.{nat_lt, nat_le, ◌==◌, ◌&&◌, codes, if◌then◌else◌}
 use Rattle.std.specs.List.{All}
-use Rattle.std.proofs.lemmas.Bool.{ltb-false, leb-true, and_parts}
+use Rattle.std.proofs.lemmas.Bool.{ltb-false}
 use Rattle.std.proofs.lemmas.Nat.{le-div}
 use Rattle.joint_body.specs.declared.TheConstants.{LONGEST_STEP}
 use Rattle.cm_model.specs.Cycle.{period}
@@ -24,14 +24,10 @@ use Rattle.cm_document.specs.declared.faults.What.{What}
 use Rattle.cm_document.specs.declared.faults.What.TheVariants.{Components, Joints}
 use Rattle.cm_document.proofs.ReadingLemmas.{bind_Ok}
 use Rattle.cm_model.specs.Components.{plant_of}
+use Rattle.cm_model.proofs.RangedLemmas.{ranged_so, described_rate_fits}
 use Rattle.hw_component.specs.Hardware.{CanBeMade}
 
 -- ---- Ranges
-
--- what was found within its range is so
-ranged_so : (fits : Bool) (path : List ℕ) (u : Unit {0}) → ranged fits path ≡ Ok u → fits ≡ true
-ranged_so true path u e = refl
-ranged_so false path u e = cc
 
 -- where each item of a list is within its ranges, what that means holds of each
 each_so : {A : Type 0} (P : A → Type 0) (rule : List ℕ → A → Result (Unit {0}) CheckFault) → ((path : List ℕ) (x : A) (u : Unit {0}) → rule path x ≡ Ok u → P x)
@@ -88,22 +84,10 @@ both_so cs plants few k d below = record { plants = plants k d below; joints = l
 
 -- ---- The period
 
--- the update rate of a valid description is one that is allowed
-valid_rate : (d : Description) → IsValid d → (1 ≤ d.update_rate) × (d.update_rate ≤ HIGHEST_RATE)
-unfolding valid
-valid_rate d sound =
-    let few = bind_Ok (few_enough d) _ d sound.no_fault in
-    let named = bind_Ok (named_apart d) _ d few.2 in
-    let ranges = bind_Ok (in_range d) _ d named.2 in
-    let version = bind_Ok (ranged (d.version == VERSION) (codes "version")) _ ranges.0 ranges.1 in
-    let rate = bind_Ok (ranged (nat_le 1 d.update_rate && nat_le d.update_rate HIGHEST_RATE) (codes "update_rate")) _ ranges.0 version.2 in
-    let both = and_parts (nat_le 1 d.update_rate) (nat_le d.update_rate HIGHEST_RATE) (ranged_so _ _ rate.0 rate.1) in
-    (leb-true 1 d.update_rate both.0, leb-true d.update_rate HIGHEST_RATE both.1)
-
--- so its period is a time by which bodies can step
+-- the period of a valid description is a time by which bodies can step
 pub valid_period : (d : Description) → IsValid d → (1 ≤ d.update_rate) × (1 ≤ period d) × (period d ≤ LONGEST_STEP)
 valid_period d sound =
-    let rate = valid_rate d sound in
+    let rate = described_rate_fits d sound in
     let fits : 1 * d.update_rate ≤ SECOND_US = omega (arith, rate.1) in
     (rate.0, le-div 1 SECOND_US d.update_rate rate.0 fits, div-le_self SECOND_US d.update_rate)
 
