@@ -3,6 +3,7 @@ use Rattle.std.proofs.Common.{◌≡◌, ℕ, zero, suc, ◌+◌, Bool, true, fa
 use Rattle.std.specs.Prelude.{not, ◌&&◌, slice_get, zip, if◌then◌else◌}
 use Rattle.std.specs.List.{AllByRecursion}
 use Rattle.std.specs.Option.{option_map_or}
+use Rattle.std.proofs.lemmas.Simd.{map-map}
 use Rattle.fixed_num.specs.declared.value.BodyState.{BodyState}
 use Rattle.fixed_num.specs.declared.value.Value.{Value}
 use Rattle.fixed_num.specs.declared.value.Value.TheVariants.{Unset}
@@ -14,7 +15,7 @@ use Rattle.cm_model.specs.State.{available_in}
 use Rattle.cm_model.specs.Values.{InterfaceValue, unset, running, belongs_to, is_state_of, shown, read_of, cleared_of}
 use Rattle.loan_board.specs.declared.board.Loan.{Loan}
 use Rattle.loan_board.specs.Loans.{with_loan, made_available}
-use Rattle.cm_hardware.specs.Wiring.{Mounted, loan_of, component_of, leaves, has_left, after_failures_of}
+use Rattle.cm_hardware.specs.Wiring.{Mounted, loan_of, component_of, leaves, has_left, changed_where, after_failures_of}
 use Rattle.cm_hardware.proofs.FailureLemmas.{both_first, both_second}
 use Rattle.cm_hardware.proofs.StillLemmas.{if_both}
 use Rattle.cm_hardware.proofs.StepLemmas.{Fate}
@@ -22,14 +23,28 @@ use Rattle.cm_hardware.proofs.StepLemmas.{Fate}
 -- ---- The board, place by place
 
 -- the place after the first ones changes
-pub with_loan_at : (pre loans : List Loan) (loan : Loan) (change : Loan → Loan) → with_loan (pre ++ loan ∷ loans) (length pre) change ≡ pre ++ change loan ∷ loans
+with_loan_at : (pre loans : List Loan) (loan : Loan) (change : Loan → Loan) → with_loan (pre ++ loan ∷ loans) (length pre) change ≡ pre ++ change loan ∷ loans
 with_loan_at [] loans loan change = refl
 with_loan_at (p ∷ pre) loans loan change = ap (λ (l : List Loan). p ∷ l) (with_loan_at pre loans loan change)
 
-pub place_changes : (left : Bool) (pre loans : List Loan) (loan next : Loan) (change : Loan → Loan) → (if left then change loan else loan) ≡ next
+place_changes : (left : Bool) (pre loans : List Loan) (loan next : Loan) (change : Loan → Loan) → (if left then change loan else loan) ≡ next
     → (if left then with_loan (pre ++ loan ∷ loans) (length pre) change else pre ++ loan ∷ loans) ≡ pre ++ next ∷ loans
 place_changes true pre loans loan next change is = with_loan_at pre loans loan change ∙ ap (λ (l : Loan). pre ++ l ∷ loans) is
 place_changes false pre loans loan next change is = ap (λ (l : Loan). pre ++ l ∷ loans) is
+
+-- Where each place changes as its item does, the board does so.
+pub places_each : {A : Type 0} (test : Option ℕ → Bool) (change : Loan → Loan) (component : A → Option ℕ) (before after : A → Loan) (pre : List Loan) (xs : List A)
+    → AllByRecursion (λ (x : A). (if test (component x) then change (before x) else before x) ≡ after x) xs
+    → changed_where test change (length pre) (map component xs) (pre ++ map before xs) ≡ pre ++ map after xs
+places_each test change component before after pre [] all = refl
+places_each test change component before after pre (x ∷ xs) all =
+    let others = map before xs in
+    let here : (if test (component x) then with_loan (pre ++ before x ∷ others) (length pre) change else pre ++ before x ∷ others) ≡ (pre ++ after x ∷ []) ++ others =
+    place_changes (test (component x)) pre others (before x) (after x) change all.0 ∙ sym (append_assoc pre (after x ∷ []) others) in
+    let at : length pre + 1 ≡ length (pre ++ after x ∷ []) = omega (arith, length-append pre (after x ∷ [])) in
+    ap₂ (λ (k : ℕ) (loans : List Loan). changed_where test change k (map component xs) loans) at here
+    ∙ places_each test change component before after (pre ++ after x ∷ []) xs all.1
+    ∙ append_assoc pre (after x ∷ []) (map after xs)
 
 -- what a place keeps, where its component leaves
 abbrev pub after_leave : List Mounted → Option ℕ → Loan → Loan
@@ -43,16 +58,9 @@ component_at v = component_of v.interface.whose
 pub places_change : (own own' : Interface → Option ℕ) (there there' : Interface → Bool) (next : InterfaceValue → InterfaceValue) (ms : List Mounted) (pre : List Loan) (vs : List InterfaceValue)
     → AllByRecursion (λ (v : InterfaceValue). after_leave ms (component_at v) (loan_of own there v) ≡ loan_of own' there' (next v)) vs
     → after_failures_of ms (length pre) (map component_at vs) (pre ++ map (loan_of own there) vs) ≡ pre ++ map (loan_of own' there') (map next vs)
-places_change own own' there there' next ms pre [] all = refl
-places_change own own' there there' next ms pre (v ∷ vs) all =
-    let loan = loan_of own' there' (next v) in
-    let others = map (loan_of own there) vs in
-    let here : (if has_left ms (component_at v) then with_loan (pre ++ loan_of own there v ∷ others) (length pre) (made_available false) else pre ++ loan_of own there v ∷ others) ≡ (pre ++ loan ∷ []) ++ others =
-    place_changes (has_left ms (component_at v)) pre others (loan_of own there v) loan (made_available false) all.0 ∙ sym (append_assoc pre (loan ∷ []) others) in
-    let at : length pre + 1 ≡ length (pre ++ loan ∷ []) = omega (arith, length-append pre (loan ∷ [])) in
-    ap₂ (λ (k : ℕ) (loans : List Loan). after_failures_of ms k (map component_at vs) loans) at here
-    ∙ places_change own own' there there' next ms (pre ++ loan ∷ []) vs all.1
-    ∙ append_assoc pre (loan ∷ []) (map (loan_of own' there') (map next vs))
+places_change own own' there there' next ms pre vs all =
+    places_each (has_left ms) (made_available false) component_at (loan_of own there) (λ (v : InterfaceValue). loan_of own' there' (next v)) pre vs all
+    ∙ ap (λ (loans : List Loan). pre ++ loans) (sym (map-map (loan_of own' there') next vs))
 
 -- ---- One interface
 

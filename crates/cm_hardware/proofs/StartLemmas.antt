@@ -25,14 +25,14 @@ use Rattle.cm_model.specs.State.{State, boot, lives_at_start, all_bodies_at_star
 use Rattle.cm_model.specs.Values.{InterfaceValue, unset, running, is_state_of, shown, read_of, after_reads}
 use Rattle.cm_model.specs.declared.blanks.Blanks.{Blanks}
 use Rattle.hw_component.specs.Hardware.{CanBeMade}
-use Rattle.loan_board.specs.Loans.{idle_of, made_available, with_loan}
+use Rattle.loan_board.specs.Loans.{idle_of, made_available}
 use Rattle.loan_board.specs.declared.board.Loan.{Loan}
 use Rattle.cm_hardware.specs.Holding.{IsHardwareOf, IsAtRest, IsEmptyUnlessAvailable}
 use Rattle.cm_hardware.specs.Starting.{mounted, places_from, places_of, all_places, is_up, opened, after_measure_of, after_measures_of}
 use Rattle.cm_hardware.specs.Wiring.{Mounted, Wired, loan_of, component_of, states_count, commands_count, all_states, all_commands, with_values, after_reads_of, IsWired, AreFew, AreFree, IsManaged}
 use Rattle.cm_hardware.proofs.StateLemmas.{reads_are}
 use Rattle.cm_hardware.proofs.StillLemmas.{if_both, claimed_nothing}
-use Rattle.cm_hardware.proofs.MoveLemmas.{place_changes, unread, read_keeps, interfaces_stay, all_of_each}
+use Rattle.cm_hardware.proofs.MoveLemmas.{places_each, unread, read_keeps, interfaces_stay, all_of_each}
 
 -- ---- Lists
 
@@ -158,17 +158,12 @@ places_fit d =
 abbrev opened_of : List Mounted → Interface → Loan
 opened_of ms i = if is_up ms (whose_at i) then made_available true (idle_of i) else idle_of i
 
-opened_each : (ms : List Mounted) (pre : List Loan) (is : List Interface)
-    → opened ms (length pre) (map whose_at is) (pre ++ map idle_of is) ≡ pre ++ map (opened_of ms) is
-opened_each ms pre [] = refl
-opened_each ms pre (i ∷ is) =
-    let loan = opened_of ms i in
-    let here : (if is_up ms (whose_at i) then with_loan (pre ++ idle_of i ∷ map idle_of is) (length pre) (made_available true) else pre ++ idle_of i ∷ map idle_of is) ≡ (pre ++ loan ∷ []) ++ map idle_of is =
-    place_changes (is_up ms (whose_at i)) pre (map idle_of is) (idle_of i) loan (made_available true) refl ∙ sym (append_assoc pre (loan ∷ []) (map idle_of is)) in
-    let at : length pre + 1 ≡ length (pre ++ loan ∷ []) = omega (arith, length-append pre (loan ∷ [])) in
-    ap₂ (λ (k : ℕ) (loans : List Loan). opened ms k (map whose_at is) loans) at here
-    ∙ opened_each ms (pre ++ loan ∷ []) is
-    ∙ append_assoc pre (loan ∷ []) (map (opened_of ms) is)
+opened_now : (ms : List Mounted) (is : List Interface) → AllByRecursion (λ (i : Interface). opened_of ms i ≡ opened_of ms i) is
+opened_now ms [] = tt
+opened_now ms (i ∷ is) = (refl, opened_now ms is)
+
+opened_each : (ms : List Mounted) (is : List Interface) → opened ms 0 (map whose_at is) (map idle_of is) ≡ map (opened_of ms) is
+opened_each ms is = places_each (is_up ms) (made_available true) whose_at idle_of (opened_of ms) [] is (opened_now ms is)
 
 -- a component at start is in the described state
 up_at : (cs : List CompDesc) (place : ℕ) → is_up (map mounted cs) (Some place) ≡ running (map (λ c. c.initial) cs) place
@@ -207,7 +202,7 @@ module _ (d : Description) (blanks : Blanks) (sessions : ℕ) where
 
   -- so the board is opened
   pub opened_is : opened ms 0 (map whose_at (interfaces_of d)) (map idle_of (interfaces_of d)) ≡ map (loan_of (owner s) (available s)) (map unset (interfaces_of d))
-  opened_is = opened_each ms [] (interfaces_of d) ∙ opened_all (interfaces_of d)
+  opened_is = opened_each ms (interfaces_of d) ∙ opened_all (interfaces_of d)
 
 -- ---- What is measured
 

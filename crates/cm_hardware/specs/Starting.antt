@@ -4,9 +4,9 @@ use Rattle.std.specs.Option.{option_map_or}
 use Rattle.cm_document.specs.declared.description.CompDesc.{CompDesc}
 use Rattle.cm_model.specs.Components.{is_available, measured_states}
 use Rattle.hw_component.specs.Hardware.{at_start}
-use Rattle.loan_board.specs.Loans.{made_available, with_loan}
+use Rattle.loan_board.specs.Loans.{made_available}
 use Rattle.loan_board.specs.declared.board.Loan.{Loan}
-use Rattle.cm_hardware.specs.Wiring.{Mounted, states_count, commands_count, with_values}
+use Rattle.cm_hardware.specs.Wiring.{Mounted, states_count, commands_count, with_values, changed_where}
 
 -- a component as it is put to work
 abbrev pub mounted : CompDesc → Mounted
@@ -36,8 +36,7 @@ is_up ms (Some place) = option_map_or (λ m. is_available m.hardware.life) (slic
 
 -- The interfaces of inactive and active components become available; these are the components of the places from this one on.
 abbrev pub opened : List Mounted → ℕ → List (Option ℕ) → List Loan → List Loan
-opened ms at [] loans = loans
-opened ms at (c ∷ cs) loans = opened ms (at + 1) cs (if is_up ms c then with_loan loans at (made_available true) else loans)
+opened ms at cs loans = changed_where (is_up ms) (made_available true) at cs loans
 
 -- ---- Measured
 

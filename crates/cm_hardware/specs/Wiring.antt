@@ -187,11 +187,14 @@ abbrev pub has_left : List Mounted → Option ℕ → Bool
 has_left ms None = false
 has_left ms (Some place) = option_map_or leaves (slice_get ms place) false
 
+-- Places one after the other, the first of which is this one, each with its component: those that pass the test change so.
+abbrev pub changed_where : (Option ℕ → Bool) → (Loan → Loan) → ℕ → List (Option ℕ) → List Loan → List Loan
+changed_where test change at [] loans = loans
+changed_where test change at (c ∷ cs) loans = changed_where test change (at + 1) cs (if test c then with_loan loans at change else loans)
+
 -- The interfaces of those that leave become unavailable and Unset; these are the components of the places from this one on.
 abbrev pub after_failures_of : List Mounted → ℕ → List (Option ℕ) → List Loan → List Loan
-after_failures_of ms at [] loans = loans
-after_failures_of ms at (c ∷ cs) loans =
-    after_failures_of ms (at + 1) cs (if has_left ms c then with_loan loans at (made_available false) else loans)
+after_failures_of ms at cs loans = changed_where (has_left ms) (made_available false) at cs loans
 
 -- ---- A cycle
 
