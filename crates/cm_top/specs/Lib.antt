@@ -1,3 +1,4 @@
+pub mod Sides
 pub mod Desk
 pub mod Room
 pub mod Session

@@ -3,9 +3,10 @@
 ghost use Rattle.std.specs.Prelude.{◌≡◌, ◌++◌, map, flat_map, IfOk, OnOk, string_bytes};
 ghost use Rattle.iface_names.specs.Interfaces.{interface_text};
 ghost use Rattle.iface_names.specs.declared.interface.IfaceName.TheVariants as interface;
-ghost use Rattle.cm_document.specs.Described.{states_of, states_of_joint};
-ghost use Rattle.cm_document.specs.Links.{commands_of, commands_of_joint, references_of, refs_of, reference_for};
+ghost use Rattle.cm_document.specs.Links.{references_of, refs_of, reference_for};
 ghost use Rattle.cm_document.specs.Places.{interfaces_of};
+ghost use Rattle.loan_board.specs.Loans.{kinds_of};
+ghost use Rattle.cm_top.specs.Sides.{names_on, names_in};
 
 use cm_model::{CompDesc, CtlDesc, Description, IfaceName, JointDesc, Kind, Memory, Name};
 use std::alloc::Global;
@@ -18,71 +19,57 @@ pub fn interface_texts(alloc: Global, description: &Description) -> Result<Vec<S
         map string_bytes texts.items
         ≡ map (λ i. interface_text i.called.name) (interfaces_of description.now)) }
 {
+    let components = description.components.as_slice();
     let mut texts = Vec::new(alloc);
-    push_states(alloc, &mut texts, description.components.as_slice())?;
-    push_commands(alloc, &mut texts, description.components.as_slice())?;
+    push_components(alloc, &mut texts, components, false)?;
+    push_components(alloc, &mut texts, components, true)?;
     push_references(alloc, &mut texts, description.controllers.as_slice())?;
     Ok(texts)
 }
 
-fn push_states(
+/// The command interfaces of components, or else their state interfaces.
+fn push_components(
     alloc: Global,
     texts: &mut Vec<String>,
     components: &[CompDesc],
+    is_command: bool,
 ) -> Result<(), Memory>
     ensures { OnOk result
         (map string_bytes texts.new.items
-        ≡ map string_bytes texts.old.items ++ map interface_text (states_of components.now)) }
+        ≡ map string_bytes texts.old.items ++ map interface_text (names_in is_command components.now)) }
 {
     for component in components {
-        push_states_of(alloc, texts, component.joints.as_slice())?;
+        push_joints(alloc, texts, component.joints.as_slice(), is_command)?;
     }
     Ok(())
 }
 
-fn push_states_of(
+/// The command interfaces of joints, or else their state interfaces.
+fn push_joints(
     alloc: Global,
     texts: &mut Vec<String>,
     joints: &[JointDesc],
+    is_command: bool,
 ) -> Result<(), Memory>
     ensures { OnOk result
         (map string_bytes texts.new.items
-        ≡ map string_bytes texts.old.items ++ map interface_text (flat_map states_of_joint joints.now)) }
+        ≡ map string_bytes texts.old.items ++ map interface_text (flat_map (names_on is_command) joints.now)) }
 {
     for joint in joints {
-        push_kinds(alloc, texts, &joint.name, joint.states.as_slice())?;
+        push_kinds(alloc, texts, &joint.name, kinds_of(joint, is_command))?;
     }
     Ok(())
 }
 
-fn push_commands(
-    alloc: Global,
-    texts: &mut Vec<String>,
-    components: &[CompDesc],
-) -> Result<(), Memory>
-    ensures { OnOk result
-        (map string_bytes texts.new.items
-        ≡ map string_bytes texts.old.items ++ map interface_text (commands_of components.now)) }
+/// The kinds of the command interfaces of a joint, or else of its state interfaces.
+fn kinds_of(joint: &JointDesc, is_command: bool) -> &[Kind]
+    ensures { result.now ≡ kinds_of is_command joint.now }
 {
-    for component in components {
-        push_commands_of(alloc, texts, component.joints.as_slice())?;
+    if is_command {
+        joint.commands.as_slice()
+    } else {
+        joint.states.as_slice()
     }
-    Ok(())
-}
-
-fn push_commands_of(
-    alloc: Global,
-    texts: &mut Vec<String>,
-    joints: &[JointDesc],
-) -> Result<(), Memory>
-    ensures { OnOk result
-        (map string_bytes texts.new.items
-        ≡ map string_bytes texts.old.items ++ map interface_text (flat_map commands_of_joint joints.now)) }
-{
-    for joint in joints {
-        push_kinds(alloc, texts, &joint.name, joint.commands.as_slice())?;
-    }
-    Ok(())
 }
 
 /// The interfaces of these kinds on a joint.
