@@ -67,11 +67,6 @@ rans_length (h ∷ hs) vs ns = ap (λ n. suc n) (rans_length hs (drop h.outs vs)
 
 -- ---- Nothing to tell
 
--- as many controllers as heads
-pub as_many_heads : (hs : List RanHead) (vs : List Value) (ns : List ℤ) → length (rans hs vs ns) ≡ length hs
-as_many_heads [] vs ns = refl
-as_many_heads (h ∷ hs) vs ns = ap suc (as_many_heads hs (drop h.outs vs) (drop h.published ns))
-
 no_item : {A : Type 0} (xs : List A) → (length xs == 0) ≡ true → xs ≡ []
 no_item [] none = refl
 no_item (x ∷ xs) none = let some = not_empty (x ∷ xs) (omega arith) in cc

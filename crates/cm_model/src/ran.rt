@@ -76,7 +76,7 @@ impl RanList {
     }
 
     /// Whether it is of no controller.
-    #[tactic(auto, using(crate::proofs::RanLemmas::as_many_heads))]
+    #[tactic(auto, using(crate::proofs::RanLemmas::rans_length))]
     pub fn is_empty(&self) -> bool
         ensures { result ≡ (length self.now == 0) }
     {

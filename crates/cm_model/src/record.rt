@@ -39,7 +39,7 @@ impl CycleParts {
     ghost use Rattle.cm_model.specs.Held.{tells_nothing, told_of_parts};
 
     /// Whether there is nothing to tell but the cycle's number.
-    fn tells_nothing(&self) -> bool
+    pub(crate) fn tells_nothing(&self) -> bool
         ensures { result ≡ tells_nothing (told_of_parts self.now) }
     {
         self.failed.as_slice().is_empty()
@@ -95,14 +95,10 @@ impl CycleRecord {
         })
     }
 
-    /// The record of the parts that stand in this place, which is given back where they tell nothing. It takes no memory.
-    #[tactic(auto, using(crate::proofs::RanLemmas::nothing_told))]
-    pub(crate) fn boxed(place: Box<CycleParts>) -> CycleRecord
+    /// The record of the parts that stand in this place. It takes no memory.
+    pub(crate) fn at(place: Box<CycleParts>) -> CycleRecord
         ensures { result ≡ told_of_parts place.value }
     {
-        if place.tells_nothing() {
-            return CycleRecord::quiet(place.cycle);
-        }
         CycleRecord {
             held: Held::Whole(place),
         }

@@ -41,8 +41,12 @@ pub struct RecordRoom {
 }
 
 impl RecordRoom {
-    /// Room for so much.
-    pub fn with_room(alloc: Global, size: RecordSize) -> Result<RecordRoom, AllocError>
+    /// Room for so much. The parts come to stand in the place that another cycle left over, or in a new one.
+    pub fn with_room(
+        alloc: Global,
+        size: RecordSize,
+        left_over: Option<Box<CycleParts>>,
+    ) -> Result<RecordRoom, AllocError>
         ensures failed { IfOk result (λ room. room.failed ≡ record { items = []; room = size.failed }) }
         ensures ran { IfOk result
             (λ room.
@@ -50,18 +54,24 @@ impl RecordRoom {
         ensures bodies { IfOk result (λ room. room.bodies ≡ record { items = []; room = size.bodies }) }
         ensures stops { IfOk result (λ room. room.stops ≡ record { items = []; room = size.stops }) }
     {
+        let place = match left_over {
+            Some(place) => place,
+            None => Box::new(alloc, nothing(alloc))?,
+        };
         Ok(RecordRoom {
             failed: ListRoom::with_room(alloc, size.failed)?,
             ran: RanRoom::with_room(alloc, size.ran, size.values, size.numbers)?,
             bodies: ListRoom::with_room(alloc, size.bodies)?,
             stops: ListRoom::with_room(alloc, size.stops)?,
-            place: Box::new(alloc, nothing(alloc))?,
+            place,
         })
     }
 
-    /// The record of the cycle of this number, with all that was filled in. It takes no memory.
-    pub fn land(self, cycle: u64) -> CycleRecord
-        ensures { result ≡ record {
+    /// The record of the cycle of this number, with all that was filled in; and the place for its parts, where there was nothing
+    /// to tell. It takes no memory.
+    #[tactic(auto, using(crate::proofs::RanLemmas::nothing_told))]
+    pub fn land(self, cycle: u64) -> (CycleRecord, Option<Box<CycleParts>>)
+        ensures { result.0 ≡ record {
           cycle = cycle;
           failed = self.failed.items;
           ran = self.ran.rans;
@@ -76,14 +86,18 @@ impl RecordRoom {
             stops,
             mut place,
         } = self;
-        *place = CycleParts {
+        let parts = CycleParts {
             cycle,
             failed: failed.into_list(),
             ran: ran.into_list(),
             bodies: bodies.into_list(),
             stops: stops.into_list(),
         };
-        CycleRecord::boxed(place)
+        if parts.tells_nothing() {
+            return (CycleRecord::quiet(cycle), Some(place));
+        }
+        *place = parts;
+        (CycleRecord::at(place), None)
     }
 }
 

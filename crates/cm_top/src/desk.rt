@@ -9,8 +9,8 @@ ghost use Rattle.cm_hardware.specs.Wiring.{most_failures, all_joints};
 
 use cm_hardware::ResourceManager;
 use cm_model::{
-    Blanks, Boxed, Call, Checked, CtlDesc, CtlKind, CtlLine, Description, Life, Memory, Name, Rare,
-    RecordRoom, RecordSize, Reply, SECOND_US, Seq, Shared, Why,
+    Blanks, Boxed, Call, Checked, CtlDesc, CtlKind, CtlLine, CycleParts, Description, Life, Memory,
+    Name, Rare, RecordRoom, RecordSize, Reply, SECOND_US, Seq, Shared, Why,
 };
 use std::alloc::Global;
 use std::marker::Model;
@@ -56,6 +56,8 @@ pub struct Desk<'a> {
     ended: u64,
     /// The record of the cycle that is aloft, with room for all that it can tell.
     begun: Option<RecordRoom>,
+    /// The place of a record that a cycle left over, of which there was nothing to tell.
+    left_over: Option<Box<CycleParts>>,
     closed: bool,
 }
 
@@ -100,6 +102,7 @@ impl<'a> Desk<'a> {
             period_us: period_us(checked),
             ended: 0,
             begun: None,
+            left_over: None,
             closed: false,
         })
     }
@@ -140,7 +143,8 @@ impl<'a> Desk<'a> {
         if !self.can_begin(cycle) {
             return Ok(None);
         }
-        self.begun = Some(RecordRoom::with_room(alloc, record_size(&self.hardware))?);
+        let size = record_size(&self.hardware);
+        self.begun = Some(RecordRoom::with_room(alloc, size, self.left_over.take())?);
         Ok(Some(Reply::Decisions(Rare::none())))
     }
 
@@ -169,7 +173,9 @@ impl<'a> Desk<'a> {
             &mut record.bodies,
         );
         self.ended = one_more(self.ended, self.description.cycles);
-        Some(Reply::Cycle(record.land(cycle)))
+        let (record, left_over) = record.land(cycle);
+        self.left_over = left_over;
+        Some(Reply::Cycle(record))
     }
 
     /// The loop closes, where no cycle is aloft.
