@@ -20,7 +20,7 @@ pub greatest_below-most : (f : ℕ → ℕ) (most n : ℕ) → ((i : ℕ) → i 
 greatest_below-most f most zero each = omega arith
 greatest_below-most f most (suc n) each = omega (arith, greatest_below-most f most n (λ i below. each i (omega (arith, below))), each n (omega arith))
 
-greatest_below-at : (f : ℕ → ℕ) (n i : ℕ) → i < n → f i ≤ greatest_below f n
+pub greatest_below-at : (f : ℕ → ℕ) (n i : ℕ) → i < n → f i ≤ greatest_below f n
 greatest_below-at f zero i below = absurd (omega (arith, below))
 greatest_below-at f (suc n) i below =
     elim (cases_lt i n) [
@@ -38,7 +38,7 @@ given_most : (b : Bool) (r most : ℕ) → r ≤ most → (if b then suc r else 
 given_most true r most small = omega (arith, small)
 given_most false r most small = omega arith
 
-given_same : (b : Bool) (r s : ℕ) → (b ≡ true → r ≡ s) → (if b then suc r else 0) ≡ (if b then suc s else 0)
+pub given_same : (b : Bool) (r s : ℕ) → (b ≡ true → r ≡ s) → (if b then suc r else 0) ≡ (if b then suc s else 0)
 given_same true r s same = ap suc (same refl)
 given_same false r s same = refl
 
@@ -46,7 +46,7 @@ given_none : (b : Bool) (r : ℕ) → (b ≡ true → ⊥) → (if b then suc r 
 given_none true r never = absurd (never refl)
 given_none false r never = omega arith
 
-given_one : (b : Bool) (r : ℕ) → b ≡ true → (if b then suc r else 0) ≡ suc r
+pub given_one : (b : Bool) (r : ℕ) → b ≡ true → (if b then suc r else 0) ≡ suc r
 given_one true r is = refl
 given_one false r is = cc
 

@@ -7,4 +7,5 @@ pub mod RunLemmas
 pub mod FewLemmas
 pub mod CountLemmas
 pub mod DepthLemmas
+pub mod StandingLemmas
 pub mod OrderLemmas

@@ -5,7 +5,7 @@
 pub use cm_model::Member;
 pub use links::{Links, exports};
 pub use loops::first_loop;
-pub use orders::{by_rank, heights, in_order, is_chained, run_list};
+pub use orders::{by_rank, heights, in_order, is_chained, run_list, serials};
 pub use places::PlaceSet;
 pub use rates::{divisor, due};
 

@@ -5,8 +5,10 @@ ghost use Rattle.std.specs.List.{list_any};
 ghost use Rattle.iface_names.specs.Interfaces.{same_interface};
 ghost use Rattle.cm_document.specs.Links.{precedes, is_among, refs_of, reference_for};
 ghost use Rattle.cm_model.specs.Order.{precedes_at};
-ghost use Rattle.chain_order.specs.Links.{places_below, links_of, leaders_of, linked};
+ghost use Rattle.chain_order.specs.Links.{places_below, links_of, leaders_of, linked, IsLinks};
 
+use crate::places::PlaceSet;
+use crate::ranks::{places_by_rank, ranks_over};
 use cm_document::{Checked, CtlDesc, IfaceName, Memory, Name, Seq};
 use std::alloc::Global;
 use std::marker::Model;
@@ -15,6 +17,9 @@ use std::marker::Model;
 #[derive(Debug, Drop)]
 pub struct Links {
     rows: Seq<Seq<u32>>,
+    /// The places in a sequence in which ranks are found at once, each behind those that it is linked to; none where it was not worked
+    /// out. Nothing but speed rests on it.
+    sequence: Vec<u32>,
 }
 
 impl Model for Links {
@@ -38,7 +43,10 @@ impl Links {
         for place in 0..controllers.len() as u32 {
             rows.push(followers(alloc, controllers, place)?)?;
         }
-        Ok(Links { rows })
+        Ok(Links {
+            rows,
+            sequence: Vec::new(alloc),
+        })
     }
 
     /// The links from each controller of a valid description to those that it precedes.
@@ -64,7 +72,39 @@ impl Links {
         for place in 0..controllers.len() as u32 {
             rows.push(leaders(alloc, controllers, place)?)?;
         }
-        Ok(Links { rows })
+        Ok(Links {
+            rows,
+            sequence: Vec::new(alloc),
+        })
+    }
+
+    /// Links with these rows.
+    pub fn from_rows(alloc: Global, rows: Seq<Seq<u32>>) -> Links
+        requires { IsLinks rows }
+        ensures { result ≡ rows }
+    {
+        Links {
+            rows,
+            sequence: Vec::new(alloc),
+        }
+    }
+
+    /// The same links, with the sequence in which ranks over them are found at once.
+    pub fn in_sequence(self, alloc: Global) -> Result<Links, Memory>
+        ensures { IfOk result (λ links. links ≡ self) }
+    {
+        let all = PlaceSet::all(alloc, self.len() as usize)?;
+        let ranks = ranks_over(alloc, &self, all.flags())?;
+        let sequence = places_by_rank(alloc, &ranks)?;
+        Ok(Links {
+            rows: self.rows,
+            sequence,
+        })
+    }
+
+    /// The sequence in which ranks are found at once, where it was worked out.
+    pub(crate) fn sequence(&self) -> &[u32] {
+        &self.sequence
     }
 
     /// How many places there are.

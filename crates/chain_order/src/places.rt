@@ -110,7 +110,7 @@ impl PlaceSet {
         ensures set { IfOk result (λ set. set_of set ≡ (λ p. set_of self.now p && not (set_of other.now p))) }
     {
         let count = self.len();
-        let mut flags = Vec::new(alloc);
+        let mut flags = Vec::with_capacity(alloc, count)?;
         for place in 0..count {
             flags.push(self.holds(place) && !other.holds(place))?;
         }
@@ -123,7 +123,7 @@ impl PlaceSet {
         ensures set { IfOk result (λ set. set_of set ≡ (λ p. set_of self.now p && set_of other.now p)) }
     {
         let count = self.len();
-        let mut flags = Vec::new(alloc);
+        let mut flags = Vec::with_capacity(alloc, count)?;
         for place in 0..count {
             flags.push(self.holds(place) && other.holds(place))?;
         }
@@ -137,7 +137,7 @@ impl PlaceSet {
         ensures set { IfOk result (λ set. set_of set ≡ (λ p. set_of self.now p || set_of other.now p)) }
     {
         let count = self.len();
-        let mut flags = Vec::new(alloc);
+        let mut flags = Vec::with_capacity(alloc, count)?;
         for place in 0..count {
             flags.push(self.holds(place) || other.holds(place))?;
         }
