@@ -8,3 +8,5 @@ pub mod DecisionLemmas
 pub mod CauseLemmas
 pub mod LeavingLemmas
 pub mod MaximalLemmas
+pub mod ClearLemmas
+pub mod ChangeLemmas

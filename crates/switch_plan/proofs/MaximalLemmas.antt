@@ -35,12 +35,12 @@ cause_if-none : (b : Bool) (c : Cause) → cause_if b c ≡ None → b ≡ false
 cause_if-none true c e = cc
 cause_if-none false c e = refl
 
-none_if : (b : Bool) (c : Cause) → b ≡ false → cause_if b c ≡ None
+pub none_if : (b : Bool) (c : Cause) → b ≡ false → cause_if b c ≡ None
 none_if true c e = cc
 none_if false c e = refl
 
 -- a test that fails of what is there fails of nothing else
-fails_of : {A : Type 0} (f : A → Bool) (o : Option A) → ((x : A) → o ≡ Some x → f x ≡ false) → option_map_or f o false ≡ false
+pub fails_of : {A : Type 0} (f : A → Bool) (o : Option A) → ((x : A) → o ≡ Some x → f x ≡ false) → option_map_or f o false ≡ false
 fails_of f None fails = refl
 fails_of f (Some x) fails = fails x refl
 

@@ -1,11 +1,19 @@
--- One word for both lists of a switch.
-use Rattle.std.specs.Prelude.{ℕ, Bool, List, Option, Some, None}
+-- The lists of a switch.
+use Rattle.std.specs.Prelude.{◌≡◌, ℕ, Bool, List, [], Option, Some, None}
 use Rattle.cm_model.specs.Order.{set_of}
-use Rattle.cm_model.specs.Scene.{Scene}
-use Rattle.cm_model.specs.Switches.{off_fault, on_fault}
+use Rattle.cm_model.specs.Scene.{Scene, loaded_all}
+use Rattle.cm_model.specs.Switches.{off_fault, on_fault, first_fault}
 use Rattle.cm_model.specs.declared.cause.Cause.{Cause}
+use Rattle.switch_plan.specs.View.{HavePlaces}
+use Rattle.switch_plan.specs.declared.lists.Listed.{Listed}
+use Rattle.switch_plan.specs.declared.lists.Listed.TheVariants.{Faultless, Faulty}
 
 -- what speaks against a name of the list to deactivate, or, where it is told which leave, of the list to activate
 abbrev pub list_fault : Scene → Option (List Bool) → List (List ℕ) → List ℕ → Option Cause
 list_fault scene None = off_fault scene
 list_fault scene (Some leaving) = on_fault scene (set_of leaving)
+
+-- a list was looked through: nothing speaks against its names, and these are its controllers; or this comes first of what does
+abbrev pub IsListed : Scene → (List (List ℕ) → List ℕ → Option Cause) → List (List ℕ) → Listed → Type 0
+IsListed scene fault names (Faultless members) = (first_fault fault [] names ≡ None) × (members.items ≡ loaded_all scene names) × HavePlaces scene members.items
+IsListed scene fault names (Faulty because) = first_fault fault [] names ≡ Some because

@@ -2,16 +2,17 @@
 
 ghost use Rattle.std.specs.Prelude.{◌≡◌, ◌<◌, ◌^◌, not, ◌&&◌, ◌||◌, [], length, map, filter, reverse, IfOk};
 ghost use Rattle.cm_model.specs.Order.{set_of};
-ghost use Rattle.cm_model.specs.Scene.{controllers_in, active, is_chained_in, order};
+ghost use Rattle.cm_model.specs.Scene.{controllers_in, active, is_chained_in, member, order};
 ghost use Rattle.cm_model.specs.Switches.{restarts, is_stopped, is_started, off_list, on_list, planned, differ, done};
 ghost use Rattle.cm_model.specs.declared.cause.Outcome.TheVariants as outcome;
-ghost use Rattle.switch_plan.specs.View.{IsPlace};
+ghost use Rattle.switch_plan.specs.View.{IsPlace, HavePlaces};
 ghost use Rattle.switch_plan.specs.Changes.{change_scene, after, again, IsChange};
 
-use crate::setting::{Setting, order};
-use chain_order::{PlaceSet, is_chained};
+use crate::members::member;
+use crate::setting::{Setting, in_order_of};
+use chain_order::{PlaceSet, is_chained, serials};
 use cm_document::Memory;
-use cm_model::{Boxed, Dropped, Outcome, Planned, Rare, Seq};
+use cm_model::{Boxed, Dropped, Member, Outcome, Planned, Rare, Seq};
 use std::alloc::Global;
 
 /// A decision that is done: the controllers that will be active, and those of them that restart because they are named for it.
@@ -59,14 +60,10 @@ fn off_list(alloc: Global, change: &Change) -> Result<Seq<u32>, Memory>
     requires { IsChange change.now }
     ensures { IfOk result (λ list. list ≡ off_list (change_scene change.now) (after change.now) (again change.now)) }
 {
-    let before = order(alloc, &change.setting, change.setting.active)?;
-    let mut list = Seq::new(alloc);
-    for member in &before {
-        if is_stopped(change, member.place) {
-            list.push(member.serial)?;
-        }
-    }
-    Ok(list)
+    let stopped = stopped(alloc, change)?;
+    let ordered = in_order_of(alloc, &change.setting, change.setting.active, &stopped)?;
+    let list = serials(alloc, &ordered)?;
+    Ok(Seq::from_vec(list))
 }
 
 /// The serials to activate, against the order of what will be active.
@@ -74,15 +71,45 @@ fn on_list(alloc: Global, change: &Change) -> Result<Seq<u32>, Memory>
     requires { IsChange change.now }
     ensures { IfOk result (λ list. list ≡ on_list (change_scene change.now) (after change.now) (again change.now)) }
 {
-    let after = order(alloc, &change.setting, change.set)?;
-    let mut list = Vec::new(alloc);
-    for member in &after {
-        if is_started(change, member.place) {
-            list.push(member.serial)?;
-        }
-    }
+    let started = started(alloc, change)?;
+    let ordered = in_order_of(alloc, &change.setting, change.set, &started)?;
+    let mut list = serials(alloc, &ordered)?;
     list.reverse();
     Ok(Seq::from_vec(list))
+}
+
+/// The controllers to deactivate, by serial.
+fn stopped(alloc: Global, change: &Change) -> Result<Vec<Member>, Memory>
+    requires { IsChange change.now }
+    ensures within { IfOk result (λ list. HavePlaces (change_scene change.now) list.items) }
+    ensures list { IfOk result (λ list. list.items ≡ map member (filter
+        (λ l. is_stopped (change_scene change.now) (after change.now) (again change.now) l.place)
+        (change_scene change.now).loaded)) }
+{
+    let mut list = Vec::new(alloc);
+    for seen in change.setting.view.loaded {
+        if is_stopped(change, seen.place) {
+            list.push(member(seen))?;
+        }
+    }
+    Ok(list)
+}
+
+/// The controllers to activate, by serial.
+fn started(alloc: Global, change: &Change) -> Result<Vec<Member>, Memory>
+    requires { IsChange change.now }
+    ensures within { IfOk result (λ list. HavePlaces (change_scene change.now) list.items) }
+    ensures list { IfOk result (λ list. list.items ≡ map member (filter
+        (λ l. is_started (change_scene change.now) (after change.now) (again change.now) l.place)
+        (change_scene change.now).loaded)) }
+{
+    let mut list = Vec::new(alloc);
+    for seen in change.setting.view.loaded {
+        if is_started(change, seen.place) {
+            list.push(member(seen))?;
+        }
+    }
+    Ok(list)
 }
 
 /// Whether a controller is deactivated: it is active, and no member or restarts.

@@ -3,16 +3,19 @@
 #![tactic(auto)]
 
 pub use cm_model::{Dropped, Outcome, Planned, Seen, SwitchRequest};
-pub use requests::plan;
+pub use relations::Relations;
+pub use requests::{plan, plan_with};
 pub use view::View;
 
 mod best;
 mod changes;
+mod clear;
 mod faults;
 mod interfaces;
 pub mod laws;
 mod lists;
 mod members;
+mod relations;
 mod requests;
 mod setting;
 mod strict;

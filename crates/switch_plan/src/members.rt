@@ -8,7 +8,6 @@ ghost use Rattle.switch_plan.specs.View.{scene_of, IsView, IsPlace, HavePlaces};
 use crate::view::{View, described};
 use cm_document::{Life, Memory, Name};
 use cm_model::{Member, Seen};
-use std::alloc::Global;
 
 /// Whether a controller in this state is active.
 pub fn is_running(life: Life) -> bool
@@ -44,27 +43,20 @@ pub fn loaded_of(view: &View, name: &Name) -> Option<Seen>
     None
 }
 
-/// The loaded controllers of these names, where there are such.
-pub fn loaded_all(alloc: Global, view: &View, names: &[Name]) -> Result<Vec<Member>, Memory>
-    requires { IsView view.now }
-    ensures within { IfOk result (λ list. HavePlaces (scene_of view.now) list.items) }
-    ensures members { IfOk result (λ list. list.items ≡ loaded_all (scene_of view.now) names.now) }
-{
-    let mut list = Vec::new(alloc);
-    for name in names {
-        push_loaded(view, name, &mut list)?;
-    }
-    Ok(list)
-}
-
-/// Appends the loaded controller of this name, if there is one.
-pub fn push_loaded(view: &View, name: &Name, list: &mut Vec<Member>) -> Result<(), Memory>
-    requires view { IsView view.now }
+/// Appends the loaded controller of this name, which was looked up, if there is one.
+pub fn push_seen(
+    view: &View,
+    name: &Name,
+    seen: Option<Seen>,
+    list: &mut Vec<Member>,
+) -> Result<(), Memory>
+    requires found { seen ≡ loaded_of (scene_of view.now) name.now }
+    requires place { IfSome seen (λ l. IsPlace (scene_of view.now) l.place) }
     requires within { HavePlaces (scene_of view.now) list.old.items }
     ensures within { OnOk result (HavePlaces (scene_of view.now) list.new.items) }
     ensures list { OnOk result (list.new.items ≡ list.old.items ++ loaded_all (scene_of view.now) (name.now ∷ [])) }
 {
-    if let Some(seen) = loaded_of(view, name) {
+    if let Some(seen) = seen {
         list.push(member(&seen))?;
     }
     Ok(())

@@ -1,11 +1,14 @@
 //! What becomes of a switch request.
 
-ghost use Rattle.std.specs.Prelude.{◌≡◌, IfOk};
+ghost use Rattle.std.specs.Prelude.{◌≡◌, IfOk, IfSome};
+ghost use Rattle.chain_order.specs.Links.{leaders_of};
 ghost use Rattle.cm_model.specs.BestEffort.{plan_of};
 ghost use Rattle.switch_plan.specs.View.{scene_of, IsView};
 ghost use Rattle.switch_plan.specs.Settings.{set_scene, IsSetting};
+ghost use Rattle.switch_plan.specs.Relations.{relations_of};
 
 use crate::best::best;
+use crate::relations::Relations;
 use crate::setting::{Setting, active};
 use crate::strict::strict;
 use crate::view::View;
@@ -15,17 +18,49 @@ use cm_model::Planned;
 use std::alloc::Global;
 
 /// What becomes of a switch request, and which controllers are deactivated and activated for it, in which order: the switch rules,
-/// docs/RULES.md. Each loaded controller of the view has its place in the description, and they stand by serial.
+/// docs/RULES.md. Each loaded controller of the view has its place in the description, and they stand by serial. Interfaces are looked
+/// up by name.
 pub fn plan(alloc: Global, view: &View, request: &SwitchRequest) -> Result<Planned, Memory>
     requires { IsView view.now }
     ensures { IfOk result (λ plan. plan ≡ plan_of (scene_of view.now) request.now) }
 {
     let leaders = Links::leaders_in(alloc, view.checked)?;
+    plan_over(alloc, view, &leaders, None, request)
+}
+
+/// The same with the relations of the description, which were worked out before.
+pub fn plan_with(
+    alloc: Global,
+    view: &View,
+    relations: &Relations,
+    request: &SwitchRequest,
+) -> Result<Planned, Memory>
+    requires view { IsView view.now }
+    requires relations { relations.now ≡ relations_of view.now.checked.now }
+    ensures { IfOk result (λ plan. plan ≡ plan_of (scene_of view.now) request.now) }
+{
+    plan_over(alloc, view, relations.leaders(), Some(relations), request)
+}
+
+/// The same over those that precede each controller, and over the relations where they are known.
+fn plan_over(
+    alloc: Global,
+    view: &View,
+    leaders: &Links,
+    relations: Option<&Relations>,
+    request: &SwitchRequest,
+) -> Result<Planned, Memory>
+    requires view { IsView view.now }
+    requires leaders { leaders.now ≡ leaders_of view.now.checked.now.controllers }
+    requires relations { IfSome relations (λ w. w.now ≡ relations_of view.now.checked.now) }
+    ensures { IfOk result (λ plan. plan ≡ plan_of (scene_of view.now) request.now) }
+{
     let active = active(alloc, view)?;
     let setting = Setting {
         view: *view,
-        leaders: &leaders,
+        leaders,
         active: &active,
+        relations,
     };
     decided(alloc, &setting, request)
 }

@@ -1,16 +1,17 @@
 //! What a decision rests on.
 
 ghost use Rattle.std.specs.Prelude.{◌≡◌, ℕ, ◌<◌, length, map, filter, IfOk, All};
-ghost use Rattle.cm_model.specs.Order.{set_of};
-ghost use Rattle.cm_model.specs.Scene.{controllers_in, is_running, has_seen, active, members, order};
+ghost use Rattle.cm_model.specs.Order.{set_of, in_order};
+ghost use Rattle.cm_model.specs.Scene.{controllers_in, is_running, active, member, members, order};
 ghost use Rattle.switch_plan.specs.View.{scene_of, IsView, HavePlaces, HasFlags};
 ghost use Rattle.switch_plan.specs.Settings.{set_scene, IsSetting};
 
 use crate::members::{is_running, member};
+use crate::relations::Relations;
 use crate::view::{View, controllers};
 use chain_order::{Links, PlaceSet, in_order};
 use cm_document::Memory;
-use cm_model::{Member, Seen};
+use cm_model::Member;
 use std::alloc::Global;
 
 /// What a decision rests on: the view, with what is worked out of it once.
@@ -22,6 +23,8 @@ pub struct Setting<'a> {
     pub leaders: &'a Links,
     /// The active controllers.
     pub active: &'a PlaceSet,
+    /// Who has to do with whom, where it was worked out before.
+    pub relations: Option<&'a Relations>,
 }
 
 /// The active controllers.
@@ -30,18 +33,25 @@ pub fn active(alloc: Global, view: &View) -> Result<PlaceSet, Memory>
     ensures length { IfOk result (λ set. HasFlags (scene_of view.now) set) }
     ensures set { IfOk result (λ set. (p : ℕ) → set_of set p ≡ active (scene_of view.now) p) }
 {
-    let mut flags = Vec::new(alloc);
-    for place in 0..controllers(view).len() {
-        flags.push(is_active_at(view.loaded, place))?;
-    }
-    Ok(PlaceSet::from_flags(flags))
+    let members = running(alloc, view)?;
+    let set = PlaceSet::of(alloc, controllers(view).len(), &members)?;
+    Ok(set)
 }
 
-/// Whether the controller at a place is active.
-fn is_active_at(loaded: &[Seen], place: usize) -> bool
-    ensures { result ≡ has_seen (λ l. is_running l.life) loaded.now place }
+/// The active controllers, by serial.
+fn running(alloc: Global, view: &View) -> Result<Vec<Member>, Memory>
+    requires { IsView view.now }
+    ensures within { IfOk result (λ list. HavePlaces (scene_of view.now) list.items) }
+    ensures list { IfOk result (λ list. list.items
+        ≡ map member (filter (λ l. is_running l.life) view.now.loaded.now)) }
 {
-    loaded.iter().any(|seen| seen.place as usize == place && is_running(seen.life))
+    let mut list = Vec::new(alloc);
+    for seen in view.loaded {
+        if is_running(seen.life) {
+            list.push(member(seen))?;
+        }
+    }
+    Ok(list)
 }
 
 /// The members of a set, by serial.
@@ -67,6 +77,24 @@ pub fn order(alloc: Global, setting: &Setting, set: &PlaceSet) -> Result<Vec<Mem
     ensures order { IfOk result (λ list. list.items ≡ order (set_scene setting.now) (set_of set.now)) }
 {
     let list = members(alloc, &setting.view, set)?;
-    let ordered = in_order(alloc, setting.leaders, set, &list)?;
+    let ordered = in_order_of(alloc, setting, set, &list)?;
+    Ok(ordered)
+}
+
+/// These, which stand by serial, in the order of their updates by their depths in a set.
+pub fn in_order_of(
+    alloc: Global,
+    setting: &Setting,
+    set: &PlaceSet,
+    list: &[Member],
+) -> Result<Vec<Member>, Memory>
+    requires setting { IsSetting setting.now }
+    requires length { HasFlags (set_scene setting.now) set.now }
+    requires within { HavePlaces (set_scene setting.now) list.now }
+    ensures within { IfOk result (λ ordered. HavePlaces (set_scene setting.now) ordered.items) }
+    ensures order { IfOk result (λ ordered. ordered.items
+        ≡ in_order (controllers_in (set_scene setting.now)) (set_of set.now) list.now) }
+{
+    let ordered = in_order(alloc, setting.leaders, set, list)?;
     Ok(ordered)
 }

@@ -1,18 +1,18 @@
 //! Switches that are done whole or not at all.
 
-ghost use Rattle.std.specs.Prelude.{◌≡◌, ◌<◌, length, [], option_map, IfOk, All};
-ghost use Rattle.cm_model.specs.Order.{set_of};
-ghost use Rattle.cm_model.specs.Scene.{controllers_in, named};
+ghost use Rattle.std.specs.Prelude.{◌≡◌, ◌<◌, length, None, IsTrue, IfOk, All};
+ghost use Rattle.cm_model.specs.Order.{set_of, places_of};
+ghost use Rattle.cm_model.specs.Scene.{controllers_in};
 ghost use Rattle.cm_model.specs.Faults.{first_of};
 ghost use Rattle.cm_model.specs.Switches.{counts_for_all, counted, counted_of, first_member_fault, strict_between, strict, planned};
-ghost use Rattle.switch_plan.specs.View.{scene_of, IsView, IsPlace, HasFlags};
+ghost use Rattle.switch_plan.specs.View.{scene_of, IsPlace, HavePlaces, HasFlags};
 ghost use Rattle.switch_plan.specs.Settings.{set_scene, IsSetting};
 ghost use Rattle.switch_plan.specs.Proposals.{proposal_scene, proposed, asked_on, IsProposal};
 
 use crate::changes::{Change, done, refused};
+use crate::clear::are_clear;
 use crate::faults::{Proposal, fault_of_kind};
-use crate::lists::first_fault;
-use crate::members::loaded_all;
+use crate::lists::{Listed, look_through};
 use crate::setting::{Setting, order};
 use crate::view::{View, controllers, described};
 use chain_order::PlaceSet;
@@ -31,17 +31,20 @@ pub fn strict(
     ensures { IfOk result (λ plan. plan
         ≡ planned (set_scene setting.now) (strict (set_scene setting.now) off.now on.now)) }
 {
-    let view = &setting.view;
-    if let Some(because) = first_fault(view, None, off)? {
-        let plan = refused(alloc, because)?;
-        return Ok(plan);
-    }
-    let leaving = named(alloc, view, off)?;
-    if let Some(because) = first_fault(view, Some(&leaving), on)? {
-        let plan = refused(alloc, because)?;
-        return Ok(plan);
-    }
-    let coming = named(alloc, view, on)?;
+    let leaving = match look_through(alloc, &setting.view, None, off)? {
+        Listed::Faultless(members) => as_set(alloc, &setting.view, &members)?,
+        Listed::Faulty(because) => {
+            let plan = refused(alloc, because)?;
+            return Ok(plan);
+        }
+    };
+    let coming = match look_through(alloc, &setting.view, Some(&leaving), on)? {
+        Listed::Faultless(members) => as_set(alloc, &setting.view, &members)?,
+        Listed::Faulty(because) => {
+            let plan = refused(alloc, because)?;
+            return Ok(plan);
+        }
+    };
     let plan = strict_between(alloc, setting, &leaving, &coming)?;
     Ok(plan)
 }
@@ -63,14 +66,7 @@ fn strict_between(
         .active
         .without(alloc, leaving)?
         .either(alloc, coming)?;
-    let members = order(alloc, setting, &set)?;
-    let proposal = Proposal {
-        view: setting.view,
-        set: &set,
-        on: coming,
-        order: &members,
-    };
-    if let Some(because) = first_member_fault(&proposal)? {
+    if let Some(because) = member_fault(alloc, setting, &set, coming)? {
         let plan = refused(alloc, because)?;
         return Ok(plan);
     }
@@ -84,14 +80,50 @@ fn strict_between(
     Ok(plan)
 }
 
-/// The loaded controllers that these names name, as a set.
-fn named(alloc: Global, view: &View, names: &[Name]) -> Result<PlaceSet, Memory>
-    requires { IsView view.now }
-    ensures length { IfOk result (λ set. HasFlags (scene_of view.now) set) }
-    ensures set { IfOk result (λ set. set_of set ≡ named (scene_of view.now) names.now) }
+/// The fault that counts and comes first, of the members of a set of which these are to be activated. Where the relations show at once
+/// that there is none, no order is worked out.
+fn member_fault(
+    alloc: Global,
+    setting: &Setting,
+    set: &PlaceSet,
+    on: &PlaceSet,
+) -> Result<Option<Dropped>, Memory>
+    requires setting { IsSetting setting.now }
+    requires length { HasFlags (set_scene setting.now) set.now }
+    ensures { IfOk result (λ found. found
+        ≡ first_member_fault (set_scene setting.now) (set_of set.now) (set_of on.now)) }
 {
-    let members = loaded_all(alloc, view, names)?;
-    PlaceSet::of(alloc, controllers(view).len(), &members)
+    if is_seen_clear(setting, set, on) {
+        return Ok(None);
+    }
+    let members = order(alloc, setting, set)?;
+    let proposal = Proposal {
+        view: setting.view,
+        set,
+        on,
+        order: &members,
+    };
+    first_member_fault(&proposal)
+}
+
+/// Whether the relations are known and show at once that no fault counts against a set.
+fn is_seen_clear(setting: &Setting, set: &PlaceSet, on: &PlaceSet) -> bool
+    requires { IsSetting setting.now }
+    ensures { IsTrue result → first_member_fault (set_scene setting.now) (set_of set.now) (set_of on.now) ≡ None }
+{
+    match setting.relations {
+        Some(relations) => are_clear(&setting.view, relations, set, on),
+        None => false,
+    }
+}
+
+/// These controllers as a set.
+fn as_set(alloc: Global, view: &View, members: &[Member]) -> Result<PlaceSet, Memory>
+    requires { HavePlaces (scene_of view.now) members.now }
+    ensures length { IfOk result (λ set. HasFlags (scene_of view.now) set) }
+    ensures set { IfOk result (λ set. set_of set ≡ places_of members.now) }
+{
+    PlaceSet::of(alloc, controllers(view).len(), members)
 }
 
 /// The fault that counts and comes first by kind, and then by order.

@@ -4,15 +4,16 @@ use Rattle.cm_model.specs.Scene.{controllers_in}
 use Rattle.chain_order.specs.Links.{places_below}
 use Rattle.chain_order.proofs.LinkLemmas.{length-each_below}
 use Rattle.switch_plan.specs.View.{scene_of}
-use Rattle.switch_plan.proofs.requests.plan.Goals as goal
+use Rattle.switch_plan.proofs.requests.plan_over.Goals as goal
 
 pub decided-requires : goal.decided-requires
 decided-requires c =
-    let n = length (controllers_in (scene_of c.args.view.now)) in
+    let cs = controllers_in (scene_of c.args.view.now) in
     record {
-      view = c.requires;
-      leaders = c.in_ok-leaders.ensures;
-      rows = ap length c.in_ok-leaders.ensures ∙ length-each_below (λ p. places_below (λ q. precedes_at (controllers_in (scene_of c.args.view.now)) q p) n) n;
+      view = c.requires.view;
+      leaders = c.requires.leaders;
+      rows = ap length c.requires.leaders ∙ length-each_below (λ p. places_below (λ q. precedes_at cs q p) (length cs)) (length cs);
       active = c.in_ok-active.ensures.set;
       flags = c.in_ok-active.ensures.length;
+      relations = c.requires.relations;
     }
