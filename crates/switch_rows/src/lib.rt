@@ -1,5 +1,5 @@
 //! Tests of switch plans, scene by scene: a page has for each case the loaded controllers, and line by line a request with
-//! what must be told of its plan.
+//! what must be told of its plan; and of the order of updates.
 #![tactic(auto)]
 
 #[cfg(test)]
@@ -8,6 +8,8 @@ mod causes;
 mod efforts;
 #[cfg(test)]
 mod largest;
+#[cfg(test)]
+mod orders;
 #[cfg(test)]
 mod restarts;
 #[cfg(test)]

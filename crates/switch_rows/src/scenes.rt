@@ -7,10 +7,11 @@ use crate::efforts::EFFORTS;
 use crate::largest::{RISING, RISING_REQUESTS, SINKING, SINKING_REQUESTS};
 use crate::restarts::RESTARTS;
 use crate::robots::{ARM_AND_LEG, ONE_JOINT, SEVEN};
+use case_pages::acts::{Player, hold_acts};
+use case_pages::pages::halves;
 use cm_model::{Checked, Life, Name, Seen, Seq};
 use desc_check::check;
 use desc_text::read_description;
-use ground_rows::pages::repeated;
 use std::alloc::Global;
 use std::test::Fail;
 use switch_plan::{Planned, SwitchRequest, View, plan};
@@ -18,42 +19,12 @@ use switch_plan::{Planned, SwitchRequest, View, plan};
 #[test]
 fn requests_have_their_plans(rt: HostRuntime) -> Result<(), Fail> {
     let alloc = rt.alloc();
-    for (robot, page) in [
-        (SEVEN, ONE_JOINT),
-        (ARM_AND_LEG, LISTS),
-        (ARM_AND_LEG, MEMBERS),
-        (ARM_AND_LEG, RESTARTS),
-        (ARM_AND_LEG, EFFORTS),
-        (RISING, RISING_REQUESTS),
-        (SINKING, SINKING_REQUESTS),
-    ] {
-        assert_eq!(rt; differences(alloc, robot, page)?.as_str(), "");
+    hold_acts::<Scene>(alloc, SEVEN, ONE_JOINT)?;
+    for page in [LISTS, MEMBERS, RESTARTS, EFFORTS] {
+        hold_acts::<Scene>(alloc, ARM_AND_LEG, page)?;
     }
-    Ok(())
-}
-
-/// Where a page is told otherwise than it says, a line for each request. A case is a paragraph: the scene, and lines
-/// `REQUEST => TOLD`, each decided in that scene. A line that ends with `\` goes on in the next.
-fn differences(alloc: Global, robot: &str, page: &str) -> Result<String, Fail> {
-    let robot = repeated(alloc, robot, '<', '>')?;
-    let page = page.replace(alloc, "\\\n", "")?;
-    let mut found = String::new(alloc);
-    for case in page.as_str().split("\n\n") {
-        let case = repeated(alloc, case, '<', '>')?;
-        let mut scene = Scene::of(alloc, robot.as_str())?;
-        for line in case.as_str().lines() {
-            match line.split_once(" => ") {
-                None => scene.add(line)?,
-                Some((request, want)) => {
-                    let got = scene.told(alloc, request)?;
-                    if got.as_str() != want {
-                        write!(found, "{line}: {got}\n")?;
-                    }
-                }
-            }
-        }
-    }
-    Ok(found)
+    hold_acts::<Scene>(alloc, RISING, RISING_REQUESTS)?;
+    hold_acts::<Scene>(alloc, SINKING, SINKING_REQUESTS)
 }
 
 /// A description with what is loaded of it; its components are active where nothing else is said.
@@ -62,6 +33,28 @@ struct Scene {
     checked: Checked,
     loaded: Vec<Seen>,
     components: Vec<Life>,
+}
+
+impl Player for Scene {
+    /// A scene of the robot before it: a line for each controller that is loaded, and for each component that is not active.
+    fn begin(alloc: Global, robot: &str, lines: &str) -> Result<Scene, Fail> {
+        let mut scene = Scene::of(alloc, robot)?;
+        for line in lines.lines() {
+            scene.add(line)?;
+        }
+        Ok(scene)
+    }
+
+    /// What is told of a request: the outcome, and the names of those to deactivate and to activate.
+    fn told(&mut self, alloc: Global, words: &str) -> Result<String, Fail> {
+        let request = request_of(alloc, words)?;
+        let planned = self.planned(alloc, &request)?;
+        let mut told = format!(in alloc; "{};", planned.outcome)?;
+        self.push_names(&mut told, " -", planned.off.as_slice())?;
+        told.push_str(";")?;
+        self.push_names(&mut told, " +", planned.on.as_slice())?;
+        Ok(told)
+    }
 }
 
 impl Scene {
@@ -79,7 +72,7 @@ impl Scene {
     /// `NAME STATE`: a controller that is loaded next, with `chained` for an active one that is, and `late` for an inactive
     /// one that is not ready; or `PLACE STATE` of a component.
     fn add(&mut self, line: &str) -> Result<(), Fail> {
-        let (name, word) = line.split_once(" ").ok_or("no state")?;
+        let (name, word) = halves(line, " ")?;
         let life = match word {
             "unconfigured" => Life::Unconfigured,
             "inactive" | "late" => Life::Inactive,
@@ -95,7 +88,7 @@ impl Scene {
     /// A component's state.
     fn set_component(&mut self, place: usize, life: Life) -> Result<(), Fail> {
         if place >= self.components.len() {
-            return Err(Fail::from("no such component"));
+            return Err(Fail::new("no such component"));
         }
         self.components[place] = life;
         Ok(())
@@ -103,7 +96,7 @@ impl Scene {
 
     /// A controller is loaded next.
     fn load(&mut self, name: &str, word: &str, life: Life) -> Result<(), Fail> {
-        let place = self.place_of(name)?;
+        let place = place_of(&self.checked, name)?;
         let serial = u32::try_from(self.loaded.len())?;
         self.loaded.push(Seen {
             serial,
@@ -115,31 +108,11 @@ impl Scene {
         Ok(())
     }
 
-    /// The place of a controller.
-    fn place_of(&self, name: &str) -> Result<u32, Fail> {
-        let controllers = self.checked.description().controllers.as_slice();
-        let place = controllers
-            .iter()
-            .position(|controller| controller.name.as_str() == name);
-        Ok(u32::try_from(place.ok_or("no such controller")?)?)
-    }
-
-    /// What is told of a request: the outcome, and the names of those to deactivate and to activate.
-    fn told(&self, alloc: Global, words: &str) -> Result<String, Fail> {
-        let request = request_of(alloc, words)?;
-        let planned = self.planned(alloc, &request)?;
-        let mut told = format!(in alloc; "{};", planned.outcome)?;
-        self.push_names(&mut told, " -", planned.off.as_slice())?;
-        told.push_str(";")?;
-        self.push_names(&mut told, " +", planned.on.as_slice())?;
-        Ok(told)
-    }
-
     /// The plan of a request.
     fn planned(&self, alloc: Global, request: &SwitchRequest) -> Result<Planned, Fail> {
         let count = self.checked.description().controllers.as_slice().len();
         if !are_below(&self.loaded, count) {
-            return Err(Fail::from("no such place"));
+            return Err(Fail::new("no such place"));
         }
         let view = View {
             checked: &self.checked,
@@ -151,15 +124,30 @@ impl Scene {
 
     /// The names of the controllers with these serials, each behind a sign.
     fn push_names(&self, told: &mut String, sign: &str, serials: &[u32]) -> Result<(), Fail> {
-        let controllers = self.checked.description().controllers.as_slice();
         for serial in serials {
-            let seen = self.loaded.iter().find(|seen| seen.serial == *serial);
-            let seen = seen.ok_or("no such serial")?;
-            let controller = controllers.get(seen.place as usize).ok_or("no such place")?;
-            write!(told, "{sign}{}", controller.name)?;
+            told.push_str(sign)?;
+            told.push_str(self.name_of(*serial)?)?;
         }
         Ok(())
     }
+
+    /// The name of the controller with this serial.
+    fn name_of(&self, serial: u32) -> Result<&str, Fail> {
+        let seen = self.loaded.iter().find(|seen| seen.serial == serial);
+        let place = seen.ok_or("no such serial")?.place;
+        let controllers = self.checked.description().controllers.as_slice();
+        let controller = controllers.get(place as usize).ok_or("no such place")?;
+        Ok(controller.name.as_str())
+    }
+}
+
+/// The place of a described controller.
+pub fn place_of(checked: &Checked, name: &str) -> Result<u32, Fail> {
+    let controllers = checked.description().controllers.as_slice();
+    let place = controllers
+        .iter()
+        .position(|controller| controller.name.as_str() == name);
+    Ok(u32::try_from(place.ok_or("no such controller")?)?)
 }
 
 /// Whether each of these has its place below the count.
@@ -177,13 +165,18 @@ fn request_of(alloc: Global, words: &str) -> Result<SwitchRequest, Fail> {
         strict: false,
     };
     for word in words.split_whitespace() {
-        if let Some(name) = word.strip_prefix('-') {
-            request.off.push(Name::read(alloc, name.as_bytes())?)?;
-        } else if let Some(name) = word.strip_prefix('+') {
-            request.on.push(Name::read(alloc, name.as_bytes())?)?;
-        } else {
-            request.strict = word == "strict";
-        }
+        add_word(alloc, &mut request, word)?;
     }
     Ok(request)
+}
+
+fn add_word(alloc: Global, request: &mut SwitchRequest, word: &str) -> Result<(), Fail> {
+    if let Some(name) = word.strip_prefix('-') {
+        request.off.push(Name::read(alloc, name.as_bytes())?)?;
+    } else if let Some(name) = word.strip_prefix('+') {
+        request.on.push(Name::read(alloc, name.as_bytes())?)?;
+    } else {
+        request.strict = word == "strict";
+    }
+    Ok(())
 }
