@@ -1,5 +1,5 @@
 -- Blanks, counted by their kind.
-use Rattle.std.specs.Prelude.{◌+◌, List, [], ◌∷◌}
+use Rattle.std.specs.Prelude.{ℕ, ◌+◌, List, [], ◌∷◌}
 use Rattle.cm_document.specs.declared.description.CtlKind.{CtlKind}
 use Rattle.cm_document.specs.declared.description.CtlKind.TheVariants.{Forward, Passthrough, Pid, Trajectory, Broadcaster, Mock}
 use Rattle.cm_model.specs.declared.blanks.Blanks.{Blanks}
@@ -26,3 +26,7 @@ with_each b (ctl ∷ ctls) = with_each (with_one_more b ctl.kind) ctls
 -- how many of each kind these controllers are
 abbrev pub counts_of : List CtlData → Blanks
 counts_of ctls = with_each no_blanks ctls
+
+-- how many blanks there are of all kinds together
+abbrev pub total : Blanks → ℕ
+total b = ((((b.forward + b.passthrough) + b.pid) + b.trajectory) + b.broadcaster) + b.mock

@@ -5,6 +5,7 @@
 pub use cm_model::Blanks;
 pub use ctl_trait::{Controller, CtlKind};
 pub use fault::RackFault;
+pub use piles::Piles;
 pub use rack::{Rack, Whereabouts};
 pub use stock::Stock;
 

@@ -10,9 +10,9 @@ use ctl_trait::{Controller, CtlKind};
 use std::alloc::Global;
 use std::marker::Model;
 
-/// A pile of blanks for each kind. Contracts see how many each pile has.
+/// The blanks of a stock, a pile for each kind. Contracts see how many each pile has.
 #[derive(Drop)]
-pub(crate) struct Piles<C: Controller> {
+pub struct Piles<C: Controller> {
     forward: Vec<C>,
     passthrough: Vec<C>,
     pid: Vec<C>,
@@ -80,7 +80,7 @@ impl<C: Controller> Piles<C> {
     }
 
     /// A blank of the kind, where one is left. It takes no memory.
-    pub(crate) fn take(&mut self, kind: CtlKind) -> Option<C>
+    pub fn take(&mut self, kind: CtlKind) -> Option<C>
         ensures { MatchOption result
             ((blanks_of self.old kind ≡ 0) × (self.new ≡ self.old))
             (λ c. (C.meaning c ≡ fresh kind) × (0 < blanks_of self.old kind)
