@@ -34,26 +34,38 @@ out of memory
 #[test]
 fn each_fault_prints_as_its_line(rt: HostRuntime) -> Result<(), Fail> {
     let mut printed = String::new(rt.alloc());
-    push(&mut printed, FxFault::Empty)?;
-    push(&mut printed, FxFault::BadByte(3))?;
-    push(&mut printed, FxFault::TooManyDecimals)?;
-    push(&mut printed, FxFault::TooLarge)?;
-    push(&mut printed, NameFault::BadName)?;
-    push(&mut printed, NameFault::Memory)?;
-    push(&mut printed, RegFault::Taken(7))?;
-    push(&mut printed, RegFault::Full)?;
-    push(&mut printed, RegFault::Memory)?;
-    push(&mut printed, Memory)?;
-    push(&mut printed, Failed)?;
-    push(&mut printed, ReadFault::Failed)?;
-    push(&mut printed, ReadFault::TooLong)?;
-    push(&mut printed, ReadFault::Memory)?;
-    push(&mut printed, DescFault::Memory)?;
-    push(&mut printed, CheckFault::Memory)?;
-    push(&mut printed, ScriptFault::Memory)?;
-    push(&mut printed, DocumentFault::Memory)?;
-    assert_eq!(rt; printed.as_str(), PRINTED);
+    push_of_numbers_and_names(&mut printed)?;
+    push_of_the_edge(&mut printed)?;
+    push_of_documents(&mut printed)?;
+    assert!(rt; printed.as_str() == PRINTED);
     Ok(())
+}
+
+fn push_of_numbers_and_names(printed: &mut String) -> Result<(), AllocError> {
+    push(printed, FxFault::Empty)?;
+    push(printed, FxFault::BadByte(3))?;
+    push(printed, FxFault::TooManyDecimals)?;
+    push(printed, FxFault::TooLarge)?;
+    push(printed, NameFault::BadName)?;
+    push(printed, NameFault::Memory)?;
+    push(printed, RegFault::Taken(7))?;
+    push(printed, RegFault::Full)?;
+    push(printed, RegFault::Memory)?;
+    push(printed, Memory)
+}
+
+fn push_of_the_edge(printed: &mut String) -> Result<(), AllocError> {
+    push(printed, Failed)?;
+    push(printed, ReadFault::Failed)?;
+    push(printed, ReadFault::TooLong)?;
+    push(printed, ReadFault::Memory)
+}
+
+fn push_of_documents(printed: &mut String) -> Result<(), AllocError> {
+    push(printed, DescFault::Memory)?;
+    push(printed, CheckFault::Memory)?;
+    push(printed, ScriptFault::Memory)?;
+    push(printed, DocumentFault::Memory)
 }
 
 /// Appends the line of a fault.

@@ -2,12 +2,13 @@
 //! above some size meets its contract. Answers are compared by how many bytes they have and by their checksum
 //! Adler-32, which `scripts/largest_answers` makes from the rules, without this program.
 
-use crate::pages::differences;
+use crate::pages::{hold, hold_told};
 use crate::runs::Runs;
+use case_pages::largest::{AT_ALL_LIMITS, Summed, count_and_checksum};
 use cm_model::IfaceName;
-use ground_rows::largest::{AT_ALL_LIMITS, Summed, count_and_checksum};
 use iface_names::Registry;
 use outside_io::{MemSink, MemSource, read_whole, write_whole};
+use std::alloc::Global;
 use std::test::Fail;
 
 /// The longest document.
@@ -23,43 +24,62 @@ const RUNS: Summed<Runs> = Summed {
 
 #[test]
 fn the_largest_run(rt: HostRuntime) -> Result<(), Fail> {
-    assert_eq!(rt; differences(rt.alloc(), &RUNS, "", RUN)?.as_str(), "");
-    Ok(())
+    hold(rt.alloc(), &RUNS, "", RUN)
 }
 
 #[test]
 fn a_run_of_the_largest_description(rt: HostRuntime) -> Result<(), Fail> {
     let alloc = rt.alloc();
     let description = AT_ALL_LIMITS.replace(alloc, "cycles = 100000", "cycles = 10000")?;
-    let page = format!(in alloc; "{description}{SCRIPT}")?;
-    assert_eq!(rt; differences(alloc, &RUNS, "", page.as_str())?.as_str(), "");
-    Ok(())
+    hold(alloc, &RUNS, description.as_str(), SCRIPT)
 }
 
 #[test]
-fn the_largest_reads_writes_and_registry(rt: HostRuntime) -> Result<(), Fail> {
+fn the_largest_read(rt: HostRuntime) -> Result<(), Fail> {
     let alloc = rt.alloc();
+    let mut source = MemSource::make(many_bytes(alloc)?, LONGEST, vec![in alloc]?);
+    let read = read_whole(alloc, &mut source, LONGEST)?;
+    let sum = count_and_checksum(alloc, read.as_slice())?;
+    hold_told(alloc, "the bytes", sum.as_str(), BYTES)
+}
+
+fn many_bytes(alloc: Global) -> Result<Vec<u8>, Fail> {
     let mut bytes = Vec::new(alloc);
     for number in 0..LONGEST {
         bytes.push((number % 251) as u8)?;
     }
-    let mut source = MemSource::make(bytes, LONGEST, vec![in alloc]?);
-    let read = read_whole(alloc, &mut source, LONGEST)?;
-    assert_eq!(rt; count_and_checksum(alloc, read.as_slice())?.as_str(), BYTES);
-    let bytes_of_a_write = [b'x'; 1024];
+    Ok(bytes)
+}
+
+#[test]
+fn the_largest_write(rt: HostRuntime) -> Result<(), Fail> {
+    let alloc = rt.alloc();
     let mut sink = MemSink::make(alloc, 4 * LONGEST, 1000, vec![in alloc]?)?;
     for _ in 0..4096 {
-        assert_eq!(rt; write_whole(&mut sink, &bytes_of_a_write), Ok(()));
+        write_whole(&mut sink, &[b'x'; 1024])?;
     }
-    assert_eq!(rt; count_and_checksum(alloc, sink.bytes())?.as_str(), TAKEN);
-    let mut registry = Registry::make(alloc, 1_000);
+    let sum = count_and_checksum(alloc, sink.bytes())?;
+    hold_told(alloc, "the bytes", sum.as_str(), TAKEN)
+}
+
+#[test]
+fn the_largest_registry(rt: HostRuntime) -> Result<(), Fail> {
+    let mut registry = Registry::make(rt.alloc(), 1_000);
     for index in 0..1_000u32 {
-        let name = format!(in alloc; "controller/joint{index}/effort")?;
-        let name = IfaceName::read(alloc, name.as_bytes())?;
-        assert_eq!(rt; registry.add(name)?, index);
+        add(rt.alloc(), &mut registry, index)?;
     }
-    assert_eq!(rt; registry.len(), 1_000);
+    assert!(rt; registry.len() == 1_000);
     Ok(())
+}
+
+/// An interface more, which has this place.
+fn add(alloc: Global, registry: &mut Registry, index: u32) -> Result<(), Fail> {
+    let text = format!(in alloc; "controller/joint{index}/effort")?;
+    let name = IfaceName::read(alloc, text.as_bytes())?;
+    if registry.add(name)? == index {
+        return Ok(());
+    }
+    Err(Fail::new("another place"))
 }
 
 /// What was read, and what was taken.

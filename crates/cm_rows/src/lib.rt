@@ -10,4 +10,4 @@ mod largest;
 mod runs;
 
 #[cfg(test)]
-use ground_rows::pages;
+use case_pages::pages;

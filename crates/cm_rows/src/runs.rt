@@ -5,12 +5,12 @@ mod outside;
 mod pages;
 mod words;
 
-use crate::pages::{Teller, differences};
+use crate::pages::{Teller, hold, joined};
 use cm_model::Blanks;
-use cm_top::run_alone;
+use cm_top::{Status, run_alone};
 use outside::{FAULTS, Fails};
 use outside_io::{MemSink, MemSource};
-use pages::{DESCRIPTIONS, LENGTHS, SCRIPTS, SEPARATORS};
+use pages::{DESCRIPTIONS, LENGTHS, NOTHING, OF_FIRST, SCRIPTS, SEPARATORS};
 use std::alloc::Global;
 use std::str;
 use std::test::Fail;
@@ -67,48 +67,53 @@ pub struct Runs {
 
 impl Teller for Runs {
     fn told(&self, alloc: Global, text: &str) -> Result<String, Fail> {
+        let mut sink = MemSink::make(alloc, AMPLE, AMPLE, vec![in alloc]?)?;
+        let status = self.run(alloc, text, &mut sink)?;
+        let mut told = format!(in alloc; "{status}\n")?;
+        told.push_str(str::from_utf8(sink.bytes())?)?;
+        without_end(alloc, told.as_str())
+    }
+}
+
+impl Runs {
+    /// How the run of a document ends.
+    fn run(&self, alloc: Global, text: &str, sink: &mut MemSink) -> Result<Status, Fail> {
         if self.step == 0 {
-            return Err(Fail::from("a step of none"));
+            return Err(Fail::new("a step of none"));
         }
         let bytes = text.as_bytes().to_vec(alloc)?;
         let mut source = MemSource::make(bytes, self.step, vec![in alloc]?);
-        let mut sink = MemSink::make(alloc, AMPLE, AMPLE, vec![in alloc]?)?;
-        let status = run_alone(alloc, &mut source, &mut sink, mocks(self.mocks));
-        let printed = str::from_utf8(sink.bytes())?;
-        let told = format!(in alloc; "{status}\n{printed}")?;
-        match told.strip_suffix("\n") {
-            Some(lines) => Ok(String::from_str(alloc, lines)?),
-            None => Ok(format!(in alloc; "{told}, without an end")?),
-        }
+        Ok(run_alone(alloc, &mut source, sink, mocks(self.mocks)))
     }
+}
+
+/// A text without the end of its last line.
+fn without_end(alloc: Global, told: &str) -> Result<String, Fail> {
+    match told.strip_suffix("\n") {
+        Some(lines) => Ok(String::from_str(alloc, lines)?),
+        None => joined(alloc, told, ", without an end"),
+    }
+}
+
+/// Runs whose source gives so many bytes a read.
+fn in_steps_of(step: usize) -> Runs {
+    Runs { step, mocks: 32 }
 }
 
 #[test]
 fn each_document_is_printed_or_refused(rt: HostRuntime) -> Result<(), Fail> {
     let alloc = rt.alloc();
     for page in [DESCRIPTIONS, SEPARATORS, SCRIPTS, LENGTHS] {
-        assert_eq!(rt;
-            differences(
-                alloc,
-                &Runs {
-                    step: 1000,
-                    mocks: 32
-                },
-                "",
-                page
-            )?
-            .as_str(),
-            ""
-        );
+        hold(alloc, &in_steps_of(1000), "", page)?;
     }
-    assert_eq!(rt; differences(alloc, &Fails, "", FAULTS)?.as_str(), "");
-    let nothing = "version = 1\nupdate_rate = 100\ncycles = 0\n--- script ---\n";
-    for (document, trace) in [(FIRST, FIRST_TRACE), (nothing, "loop close: none\n")] {
-        let want = format!(in alloc; "ok\n{trace}")?;
-        for step in [1, 7, 1000] {
-            let told = format!(in alloc; "{}\n", Runs { step, mocks: 32 }.told(alloc, document)?)?;
-            assert_eq!(rt; told.as_str(), want.as_str(), "{step} bytes a read");
-        }
+    hold(alloc, &Fails, "", FAULTS)
+}
+
+#[test]
+fn a_document_is_read_in_any_pieces(rt: HostRuntime) -> Result<(), Fail> {
+    for step in [1, 7, 1000] {
+        hold(rt.alloc(), &in_steps_of(step), FIRST, OF_FIRST)?;
+        hold(rt.alloc(), &in_steps_of(step), "", NOTHING)?;
     }
     Ok(())
 }

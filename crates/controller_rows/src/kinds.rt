@@ -3,60 +3,114 @@
 
 ghost use Rattle.cm_model.specs.Controllers.{IsBlank};
 
+mod computing;
 mod pages;
 mod tried;
 
-use crate::kinds::pages::{FORWARDS, LARGEST, LIFECYCLE, MAIL, MOCKS, PASSTHROUGHS};
+use crate::kinds::computing::{BROADCASTERS, LIMITS, LINES, PIDS, TRAJECTORIES};
+use crate::kinds::pages::{FORWARDS, LIFECYCLE, MOCKS, PASSTHROUGHS};
 use crate::kinds::tried::Tried;
-use cm_model::{CtlKind, Fx, Mail, Params, Point2, Seq};
+use case_pages::pages::{Teller, halves, hold, push_parted};
+use case_pages::words::number;
+use cm_model::{Fx, Mail, Params, Point2, Seq};
+use ctl_bcast::Broadcaster;
 use ctl_forward::{Forward, Passthrough};
 use ctl_mock::Mock;
+use ctl_pid::PidCtl;
 use ctl_trait::{Controller, Tick, Value};
-use ground_rows::pages::{Teller, differences};
+use ctl_traj::TrajCtl;
 use std::alloc::Global;
 use std::test::Fail;
 
 #[test]
 fn each_kind_does_what_its_row_says(rt: HostRuntime) -> Result<(), Fail> {
     let alloc = rt.alloc();
-    for page in [FORWARDS, PASSTHROUGHS, MOCKS, LARGEST, LIFECYCLE, MAIL] {
-        assert_eq!(rt; differences(alloc, &Plays, "", page)?.as_str(), "");
-    }
-    Ok(())
+    hold(alloc, &Forwards, "", FORWARDS)?;
+    hold(alloc, &Forwards, "", LIFECYCLE)?;
+    hold(alloc, &Passthroughs, "", PASSTHROUGHS)?;
+    hold(alloc, &Mocks, "", MOCKS)
 }
 
-/// Tells the answers to the calls of a case.
-struct Plays;
+#[test]
+fn each_kind_that_computes_does_what_its_row_says(rt: HostRuntime) -> Result<(), Fail> {
+    let alloc = rt.alloc();
+    hold(alloc, &Pids, "", PIDS)?;
+    hold(alloc, &Pids, "", LIMITS)?;
+    hold(alloc, &Trajectories, "", TRAJECTORIES)?;
+    hold(alloc, &Trajectories, "", LINES)?;
+    hold(alloc, &Broadcasters, "", BROADCASTERS)
+}
 
-impl Teller for Plays {
+/// Tells the answers of a forward to the calls of a case.
+struct Forwards;
+
+impl Teller for Forwards {
     fn told(&self, alloc: Global, text: &str) -> Result<String, Fail> {
-        let (head, calls) = text.split_once("\n").ok_or("a case without calls")?;
-        let params = params_of(alloc, head)?;
-        match params.kind() {
-            CtlKind::Forward => play(alloc, Forward::blank(), &params, calls),
-            CtlKind::Passthrough => play(alloc, Passthrough::blank(), &params, calls),
-            CtlKind::Mock => play(alloc, Mock::blank(), &params, calls),
-            _ => Err(Fail::from("a kind that is not built")),
-        }
+        play(alloc, Forward::blank(), Vec::new(alloc), text)
     }
 }
 
-/// The answers of a blank to these calls, a line for each.
+/// Tells the answers of a passthrough to the calls of a case.
+struct Passthroughs;
+
+impl Teller for Passthroughs {
+    fn told(&self, alloc: Global, text: &str) -> Result<String, Fail> {
+        play(alloc, Passthrough::blank(), Vec::new(alloc), text)
+    }
+}
+
+/// Tells the answers of a pid to the calls of a case.
+struct Pids;
+
+impl Teller for Pids {
+    fn told(&self, alloc: Global, text: &str) -> Result<String, Fail> {
+        play(alloc, PidCtl::blank(), Vec::new(alloc), text)
+    }
+}
+
+/// Tells the answers of a trajectory to the calls of a case.
+struct Trajectories;
+
+impl Teller for Trajectories {
+    fn told(&self, alloc: Global, text: &str) -> Result<String, Fail> {
+        play(alloc, TrajCtl::blank(), Vec::new(alloc), text)
+    }
+}
+
+/// Tells the answers of a broadcaster to the calls of a case.
+struct Broadcasters;
+
+impl Teller for Broadcasters {
+    fn told(&self, alloc: Global, text: &str) -> Result<String, Fail> {
+        play(alloc, Broadcaster::blank(), Vec::new(alloc), text)
+    }
+}
+
+/// Tells the answers of a mock to the calls of a case.
+struct Mocks;
+
+impl Teller for Mocks {
+    fn told(&self, alloc: Global, text: &str) -> Result<String, Fail> {
+        play(alloc, Mock::blank(), Vec::new(alloc), text)
+    }
+}
+
+/// The answers of a blank, whose claims hold these values, to the calls behind a line of parameters, a line for each.
 fn play<C: Controller>(
     alloc: Global,
     blank: C,
-    params: &Params,
-    calls: &str,
+    outs: Vec<Value>,
+    text: &str,
 ) -> Result<String, Fail>
     requires { IsBlank (C.meaning blank) }
 {
+    let (head, calls) = halves(text, "\n")?;
+    let params = params_of(alloc, head)?;
     let mut told = String::new(alloc);
-    let mut tried = Tried::new(alloc, blank);
+    let mut tried = Tried::new(blank, outs);
     for call in calls.lines() {
-        if !told.is_empty() {
-            told.push_str("\n")?;
-        }
-        answer(alloc, &mut tried, params, call, &mut told)?;
+        push_parted(&mut told, "\n", "")?;
+        answer(alloc, &mut tried, &params, call, &mut told)?;
     }
     Ok(told)
 }
@@ -79,7 +133,7 @@ fn answer<C: Controller>(
         "update" => return updated(alloc, tried, given, told),
         "deactivate" => tried.deactivate(),
         "cleanup" => tried.cleanup(),
-        _ => return Err(Fail::from("an unknown call")),
+        _ => return Err(Fail::new("an unknown call")),
     };
     told.push_str(answer)?;
     Ok(())
@@ -103,36 +157,61 @@ fn activated<C: Controller>(
     Ok(tried.activate(states.as_slice(), chained))
 }
 
-/// `CYCLE, states STATES, refs REFS`; the answer has what the claims hold then.
+/// What an update is given.
+#[derive(Drop)]
+struct Given {
+    tick: Tick,
+    states: Vec<Fx>,
+    refs: Vec<Value>,
+}
+
+/// `CYCLE, at TIME, for TIME, states STATES, refs REFS`; the answer has what the claims hold then.
 fn updated<C: Controller>(
     alloc: Global,
     tried: &mut Tried<C>,
     given: &str,
     told: &mut String,
 ) -> Result<(), Fail> {
-    let (cycle, parts) = given.split_once(", ").unwrap_or((given, ""));
-    let mut tick = Tick {
-        cycle: cycle.parse()?,
-        time_us: 0,
-        dt_us: 10_000,
-    };
-    let mut states = Vec::new(alloc);
-    let mut refs = Vec::new(alloc);
-    for part in parts.split(", ") {
-        match part.split_once(" ") {
-            Some(("at", time)) => tick.time_us = time.parse()?,
-            Some(("for", time)) => tick.dt_us = time.parse()?,
-            Some(("states", given)) => states = numbers(alloc, given)?,
-            Some(("refs", given)) => refs = values(alloc, given)?,
-            _ => {}
-        }
-    }
-    let answer = tried.update(tick, states.as_slice(), refs.as_slice());
+    let given = given_of(alloc, given)?;
+    let answer = tried.update(given.tick, given.states.as_slice(), given.refs.as_slice());
     told.push_str(answer)?;
-    if answer != "ok" && answer != "error" {
-        return Ok(());
+    if answer == "ok" || answer == "error" {
+        push_values(told, tried.outs())?;
     }
-    for value in tried.outs() {
+    Ok(())
+}
+
+fn given_of(alloc: Global, text: &str) -> Result<Given, Fail> {
+    let (cycle, parts) = text.split_once(", ").unwrap_or((text, ""));
+    let mut given = Given {
+        tick: Tick {
+            cycle: cycle.parse()?,
+            time_us: 0,
+            dt_us: 10_000,
+        },
+        states: Vec::new(alloc),
+        refs: Vec::new(alloc),
+    };
+    for part in parts.split(", ") {
+        add_part(alloc, &mut given, part)?;
+    }
+    Ok(given)
+}
+
+fn add_part(alloc: Global, given: &mut Given, part: &str) -> Result<(), Fail> {
+    let (name, words) = part.split_once(" ").unwrap_or((part, ""));
+    match name {
+        "at" => given.tick.time_us = words.parse()?,
+        "for" => given.tick.dt_us = words.parse()?,
+        "states" => given.states = numbers(alloc, words)?,
+        "refs" => given.refs = values(alloc, words)?,
+        _ => {}
+    }
+    Ok(())
+}
+
+fn push_values(told: &mut String, values: &[Value]) -> Result<(), Fail> {
+    for value in values {
         match value {
             Value::Unset => told.push_str(" unset")?,
             Value::Num(number) => write!(told, " {number}")?,
@@ -157,48 +236,44 @@ fn params_of(alloc: Global, text: &str) -> Result<Params, Fail> {
         "broadcaster" => Ok(Params::Broadcaster {
             ins: given.parse()?,
         }),
-        "pid" => pid_of(alloc, given),
+        "pid" => pid_of(given),
         "mock" => mock_of(alloc, given),
-        _ => Err(Fail::from("an unknown kind")),
+        _ => Err(Fail::new("an unknown kind")),
     }
 }
 
 /// The parameters of a pid: its three gains and its two limits.
-fn pid_of(alloc: Global, given: &str) -> Result<Params, Fail> {
-    let numbers = numbers(alloc, given)?;
-    match numbers.as_slice() {
-        [kp, ki, kd, imax, omax] => Ok(Params::Pid {
-            kp: *kp,
-            ki: *ki,
-            kd: *kd,
-            imax: *imax,
-            omax: *omax,
-        }),
-        _ => Err(Fail::from("a pid has five numbers")),
-    }
+fn pid_of(given: &str) -> Result<Params, Fail> {
+    Ok(Params::Pid {
+        kp: number(given, 0)?,
+        ki: number(given, 1)?,
+        kd: number(given, 2)?,
+        imax: number(given, 3)?,
+        omax: number(given, 4)?,
+    })
 }
 
 /// The parameters of a mock.
 fn mock_of(alloc: Global, given: &str) -> Result<Params, Fail> {
     let (outs, parts) = given.split_once(", ").unwrap_or((given, ""));
-    let mut refuse_config = false;
-    let mut not_ready = Vec::new(alloc);
-    let mut fail_update = Vec::new(alloc);
-    for part in parts.split(", ") {
-        if part == "refuses" {
-            refuse_config = true;
-        } else if let Some(cycles) = part.strip_prefix("not ready ") {
-            not_ready = wholes(alloc, cycles)?;
-        } else if let Some(cycles) = part.strip_prefix("fails ") {
-            fail_update = wholes(alloc, cycles)?;
-        }
-    }
+    let not_ready = wholes(alloc, behind(parts, "not ready "))?;
+    let fail_update = wholes(alloc, behind(parts, "fails "))?;
     Ok(Params::Mock {
         outs: outs.parse()?,
-        refuse_config,
+        refuse_config: parts.contains("refuses"),
         not_ready: Seq::from_vec(not_ready),
         fail_update: Seq::from_vec(fail_update),
     })
+}
+
+/// What stands behind these words in a part that begins with them.
+fn behind<'a>(parts: &'a str, words: &str) -> &'a str {
+    for part in parts.split(", ") {
+        if let Some(rest) = part.strip_prefix(words) {
+            return rest;
+        }
+    }
+    ""
 }
 
 /// A plain list, or points `@TIME VALUES, @TIME VALUES`.
@@ -208,13 +283,17 @@ fn mail_of(alloc: Global, given: &str) -> Result<Mail, Fail> {
     }
     let mut points = Vec::new(alloc);
     for point in given.split(", ") {
-        let (time, values) = point.split_once(" ").unwrap_or((point, ""));
-        points.push(Point2 {
-            at_us: time.trim_start_matches('@').parse()?,
-            values: Seq::from_vec(numbers(alloc, values)?),
-        })?;
+        points.push(point_of(alloc, point)?)?;
     }
     Ok(Mail::Points(Seq::from_vec(points)))
+}
+
+fn point_of(alloc: Global, point: &str) -> Result<Point2, Fail> {
+    let (time, values) = point.split_once(" ").unwrap_or((point, ""));
+    Ok(Point2 {
+        at_us: time.trim_start_matches('@').parse()?,
+        values: Seq::from_vec(numbers(alloc, values)?),
+    })
 }
 
 /// Words that stand for numbers.
@@ -230,13 +309,16 @@ fn numbers(alloc: Global, text: &str) -> Result<Vec<Fx>, Fail> {
 fn values(alloc: Global, text: &str) -> Result<Vec<Value>, Fail> {
     let mut values = Vec::new(alloc);
     for word in text.split_ascii_whitespace() {
-        let value = match word {
-            "unset" => Value::Unset,
-            _ => Value::Num(Fx::read(word.as_bytes())?),
-        };
-        values.push(value)?;
+        values.push(value_of(word)?)?;
     }
     Ok(values)
+}
+
+fn value_of(word: &str) -> Result<Value, Fail> {
+    match word {
+        "unset" => Ok(Value::Unset),
+        _ => Ok(Value::Num(Fx::read(word.as_bytes())?)),
+    }
 }
 
 /// Words that stand for whole numbers.

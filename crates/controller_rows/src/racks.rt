@@ -5,12 +5,12 @@ ghost use Rattle.cm_document.specs.declared.limits.TheConstants.{MOST_CONTROLLER
 ghost use Rattle.std.specs.List.{All};
 ghost use Rattle.cm_model.specs.Controllers.{IsBlank};
 
+use case_pages::pages::{Teller, halves, hold, push_parted};
 use cm_document::MOST_CONTROLLERS;
 use cm_model::CtlKind;
 use ctl_forward::{Forward, Passthrough};
 use ctl_mock::Mock;
 use ctl_rack::{Controller, Rack, RackFault, Stock, Whereabouts};
-use ground_rows::pages::{Teller, differences};
 use std::alloc::Global;
 use std::test::Fail;
 
@@ -96,9 +96,8 @@ stock_empty
 #[test]
 fn boxes_are_loaded_lent_parked_and_moved_out(rt: HostRuntime) -> Result<(), Fail> {
     let alloc = rt.alloc();
-    assert_eq!(rt; differences(alloc, &OfSeveral, "", SEVERAL)?.as_str(), "");
-    assert_eq!(rt; differences(alloc, &OfMocks, "", MOCKS)?.as_str(), "");
-    Ok(())
+    hold(alloc, &OfSeveral, "", SEVERAL)?;
+    hold(alloc, &OfMocks, "", MOCKS)
 }
 
 /// Tells the answers of a rack with two forwards, a passthrough and a mock.
@@ -156,25 +155,31 @@ fn play<C: Controller>(alloc: Global, blanks: Vec<C>, calls: &str) -> Result<Str
     let mut rack = Rack::make(alloc, Stock::make(blanks))?;
     let mut lent = Vec::new(alloc);
     for call in calls.lines() {
-        if !told.is_empty() {
-            told.push_str("\n")?;
-        }
-        let (name, given) = call.split_once(" ").unwrap_or((call, ""));
-        let answer = match name {
-            "load" => load(&mut rack, given)?,
-            "lend" => lend(&mut rack, given.parse()?, &mut lent)?,
-            "park" => park(&mut rack, given.parse()?, &mut lent),
-            "move_out" => move_out(&mut rack, given.parse()?),
-            _ => return Err(Fail::from("an unknown call")),
-        };
-        told.push_str(answer)?;
+        let answer = answer(&mut rack, &mut lent, call)?;
+        push_parted(&mut told, "\n", answer)?;
     }
     Ok(told)
 }
 
+/// The answer to one call.
+fn answer<C: Controller>(
+    rack: &mut Rack<C>,
+    lent: &mut Vec<(u32, C)>,
+    call: &str,
+) -> Result<&'static str, Fail> {
+    let (name, given) = call.split_once(" ").unwrap_or((call, ""));
+    match name {
+        "load" => load(rack, given),
+        "lend" => lend(rack, given.parse()?, lent),
+        "park" => Ok(park(rack, given.parse()?, lent)),
+        "move_out" => Ok(move_out(rack, given.parse()?)),
+        _ => Err(Fail::new("an unknown call")),
+    }
+}
+
 /// `KIND SERIAL`.
 fn load<C: Controller>(rack: &mut Rack<C>, given: &str) -> Result<&'static str, Fail> {
-    let (kind, serial) = given.split_once(" ").ok_or("no serial")?;
+    let (kind, serial) = halves(given, " ")?;
     let kind = kind_of(kind)?;
     let serial = serial.parse()?;
     if rack.whereabouts(serial) != Whereabouts::Nowhere {
@@ -240,6 +245,6 @@ fn kind_of(word: &str) -> Result<CtlKind, Fail> {
         "trajectory" => Ok(CtlKind::Trajectory),
         "broadcaster" => Ok(CtlKind::Broadcaster),
         "mock" => Ok(CtlKind::Mock),
-        _ => Err(Fail::from("an unknown kind")),
+        _ => Err(Fail::new("an unknown kind")),
     }
 }

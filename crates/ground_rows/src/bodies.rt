@@ -1,6 +1,8 @@
 //! Bodies, step by step. The first line of a paragraph makes a body at rest; each further line is a step, of a number of seconds, and
 //! the position, the velocity and the effort that it leads to.
 
+use case_pages::acts::{Player, hold_acts};
+use case_pages::words::{number, word};
 use fixed_num::{BodyState, Fx, JointMode, Value};
 use joint_body::{Body, LONGEST_STEP};
 use std::alloc::Global;
@@ -62,71 +64,61 @@ effort -1000000000 for 0.999999 => -999998000.001000 -999999000.000000 -10000000
 
 #[test]
 fn bodies_step_as_the_table_says(rt: HostRuntime) -> Result<(), Fail> {
-    for table in [WAYS, LIMITS, ROUNDED, ENDS] {
-        assert_eq!(rt; differences(rt.alloc(), table)?.as_str(), "");
-    }
-    Ok(())
+    let alloc = rt.alloc();
+    hold_acts::<Plant>(alloc, "", WAYS)?;
+    hold_acts::<Plant>(alloc, "", LIMITS)?;
+    hold_acts::<Plant>(alloc, "", ROUNDED)?;
+    hold_acts::<Plant>(alloc, "", ENDS)
 }
 
-/// What differs from a table, a line for each step.
-fn differences(alloc: Global, table: &str) -> Result<String, Fail> {
-    let mut found = String::new(alloc);
-    for paragraph in table.split("\n\n") {
-        let (head, steps) = paragraph.split_once("\n").unwrap_or((paragraph, ""));
-        let mut body = body(head)?;
-        for line in steps.lines() {
-            let (given, want) = line.split_once(" => ").unwrap_or((line, ""));
-            step(&mut body, given)?;
-            let BodyState { x, v, f } = body.state();
-            let got = format!(in alloc; "{x} {v} {f}")?;
-            if got.as_str() != want {
-                found.push_str(format!(in alloc; "{line}: {got}\n")?.as_str())?;
-            }
+/// A body, step by step.
+#[derive(Drop)]
+struct Plant {
+    body: Body,
+}
+
+impl Player for Plant {
+    /// The body of `vmax V gain G damping D at X`.
+    fn begin(_alloc: Global, _before: &str, head: &str) -> Result<Plant, Fail> {
+        let head = head.trim_end();
+        let (vmax, gain, damping) = (number(head, 1)?, number(head, 3)?, number(head, 5)?);
+        if vmax.micro() < 0 || gain.micro() < 0 || damping.micro() < 0 {
+            return Err(Fail::new("a number of a body below zero"));
         }
+        let start = BodyState {
+            x: number(head, 7)?,
+            v: Fx::ZERO,
+            f: Fx::ZERO,
+        };
+        Ok(Plant {
+            body: Body::make(start, vmax, gain, damping),
+        })
     }
-    Ok(found)
+
+    /// A step of `MODE COMMAND for SECONDS`.
+    fn told(&mut self, alloc: Global, given: &str) -> Result<String, Fail> {
+        let dt_us = number(given, 3)?.micro();
+        if dt_us < 1 || dt_us > i64::from(LONGEST_STEP) {
+            return Err(Fail::new("no time for a step"));
+        }
+        self.body.step(mode(given), command(given)?, dt_us as u32);
+        let BodyState { x, v, f } = self.body.state();
+        Ok(format!(in alloc; "{x} {v} {f}")?)
+    }
 }
 
-/// The body of `vmax V gain G damping D at X`.
-fn body(head: &str) -> Result<Body, Fail> {
-    let (vmax, gain, damping) = (number(head, 1)?, number(head, 3)?, number(head, 5)?);
-    if vmax.micro() < 0 || gain.micro() < 0 || damping.micro() < 0 {
-        return Err(Fail::from("a number of a body below zero"));
-    }
-    let start = BodyState {
-        x: number(head, 7)?,
-        v: Fx::ZERO,
-        f: Fx::ZERO,
-    };
-    Ok(Body::make(start, vmax, gain, damping))
-}
-
-/// A step of `MODE COMMAND for SECONDS`.
-fn step(body: &mut Body, given: &str) -> Result<(), Fail> {
-    let mode = match word(given, 0) {
+fn mode(given: &str) -> JointMode {
+    match word(given, 0) {
         "position" => JointMode::Position,
         "velocity" => JointMode::Velocity,
         "effort" => JointMode::Effort,
         _ => JointMode::Idle,
-    };
-    let command = match word(given, 1) {
-        "unset" => Value::Unset,
-        _ => Value::Num(number(given, 1)?),
-    };
-    let dt_us = number(given, 3)?.micro();
-    if dt_us < 1 || dt_us > i64::from(LONGEST_STEP) {
-        return Err(Fail::from("no time for a step"));
     }
-    body.step(mode, command, dt_us as u32);
-    Ok(())
 }
 
-/// The number at a place of a line.
-fn number(line: &str, place: usize) -> Result<Fx, Fail> {
-    Ok(Fx::read(word(line, place).as_bytes())?)
-}
-
-/// The word at a place of a line.
-fn word(line: &str, place: usize) -> &str {
-    line.split(' ').nth(place).unwrap_or("")
+fn command(given: &str) -> Result<Value, Fail> {
+    match word(given, 1) {
+        "unset" => Ok(Value::Unset),
+        _ => Ok(Value::Num(number(given, 1)?)),
+    }
 }

@@ -2,22 +2,15 @@
 
 mod std_edge;
 
-use crate::pages::{Teller, differences_in_lines};
+use case_pages::pages::{Teller, halves, hold_lines, push_parted};
+use case_pages::words::part;
 use outside_io::{Failed, MemSink, MemSource, Sink, Source, read_whole, write_whole};
-use std::alloc::{AllocError, Global};
+use std::alloc::Global;
 use std::str;
 use std::test::Fail;
 
-/// Appends what a call answered, behind a comma where something stands before it.
-pub fn push_answer(answers: &mut String, answer: &str) -> Result<(), AllocError> {
-    if !answers.is_empty() {
-        answers.push_str(", ")?;
-    }
-    answers.push_str(answer)
-}
-
 /// The numbers between single spaces; of an empty text none.
-pub fn numbers(alloc: Global, text: &str) -> Result<Vec<u64>, Fail> {
+fn numbers(alloc: Global, text: &str) -> Result<Vec<u64>, Fail> {
     let mut numbers = Vec::new(alloc);
     for word in text.split_whitespace() {
         numbers.push(word.parse()?)?;
@@ -25,76 +18,106 @@ pub fn numbers(alloc: Global, text: &str) -> Result<Vec<u64>, Fail> {
     Ok(numbers)
 }
 
-/// Tells what five reads of four bytes give of a source in memory, `STEP | FAILING READS | BYTES`, each with all of
-/// the buffer, in which dots stand before the first.
+/// A source in memory, of `STEP | FAILING READS | BYTES`.
+fn source_of(alloc: Global, row: &str) -> Result<MemSource, Fail> {
+    let step: usize = part(row, 0).parse()?;
+    if step == 0 {
+        return Err(Fail::new("a step of none"));
+    }
+    let fails = numbers(alloc, part(row, 1))?;
+    let bytes = part(row, 2).as_bytes().to_vec(alloc)?;
+    Ok(MemSource::make(bytes, step, fails))
+}
+
+/// A sink in memory, of `ROOM | STEP | FAILING CALLS`.
+fn sink_of(alloc: Global, row: &str) -> Result<MemSink, Fail> {
+    let step: usize = part(row, 1).parse()?;
+    if step == 0 {
+        return Err(Fail::new("a step of none"));
+    }
+    let fails = numbers(alloc, part(row, 2))?;
+    Ok(MemSink::make(alloc, part(row, 0).parse()?, step, fails)?)
+}
+
+/// Tells what five reads of four bytes give of a source in memory, each with all of the buffer, in which dots stand before
+/// the first.
 #[derive(Clone, Copy)]
 struct FiveReads;
 
 impl Teller for FiveReads {
     fn told(&self, alloc: Global, row: &str) -> Result<String, Fail> {
-        let (step, parts) = row.trim_end().split_once(" | ").ok_or("a row of one part")?;
-        let (fails, bytes) = parts.split_once(" | ").ok_or("a row of two parts")?;
-        let step: usize = step.parse()?;
-        if step == 0 {
-            return Err(Fail::from("a step of none"));
-        }
-        let bytes = bytes.as_bytes().to_vec(alloc)?;
-        let mut source = MemSource::make(bytes, step, numbers(alloc, fails)?);
+        let mut source = source_of(alloc, row.trim_end())?;
         let mut buffer = [b'.'; 4];
         let mut answers = String::new(alloc);
         for _ in 0..5 {
-            let answer = match source.read(&mut buffer) {
-                Ok(count) => format!(in alloc; "{count} ")?,
-                Err(Failed) => String::from_str(alloc, "failed ")?,
-            };
-            let answer = format!(in alloc; "{answer}{}", str::from_utf8(&buffer)?)?;
-            push_answer(&mut answers, answer.as_str())?;
+            push_read(&mut answers, &mut source, &mut buffer)?;
         }
         Ok(answers)
     }
 }
 
-/// Tells what writes and flushes give of a sink in memory, `ROOM | STEP | FAILING CALLS | PIECES`, where `flush` is a
-/// flush; and then all that it took.
+fn push_read<S: Source>(
+    answers: &mut String,
+    source: &mut S,
+    buffer: &mut [u8],
+) -> Result<(), Fail> {
+    match source.read(buffer) {
+        Ok(count) => push_count(answers, count)?,
+        Err(Failed) => push_parted(answers, ", ", "failed")?,
+    }
+    push_parted(answers, " ", str::from_utf8(buffer)?)
+}
+
+fn push_count(answers: &mut String, count: usize) -> Result<(), Fail> {
+    push_parted(answers, ", ", "")?;
+    write!(answers, "{count}")?;
+    Ok(())
+}
+
+/// Tells what writes and flushes give of a sink in memory, `ROOM | STEP | FAILING CALLS | PIECES`; and then all that it
+/// took.
 #[derive(Clone, Copy)]
 struct Writes;
 
 impl Teller for Writes {
     fn told(&self, alloc: Global, row: &str) -> Result<String, Fail> {
-        let (room, parts) = row.trim_end().split_once(" | ").ok_or("a row of one part")?;
-        let (step, parts) = parts.split_once(" | ").ok_or("a row of two parts")?;
-        let (fails, pieces) = parts.split_once(" | ").ok_or("a row of three parts")?;
-        let step: usize = step.parse()?;
-        if step == 0 {
-            return Err(Fail::from("a step of none"));
-        }
-        let mut sink = MemSink::make(alloc, room.parse()?, step, numbers(alloc, fails)?)?;
+        let row = row.trim_end();
+        let mut sink = sink_of(alloc, row)?;
         let mut answers = String::new(alloc);
-        for piece in pieces.split('/') {
-            push_answer(&mut answers, called(alloc, &mut sink, piece)?.as_str())?;
-        }
-        let taken = str::from_utf8(sink.bytes())?;
-        Ok(format!(in alloc; "{answers}: {taken}")?)
+        push_calls(&mut answers, &mut sink, part(row, 3))?;
+        answers.push_str(": ")?;
+        answers.push_str(str::from_utf8(sink.bytes())?)?;
+        Ok(answers)
     }
 }
 
-/// What a sink answers to a piece, or to `flush`, or to `all ` and a piece, of which all is to be written.
-fn called(alloc: Global, sink: &mut MemSink, piece: &str) -> Result<String, AllocError> {
+/// Appends what a sink answers to pieces, between which strokes stand.
+fn push_calls<S: Sink>(answers: &mut String, sink: &mut S, pieces: &str) -> Result<(), Fail> {
+    for piece in pieces.split('/') {
+        push_call(answers, sink, piece)?;
+    }
+    Ok(())
+}
+
+/// Appends what a sink answers to a piece; or to `flush`; or to `all ` and a piece, of which all is to be written.
+fn push_call<S: Sink>(answers: &mut String, sink: &mut S, piece: &str) -> Result<(), Fail> {
     if piece == "flush" {
-        return match sink.flush() {
-            Ok(()) => String::from_str(alloc, "flushed"),
-            Err(Failed) => String::from_str(alloc, "failed"),
-        };
+        return push_end(answers, "flushed", sink.flush());
     }
     if let Some(piece) = piece.strip_prefix("all ") {
-        return match write_whole(sink, piece.as_bytes()) {
-            Ok(()) => String::from_str(alloc, "all"),
-            Err(Failed) => String::from_str(alloc, "failed"),
-        };
+        return push_end(answers, "all", write_whole(sink, piece.as_bytes()));
     }
     match sink.write(piece.as_bytes()) {
-        Ok(count) => format!(in alloc; "{count}"),
-        Err(Failed) => String::from_str(alloc, "failed"),
+        Ok(count) => push_count(answers, count),
+        Err(Failed) => push_parted(answers, ", ", "failed"),
+    }
+}
+
+/// Appends a word where all went well.
+fn push_end(answers: &mut String, word: &str, end: Result<(), Failed>) -> Result<(), Fail> {
+    match end {
+        Ok(()) => push_parted(answers, ", ", word),
+        Err(Failed) => push_parted(answers, ", ", "failed"),
     }
 }
 
@@ -104,15 +127,9 @@ struct WholeRead;
 
 impl Teller for WholeRead {
     fn told(&self, alloc: Global, row: &str) -> Result<String, Fail> {
-        let (limit, parts) = row.trim_end().split_once(" | ").ok_or("a row of one part")?;
-        let (step, parts) = parts.split_once(" | ").ok_or("a row of two parts")?;
-        let (fails, bytes) = parts.split_once(" | ").ok_or("a row of three parts")?;
-        let (limit, step): (u32, usize) = (limit.parse()?, step.parse()?);
-        if step == 0 {
-            return Err(Fail::from("a step of none"));
-        }
-        let bytes = bytes.as_bytes().to_vec(alloc)?;
-        let mut source = MemSource::make(bytes, step, numbers(alloc, fails)?);
+        let (limit, source) = halves(row.trim_end(), " | ")?;
+        let mut source = source_of(alloc, source)?;
+        let limit: u32 = limit.parse()?;
         match read_whole(alloc, &mut source, limit as usize) {
             Ok(bytes) => Ok(String::from_str(alloc, str::from_utf8(bytes.as_slice())?)?),
             Err(fault) => Ok(format!(in alloc; "{fault}")?),
@@ -123,19 +140,9 @@ impl Teller for WholeRead {
 #[test]
 fn sources_and_sinks_in_memory(rt: HostRuntime) -> Result<(), Fail> {
     let alloc = rt.alloc();
-    assert_eq!(rt;
-        differences_in_lines(alloc, &FiveReads, "", READS)?.as_str(),
-        ""
-    );
-    assert_eq!(rt;
-        differences_in_lines(alloc, &Writes, "", WRITES)?.as_str(),
-        ""
-    );
-    assert_eq!(rt;
-        differences_in_lines(alloc, &WholeRead, "", WHOLE_READS)?.as_str(),
-        ""
-    );
-    Ok(())
+    hold_lines(alloc, &FiveReads, "", READS)?;
+    hold_lines(alloc, &Writes, "", WRITES)?;
+    hold_lines(alloc, &WholeRead, "", WHOLE_READS)
 }
 
 /// Bytes in steps, and reads that fail.

@@ -1,6 +1,7 @@
 //! Names and interfaces: which texts are some, and how they print.
 
-use crate::pages::{Teller, differences_in_lines};
+use case_pages::pages::{Teller, hold_lines, joined};
+use case_pages::words::between_bars;
 use iface_names::{IfaceName, Name};
 use std::alloc::Global;
 use std::test::Fail;
@@ -11,8 +12,7 @@ struct Names;
 
 impl Teller for Names {
     fn told(&self, alloc: Global, row: &str) -> Result<String, Fail> {
-        let text = row.split('|').nth(1).ok_or("no text between bars")?;
-        match Name::read(alloc, text.as_bytes()) {
+        match Name::read(alloc, between_bars(row).as_bytes()) {
             Ok(name) => Ok(format!(in alloc; "{name}")?),
             Err(fault) => Ok(format!(in alloc; "{fault}")?),
         }
@@ -25,42 +25,39 @@ struct Interfaces;
 
 impl Teller for Interfaces {
     fn told(&self, alloc: Global, row: &str) -> Result<String, Fail> {
-        let text = row.split('|').nth(1).ok_or("no text between bars")?;
-        let interface = match IfaceName::read(alloc, text.as_bytes()) {
-            Ok(interface) => interface,
-            Err(fault) => return Ok(format!(in alloc; "{fault}")?),
-        };
-        let printed = format!(in alloc; "{interface}")?;
-        if printed.as_str() != text || interface.clone()? != interface {
-            return Ok(format!(in alloc; "prints as {printed}")?);
+        let text = between_bars(row);
+        match IfaceName::read(alloc, text.as_bytes()) {
+            Ok(interface) => shown(alloc, text, &interface),
+            Err(fault) => Ok(format!(in alloc; "{fault}")?),
         }
-        match interface {
-            IfaceName::Joint { joint, kind } => Ok(format!(in alloc; "{kind} of {joint}")?),
-            IfaceName::Reference {
-                controller,
-                joint,
-                kind,
-            } => Ok(format!(in alloc; "{kind} of {joint} at {controller}")?),
-        }
+    }
+}
+
+fn shown(alloc: Global, text: &str, interface: &IfaceName) -> Result<String, Fail> {
+    let printed = format!(in alloc; "{interface}")?;
+    if printed.as_str() != text || interface.clone()? != *interface {
+        return joined(alloc, "prints as ", printed.as_str());
+    }
+    parts(alloc, interface)
+}
+
+fn parts(alloc: Global, interface: &IfaceName) -> Result<String, Fail> {
+    match interface {
+        IfaceName::Joint { joint, kind } => Ok(format!(in alloc; "{kind} of {joint}")?),
+        IfaceName::Reference {
+            controller,
+            joint,
+            kind,
+        } => Ok(format!(in alloc; "{kind} of {joint} at {controller}")?),
     }
 }
 
 #[test]
 fn names_and_interfaces(rt: HostRuntime) -> Result<(), Fail> {
     let alloc = rt.alloc();
-    assert_eq!(rt;
-        differences_in_lines(alloc, &Names, "", NAMES)?.as_str(),
-        ""
-    );
-    assert_eq!(rt;
-        differences_in_lines(alloc, &Interfaces, "", INTERFACES)?.as_str(),
-        ""
-    );
-    assert_eq!(rt;
-        differences_in_lines(alloc, &Interfaces, "", NONE)?.as_str(),
-        ""
-    );
-    Ok(())
+    hold_lines(alloc, &Names, "", NAMES)?;
+    hold_lines(alloc, &Interfaces, "", INTERFACES)?;
+    hold_lines(alloc, &Interfaces, "", NONE)
 }
 
 /// A letter, and then letters, digits and `_`, 64 bytes at most.

@@ -1,8 +1,17 @@
 //! Numbers, as lines of text: a question, and behind the arrow what is told. Texts that are read stand between bars.
 
-use fixed_num::{Fx, FxFault};
+use case_pages::pages::{Teller, hold_lines};
+use case_pages::words::{between_bars, number, whole, word};
+use fixed_num::Fx;
 use std::alloc::Global;
+use std::str;
 use std::test::Fail;
+
+/// The constants.
+const CONSTANTS: &str = "\
+zero => 0.000000
+one => 1.000000
+max => 1000000000.000000";
 
 /// Past either end of the range a number is that end. A whole number of units is none there.
 const RANGE: &str = "\
@@ -107,120 +116,122 @@ const TEXTS: &str = "\
 |1000000000| => 1000000000.000000
 |-1000000000| => -1000000000.000000
 |1000000000.000000| => 1000000000.000000
-|00000000000000000000000000000000000000007| => 7.000000";
+|00000000000000000000000000000000000000007| => 7.000000
+|(0..400 * 9)| => number out of range
+|(0..400 * 0)| => 0.000000";
+
+/// A number's text as a string, and appended to bytes that stand there, each of so many micro-units.
+const PRINTED: &str = "\
+text -12034001 => -12.034001
+at -1500000 7 => at -1.500000 and 0.000007";
 
 #[test]
-fn numbers_are_told_as_they_should_be(rt: HostRuntime) -> Result<(), Fail> {
-    for table in [RANGE, SUMS, PRODUCTS, RATIOS, LIMITS, TEXTS] {
-        assert_eq!(rt; differences(rt.alloc(), table)?.as_str(), "");
-    }
-    Ok(())
-}
-
-/// The constants, and four hundred digits: too many to stand in a line.
-#[test]
-fn large_and_small(rt: HostRuntime) -> Result<(), Fail> {
+fn numbers_come_to_what_is_told(rt: HostRuntime) -> Result<(), Fail> {
     let alloc = rt.alloc();
-    assert_eq!(rt;
-        format!(in alloc; "{} {} {}", Fx::ZERO, Fx::ONE, Fx::MAX)?.as_str(),
-        "0.000000 1.000000 1000000000.000000"
-    );
-
-    let mut digits = vec![in alloc; b'9'; 400]?;
-    assert_eq!(rt; Fx::read(&digits), Err(FxFault::TooLarge));
-    digits.fill(b'0');
-    assert_eq!(rt; Fx::read(&digits), Ok(Fx::ZERO));
-    Ok(())
+    hold_lines(alloc, &Numbers, "", CONSTANTS)?;
+    hold_lines(alloc, &Numbers, "", RANGE)?;
+    hold_lines(alloc, &Numbers, "", SUMS)?;
+    hold_lines(alloc, &Numbers, "", PRODUCTS)?;
+    hold_lines(alloc, &Numbers, "", RATIOS)?;
+    hold_lines(alloc, &Numbers, "", LIMITS)
 }
 
-/// A number's text as a string, and behind the bytes that stand there.
 #[test]
-fn a_text_comes_after_what_stands_there(rt: HostRuntime) -> Result<(), Fail> {
-    let alloc = rt.alloc();
-    let mut bytes = Vec::from_slice(alloc, b"at ")?;
-    Fx::from_micro(-1_500_000).push_text(&mut bytes)?;
-    bytes.extend_from_slice(b" and ")?;
-    Fx::from_micro(7).push_text(&mut bytes)?;
-    assert_eq!(rt; bytes.as_slice(), b"at -1.500000 and 0.000007".as_slice());
-    assert_eq!(rt;
-        Fx::from_micro(-12_034_001).text(alloc)?.as_str(),
-        "-12.034001"
-    );
-    Ok(())
+fn numbers_are_read_and_printed(rt: HostRuntime) -> Result<(), Fail> {
+    hold_lines(rt.alloc(), &Reads, "", TEXTS)?;
+    hold_lines(rt.alloc(), &Prints, "", PRINTED)
 }
 
-/// What differs from a table, a line each.
-fn differences(alloc: Global, table: &str) -> Result<String, Fail> {
-    let mut found = String::new(alloc);
-    for line in table.lines() {
-        let (question, want) = line.split_once(" => ").unwrap_or((line, ""));
-        let got = told(alloc, question)?;
-        if got.as_str() != want {
-            found.push_str(format!(in alloc; "{line}: {got}\n")?.as_str())?;
+/// Tells the number that a calculation comes to, or `none`.
+#[derive(Clone, Copy)]
+struct Numbers;
+
+impl Teller for Numbers {
+    fn told(&self, alloc: Global, line: &str) -> Result<String, Fail> {
+        match made(line.trim_end())? {
+            Some(number) => Ok(format!(in alloc; "{number}")?),
+            None => Ok(String::from_str(alloc, "none")?),
         }
     }
-    Ok(found)
 }
 
-/// What is told of a question.
-fn told(alloc: Global, question: &str) -> Result<String, Fail> {
-    if question.starts_with('|') {
-        let text = question.split('|').nth(1).unwrap_or("");
-        return match Fx::read(text.as_bytes()) {
-            Ok(number) => Ok(format!(in alloc; "{number}")?),
-            Err(fault) => Ok(format!(in alloc; "{fault}")?),
-        };
-    }
-    match made(question)? {
-        Some(number) => Ok(format!(in alloc; "{number}")?),
-        None => Ok(String::from_str(alloc, "none")?),
-    }
-}
-
-/// The number that comes of a calculation.
+/// The number that comes of a question.
 fn made(question: &str) -> Result<Option<Fx>, Fail> {
-    match (word(question, 0), word(question, 1)) {
-        ("micro", _) => Ok(Some(Fx::from_micro(whole(question, 1)?))),
-        ("units", _) => Ok(Fx::from_units(whole(question, 1)?)),
-        (_, "by") => Ok(Some(ratio(number(question, 0)?, question)?)),
-        (_, sign) => {
-            let (left, right) = (number(question, 0)?, number(question, 2)?);
-            Ok(Some(joined(left, sign, right)?))
-        }
+    match word(question, 0) {
+        "zero" => Ok(Some(Fx::ZERO)),
+        "one" => Ok(Some(Fx::ONE)),
+        "max" => Ok(Some(Fx::MAX)),
+        "micro" => Ok(Some(Fx::from_micro(whole(question, 1)?))),
+        "units" => Ok(Fx::from_units(whole(question, 1)?)),
+        _ => Ok(Some(calculated(question)?)),
     }
 }
 
-/// What two numbers come to.
-fn joined(left: Fx, sign: &str, right: Fx) -> Result<Fx, Fail> {
+/// What a number comes to by another.
+fn calculated(question: &str) -> Result<Fx, Fail> {
+    let left = number(question, 0)?;
+    match word(question, 1) {
+        "by" => ratio(left, whole(question, 2)?, whole(question, 4)?),
+        "within" => within(left, number(question, 2)?),
+        sign => Ok(together(left, sign, number(question, 2)?)),
+    }
+}
+
+/// Two numbers as one.
+fn together(left: Fx, sign: &str, right: Fx) -> Fx {
     match sign {
-        "plus" => Ok(left.add(right)),
-        "less" => Ok(left.sub(right)),
-        "times" => Ok(left.mul(right)),
-        _ if right.micro() < 0 => Err(Fail::from("a limit below zero")),
-        _ => Ok(left.clamp(right)),
+        "plus" => left.add(right),
+        "less" => left.sub(right),
+        _ => left.mul(right),
     }
 }
 
-/// A number `by N over D`.
-fn ratio(number: Fx, question: &str) -> Result<Fx, Fail> {
-    let (by, over) = (whole(question, 2)?, whole(question, 4)?);
+fn within(number: Fx, limit: Fx) -> Result<Fx, Fail> {
+    if limit.micro() < 0 {
+        return Err(Fail::new("a limit below zero"));
+    }
+    Ok(number.clamp(limit))
+}
+
+fn ratio(number: Fx, by: i64, over: i64) -> Result<Fx, Fail> {
     if over <= 0 {
-        return Err(Fail::from("no divisor"));
+        return Err(Fail::new("no divisor"));
     }
     Ok(number.over(by, over))
 }
 
-/// The number at a place of a line.
-fn number(line: &str, place: usize) -> Result<Fx, Fail> {
-    Ok(Fx::read(word(line, place).as_bytes())?)
+/// Tells the number that a text between bars is, or why it is none.
+#[derive(Clone, Copy)]
+struct Reads;
+
+impl Teller for Reads {
+    fn told(&self, alloc: Global, line: &str) -> Result<String, Fail> {
+        match Fx::read(between_bars(line).as_bytes()) {
+            Ok(number) => Ok(format!(in alloc; "{number}")?),
+            Err(fault) => Ok(format!(in alloc; "{fault}")?),
+        }
+    }
 }
 
-/// The whole number at a place of a line.
-fn whole(line: &str, place: usize) -> Result<i64, Fail> {
-    Ok(word(line, place).parse::<i64>()?)
+/// Tells the text of a number, or the texts of two that are appended to bytes.
+#[derive(Clone, Copy)]
+struct Prints;
+
+impl Teller for Prints {
+    fn told(&self, alloc: Global, line: &str) -> Result<String, Fail> {
+        let question = line.trim_end();
+        let first = Fx::from_micro(whole(question, 1)?);
+        if word(question, 0) == "text" {
+            return Ok(first.text(alloc)?);
+        }
+        appended(alloc, first, Fx::from_micro(whole(question, 2)?))
+    }
 }
 
-/// The word at a place of a line.
-fn word(line: &str, place: usize) -> &str {
-    line.split(' ').nth(place).unwrap_or("")
+fn appended(alloc: Global, first: Fx, second: Fx) -> Result<String, Fail> {
+    let mut bytes = Vec::from_slice(alloc, b"at ")?;
+    first.push_text(&mut bytes)?;
+    bytes.extend_from_slice(b" and ")?;
+    second.push_text(&mut bytes)?;
+    Ok(String::from_str(alloc, str::from_utf8(bytes.as_slice())?)?)
 }

@@ -1,6 +1,6 @@
 //! The registry: which place each interface has.
 
-use crate::pages::{Teller, differences};
+use case_pages::pages::{Teller, halves, hold, push_parted};
 use iface_names::{IfaceName, Registry};
 use std::alloc::Global;
 use std::test::Fail;
@@ -12,15 +12,12 @@ struct Registries;
 
 impl Teller for Registries {
     fn told(&self, alloc: Global, text: &str) -> Result<String, Fail> {
-        let (room, calls) = text.trim_end().split_once("\n").ok_or("no call")?;
+        let (room, calls) = halves(text, "\n")?;
         let mut registry = Registry::make(alloc, room.parse()?);
         let mut answers = String::new(alloc);
         for call in calls.lines() {
             let answer = answered(alloc, &mut registry, call)?;
-            if !answers.is_empty() {
-                answers.push_str("; ")?;
-            }
-            answers.push_str(answer.as_str())?;
+            push_parted(&mut answers, "; ", answer.as_str())?;
         }
         Ok(answers)
     }
@@ -28,33 +25,48 @@ impl Teller for Registries {
 
 /// What the registry answers to a call.
 fn answered(alloc: Global, registry: &mut Registry, call: &str) -> Result<String, Fail> {
-    let (verb, what) = call.split_once(" ").ok_or("a call of one word")?;
-    if verb == "at" {
-        return match registry.at(what.parse()?) {
-            Some(interface) => Ok(format!(in alloc; "{interface}")?),
-            None => Ok(String::from_str(alloc, "none")?),
-        };
+    let (verb, what) = halves(call, " ")?;
+    match verb {
+        "at" => interface_at(alloc, registry, what.parse()?),
+        "place" => place_of(alloc, registry, what),
+        _ => added(alloc, registry, what),
     }
-    let interface = IfaceName::read(alloc, what.as_bytes())?;
-    if verb == "place" {
-        return match registry.place(&interface) {
-            Some(place) => Ok(format!(in alloc; "{place}")?),
-            None => Ok(String::from_str(alloc, "none")?),
-        };
+}
+
+fn interface_at(alloc: Global, registry: &Registry, place: u32) -> Result<String, Fail> {
+    match registry.at(place) {
+        Some(interface) => Ok(format!(in alloc; "{interface}")?),
+        None => Ok(String::from_str(alloc, "none")?),
     }
-    match registry.add(interface) {
-        Ok(place) => Ok(format!(in alloc; "{place}, {} there", registry.len())?),
-        Err(fault) => Ok(format!(in alloc; "{fault}, {} there", registry.len())?),
+}
+
+fn place_of(alloc: Global, registry: &Registry, text: &str) -> Result<String, Fail> {
+    let interface = IfaceName::read(alloc, text.as_bytes())?;
+    match registry.place(&interface) {
+        Some(place) => Ok(format!(in alloc; "{place}")?),
+        None => Ok(String::from_str(alloc, "none")?),
+    }
+}
+
+fn added(alloc: Global, registry: &mut Registry, text: &str) -> Result<String, Fail> {
+    let interface = IfaceName::read(alloc, text.as_bytes())?;
+    let added = registry.add(interface);
+    let there = registry.len();
+    match added {
+        Ok(place) => Ok(format!(in alloc; "{place}, {there} there")?),
+        Err(fault) => Ok(format!(in alloc; "{fault}, {there} there")?),
     }
 }
 
 #[test]
 fn interfaces_have_places_in_first_seen_order(rt: HostRuntime) -> Result<(), Fail> {
-    let alloc = rt.alloc();
-    assert_eq!(rt; differences(alloc, &Registries, "", CALLS)?.as_str(), "");
-    let registry = Registry::make(alloc, 3);
+    hold(rt.alloc(), &Registries, "", CALLS)
+}
+
+#[test]
+fn a_new_registry_is_empty(rt: HostRuntime) {
+    let registry = Registry::make(rt.alloc(), 3);
     assert!(rt; registry.is_empty() && registry.limit() == 3);
-    Ok(())
 }
 
 /// An interface that is there is refused before a registry that is full; a reference is another interface than the one that it is of.

@@ -2,11 +2,12 @@
 
 ghost use Rattle.std.specs.Prelude.{◌<◌, length};
 
+use crate::acts::value_of;
+use case_pages::largest::AT_ALL_LIMITS;
+use case_pages::pages::{Teller, halves, hold, hold_lines, push_parted};
 use desc_check::check;
 use desc_text::read_description;
-use fixed_num::{Fx, Value};
-use ground_rows::largest::AT_ALL_LIMITS;
-use ground_rows::pages::{Teller, differences, differences_in_lines};
+use fixed_num::Value;
 use loan_board::{Board, Loan};
 use std::alloc::Global;
 use std::test::Fail;
@@ -38,16 +39,10 @@ struct Acts;
 impl Teller for Acts {
     fn told(&self, alloc: Global, text: &str) -> Result<String, Fail> {
         let mut board = board_of(alloc, DESCRIPTION)?;
-        for act in text.trim_end().split(", ") {
-            if act != "nothing" {
-                carry_out(&mut board, act)?;
-            }
+        if !text.starts_with("nothing") {
+            carry_out_all(&mut board, text.trim_end())?;
         }
-        let mut told = String::new(alloc);
-        for loan in board.loans() {
-            push_loan(&mut told, loan)?;
-        }
-        Ok(told)
+        places_of(alloc, &board)
     }
 }
 
@@ -70,12 +65,19 @@ fn board_of(alloc: Global, text: &str) -> Result<Board, Fail> {
     Ok(Board::make(alloc, &check(alloc, description)?)?)
 }
 
+fn carry_out_all(board: &mut Board, acts: &str) -> Result<(), Fail> {
+    for act in acts.split(", ") {
+        carry_out(board, act)?;
+    }
+    Ok(())
+}
+
 fn carry_out(board: &mut Board, act: &str) -> Result<(), Fail> {
-    let (verb, rest) = act.split_once(" ").ok_or("an act of one word")?;
+    let (verb, rest) = halves(act, " ")?;
     let (place, rest) = rest.split_once(" ").unwrap_or((rest, ""));
     let place: u32 = place.parse()?;
     if place as usize >= board.loans().len() {
-        return Err(Fail::from("no such place"));
+        return Err(Fail::new("no such place"));
     }
     match verb {
         "set" => board.set(place, value_of(rest)?),
@@ -83,16 +85,9 @@ fn carry_out(board: &mut Board, act: &str) -> Result<(), Fail> {
         "release" => release(board, place)?,
         "on" => make_available(board, place, true)?,
         "off" => make_available(board, place, false)?,
-        _ => return Err(Fail::from("no such act")),
+        _ => return Err(Fail::new("no such act")),
     }
     Ok(())
-}
-
-fn value_of(text: &str) -> Result<Value, Fail> {
-    match text {
-        "unset" => Ok(Value::Unset),
-        _ => Ok(Value::Num(Fx::read(text.as_bytes())?)),
-    }
 }
 
 fn claim(board: &mut Board, place: u32, serial: u32) -> Result<(), Fail>
@@ -100,7 +95,7 @@ fn claim(board: &mut Board, place: u32, serial: u32) -> Result<(), Fail>
 {
     let is_command = board.loans()[place as usize].is_command;
     if !is_command || !board.available(place) || board.owner(place).is_some() {
-        return Err(Fail::from("it cannot be claimed"));
+        return Err(Fail::new("it cannot be claimed"));
     }
     board.claim(place, serial);
     Ok(())
@@ -110,7 +105,7 @@ fn release(board: &mut Board, place: u32) -> Result<(), Fail>
     requires { place < length board.old }
 {
     if board.owner(place).is_none() {
-        return Err(Fail::from("nobody claims it"));
+        return Err(Fail::new("nobody claims it"));
     }
     board.release(place);
     Ok(())
@@ -120,29 +115,35 @@ fn make_available(board: &mut Board, place: u32, yes: bool) -> Result<(), Fail>
     requires { place < length board.old }
 {
     if board.owner(place).is_some() {
-        return Err(Fail::from("it is claimed"));
+        return Err(Fail::new("it is claimed"));
     }
     board.set_available(place, yes);
     Ok(())
 }
 
+/// The places, with commas between them.
+fn places_of(alloc: Global, board: &Board) -> Result<String, Fail> {
+    let mut told = String::new(alloc);
+    for loan in board.loans() {
+        push_loan(&mut told, loan)?;
+    }
+    Ok(told)
+}
+
 /// A place: its side, what it holds, `off` where it is not available, else its owner or `free`.
 fn push_loan(told: &mut String, loan: &Loan) -> Result<(), Fail> {
-    if !told.is_empty() {
-        told.push_str(", ")?;
-    }
-    told.push_str(if loan.is_command {
-        "command "
-    } else {
-        "state "
-    })?;
+    push_parted(
+        told,
+        ", ",
+        if loan.is_command { "command" } else { "state" },
+    )?;
     match loan.value.get() {
-        Value::Unset => told.push_str("unset ")?,
-        Value::Num(number) => write!(told, "{number} ")?,
+        Value::Unset => told.push_str(" unset")?,
+        Value::Num(number) => write!(told, " {number}")?,
     }
     match loan.owner {
-        Some(serial) => write!(told, "{serial}")?,
-        None => told.push_str(if loan.is_available { "free" } else { "off" })?,
+        Some(serial) => write!(told, " {serial}")?,
+        None => told.push_str(if loan.is_available { " free" } else { " off" })?,
     }
     Ok(())
 }
@@ -150,11 +151,8 @@ fn push_loan(told: &mut String, loan: &Loan) -> Result<(), Fail> {
 #[test]
 fn boards_keep_what_was_done_at_each_place(rt: HostRuntime) -> Result<(), Fail> {
     let alloc = rt.alloc();
-    assert_eq!(rt; differences_in_lines(alloc, &Acts, "", ACTS)?.as_str(), "");
-    let largest = format!(in alloc; "{AT_ALL_LIMITS}=> 96 states, 192 commands")?;
-    let largest = differences(alloc, &Sides, "", largest.as_str())?;
-    assert_eq!(rt; largest.as_str(), "");
-    Ok(())
+    hold_lines(alloc, &Acts, "", ACTS)?;
+    hold(alloc, &Sides, AT_ALL_LIMITS, "=> 96 states, 192 commands")
 }
 
 /// Values that come and go, claims of neighbours, releases, and interfaces that are no longer available.

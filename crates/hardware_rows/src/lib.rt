@@ -13,4 +13,6 @@ mod modes;
 #[cfg(test)]
 mod moves;
 #[cfg(test)]
+mod starts;
+#[cfg(test)]
 mod steps;

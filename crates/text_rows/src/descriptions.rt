@@ -8,7 +8,7 @@ mod read;
 mod syntax;
 mod values;
 
-use crate::pages::{Teller, differences, differences_in_lines};
+use crate::pages::{Teller, hold, hold_lines};
 use cm_document::DescFault;
 use desc_text::read_description;
 use documents::{DEFAULTS, WHOLE};
@@ -39,39 +39,46 @@ impl Teller for Reads {
 #[test]
 fn descriptions_are_read_or_told_by_their_first_fault(rt: HostRuntime) -> Result<(), Fail> {
     let alloc = rt.alloc();
-    for (before, page) in [
-        ("", TEXTS),
-        ("", AT_THE_TOP),
-        (TOP, OF_COMPONENTS),
-        (TOP, OF_CONTROLLERS),
-        (JOINT, OF_A_JOINT),
-        (COMPONENT, OF_A_COMPONENT),
-        (MOCK, OF_A_MOCK),
-    ] {
-        assert_eq!(rt; differences(alloc, &Reads, before, page)?.as_str(), "");
-    }
-    for (before, page) in [
-        ("version = 1\ncycles = 5\n", UPDATE_RATES),
-        (WITHOUT_A_NAME, NAMES),
-        (WITHOUT_A_TYPE, TYPES),
-        (WITHOUT_STATES, STATES),
-    ] {
-        assert_eq!(rt;
-            differences_in_lines(alloc, &Reads, before, page)?.as_str(),
-            ""
-        );
-    }
-    for bytes in [b"\xff".as_slice(), b"version = 1 # \xc3".as_slice()] {
-        assert_eq!(rt; read_description(alloc, bytes), Err(DescFault::NotToml));
-    }
-    assert_eq!(rt; differences(alloc, &Shows, "", WHOLE)?.as_str(), "");
-    assert_eq!(rt; differences(alloc, &Shows, TOP, DEFAULTS)?.as_str(), "");
-    assert_eq!(rt;
-        differences_in_lines(alloc, &Vmax, WITHOUT_VMAX, QUANTITIES)?.as_str(),
-        ""
-    );
-    Ok(())
+    hold(alloc, &Reads, "", TEXTS)?;
+    hold(alloc, &Reads, "", AT_THE_TOP)?;
+    hold(alloc, &Reads, TOP, OF_COMPONENTS)?;
+    hold(alloc, &Reads, TOP, OF_CONTROLLERS)?;
+    hold(alloc, &Reads, JOINT, OF_A_JOINT)?;
+    hold(alloc, &Reads, COMPONENT, OF_A_COMPONENT)?;
+    hold(alloc, &Reads, MOCK, OF_A_MOCK)
 }
+
+#[test]
+fn values_are_read_within_their_bounds(rt: HostRuntime) -> Result<(), Fail> {
+    let alloc = rt.alloc();
+    hold_lines(alloc, &Reads, WITHOUT_A_RATE, UPDATE_RATES)?;
+    hold_lines(alloc, &Reads, WITHOUT_A_NAME, NAMES)?;
+    hold_lines(alloc, &Reads, WITHOUT_A_TYPE, TYPES)?;
+    hold_lines(alloc, &Reads, WITHOUT_STATES, STATES)?;
+    hold_lines(alloc, &Vmax, WITHOUT_VMAX, QUANTITIES)
+}
+
+#[test]
+fn all_of_a_description_is_read(rt: HostRuntime) -> Result<(), Fail> {
+    hold(rt.alloc(), &Shows, "", WHOLE)?;
+    hold(rt.alloc(), &Shows, TOP, DEFAULTS)
+}
+
+#[test]
+fn bytes_that_are_no_text_are_no_description(rt: HostRuntime) {
+    assert!(rt; is_no_toml(rt.alloc(), b"\xff"));
+    assert!(rt; is_no_toml(rt.alloc(), b"version = 1 # \xc3"));
+}
+
+fn is_no_toml(alloc: Global, bytes: &[u8]) -> bool {
+    match read_description(alloc, bytes) {
+        Err(DescFault::NotToml) => true,
+        _ => false,
+    }
+}
+
+/// The top table without its rate.
+const WITHOUT_A_RATE: &str = "version = 1\ncycles = 5\n";
 
 /// A joint without its `vmax`.
 const WITHOUT_VMAX: &str = r#"version = 1

@@ -4,22 +4,17 @@
 
 use crate::checks::Checks;
 use crate::descriptions::Shows;
-use crate::pages::differences;
+use crate::pages::hold;
 use crate::scripts::Prints;
-use ground_rows::largest::{AT_ALL_LIMITS, Summed};
+use case_pages::largest::{AT_ALL_LIMITS, Summed};
 use std::test::Fail;
 
 #[test]
 fn the_largest_texts(rt: HostRuntime) -> Result<(), Fail> {
     let alloc = rt.alloc();
-    let shows = Summed { teller: Shows };
-    assert_eq!(rt; differences(alloc, &shows, "", DESCRIPTION)?.as_str(), "");
-    let checked = format!(in alloc; "{AT_ALL_LIMITS}=> valid")?;
-    let checked = differences(alloc, &Checks, "", checked.as_str())?;
-    assert_eq!(rt; checked.as_str(), "");
-    let prints = Summed { teller: Prints };
-    assert_eq!(rt; differences(alloc, &prints, "", SCRIPT)?.as_str(), "");
-    Ok(())
+    hold(alloc, &Summed { teller: Shows }, "", DESCRIPTION)?;
+    hold(alloc, &Checks, AT_ALL_LIMITS, "=> valid")?;
+    hold(alloc, &Summed { teller: Prints }, "", SCRIPT)
 }
 
 /// A component of 5,000 joints and 28,000 cycles in which its read fails; 8,000 mocks, and one that claims and reads

@@ -12,4 +12,4 @@ mod largest;
 mod scripts;
 
 #[cfg(test)]
-use ground_rows::pages;
+use case_pages::pages;

@@ -5,8 +5,8 @@ mod long;
 mod printed;
 mod sessions;
 
-use crate::pages::{Teller, differences, differences_in_lines};
-use cm_document::{Script, Turn, every_form};
+use crate::pages::{Teller, hold, hold_lines};
+use cm_document::{Script, ScriptFault, SessionText, Turn, every_form};
 use lines::{BYTES, CALLS_ON_NAMES, POINTS, SWITCHES, VALUES, WHOLE_NUMBERS};
 use long::{CALLS_AND_TURNS, LONG_LINES, SIZES_OF_CALLS};
 use printed::PRINTED;
@@ -17,38 +17,48 @@ use std::alloc::Global;
 use std::test::Fail;
 
 /// The longest text that is tried.
-pub const LONGEST: usize = 1_048_576;
+const LONGEST: usize = 1_048_576;
+
+/// What is read of a script where every form is accepted.
+#[tactic(auto, using(cm_document::proofs::LineLemmas::raw_lines_within))]
+fn read_every_form(alloc: Global, text: &str) -> Result<Result<Script, ScriptFault>, Fail> {
+    let bytes = text.as_bytes();
+    if bytes.len() > LONGEST {
+        return Err(Fail::new("a text too long"));
+    }
+    Ok(read_script_with(alloc, every_form(), bytes, 1))
+}
+
+/// The same where the forms of today are accepted, and the first line is line 20.
+#[tactic(auto, using(cm_document::proofs::LineLemmas::raw_lines_within))]
+fn read_forms_of_today(alloc: Global, text: &str) -> Result<Result<Script, ScriptFault>, Fail> {
+    let bytes = text.as_bytes();
+    if bytes.len() > LONGEST {
+        return Err(Fail::new("a text too long"));
+    }
+    Ok(read_script(alloc, bytes, 20))
+}
 
 /// Tells a script where every form is accepted, or the first bad line.
 #[derive(Clone, Copy)]
 struct EveryForm;
 
 impl Teller for EveryForm {
-    #[tactic(auto, using(cm_document::proofs::LineLemmas::raw_lines_within))]
     fn told(&self, alloc: Global, text: &str) -> Result<String, Fail> {
-        let bytes = text.as_bytes();
-        if bytes.len() > LONGEST {
-            return Err(Fail::from("a text too long"));
-        }
-        match read_script_with(alloc, every_form(), bytes, 1) {
+        match read_every_form(alloc, text)? {
             Ok(script) => told(alloc, &script),
             Err(fault) => Ok(format!(in alloc; "{fault}")?),
         }
     }
 }
 
-/// The same where the forms of today are accepted, and the first line is line 20.
+/// The same where the forms of today are accepted.
 #[derive(Clone, Copy)]
 struct FormsOfToday;
 
 impl Teller for FormsOfToday {
-    #[tactic(auto, using(cm_document::proofs::LineLemmas::raw_lines_within))]
     fn told(&self, alloc: Global, text: &str) -> Result<String, Fail> {
-        let bytes = text.as_bytes();
-        if bytes.len() > LONGEST {
-            return Err(Fail::from("a text too long"));
-        }
-        match read_script(alloc, bytes, 20) {
+        match read_forms_of_today(alloc, text)? {
             Ok(script) => told(alloc, &script),
             Err(fault) => Ok(format!(in alloc; "{fault}")?),
         }
@@ -59,34 +69,46 @@ impl Teller for FormsOfToday {
 fn told(alloc: Global, script: &Script) -> Result<String, Fail> {
     let mut text = String::new(alloc);
     for session in script.sessions.as_slice() {
-        write!(text, "|{}", session.name)?;
-        for call in session.lines.as_slice() {
-            write!(text, "|{call}")?;
-        }
+        push_session(&mut text, session)?;
     }
-    for turn in script.schedule.as_slice() {
-        match turn {
-            Turn::Step(who) => write!(text, "|step {who}")?,
-            Turn::Begin => text.push_str("|begin")?,
-            Turn::End => text.push_str("|end")?,
-        }
-    }
+    push_turns(&mut text, script.schedule.as_slice())?;
     if text.is_empty() {
         text.push_str("empty")?;
     }
     Ok(text)
 }
 
+fn push_session(text: &mut String, session: &SessionText) -> Result<(), Fail> {
+    write!(text, "|{}", session.name)?;
+    for call in session.lines.as_slice() {
+        write!(text, "|{call}")?;
+    }
+    Ok(())
+}
+
+fn push_turns(text: &mut String, turns: &[Turn]) -> Result<(), Fail> {
+    for turn in turns {
+        match turn {
+            Turn::Step(who) => write!(text, "|step {who}")?,
+            Turn::Begin => text.push_str("|begin")?,
+            Turn::End => text.push_str("|end")?,
+        }
+    }
+    Ok(())
+}
+
 #[test]
 fn scripts_are_read_or_told_by_their_first_bad_line(rt: HostRuntime) -> Result<(), Fail> {
     let alloc = rt.alloc();
-    for page in [SESSIONS, SCHEDULES, ONE_FAULT_COUNTS] {
-        assert_eq!(rt; differences(alloc, &EveryForm, "", page)?.as_str(), "");
-    }
-    assert_eq!(rt;
-        differences(alloc, &FormsOfToday, "", FORMS_OF_TODAY)?.as_str(),
-        ""
-    );
+    hold(alloc, &EveryForm, "", SESSIONS)?;
+    hold(alloc, &EveryForm, "", SCHEDULES)?;
+    hold(alloc, &EveryForm, "", ONE_FAULT_COUNTS)?;
+    hold(alloc, &FormsOfToday, "", FORMS_OF_TODAY)?;
+    hold(alloc, &Prints, "", PRINTED)
+}
+
+#[test]
+fn each_line_is_a_call_or_bad(rt: HostRuntime) -> Result<(), Fail> {
     for page in [
         CALLS_ON_NAMES,
         WHOLE_NUMBERS,
@@ -95,14 +117,17 @@ fn scripts_are_read_or_told_by_their_first_bad_line(rt: HostRuntime) -> Result<(
         SWITCHES,
         BYTES,
     ] {
-        let found = differences_in_lines(alloc, &OneCall, "session a\n", page)?;
-        assert_eq!(rt; found.as_str(), "");
+        hold_lines(rt.alloc(), &OneCall, "session a\n", page)?;
     }
-    for page in [CALLS_AND_TURNS, SIZES_OF_CALLS, LONG_LINES] {
-        assert_eq!(rt; differences(alloc, &Counts, "", page)?.as_str(), "");
-    }
-    assert_eq!(rt; differences(alloc, &Prints, "", PRINTED)?.as_str(), "");
     Ok(())
+}
+
+#[test]
+fn scripts_are_read_up_to_their_limits(rt: HostRuntime) -> Result<(), Fail> {
+    let alloc = rt.alloc();
+    hold(alloc, &Counts, "", CALLS_AND_TURNS)?;
+    hold(alloc, &Counts, "", SIZES_OF_CALLS)?;
+    hold(alloc, &Counts, "", LONG_LINES)
 }
 
 /// Tells the one call of the session `a`, as it prints; or `none`, or the first bad line.
@@ -112,11 +137,15 @@ struct OneCall;
 impl Teller for OneCall {
     fn told(&self, alloc: Global, text: &str) -> Result<String, Fail> {
         let told = EveryForm.told(alloc, text)?;
-        match told.as_str() {
-            "|a" => Ok(String::from_str(alloc, "none")?),
-            told => Ok(String::from_str(alloc, told.strip_prefix("|a|").unwrap_or(told))?),
-        }
+        Ok(String::from_str(alloc, one_call(told.as_str()))?)
     }
+}
+
+fn one_call(told: &str) -> &str {
+    if told == "|a" {
+        return "none";
+    }
+    told.strip_prefix("|a|").unwrap_or(told)
 }
 
 /// Tells how many sessions a script has where every form is accepted, and how many calls and turns; or the first bad
@@ -125,20 +154,17 @@ impl Teller for OneCall {
 struct Counts;
 
 impl Teller for Counts {
-    #[tactic(auto, using(cm_document::proofs::LineLemmas::raw_lines_within))]
     fn told(&self, alloc: Global, text: &str) -> Result<String, Fail> {
-        let bytes = text.as_bytes();
-        if bytes.len() > LONGEST {
-            return Err(Fail::from("a text too long"));
-        }
-        match read_script_with(alloc, every_form(), bytes, 1) {
-            Ok(script) => {
-                let sessions = script.sessions.as_slice().len();
-                Ok(format!(in alloc; "{sessions} and {}", count(&script))?)
-            }
+        match read_every_form(alloc, text)? {
+            Ok(script) => sizes(alloc, &script),
             Err(fault) => Ok(format!(in alloc; "{fault}")?),
         }
     }
+}
+
+fn sizes(alloc: Global, script: &Script) -> Result<String, Fail> {
+    let sessions = script.sessions.as_slice().len();
+    Ok(format!(in alloc; "{sessions} and {}", count(script))?)
 }
 
 /// How many calls and turns a script has.

@@ -4,7 +4,7 @@ mod failures;
 mod lists;
 
 use super::Runs;
-use crate::pages::{Teller, differences, differences_in_lines};
+use crate::pages::{Teller, halves, hold, hold_lines, joined, push_parted};
 use failures::{ARM, OF_ONE_COMPONENT, OF_SEVERAL, STATES_AT_START, STATES_ON_ERROR, TOP, WHOLE};
 use lists::LISTS;
 use std::alloc::Global;
@@ -22,34 +22,36 @@ struct FailedRuns;
 
 impl Teller for FailedRuns {
     fn told(&self, alloc: Global, text: &str) -> Result<String, Fail> {
-        let document = format!(in alloc; "{text}--- script ---\n")?;
+        let document = joined(alloc, text, "--- script ---\n")?;
         let whole = RUNS.told(alloc, document.as_str())?;
-        let Some(trace) = whole.as_str().strip_prefix("ok\n") else {
-            return Ok(whole);
-        };
-        let mut told = String::new(alloc);
-        for line in trace.lines() {
-            push_failures(&mut told, line)?;
-        }
-        if told.is_empty() {
-            told.push_str("none")?;
-        }
-        Ok(told)
+        failures_in(alloc, whole.as_str())
     }
 }
 
-/// Appends the failures that a line of a trace tells, with a bar between two.
+fn failures_in(alloc: Global, whole: &str) -> Result<String, Fail> {
+    if !whole.starts_with("ok\n") {
+        return Ok(String::from_str(alloc, whole)?);
+    }
+    let mut told = String::new(alloc);
+    for line in whole.lines() {
+        if line.starts_with("loop end ") {
+            push_failures(&mut told, line)?;
+        }
+    }
+    if told.is_empty() {
+        told.push_str("none")?;
+    }
+    Ok(told)
+}
+
+/// Appends the failures that the line of a record tells, with a bar between two.
 fn push_failures(told: &mut String, line: &str) -> Result<(), Fail> {
-    let Some(record) = line.strip_prefix("loop end ") else {
-        return Ok(());
-    };
-    let (cycle, items) = record.split_once(": ").ok_or("a line without a reply")?;
+    let (head, items) = halves(line, ": ")?;
+    let cycle = head.trim_start_matches("loop end ");
     for item in items.split("; ") {
         if item.starts_with("fail ") {
-            if !told.is_empty() {
-                told.push_str(" | ")?;
-            }
-            write!(told, "{cycle}: {item}")?;
+            push_parted(told, " | ", cycle)?;
+            push_parted(told, ": ", item)?;
         }
     }
     Ok(())
@@ -58,14 +60,10 @@ fn push_failures(told: &mut String, line: &str) -> Result<(), Fail> {
 #[test]
 fn components_are_listed_run_and_fail(rt: HostRuntime) -> Result<(), Fail> {
     let alloc = rt.alloc();
-    for page in [LISTS, WHOLE] {
-        assert_eq!(rt; differences(alloc, &RUNS, "", page)?.as_str(), "");
-    }
-    for page in [OF_ONE_COMPONENT, STATES_ON_ERROR, STATES_AT_START] {
-        let found = differences_in_lines(alloc, &FailedRuns, ARM, page)?;
-        assert_eq!(rt; found.as_str(), "");
-    }
-    let found = differences(alloc, &FailedRuns, TOP, OF_SEVERAL)?;
-    assert_eq!(rt; found.as_str(), "");
-    Ok(())
+    hold(alloc, &RUNS, "", LISTS)?;
+    hold(alloc, &RUNS, "", WHOLE)?;
+    hold_lines(alloc, &FailedRuns, ARM, OF_ONE_COMPONENT)?;
+    hold_lines(alloc, &FailedRuns, ARM, STATES_ON_ERROR)?;
+    hold_lines(alloc, &FailedRuns, ARM, STATES_AT_START)?;
+    hold(alloc, &FailedRuns, TOP, OF_SEVERAL)
 }

@@ -2,6 +2,7 @@
 
 use super::{FIRST, mocks};
 use crate::pages::Teller;
+use case_pages::words::word;
 use cm_top::run_alone;
 use outside_io::{MemSink, MemSource};
 use std::alloc::Global;
@@ -16,25 +17,33 @@ pub struct Fails;
 
 impl Teller for Fails {
     fn told(&self, alloc: Global, text: &str) -> Result<String, Fail> {
-        let mut numbers = Vec::new(alloc);
-        for word in text.split_whitespace() {
-            numbers.push(word.parse::<u32>()?)?;
-        }
-        let [given, bad_read, room, taken, bad_write] = *numbers.as_slice() else {
-            return Err(Fail::from("not five numbers"));
-        };
-        if given == 0 || taken == 0 {
-            return Err(Fail::from("a step of none"));
-        }
-        let bytes = FIRST.as_bytes().to_vec(alloc)?;
-        let fails = vec![in alloc; u64::from(bad_read)]?;
-        let mut source = MemSource::make(bytes, given as usize, fails);
-        let fails = vec![in alloc; u64::from(bad_write)]?;
-        let mut sink = MemSink::make(alloc, room as usize, taken as usize, fails)?;
+        let row = text.trim_end();
+        let mut source = source_of(alloc, row)?;
+        let mut sink = sink_of(alloc, row)?;
         let status = run_alone(alloc, &mut source, &mut sink, mocks(32));
         let printed = str::from_utf8(sink.bytes())?;
         Ok(format!(in alloc; "{status}\n{printed}.")?)
     }
+}
+
+fn source_of(alloc: Global, row: &str) -> Result<MemSource, Fail> {
+    let step: u32 = word(row, 0).parse()?;
+    if step == 0 {
+        return Err(Fail::new("a step of none"));
+    }
+    let fails = vec![in alloc; word(row, 1).parse()?]?;
+    let bytes = FIRST.as_bytes().to_vec(alloc)?;
+    Ok(MemSource::make(bytes, step as usize, fails))
+}
+
+fn sink_of(alloc: Global, row: &str) -> Result<MemSink, Fail> {
+    let step: u32 = word(row, 3).parse()?;
+    if step == 0 {
+        return Err(Fail::new("a step of none"));
+    }
+    let fails = vec![in alloc; word(row, 4).parse()?]?;
+    let room: u32 = word(row, 2).parse()?;
+    Ok(MemSink::make(alloc, room as usize, step as usize, fails)?)
 }
 
 /// A dot stands behind what the sink took. In the fifth case the first call takes the whole trace, and the second is

@@ -255,3 +255,23 @@ pub const LENGTHS: &str = r"#<0..1048575 * x>\
 
 #<0..1048576 * x>\
 => document longer than 1048576 bytes";
+
+/// What is told of a run of `FIRST`, which stands before it.
+pub const OF_FIRST: &str = "=> ok
+a load mk: ok 0
+a list controllers: mk mock unconfigured 0
+a load nosuch: not_described
+a load mk: loaded
+loop begin 0: none
+loop end 0: none
+loop begin 1: none
+loop end 1: none
+loop close: none";
+
+/// No cycles, and nothing that is described or asked for.
+pub const NOTHING: &str = "version = 1
+update_rate = 100
+cycles = 0
+--- script ---
+=> ok
+loop close: none";

@@ -1,6 +1,6 @@
 //! Calls of controllers, and their answers. After an update stands what the claims hold.
 
-/// A forward gives what it was sent.
+/// A forward gives what it was sent, where that fits.
 pub const FORWARDS: &str = "\
 forward 2
 configure
@@ -38,9 +38,23 @@ update 0
 => done
 done
 done
-ok<0..32 *  #.000000>";
+ok<0..32 *  #.000000>
 
-/// A passthrough gives its references where it is chained, else what it was sent.
+forward 2
+configure
+activate
+send 1
+send 1 2 3
+send @20000 1 2
+send 1 2
+=> done
+done
+does not fit
+does not fit
+does not fit
+done";
+
+/// A passthrough gives its references where it is chained, else what it was sent; it may have 32 claims.
 pub const PASSTHROUGHS: &str = "\
 passthrough 2
 configure
@@ -84,9 +98,30 @@ done
 ok 1.000000 2.000000
 done
 done
-ok unset unset";
+ok unset unset
 
-/// A mock refuses, is not ready, and fails, as its parameters say.
+passthrough 32
+configure
+activate chained
+update 0, refs <0..32 * # >
+=> done
+done
+ok<0..32 *  #.000000>
+
+passthrough 1
+configure
+activate
+send 1 2
+send @20000 1
+send 1
+=> done
+done
+does not fit
+does not fit
+done";
+
+/// A mock refuses, is not ready, and fails, as its parameters say, also where it has as many claims as a controller may have and
+/// lists as many cycles as a run may have.
 pub const MOCKS: &str = "\
 mock 1, refuses
 configure
@@ -142,17 +177,7 @@ update 0
 => done
 done
 takes none
-ok";
-
-/// As many claims as a controller may have, and as many cycles as a run may have.
-pub const LARGEST: &str = "\
-passthrough 32
-configure
-activate chained
-update 0, refs <0..32 * # >
-=> done
-done
-ok<0..32 *  #.000000>
+ok
 
 mock 32, not ready <0..100000 * # >, fails <0..100000 * # >
 configure
@@ -166,7 +191,35 @@ no
 yes
 done
 error<0..32 *  unset>
-ok<0..32 *  unset>";
+ok<0..32 *  unset>
+
+mock 1, not ready 4, fails 2
+configure
+cleanup
+ready 4
+configure mock 1
+ready 4
+activate
+update 2
+=> done
+done
+yes
+done
+yes
+done
+ok unset
+
+mock 3
+configure
+activate
+send 1 2
+send @1 1 2 3, @2 1 2 3
+send 1 2 3
+=> done
+done
+does not fit
+does not fit
+done";
 
 /// Each call in each lifecycle state.
 pub const LIFECYCLE: &str = "\
@@ -228,22 +281,6 @@ done
 done
 ok unset
 
-mock 1, not ready 4, fails 2
-configure
-cleanup
-ready 4
-configure mock 1
-ready 4
-activate
-update 2
-=> done
-done
-yes
-done
-yes
-done
-ok unset
-
 forward 33
 configure
 configure forward 0
@@ -252,44 +289,4 @@ configure forward 32
 => out of range
 out of range
 out of range
-done";
-
-/// Mail that fits, and mail that does not.
-pub const MAIL: &str = "\
-forward 2
-configure
-activate
-send 1
-send 1 2 3
-send @20000 1 2
-send 1 2
-=> done
-done
-does not fit
-does not fit
-does not fit
-done
-
-passthrough 1
-configure
-activate
-send 1 2
-send @20000 1
-send 1
-=> done
-done
-does not fit
-does not fit
-done
-
-mock 3
-configure
-activate
-send 1 2
-send @1 1 2 3, @2 1 2 3
-send 1 2 3
-=> done
-done
-does not fit
-does not fit
 done";

@@ -37,8 +37,8 @@ impl<C: Controller> Model for Tried<C> {
 }
 
 impl<C: Controller> Tried<C> {
-    /// A blank.
-    pub fn new(alloc: Global, blank: C) -> Tried<C>
+    /// A blank, whose claims hold these values.
+    pub fn new(blank: C, outs: Vec<Value>) -> Tried<C>
         requires { IsBlank (C.meaning blank) }
         ensures { result ≡ C.meaning blank }
     {
@@ -46,7 +46,7 @@ impl<C: Controller> Tried<C> {
             ctl: blank,
             params: None,
             chained: None,
-            outs: Vec::new(alloc),
+            outs,
         }
     }
 
@@ -77,7 +77,7 @@ impl<C: Controller> Tried<C> {
                 Ok("done")
             }
             Err(CfgFault::Refused) => Ok("refused"),
-            Err(CfgFault::Memory) => Err(Fail::from("out of memory")),
+            Err(CfgFault::Memory) => Err(Fail::new("out of memory")),
         }
     }
 

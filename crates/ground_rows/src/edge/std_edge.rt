@@ -2,39 +2,74 @@
 
 ghost use Rattle.std.specs.Prelude.{◌≡◌, IfOk};
 
-use super::push_answer;
-use crate::pages::{Teller, differences_in_lines};
-use outside_io::{Failed, Sink, Source, StdSink, StdSource, read_whole, write_whole};
+use super::{push_calls, push_read};
+use case_pages::pages::{Teller, hold_lines};
+use case_pages::words::word;
+use outside_io::{Sink, Source, StdSink, StdSource, read_whole};
 use std::alloc::Global;
-use std::io;
 use std::io::{ErrorKind, Read, Write};
 use std::test::Fail;
+use std::{io, str};
 
 #[test]
 fn readers_and_writers_of_std(rt: HostRuntime) -> Result<(), Fail> {
-    let mut source = StdSource::make(b"hello".as_slice());
-    let mut buffer = [0u8; 4];
-    assert_eq!(rt; source.read(&mut buffer), Ok(4));
-    assert_eq!(rt; buffer.as_slice(), b"hell".as_slice());
-    let rest = read_whole(rt.alloc(), &mut source, 10)?;
-    assert_eq!(rt; rest.as_slice(), b"o".as_slice());
+    let alloc = rt.alloc();
+    hold_lines(alloc, &Reads, "", "hello => 4 hell: o")?;
+    hold_lines(
+        alloc,
+        &Writes,
+        "",
+        "/all hello/flush => 0, all, flushed: hello",
+    )?;
+    hold_lines(alloc, &FullWrites, "", "hello/lo => 3, failed")?;
+    hold_lines(alloc, &ThreeCalls, "", INTERRUPTIONS)
+}
 
-    let mut written = Vec::new(rt.alloc());
-    let mut sink = StdSink::make(&mut written);
-    assert_eq!(rt; sink.write(b""), Ok(0));
-    assert_eq!(rt; write_whole(&mut sink, b"hello"), Ok(()));
-    assert_eq!(rt; sink.flush(), Ok(()));
-    assert_eq!(rt; written.as_slice(), b"hello".as_slice());
+/// Tells what a read of four bytes gives of a text, and what a whole read gives then.
+#[derive(Clone, Copy)]
+struct Reads;
 
-    // A full writer takes none of a piece, which is a failure.
-    let mut room = [0u8; 3];
-    let mut full = StdSink::make(room.as_mut_slice());
-    assert_eq!(rt; full.write(b"hello"), Ok(3));
-    assert_eq!(rt; full.write(b"lo"), Err(Failed));
+impl Teller for Reads {
+    fn told(&self, alloc: Global, row: &str) -> Result<String, Fail> {
+        let mut source = StdSource::make(row.trim_end().as_bytes());
+        let mut told = String::new(alloc);
+        let mut buffer = [0u8; 4];
+        push_read(&mut told, &mut source, &mut buffer)?;
+        let rest = read_whole(alloc, &mut source, 10)?;
+        told.push_str(": ")?;
+        told.push_str(str::from_utf8(rest.as_slice())?)?;
+        Ok(told)
+    }
+}
 
-    let found = differences_in_lines(rt.alloc(), &ThreeCalls, "", INTERRUPTIONS)?;
-    assert_eq!(rt; found.as_str(), "");
-    Ok(())
+/// Tells what writes and flushes give over a list, and then all that it took.
+#[derive(Clone, Copy)]
+struct Writes;
+
+impl Teller for Writes {
+    fn told(&self, alloc: Global, row: &str) -> Result<String, Fail> {
+        let mut written = Vec::new(alloc);
+        let mut told = String::new(alloc);
+        let mut sink = StdSink::make(&mut written);
+        push_calls(&mut told, &mut sink, row.trim_end())?;
+        told.push_str(": ")?;
+        told.push_str(str::from_utf8(written.as_slice())?)?;
+        Ok(told)
+    }
+}
+
+/// Tells what writes give over room for three bytes. A full writer takes none of a piece, which is a failure.
+#[derive(Clone, Copy)]
+struct FullWrites;
+
+impl Teller for FullWrites {
+    fn told(&self, alloc: Global, row: &str) -> Result<String, Fail> {
+        let mut room = [0u8; 3];
+        let mut told = String::new(alloc);
+        let mut sink = StdSink::make(room.as_mut_slice());
+        push_calls(&mut told, &mut sink, row.trim_end())?;
+        Ok(told)
+    }
 }
 
 /// A reader and writer of std that is interrupted so many times, and then gives, takes and flushes one byte; or fails.
@@ -85,36 +120,42 @@ struct ThreeCalls;
 
 impl Teller for ThreeCalls {
     fn told(&self, alloc: Global, row: &str) -> Result<String, Fail> {
-        let (times, end) = row.trim_end().split_once(' ').ok_or("a row of one word")?;
-        let left: u32 = times.parse()?;
-        let fails = end == "fails";
-        let mut answers = String::new(alloc);
-        let mut source = StdSource::make(Interrupted { left, fails });
-        let mut buffer = [0u8; 4];
-        let read = source.read(&mut buffer);
-        push_answer(&mut answers, if read == Ok(1) { "read" } else { "failed" })?;
-        let mut sink = StdSink::make(Interrupted { left, fails });
-        let written = sink.write(b"hello");
-        push_answer(
-            &mut answers,
-            if written == Ok(1) {
-                "written"
-            } else {
-                "failed"
-            },
-        )?;
-        let mut sink = StdSink::make(Interrupted { left, fails });
-        let flushed = sink.flush();
-        push_answer(
-            &mut answers,
-            if flushed == Ok(()) {
-                "flushed"
-            } else {
-                "failed"
-            },
-        )?;
-        Ok(answers)
+        let left: u32 = word(row, 0).parse()?;
+        let fails = word(row, 1).starts_with("fails");
+        let mut told = String::new(alloc);
+        told.push_str(if is_read(left, fails) {
+            "read, "
+        } else {
+            "failed, "
+        })?;
+        told.push_str(if is_written(left, fails) {
+            "written, "
+        } else {
+            "failed, "
+        })?;
+        told.push_str(if is_flushed(left, fails) {
+            "flushed"
+        } else {
+            "failed"
+        })?;
+        Ok(told)
     }
+}
+
+fn is_read(left: u32, fails: bool) -> bool {
+    let mut source = StdSource::make(Interrupted { left, fails });
+    let mut buffer = [0u8; 4];
+    source.read(&mut buffer) == Ok(1)
+}
+
+fn is_written(left: u32, fails: bool) -> bool {
+    let mut sink = StdSink::make(Interrupted { left, fails });
+    sink.write(b"hello") == Ok(1)
+}
+
+fn is_flushed(left: u32, fails: bool) -> bool {
+    let mut sink = StdSink::make(Interrupted { left, fails });
+    sink.flush() == Ok(())
 }
 
 /// A call is made a thousand times at most.

@@ -14,7 +14,7 @@ impl Teller for Loops {
     fn told(&self, alloc: Global, text: &str) -> Result<String, Fail> {
         let description = read_description(alloc, text.as_bytes())?;
         if description.controllers.as_slice().len() > 64 {
-            return Err(Fail::from("too many controllers"));
+            return Err(Fail::new("too many controllers"));
         }
         match first_loop(alloc, &description)? {
             Some(place) => Ok(format!(in alloc; "{place}")?),

@@ -89,7 +89,10 @@ state = ["effort", "velocity", "position"]
 => valid"#;
 
 /// As many joints as there may be, each commanded and measured by position.
-pub const JOINTS: &str = r#"[[component]]
+pub const JOINTS: &str = r#"version = 1
+update_rate = 100
+cycles = 5
+[[component]]
 name = "sys"
 kind = "system"
 <0..32 * [[component.joint]]

@@ -1,239 +1,263 @@
 //! Every key of every table: missing, and with a value of each type.
 
-use super::{Reads, TOP};
-use crate::pages::Teller;
-use std::alloc::{AllocError, Global};
+use super::Reads;
+use crate::pages::{Teller, hold_lines, joined};
+use std::alloc::Global;
 use std::test::Fail;
 
 /// What a key is given: nothing, and a value of each type of TOML.
-const GIVEN: [&str; 8] = ["", "7", "1.5", "\"x1\"", "true", "1979-05-27", "[]", "{}"];
+const GIVEN: &str = "nothing\n7\n1.5\n\"x1\"\ntrue\n1979-05-27\n[]\n{}";
 
-/// What becomes of each: `r` it is read, `k` a bad key, `f` a float given, `b` a bad value.
-const WHOLE: &str = "krfbbbbb";
-
-const QUANTITY: &str = "rrfbbbbb";
-
-const LIST: &str = "rbbbbbrb";
-
-const NEEDED_LIST: &str = "kbbbbbrb";
-
-const NAME: &str = "kbbrbbbb";
-
-const WORD: &str = "rbbbbbbb";
-
-const NEEDED_WORD: &str = "kbbbbbbb";
-
-const BOOLEAN: &str = "rbbbrbbb";
-
-const UNLISTED: &str = "rkkkkkkk";
-
-/// A fault at a path, by its letter.
-fn fault(alloc: Global, letter: u8, prefix: &str, key: &str) -> Result<String, AllocError> {
-    let fault = match letter {
-        b'k' => "bad_key",
-        b'f' => "float_given",
-        b'b' => "bad_value",
-        _ => return String::from_str(alloc, "read"),
-    };
-    format!(in alloc; "{fault} {prefix}{key}")
+/// A table with the keys that it must have, and what stands before its lines. Of a key, it tells what becomes of each value that
+/// the key is given, a letter for each: `r` the table is read, `k` a bad key, `f` a float given, `b` a bad value.
+#[derive(Clone, Copy)]
+struct Table {
+    before: &'static str,
+    lines: &'static str,
+    path: &'static str,
 }
 
-/// The lines of a table, of which one key has this value or is left out.
-fn lines(alloc: Global, table: Table, key: &str, value: &str) -> Result<String, AllocError> {
-    let mut text = String::new(alloc);
-    for (other, right) in table {
-        if *other != key {
-            text.push_str(format!(in alloc; "{other} = {right}\n")?.as_str())?;
+impl Teller for Table {
+    fn told(&self, alloc: Global, text: &str) -> Result<String, Fail> {
+        let key = text.trim_end();
+        let others = self.without(alloc, key)?;
+        let path = joined(alloc, self.path, key)?;
+        let mut letters = String::new(alloc);
+        for value in GIVEN.lines() {
+            let whole = with_key(alloc, others.as_str(), key, value)?;
+            push_letter(alloc, &mut letters, whole.as_str(), path.as_str())?;
         }
+        Ok(letters)
     }
-    if !value.is_empty() {
-        text.push_str(format!(in alloc; "{key} = {value}\n")?.as_str())?;
-    }
-    Ok(text)
 }
 
-/// Where what becomes of a table is not what is wanted: a line for each.
-fn differences_at_keys(
-    alloc: Global,
-    before: &str,
-    table: Table,
-    prefix: &str,
-    rows: Table,
-) -> Result<String, Fail> {
-    let mut found = String::new(alloc);
-    for (key, letters) in rows {
-        for (value, letter) in GIVEN.iter().zip(letters.as_bytes().iter()) {
-            let lines = lines(alloc, table, key, value)?;
-            let text = format!(in alloc; "{before}{lines}")?;
-            let got = Reads.told(alloc, text.as_str())?;
-            let want = fault(alloc, *letter, prefix, key)?;
-            if got != want {
-                let line = format!(in alloc; "{key} = {value}: {got}, not {want}\n")?;
-                found.push_str(line.as_str())?;
-            }
+impl Table {
+    /// What stands before the lines, and those of other keys.
+    fn without(&self, alloc: Global, key: &str) -> Result<String, Fail> {
+        let mut text = String::from_str(alloc, self.before)?;
+        for line in self.lines.lines() {
+            push_other(&mut text, line, key)?;
         }
+        Ok(text)
     }
-    Ok(found)
+}
+
+/// Appends a line, unless it is that of this key.
+fn push_other(text: &mut String, line: &str, key: &str) -> Result<(), Fail> {
+    let (other, _) = line.split_once(" = ").unwrap_or((line, ""));
+    if other != key {
+        text.push_str(line)?;
+        text.push_str("\n")?;
+    }
+    Ok(())
+}
+
+fn with_key(alloc: Global, others: &str, key: &str, value: &str) -> Result<String, Fail> {
+    match value {
+        "nothing" => Ok(String::from_str(alloc, others)?),
+        _ => Ok(format!(in alloc; "{others}{key} = {value}\n")?),
+    }
+}
+
+/// Appends the letter of what becomes of a text, or all that is told of it where that is no fault at this path.
+fn push_letter(alloc: Global, letters: &mut String, text: &str, path: &str) -> Result<(), Fail> {
+    let told = Reads.told(alloc, text)?;
+    letters.push_str(letter(told.as_str(), path))?;
+    Ok(())
+}
+
+fn letter<'a>(told: &'a str, path: &str) -> &'a str {
+    match told.strip_suffix(path) {
+        Some("bad_key ") => "k",
+        Some("float_given ") => "f",
+        Some("bad_value ") => "b",
+        _ if told == "read" => "r",
+        _ => told,
+    }
 }
 
 #[test]
 fn every_key_is_read_by_its_rule(rt: HostRuntime) -> Result<(), Fail> {
     let alloc = rt.alloc();
-    let in_component = format!(in alloc; "{TOP}[[component]]\n")?;
-    let in_component = in_component.as_str();
-    let in_joint = format!(in alloc;
-        "{in_component}name = \"arm\"\nkind = \"system\"\n[[component.joint]]\n"
-    )?;
-    let in_joint = in_joint.as_str();
-    for (before, table, prefix, rows) in [
-        ("", LEAST_TOP, "", OF_THE_TOP),
-        (
-            in_component,
-            LEAST_COMPONENT,
-            "component[0].",
-            OF_A_COMPONENT,
-        ),
-        (in_joint, LEAST_JOINT, "component[0].joint[0].", OF_A_JOINT),
-    ] {
-        let found = differences_at_keys(alloc, before, table, prefix, rows)?;
-        assert_eq!(rt; found.as_str(), "");
-    }
-    let before = format!(in alloc; "{TOP}[[controller]]\n")?;
-    let before = before.as_str();
-    for (kind, lists, rows) in [
-        ("\"forward\"", CLAIMS, CLAIMING),
-        ("\"passthrough\"", CLAIMS, CLAIMING),
-        ("\"pid\"", CLAIMS_AND_READS, PID),
-        ("\"trajectory\"", CLAIMS_AND_READS, TRAJECTORY),
-        ("\"broadcaster\"", READS, BROADCASTER),
-        ("\"mock\"", NONE, MOCK),
-    ] {
-        let mut table = vec![in alloc; ("name", "\"c1\""), ("type", kind)]?;
-        table.extend_from_slice(lists)?;
-        for rows in [OF_EVERY_TYPE, rows] {
-            let table = table.as_slice();
-            let found = differences_at_keys(alloc, before, table, "controller[0].", rows)?;
-            assert_eq!(rt; found.as_str(), "", "{kind}");
-        }
-    }
-    Ok(())
+    hold_lines(alloc, &TOP, "", OF_THE_TOP)?;
+    hold_lines(alloc, &COMPONENT, "", OF_A_COMPONENT)?;
+    hold_lines(alloc, &JOINT, "", OF_A_JOINT)
 }
 
-/// Keys with their values.
-type Table<'a> = &'a [(&'a str, &'a str)];
+#[test]
+fn every_key_of_a_controller_is_read_by_the_rule_of_its_type(rt: HostRuntime) -> Result<(), Fail> {
+    let alloc = rt.alloc();
+    for table in [
+        &A_FORWARD,
+        &A_PASSTHROUGH,
+        &A_PID,
+        &A_TRAJECTORY,
+        &A_BROADCASTER,
+        &A_MOCK,
+    ] {
+        hold_lines(alloc, table, "", OF_EVERY_TYPE)?;
+    }
+    hold_lines(alloc, &A_FORWARD, "", CLAIMING)?;
+    hold_lines(alloc, &A_PASSTHROUGH, "", CLAIMING)?;
+    hold_lines(alloc, &A_PID, "", PID)?;
+    hold_lines(alloc, &A_TRAJECTORY, "", TRAJECTORY)?;
+    hold_lines(alloc, &A_BROADCASTER, "", BROADCASTER)?;
+    hold_lines(alloc, &A_MOCK, "", MOCK)
+}
 
 /// The least top table, component and joint.
-const LEAST_TOP: Table = &[("version", "1"), ("update_rate", "100"), ("cycles", "5")];
+const TOP: Table = Table {
+    before: "",
+    lines: "version = 1\nupdate_rate = 100\ncycles = 5",
+    path: "",
+};
 
-const LEAST_COMPONENT: Table = &[("name", "\"arm\""), ("kind", "\"system\""), ("joint", "[]")];
+const COMPONENT: Table = Table {
+    before: "version = 1\nupdate_rate = 100\ncycles = 5\n[[component]]\n",
+    lines: "name = \"arm\"\nkind = \"system\"\njoint = []",
+    path: "component[0].",
+};
 
-const LEAST_JOINT: Table = &[("name", "\"j1\""), ("vmax", "1")];
+const JOINT: Table = Table {
+    before: r#"version = 1
+update_rate = 100
+cycles = 5
+[[component]]
+name = "arm"
+kind = "system"
+[[component.joint]]
+"#,
+    lines: "name = \"j1\"\nvmax = 1",
+    path: "component[0].joint[0].",
+};
 
-/// The lists that controllers of some types need.
-const CLAIMS: Table = &[("claims", "[]")];
+/// What stands before the lines of a controller.
+const CONTROLLER: &str = "version = 1\nupdate_rate = 100\ncycles = 5\n[[controller]]\n";
 
-const READS: Table = &[("reads", "[]")];
+/// The least controller of each type.
+const A_FORWARD: Table = Table {
+    before: CONTROLLER,
+    lines: "name = \"c1\"\ntype = \"forward\"\nclaims = []",
+    path: "controller[0].",
+};
 
-const CLAIMS_AND_READS: Table = &[("claims", "[]"), ("reads", "[]")];
+const A_PASSTHROUGH: Table = Table {
+    before: CONTROLLER,
+    lines: "name = \"c1\"\ntype = \"passthrough\"\nclaims = []",
+    path: "controller[0].",
+};
 
-const NONE: Table = &[];
+const A_PID: Table = Table {
+    before: CONTROLLER,
+    lines: "name = \"c1\"\ntype = \"pid\"\nclaims = []\nreads = []",
+    path: "controller[0].",
+};
+
+const A_TRAJECTORY: Table = Table {
+    before: CONTROLLER,
+    lines: "name = \"c1\"\ntype = \"trajectory\"\nclaims = []\nreads = []",
+    path: "controller[0].",
+};
+
+const A_BROADCASTER: Table = Table {
+    before: CONTROLLER,
+    lines: "name = \"c1\"\ntype = \"broadcaster\"\nreads = []",
+    path: "controller[0].",
+};
+
+const A_MOCK: Table = Table {
+    before: CONTROLLER,
+    lines: "name = \"c1\"\ntype = \"mock\"",
+    path: "controller[0].",
+};
 
 /// What becomes of the keys of the top table, and of some that it has not.
-const OF_THE_TOP: Table = &[
-    ("version", WHOLE),
-    ("update_rate", WHOLE),
-    ("cycles", WHOLE),
-    ("component", LIST),
-    ("controller", LIST),
-    ("joint", UNLISTED),
-    ("Version", UNLISTED),
-];
+const OF_THE_TOP: &str = "\
+version => krfbbbbb
+update_rate => krfbbbbb
+cycles => krfbbbbb
+component => rbbbbbrb
+controller => rbbbbbrb
+joint => rkkkkkkk
+Version => rkkkkkkk";
 
 /// Of the keys of a component.
-const OF_A_COMPONENT: Table = &[
-    ("name", NAME),
-    ("kind", NEEDED_WORD),
-    ("initial", WORD),
-    ("on_error", WORD),
-    ("fail_read", LIST),
-    ("fail_write", LIST),
-    ("joint", NEEDED_LIST),
-    ("type", UNLISTED),
-    ("vmax", UNLISTED),
-];
+const OF_A_COMPONENT: &str = "\
+name => kbbrbbbb
+kind => kbbbbbbb
+initial => rbbbbbbb
+on_error => rbbbbbbb
+fail_read => rbbbbbrb
+fail_write => rbbbbbrb
+joint => kbbbbbrb
+type => rkkkkkkk
+vmax => rkkkkkkk";
 
 /// Of the keys of a joint.
-const OF_A_JOINT: Table = &[
-    ("name", NAME),
-    ("vmax", WHOLE),
-    ("gain", QUANTITY),
-    ("damping", QUANTITY),
-    ("position", QUANTITY),
-    ("velocity", QUANTITY),
-    ("command", LIST),
-    ("state", LIST),
-    ("effort", UNLISTED),
-    ("kind", UNLISTED),
-];
+const OF_A_JOINT: &str = "\
+name => kbbrbbbb
+vmax => krfbbbbb
+gain => rrfbbbbb
+damping => rrfbbbbb
+position => rrfbbbbb
+velocity => rrfbbbbb
+command => rbbbbbrb
+state => rbbbbbrb
+effort => rkkkkkkk
+kind => rkkkkkkk";
 
 /// The keys of every type.
-const OF_EVERY_TYPE: Table = &[
-    ("name", NAME),
-    ("type", NEEDED_WORD),
-    ("update_rate", QUANTITY),
-];
+const OF_EVERY_TYPE: &str = "\
+name => kbbrbbbb
+type => kbbbbbbb
+update_rate => rrfbbbbb";
 
 /// The further keys of a forward and of a passthrough, and some of other types.
-const CLAIMING: Table = &[
-    ("claims", NEEDED_LIST),
-    ("reads", UNLISTED),
-    ("kp", UNLISTED),
-    ("omax", UNLISTED),
-    ("refuse_config", UNLISTED),
-    ("not_ready", UNLISTED),
-    ("fail_update", UNLISTED),
-];
+const CLAIMING: &str = "\
+claims => kbbbbbrb
+reads => rkkkkkkk
+kp => rkkkkkkk
+omax => rkkkkkkk
+refuse_config => rkkkkkkk
+not_ready => rkkkkkkk
+fail_update => rkkkkkkk";
 
 /// Those of a pid.
-const PID: Table = &[
-    ("claims", NEEDED_LIST),
-    ("reads", NEEDED_LIST),
-    ("kp", QUANTITY),
-    ("ki", QUANTITY),
-    ("kd", QUANTITY),
-    ("imax", QUANTITY),
-    ("omax", QUANTITY),
-];
+const PID: &str = "\
+claims => kbbbbbrb
+reads => kbbbbbrb
+kp => rrfbbbbb
+ki => rrfbbbbb
+kd => rrfbbbbb
+imax => rrfbbbbb
+omax => rrfbbbbb";
 
 /// Those of a trajectory, and some of other types.
-const TRAJECTORY: Table = &[
-    ("claims", NEEDED_LIST),
-    ("reads", NEEDED_LIST),
-    ("kp", UNLISTED),
-    ("imax", UNLISTED),
-    ("refuse_config", UNLISTED),
-    ("not_ready", UNLISTED),
-    ("fail_update", UNLISTED),
-];
+const TRAJECTORY: &str = "\
+claims => kbbbbbrb
+reads => kbbbbbrb
+kp => rkkkkkkk
+imax => rkkkkkkk
+refuse_config => rkkkkkkk
+not_ready => rkkkkkkk
+fail_update => rkkkkkkk";
 
 /// Those of a broadcaster, and some of other types.
-const BROADCASTER: Table = &[
-    ("claims", UNLISTED),
-    ("reads", NEEDED_LIST),
-    ("ki", UNLISTED),
-    ("kd", UNLISTED),
-    ("refuse_config", UNLISTED),
-    ("not_ready", UNLISTED),
-    ("fail_update", UNLISTED),
-];
+const BROADCASTER: &str = "\
+claims => rkkkkkkk
+reads => kbbbbbrb
+ki => rkkkkkkk
+kd => rkkkkkkk
+refuse_config => rkkkkkkk
+not_ready => rkkkkkkk
+fail_update => rkkkkkkk";
 
 /// Those of a mock, and some of other types.
-const MOCK: Table = &[
-    ("claims", LIST),
-    ("reads", LIST),
-    ("refuse_config", BOOLEAN),
-    ("not_ready", LIST),
-    ("fail_update", LIST),
-    ("kp", UNLISTED),
-    ("joint", UNLISTED),
-];
+const MOCK: &str = "\
+claims => rbbbbbrb
+reads => rbbbbbrb
+refuse_config => rbbbrbbb
+not_ready => rbbbbbrb
+fail_update => rbbbbbrb
+kp => rkkkkkkk
+joint => rkkkkkkk";

@@ -3,7 +3,7 @@
 use crate::pages::Teller;
 use cm_document::{CompDesc, CompKind, CtlDesc, Description, JointDesc, Params};
 use desc_text::read_description;
-use std::alloc::{AllocError, Global};
+use std::alloc::Global;
 use std::fmt::Display;
 use std::test::Fail;
 
@@ -14,88 +14,105 @@ pub struct Shows;
 impl Teller for Shows {
     fn told(&self, alloc: Global, text: &str) -> Result<String, Fail> {
         match read_description(alloc, text.as_bytes()) {
-            Ok(description) => Ok(shown(alloc, &description)?),
+            Ok(description) => shown(alloc, &description),
             Err(fault) => Ok(format!(in alloc; "{fault}")?),
         }
     }
 }
 
 /// All of a description, its lines parted by line feeds.
-fn shown(alloc: Global, description: &Description) -> Result<String, AllocError> {
-    let (version, rate, cycles) = (
-        description.version,
-        description.update_rate,
-        description.cycles,
-    );
-    let mut shown = format!(in alloc; "{version} {rate} {cycles}")?;
+fn shown(alloc: Global, description: &Description) -> Result<String, Fail> {
+    let mut text = String::new(alloc);
+    push_top(&mut text, description)?;
     for component in description.components.as_slice() {
-        let lines = component_lines(alloc, component)?;
-        shown.push_str(lines.as_str())?;
+        push_component(&mut text, component)?;
     }
-    for controller in description.controllers.as_slice() {
-        let line = controller_line(alloc, controller)?;
-        shown.push_str(line.as_str())?;
-    }
-    Ok(shown)
-}
-
-/// Some items in brackets.
-fn listed<T: Display>(alloc: Global, items: &[T]) -> Result<String, AllocError> {
-    let mut text = String::from_str(alloc, "[")?;
-    for (index, item) in items.iter().enumerate() {
-        if index > 0 {
-            text.push_str(" ")?;
-        }
-        let item = format!(in alloc; "{item}")?;
-        text.push_str(item.as_str())?;
-    }
-    text.push_str("]")?;
+    push_controllers(&mut text, description.controllers.as_slice())?;
     Ok(text)
 }
 
+fn push_top(text: &mut String, description: &Description) -> Result<(), Fail> {
+    let (version, rate) = (description.version, description.update_rate);
+    write!(text, "{version} {rate} {}", description.cycles)?;
+    Ok(())
+}
+
+/// A component in a line, and then its joints, each behind a line feed.
+fn push_component(text: &mut String, component: &CompDesc) -> Result<(), Fail> {
+    push_head(text, component)?;
+    push_list(text, component.fail_read.as_slice())?;
+    push_list(text, component.fail_write.as_slice())?;
+    for joint in component.joints.as_slice() {
+        push_joint(text, joint)?;
+    }
+    Ok(())
+}
+
+fn push_head(text: &mut String, component: &CompDesc) -> Result<(), Fail> {
+    let name = component.name.as_str();
+    write!(text, "\ncomponent {name} {}", kind_word(component.kind))?;
+    write!(text, " {} {}", component.initial, component.on_error)?;
+    Ok(())
+}
+
+fn kind_word(kind: CompKind) -> &'static str {
+    match kind {
+        CompKind::Sensor => "sensor",
+        CompKind::Actuator => "actuator",
+        CompKind::System => "system",
+    }
+}
+
 /// A joint in one line, behind a line feed, its quantities in micro-units.
-fn joint_line(alloc: Global, joint: &JointDesc) -> Result<String, AllocError> {
-    let name = joint.name.as_str();
+fn push_joint(text: &mut String, joint: &JointDesc) -> Result<(), Fail> {
     let (vmax, gain, damping) = (
         joint.vmax.micro(),
         joint.gain.micro(),
         joint.damping.micro(),
     );
     let (x, v) = (joint.position.micro(), joint.velocity.micro());
-    let commands = listed(alloc, joint.commands.as_slice())?;
-    let states = listed(alloc, joint.states.as_slice())?;
-    let moves = format!(in alloc; "{vmax} {gain} {damping} {x} {v}")?;
-    format!(in alloc; "\njoint {name} {moves} {commands} {states}")
+    write!(text, "\njoint {} {vmax} {gain}", joint.name)?;
+    write!(text, " {damping} {x} {v}")?;
+    push_list(text, joint.commands.as_slice())?;
+    push_list(text, joint.states.as_slice())
 }
 
-/// A component in a line, and then its joints, each behind a line feed.
-fn component_lines(alloc: Global, component: &CompDesc) -> Result<String, AllocError> {
-    let kind = match component.kind {
-        CompKind::Sensor => "sensor",
-        CompKind::Actuator => "actuator",
-        CompKind::System => "system",
-    };
-    let (name, initial, on_error) = (
-        component.name.as_str(),
-        component.initial,
-        component.on_error,
-    );
-    let fail_read = listed(alloc, component.fail_read.as_slice())?;
-    let fail_write = listed(alloc, component.fail_write.as_slice())?;
-    let head = format!(in alloc; "\ncomponent {name} {kind} {initial} {on_error}")?;
-    let mut text = format!(in alloc; "{head} {fail_read} {fail_write}")?;
-    for joint in component.joints.as_slice() {
-        let line = joint_line(alloc, joint)?;
-        text.push_str(line.as_str())?;
+/// Some items in brackets, behind a space.
+fn push_list<T: Display>(text: &mut String, items: &[T]) -> Result<(), Fail> {
+    text.push_str(" [")?;
+    for (index, item) in items.iter().enumerate() {
+        if index > 0 {
+            text.push_str(" ")?;
+        }
+        write!(text, "{item}")?;
     }
-    Ok(text)
+    text.push_str("]")?;
+    Ok(())
+}
+
+fn push_controllers(text: &mut String, controllers: &[CtlDesc]) -> Result<(), Fail> {
+    for controller in controllers {
+        push_controller(text, controller)?;
+    }
+    Ok(())
+}
+
+/// A controller in one line, behind a line feed.
+fn push_controller(text: &mut String, controller: &CtlDesc) -> Result<(), Fail> {
+    let (name, rate) = (controller.name.as_str(), controller.rate);
+    write!(text, "\ncontroller {name} {rate}")?;
+    push_list(text, controller.claims.as_slice())?;
+    push_list(text, controller.reads())?;
+    push_params(text, &controller.params)
 }
 
 /// A controller's parameters, its gains in micro-units.
-fn params_text(alloc: Global, params: &Params) -> Result<String, AllocError> {
+fn push_params(text: &mut String, params: &Params) -> Result<(), Fail> {
     match params {
-        Params::Forward { outs } => format!(in alloc; "forward {outs}"),
-        Params::Passthrough { outs } => format!(in alloc; "passthrough {outs}"),
+        Params::Forward { outs } => write!(text, " forward {outs}")?,
+        Params::Passthrough { outs } => write!(text, " passthrough {outs}")?,
+        Params::Trajectory { outs } => write!(text, " trajectory {outs}")?,
+        Params::Broadcaster { ins } => write!(text, " broadcaster {ins}")?,
         Params::Pid {
             kp,
             ki,
@@ -104,29 +121,19 @@ fn params_text(alloc: Global, params: &Params) -> Result<String, AllocError> {
             omax,
         } => {
             let (kp, ki, kd) = (kp.micro(), ki.micro(), kd.micro());
-            let (imax, omax) = (imax.micro(), omax.micro());
-            format!(in alloc; "pid {kp} {ki} {kd} {imax} {omax}")
+            write!(text, " pid {kp} {ki} {kd}")?;
+            write!(text, " {} {}", imax.micro(), omax.micro())?;
         }
-        Params::Trajectory { outs } => format!(in alloc; "trajectory {outs}"),
-        Params::Broadcaster { ins } => format!(in alloc; "broadcaster {ins}"),
         Params::Mock {
             outs,
             refuse_config,
             not_ready,
             fail_update,
         } => {
-            let not_ready = listed(alloc, not_ready.as_slice())?;
-            let fail_update = listed(alloc, fail_update.as_slice())?;
-            format!(in alloc; "mock {outs} {refuse_config} {not_ready} {fail_update}")
+            write!(text, " mock {outs} {refuse_config}")?;
+            push_list(text, not_ready.as_slice())?;
+            push_list(text, fail_update.as_slice())?;
         }
     }
-}
-
-/// A controller in one line, behind a line feed.
-fn controller_line(alloc: Global, controller: &CtlDesc) -> Result<String, AllocError> {
-    let (name, rate) = (controller.name.as_str(), controller.rate);
-    let claims = listed(alloc, controller.claims.as_slice())?;
-    let reads = listed(alloc, controller.reads())?;
-    let params = params_text(alloc, &controller.params)?;
-    format!(in alloc; "\ncontroller {name} {rate} {claims} {reads} {params}")
+    Ok(())
 }

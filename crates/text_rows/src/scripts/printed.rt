@@ -1,9 +1,8 @@
 //! Scripts as they print: the text of what was read.
 
-use super::LONGEST;
+use super::read_every_form;
 use crate::pages::Teller;
-use cm_document::every_form;
-use script_text::{print_script, read_script_with};
+use script_text::print_script;
 use std::alloc::Global;
 use std::str;
 use std::test::Fail;
@@ -13,19 +12,18 @@ use std::test::Fail;
 pub struct Prints;
 
 impl Teller for Prints {
-    #[tactic(auto, using(cm_document::proofs::LineLemmas::raw_lines_within))]
     fn told(&self, alloc: Global, text: &str) -> Result<String, Fail> {
-        let bytes = text.as_bytes();
-        if bytes.len() > LONGEST {
-            return Err(Fail::from("a text too long"));
-        }
-        let script = read_script_with(alloc, every_form(), bytes, 1)?;
+        let script = read_every_form(alloc, text)??;
         let printed = print_script(alloc, &script)?;
-        let printed = str::from_utf8(printed.as_slice())?;
-        match printed.strip_suffix("\n") {
-            Some(lines) => Ok(String::from_str(alloc, lines)?),
-            None => Ok(format!(in alloc; "{printed}, without an end")?),
-        }
+        without_end(alloc, str::from_utf8(printed.as_slice())?)
+    }
+}
+
+/// A text without the end of its last line.
+fn without_end(alloc: Global, printed: &str) -> Result<String, Fail> {
+    match printed.strip_suffix("\n") {
+        Some(lines) => Ok(String::from_str(alloc, lines)?),
+        None => Ok(format!(in alloc; "{printed}, without an end")?),
     }
 }
 
