@@ -17,19 +17,19 @@ pub fn an_order_has_each_member_once()
 /// Controllers with serials of their own are sorted by depth, and those of one depth by serial. Where it is told which set the depths
 /// are taken in, those that stand by serial are.
 pub fn an_order_is_sorted_by_depth_and_then_by_serial()
-    ensures sorted { (cs : List CtlDesc) (ms : List Member) → AllPairs (λ m n. m.serial ≢ n.serial) ms
+    ensures sorted { (cs : List CtlDesc) (ms : List Member) → AllPairs (λ a b. a.serial ≢ b.serial) ms
         → AllPairs (GoesBefore cs (places_of ms)) (ordered cs ms) }
-    ensures in_a_set { (cs : List CtlDesc) (set : Places) (ms : List Member) → AllPairs (λ m n. m.serial < n.serial) ms
+    ensures in_a_set { (cs : List CtlDesc) (set : Places) (ms : List Member) → AllPairs (λ a b. a.serial < b.serial) ms
         → AllPairs (GoesBefore cs set) (in_order cs set ms) }
 {}
 
 /// Where no described controller precedes itself at some distance, none in an order is preceded by a later one.
 pub fn what_precedes_comes_first()
     ensures first { (cs : List CtlDesc) (ms : List Member) → first_in_loop cs ≡ None
-        → AllPairs (λ m n. precedes_at cs n.place m.place ≡ false) (ordered cs ms) }
+        → AllPairs (λ a b. precedes_at cs b.place a.place ≡ false) (ordered cs ms) }
     ensures in_a_set { (cs : List CtlDesc) (set : Places) (ms : List Member) → first_in_loop cs ≡ None
         → All (λ m. set m.place ≡ true) ms
-        → AllPairs (λ m n. precedes_at cs n.place m.place ≡ false) (in_order cs set ms) }
+        → AllPairs (λ a b. precedes_at cs b.place a.place ≡ false) (in_order cs set ms) }
 {}
 
 /// Where no described controller precedes itself at some distance, a depth is one more than the greatest depth of a member that

@@ -2,7 +2,7 @@
 
 use crate::bodies::Body;
 use crate::texts::Texts;
-use cm_document::{CheckFault, DescFault, ScriptFault, every_form};
+use cm_document::{CheckFault, DescFault, ScriptFault, whole_grammar};
 use desc_check::check;
 use desc_text::read_description;
 use fixed_num::Memory;
@@ -38,7 +38,7 @@ impl Body<Texts> for ScriptReader {
         if text.len() > MOST_BYTES {
             return Ok(-1);
         }
-        match read_script_with(self.alloc, every_form(), text, 1) {
+        match read_script_with(self.alloc, whole_grammar(), text, 1) {
             Ok(_script) => Ok(text.len() as i64),
             Err(ScriptFault::Memory) => Err(Memory),
             Err(_) => Ok(-1),

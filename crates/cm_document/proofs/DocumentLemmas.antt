@@ -1,6 +1,6 @@
 -- What holds of every accepted document.
 use Rattle.std.proofs.Common.{◌≡◌, ℕ, List, Result, Ok, Err}
-use Rattle.cm_document.specs.Reading.{◌>>=◌, told_as}
+use Rattle.cm_document.specs.Reading.{◌>>=◌, fault_as}
 use Rattle.cm_document.specs.Described.{tree_of, description_in}
 use Rattle.cm_document.specs.Valid.{valid, IsValid}
 use Rattle.cm_document.specs.Lines.{Parts, parts_of}
@@ -16,17 +16,17 @@ use Rattle.cm_document.proofs.ReadingLemmas.{bind_Ok}
 use Rattle.cm_document.proofs.ValidLemmas.{read_IsDescribed, checked_IsValid}
 
 -- what is told as another fault has the same value
-told_value : {A E F : Type 0} (f : E → F) (r : Result A E) (x : A) → told_as f r ≡ Ok x → r ≡ Ok x
-told_value f (Ok y) x e = cc
-told_value f (Err fault) x e = cc
+fault_as_value : {A E F : Type 0} (f : E → F) (r : Result A E) (x : A) → fault_as f r ≡ Ok x → r ≡ Ok x
+fault_as_value f (Ok y) x e = cc
+fault_as_value f (Err fault) x e = cc
 
 -- an accepted description is valid
 accepted_description-IsValid : (bytes : List ℕ) (d : Description) → accepted_description bytes ≡ Ok d → IsValid d
 unfolding accepted_description
 accepted_description-IsValid bytes d e =
-    let read = bind_Ok (told_as Text (description_in (tree_of bytes))) _ d e in
-    let described = read_IsDescribed (tree_of bytes) read.0 (told_value Text _ read.0 read.1) in
-    checked_IsValid read.0 d described (told_value Check _ d read.2)
+    let read = bind_Ok (fault_as Text (description_in (tree_of bytes))) _ d e in
+    let described = read_IsDescribed (tree_of bytes) read.0 (fault_as_value Text _ read.0 read.1) in
+    checked_IsValid read.0 d described (fault_as_value Check _ d read.2)
 
 -- The description of these parts is accepted, and so is their script.
 pub record AcceptedParts (parts : Parts) (d : Document) : Type 0 where
@@ -35,7 +35,7 @@ pub record AcceptedParts (parts : Parts) (d : Document) : Type 0 where
 
 -- from a reading that came to a document, its parts
 joined : (description : Result Description DescProblem) (script : Result Script ScriptFault) (d : Document)
-    → (told_as fault.Description description >>= λ x. told_as fault.Script script >>= λ y. Ok (record { description = x; script = y })) ≡ Ok d
+    → (fault_as fault.Description description >>= λ x. fault_as fault.Script script >>= λ y. Ok (record { description = x; script = y })) ≡ Ok d
     → (description ≡ Ok d.description) × (script ≡ Ok d.script)
 joined (Err p) script d e = cc
 joined (Ok x) (Err f) d e = cc

@@ -1,8 +1,8 @@
 -- A script with every form keeps the rules and uses accepted forms alone, so the laws of scripts speak of it.
 use Rattle.std.proofs.Common.{[], ◌∷◌, pos, negsuc, true, false, arith, rules}
 use Rattle.std.specs.Prelude.{codes}
-use Rattle.cm_document.specs.Built.{every_form}
-use Rattle.cm_document.specs.ScriptLaws.{MeetsRules, UsesForms}
+use Rattle.cm_document.specs.Built.{whole_grammar}
+use Rattle.cm_document.specs.ScriptLaws.{MeetsRules, UsesGrammar}
 use Rattle.cm_document.specs.declared.call.Call.TheVariants.{Load, Configure, Cleanup, Unload, Rate, Send, Switch, Hardware, Await, ListControllers, ListInterfaces, ListComponents}
 use Rattle.cm_document.specs.declared.call.Mail.TheVariants.{Values, Points}
 use Rattle.cm_document.specs.declared.life.Life.TheVariants.{Finalized}
@@ -28,6 +28,6 @@ meets : MeetsRules every_line
 unfolding every_line
 meets = search (arith, rules)
 
-uses : UsesForms every_form every_line
+uses : UsesGrammar whole_grammar every_line
 unfolding every_line
 uses = search (arith, rules)

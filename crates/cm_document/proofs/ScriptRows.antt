@@ -4,7 +4,7 @@ use Rattle.std.specs.Prelude.{codes}
 use Rattle.std.specs.Fmt.{digits}
 use Rattle.fixed_num.specs.Text.{number_of, spelled}
 use Rattle.cm_document.specs.Reading.{◌>>=◌}
-use Rattle.cm_document.specs.Built.{built, every_form}
+use Rattle.cm_document.specs.Built.{built, whole_grammar}
 use Rattle.cm_document.specs.CallText.{script_text}
 use Rattle.cm_document.specs.ScriptRules.{with_line, script_with}
 use Rattle.cm_document.specs.declared.call.Call.TheVariants.{Load, Configure, Cleanup, Unload, Rate, Send, Switch, Hardware, Await, ListControllers, ListInterfaces, ListComponents}
@@ -16,7 +16,7 @@ use Rattle.cm_document.specs.declared.faults.ScriptFault.TheVariants.{BadLine, N
 
 -- what a script prints as that a text is
 abbrev reprinted : List ℕ → Result (List ℕ) ScriptFault
-reprinted text = script_with every_form 1 text >>= λ s. Ok (script_text s)
+reprinted text = script_with whole_grammar 1 text >>= λ s. Ok (script_text s)
 
 -- blanks and comments go
 blanks_go : reprinted (codes "  session   a\n# x\nload mk \n") ≡ Ok (codes "session a\nload mk\n")
@@ -24,12 +24,12 @@ unfolding script_with with_line script_text number_of spelled digits
 blanks_go = refl
 
 -- one joint's script, with a last line that has no form
-no_form : script_with every_form 20 (codes "session a\nload fwd\nconfigure fwd\nswitch strict +fwd\njump fwd\n") ≡ Err (BadLine 24)
+no_form : script_with whole_grammar 20 (codes "session a\nload fwd\nconfigure fwd\nswitch strict +fwd\njump fwd\n") ≡ Err (BadLine 24)
 unfolding script_with with_line script_text number_of spelled digits
 no_form = refl
 
 -- a call before any session
-no_session : script_with every_form 20 (codes "load fwd\nload fwd\nconfigure fwd\nswitch strict +fwd\nsend fwd 0.5\n") ≡ Err (NoSession 20)
+no_session : script_with whole_grammar 20 (codes "load fwd\nload fwd\nconfigure fwd\nswitch strict +fwd\nsend fwd 0.5\n") ≡ Err (NoSession 20)
 unfolding script_with with_line script_text number_of spelled digits
 no_session = refl
 
@@ -39,7 +39,7 @@ unfolding script_with with_line script_text number_of spelled digits
 not_built = refl
 
 -- every form of a session's line
-every_call : script_with every_form 1 (codes "session a\nload c\nconfigure c\ncleanup c\nunload c\nrate c 007\nsend c 0.5 -1\nsend c @1 1 2 @20 3 4\nswitch strict +c -d +e\nswitch best\nhw arm finalized\nawait 12\nlist controllers\nlist interfaces\nlist components\n")
+every_call : script_with whole_grammar 1 (codes "session a\nload c\nconfigure c\ncleanup c\nunload c\nrate c 007\nsend c 0.5 -1\nsend c @1 1 2 @20 3 4\nswitch strict +c -d +e\nswitch best\nhw arm finalized\nawait 12\nlist controllers\nlist interfaces\nlist components\n")
     ≡ Ok (record {
       sessions = record {
         name = codes "a";
@@ -62,7 +62,7 @@ unfolding script_with with_line script_text number_of spelled digits
 printed_calls = refl
 
 -- a schedule of two sessions
-scheduled_turns : script_with every_form 1 (codes "session a\nload c\nsession b\nschedule\nstep b\nbegin\nstep a\nend\n")
+scheduled_turns : script_with whole_grammar 1 (codes "session a\nload c\nsession b\nschedule\nstep b\nbegin\nstep a\nend\n")
     ≡ Ok (record {
       sessions = record { name = codes "a"; lines = Load (codes "c") ∷ [] } ∷ record { name = codes "b"; lines = [] } ∷ [];
       schedule = turn.Step 1 ∷ turn.Begin ∷ turn.Step 0 ∷ turn.End ∷ [];
@@ -71,25 +71,25 @@ unfolding script_with with_line script_text number_of spelled digits
 scheduled_turns = refl
 
 -- times that stand still are no points
-times_stand_still : script_with every_form 1 (codes "session a\nsend c @5 1 @5 2\n") ≡ Err (BadLine 2)
+times_stand_still : script_with whole_grammar 1 (codes "session a\nsend c @5 1 @5 2\n") ≡ Err (BadLine 2)
 unfolding script_with with_line script_text number_of spelled digits
 times_stand_still = refl
 
 -- a call behind the schedule, and a turn before it
-wrong_side : script_with every_form 1 (codes "session a\nschedule\nload c\n") ≡ Err (BadLine 3)
+wrong_side : script_with whole_grammar 1 (codes "session a\nschedule\nload c\n") ≡ Err (BadLine 3)
 unfolding script_with with_line script_text number_of spelled digits
 wrong_side = refl
 
-turn_too_early : script_with every_form 1 (codes "session a\nbegin\n") ≡ Err (BadLine 2)
+turn_too_early : script_with whole_grammar 1 (codes "session a\nbegin\n") ≡ Err (BadLine 2)
 unfolding script_with with_line script_text number_of spelled digits
 turn_too_early = refl
 
 -- the ninth session
-ninth : script_with every_form 1 (codes "session a\nsession b\nsession c\nsession d\nsession e\nsession f\nsession g\nsession h\nsession i\n") ≡ Err (TooMany 9)
+ninth : script_with whole_grammar 1 (codes "session a\nsession b\nsession c\nsession d\nsession e\nsession f\nsession g\nsession h\nsession i\n") ≡ Err (TooMany 9)
 unfolding script_with with_line script_text number_of spelled digits
 ninth = refl
 
 -- a ninth session of a used name
-ninth_again : script_with every_form 1 (codes "session a\nsession b\nsession c\nsession d\nsession e\nsession f\nsession g\nsession h\nsession a\n") ≡ Err (BadLine 9)
+ninth_again : script_with whole_grammar 1 (codes "session a\nsession b\nsession c\nsession d\nsession e\nsession f\nsession g\nsession h\nsession a\n") ≡ Err (BadLine 9)
 unfolding script_with with_line script_text number_of spelled digits
 ninth_again = refl

@@ -1,9 +1,9 @@
--- Which forms of a script's lines are accepted today: the first session, loads, and the lists of controllers, interfaces and components.
+-- Which lines a script may have today: the first session, loads, and the lists of controllers, interfaces and components.
 use Rattle.std.specs.Prelude.{true, false}
-use Rattle.cm_document.specs.declared.script.Forms.{Forms}
+use Rattle.cm_document.specs.declared.script.Grammar.{Grammar}
 
--- the forms that are accepted today
-abbrev pub built : Forms
+-- the lines that are accepted today
+abbrev pub built : Grammar
 built = record {
   first_session = true;
   further_session = false;
@@ -22,9 +22,9 @@ built = record {
   schedule = false;
 }
 
--- every form
-abbrev pub every_form : Forms
-every_form = record {
+-- every line
+abbrev pub whole_grammar : Grammar
+whole_grammar = record {
   first_session = true;
   further_session = true;
   load = true;

@@ -53,12 +53,12 @@ call_text (call.Send name mail) = asked verb.Send (name ++ mail_text mail)
 call_text (call.Switch request) = switch_text request
 call_text (call.Hardware component target) = asked verb.Hardware (component ++ codes " " ++ life_word target)
 call_text (call.Told ticket) = codes "told " ++ decimal ticket
-call_text (call.Await n) = asked verb.Await (decimal n)
+call_text (call.Await cycles) = asked verb.Await (decimal cycles)
 call_text call.ListControllers = asked verb.List (codes "controllers")
 call_text call.ListInterfaces = asked verb.List (codes "interfaces")
 call_text call.ListComponents = asked verb.List (codes "components")
-call_text (call.Begin n) = asked verb.Begin (decimal n)
-call_text (call.End n) = asked verb.End (decimal n)
+call_text (call.Begin cycle) = asked verb.Begin (decimal cycle)
+call_text (call.End cycle) = asked verb.End (decimal cycle)
 call_text call.Close = codes "close"
 
 -- ---- Scripts

@@ -1,6 +1,6 @@
 -- A whole document: a description, the separator, a script. Either all of it is accepted, or its first fault is told.
 use Rattle.std.specs.Prelude.{ℕ, ◌+◌, List, Option, Some, None, Result, Ok, Err}
-use Rattle.cm_document.specs.Reading.{◌>>=◌, told_as}
+use Rattle.cm_document.specs.Reading.{◌>>=◌, fault_as}
 use Rattle.cm_document.specs.Described.{tree_of, description_in}
 use Rattle.cm_document.specs.Valid.{valid}
 use Rattle.cm_document.specs.Lines.{Parts, parts_of}
@@ -18,9 +18,9 @@ use Rattle.cm_document.specs.declared.faults.DocumentFault.TheVariants as fault
 
 -- the description that these bytes are: read by the walk, and then checked
 unfoldable pub accepted_description : List ℕ → Result Description DescProblem
-accepted_description bytes = told_as Text (description_in (tree_of bytes)) >>= λ described. told_as Check (valid described)
+accepted_description bytes = fault_as Text (description_in (tree_of bytes)) >>= λ described. fault_as Check (valid described)
 
--- The script after so many lines and a separator, by the forms that are built. Without a separator the line after the last is bad.
+-- The script after so many lines and a separator, by the grammar that is built. Without a separator the line after the last is bad.
 abbrev pub accepted_script : ℕ → Option (List ℕ) → Result Script ScriptFault
 accepted_script lines None = Err (BadLine (lines + 1))
 accepted_script lines (Some text) = script_with built (lines + 2) text
@@ -28,8 +28,8 @@ accepted_script lines (Some text) = script_with built (lines + 2) text
 -- the document of these parts: the description's fault comes before the script's
 unfoldable pub document_of : Parts → Result Document DocumentFault
 document_of parts =
-    told_as fault.Description (accepted_description parts.description) >>= λ description.
-    told_as fault.Script (accepted_script parts.lines parts.script) >>= λ script.
+    fault_as fault.Description (accepted_description parts.description) >>= λ description.
+    fault_as fault.Script (accepted_script parts.lines parts.script) >>= λ script.
     Ok (record { description = description; script = script })
 
 -- the document that these bytes are, or its first fault

@@ -11,7 +11,7 @@ pub mod Places
 pub mod Lines
 pub mod Built
 pub mod CallText
-pub mod LineForms
+pub mod LineGrammar
 pub mod ScriptRules
 pub mod ScriptLaws
 pub mod Document

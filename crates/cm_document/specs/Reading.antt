@@ -8,6 +8,6 @@ abbrev pub ◌>>=◌ : {A B E : Type 0} → Result A E → (A → Result B E) �
 (Err e) >>= f = Err e
 
 -- the same reading, its fault told as another
-abbrev pub told_as : {A E F : Type 0} → (E → F) → Result A E → Result A F
-told_as f (Ok x) = Ok x
-told_as f (Err e) = Err (f e)
+abbrev pub fault_as : {A E F : Type 0} → (E → F) → Result A E → Result A F
+fault_as f (Ok x) = Ok x
+fault_as f (Err e) = Err (f e)

@@ -11,7 +11,7 @@ use Rattle.cm_document.specs.declared.call.Mail.{Mail}
 use Rattle.cm_document.specs.declared.call.Mail.TheVariants.{Values, Points}
 use Rattle.cm_document.specs.declared.call.Point2.{Point2}
 use Rattle.cm_document.specs.declared.call.SwitchRequest.{SwitchRequest}
-use Rattle.cm_document.specs.declared.script.Forms.{Forms}
+use Rattle.cm_document.specs.declared.script.Grammar.{Grammar}
 use Rattle.cm_document.specs.declared.script.Script.{Script}
 use Rattle.cm_document.specs.declared.script.SessionText.{SessionText}
 use Rattle.cm_document.specs.declared.script.Turn.{Turn}
@@ -67,7 +67,7 @@ CanBeWritten (call.Rate name hz) = IsName name × (hz ≤ HIGHEST_RATE)
 CanBeWritten (call.Send name mail) = IsName name × CanBeSent mail
 CanBeWritten (call.Switch request) = CanBeAsked request
 CanBeWritten (call.Hardware component target) = IsName component
-CanBeWritten (call.Await n) = n ≤ 999999999
+CanBeWritten (call.Await cycles) = cycles ≤ 999999999
 CanBeWritten call.ListControllers = Unit {0}
 CanBeWritten call.ListInterfaces = Unit {0}
 CanBeWritten call.ListComponents = Unit {0}
@@ -101,31 +101,31 @@ pub record MeetsRules (s : Script) : Type 0 where
   pub apart : AreApart s.sessions
   pub turns : AllByRecursion (IsTurnAmong (length s.sessions)) s.schedule
 
--- ---- Forms
+-- ---- Grammar
 
--- the form of the call's line is accepted
-abbrev pub has_form : Forms → Call → Bool
-has_form forms (call.Load name) = forms.load
-has_form forms (call.Configure name) = forms.configure
-has_form forms (call.Cleanup name) = forms.cleanup
-has_form forms (call.Unload name) = forms.unload
-has_form forms (call.Rate name hz) = forms.rate
-has_form forms (call.Send name mail) = forms.send
-has_form forms (call.Switch request) = forms.switch
-has_form forms (call.Hardware component target) = forms.hardware
-has_form forms (call.Await n) = forms.await_cycles
-has_form forms call.ListControllers = forms.list_controllers
-has_form forms call.ListInterfaces = forms.list_interfaces
-has_form forms call.ListComponents = forms.list_components
-has_form forms _ = false
+-- the grammar has the call's line
+abbrev pub allows : Grammar → Call → Bool
+allows grammar (call.Load name) = grammar.load
+allows grammar (call.Configure name) = grammar.configure
+allows grammar (call.Cleanup name) = grammar.cleanup
+allows grammar (call.Unload name) = grammar.unload
+allows grammar (call.Rate name hz) = grammar.rate
+allows grammar (call.Send name mail) = grammar.send
+allows grammar (call.Switch request) = grammar.switch
+allows grammar (call.Hardware component target) = grammar.hardware
+allows grammar (call.Await cycles) = grammar.await_cycles
+allows grammar call.ListControllers = grammar.list_controllers
+allows grammar call.ListInterfaces = grammar.list_interfaces
+allows grammar call.ListComponents = grammar.list_components
+allows grammar _ = false
 
--- A script has sessions, further sessions, calls and turns only where their forms are accepted.
-pub record UsesForms (forms : Forms) (s : Script) : Type 0 where
-  pub first : 0 < length s.sessions → IsTrue forms.first_session
-  pub further : 1 < length s.sessions → IsTrue forms.further_session
-  pub calls : AllByRecursion (λ t. AllByRecursion (λ c. IsTrue (has_form forms c)) t.lines) s.sessions
-  pub turns : 0 < length s.schedule → IsTrue forms.schedule
+-- A script has sessions, further sessions, calls and turns only where the grammar has their lines.
+pub record UsesGrammar (grammar : Grammar) (s : Script) : Type 0 where
+  pub first : 0 < length s.sessions → IsTrue grammar.first_session
+  pub further : 1 < length s.sessions → IsTrue grammar.further_session
+  pub calls : AllByRecursion (λ t. AllByRecursion (λ c. IsTrue (allows grammar c)) t.lines) s.sessions
+  pub turns : 0 < length s.schedule → IsTrue grammar.schedule
 
--- A text reads back as the script, at whatever line it begins, where the script meets the rules and its forms are accepted.
+-- A text reads back as the script, at whatever line it begins, where the script meets the rules and the grammar has its lines.
 abbrev pub ReadsBack : Script → List ℕ → Type 0
-ReadsBack s text = (forms : Forms) (n : ℕ) → MeetsRules s → UsesForms forms s → script_with forms n text ≡ Ok s
+ReadsBack s text = (grammar : Grammar) (first_line : ℕ) → MeetsRules s → UsesGrammar grammar s → script_with grammar first_line text ≡ Ok s

@@ -6,12 +6,12 @@ use Rattle.iface_names.specs.Names.{same_name}
 use Rattle.cm_document.specs.declared.limits.TheConstants.{LONGEST_LINE, MOST_SESSIONS, MOST_CALLS, MOST_NAMES, MOST_POINTS, MOST_VALUES}
 use Rattle.cm_document.specs.Reading.{◌>>=◌}
 use Rattle.cm_document.specs.Lines.{raw_lines, bare, words, is_skipped}
-use Rattle.cm_document.specs.LineForms.{line_of}
+use Rattle.cm_document.specs.LineGrammar.{line_of}
 use Rattle.cm_document.specs.declared.call.Call.{Call}
 use Rattle.cm_document.specs.declared.call.Call.TheVariants as call
 use Rattle.cm_document.specs.declared.call.Mail.{Mail}
 use Rattle.cm_document.specs.declared.call.Mail.TheVariants.{Values, Points}
-use Rattle.cm_document.specs.declared.script.Forms.{Forms}
+use Rattle.cm_document.specs.declared.script.Grammar.{Grammar}
 use Rattle.cm_document.specs.declared.script.Script.{Script}
 use Rattle.cm_document.specs.declared.script.ScriptLine.{ScriptLine}
 use Rattle.cm_document.specs.declared.script.ScriptLine.TheVariants as line
@@ -49,19 +49,19 @@ abbrev pub is_used : List ℕ → Draft → Bool
 is_used name w = list_any (λ s. same_name name s.name) w.sessions
 
 -- a session's line is accepted as the first one, or as a further one
-abbrev pub session_accepted : Forms → Draft → Bool
-session_accepted forms w = if length w.sessions == 0 then forms.first_session else forms.further_session
+abbrev pub session_accepted : Grammar → Draft → Bool
+session_accepted grammar w = if length w.sessions == 0 then grammar.first_session else grammar.further_session
 
 -- A session has a new name, which is not `loop`; it stands before the schedule.
-abbrev pub is_session_line : Forms → Draft → List ℕ → Bool
-is_session_line forms w name =
-    ((session_accepted forms w && not (is_some w.turns)) && not (same_name name (codes "loop"))) && not (is_used name w)
+abbrev pub is_session_line : Grammar → Draft → List ℕ → Bool
+is_session_line grammar w name =
+    ((session_accepted grammar w && not (is_some w.turns)) && not (same_name name (codes "loop"))) && not (is_used name w)
 
 -- a session begins, where there are not the most that there may be
-abbrev pub with_session : Forms → ℕ → Draft → List ℕ → Result Draft ScriptFault
-with_session forms n w name =
-    if not (is_session_line forms w name) then Err (BadLine n)
-    else if nat_le MOST_SESSIONS (length w.sessions) then Err (TooMany n)
+abbrev pub with_session : Grammar → ℕ → Draft → List ℕ → Result Draft ScriptFault
+with_session grammar number w name =
+    if not (is_session_line grammar w name) then Err (BadLine number)
+    else if nat_le MOST_SESSIONS (length w.sessions) then Err (TooMany number)
     else Ok (record w { sessions = w.sessions ++ record { name = name; lines = [] } ∷ [] })
 
 -- ---- Calls
@@ -83,24 +83,24 @@ then_calling made s = record s { lines = s.lines ++ made ∷ [] }
 
 -- a call stands before the schedule, and is the last session's
 abbrev pub with_call : ℕ → Draft → Call → Result Draft ScriptFault
-with_call n w made =
-    if is_some w.turns then Err (BadLine n)
-    else if length w.sessions == 0 then Err (NoSession n)
+with_call number w made =
+    if is_some w.turns then Err (BadLine number)
+    else if length w.sessions == 0 then Err (NoSession number)
     else if has_room w && call_fits made then Ok (record w { sessions = in_last (then_calling made) w.sessions })
-    else Err (TooMany n)
+    else Err (TooMany number)
 
 -- ---- The schedule
 
 -- the schedule begins once
 abbrev pub with_schedule : ℕ → Draft → Result Draft ScriptFault
-with_schedule n w = if is_some w.turns then Err (BadLine n) else Ok (record w { turns = Some [] })
+with_schedule number w = if is_some w.turns then Err (BadLine number) else Ok (record w { turns = Some [] })
 
 -- a turn stands behind `schedule`
 abbrev pub with_turn : ℕ → Draft → Turn → Result Draft ScriptFault
-with_turn n w t =
-    if not (is_some w.turns) then Err (BadLine n)
+with_turn number w t =
+    if not (is_some w.turns) then Err (BadLine number)
     else if has_room w then Ok (record w { turns = option_map (λ ts. ts ++ t ∷ []) w.turns })
-    else Err (TooMany n)
+    else Err (TooMany number)
 
 -- the number of the session of this name
 abbrev pub session_number : List ℕ → Draft → Option ℕ
@@ -108,35 +108,35 @@ session_number name w = position (λ s. same_name name s.name) w.sessions
 
 -- a step of a session that is there
 abbrev pub with_step : ℕ → Draft → List ℕ → Result Draft ScriptFault
-with_step n w name =
-    if not (is_some w.turns) then Err (BadLine n)
-    else elim (session_number name w) [ None ↦ Err (NoSession n) | Some who ↦ with_turn n w (turn.Step who) ]
+with_step number w name =
+    if not (is_some w.turns) then Err (BadLine number)
+    else elim (session_number name w) [ None ↦ Err (NoSession number) | Some who ↦ with_turn number w (turn.Step who) ]
 
 -- ---- Lines
 
--- what stands after what a line says; a line without a form is bad
-abbrev pub with_said : Forms → ℕ → Draft → Option ScriptLine → Result Draft ScriptFault
-with_said forms n w None = Err (BadLine n)
-with_said forms n w (Some (line.Session name)) = with_session forms n w name
-with_said forms n w (Some (line.Call made)) = with_call n w made
-with_said forms n w (Some line.Schedule) = with_schedule n w
-with_said forms n w (Some (line.Step name)) = with_step n w name
-with_said forms n w (Some line.Begin) = with_turn n w turn.Begin
-with_said forms n w (Some line.End) = with_turn n w turn.End
+-- what stands after what a line says; a line that says nothing is bad
+abbrev pub with_said : Grammar → ℕ → Draft → Option ScriptLine → Result Draft ScriptFault
+with_said grammar number w None = Err (BadLine number)
+with_said grammar number w (Some (line.Session name)) = with_session grammar number w name
+with_said grammar number w (Some (line.Call made)) = with_call number w made
+with_said grammar number w (Some line.Schedule) = with_schedule number w
+with_said grammar number w (Some (line.Step name)) = with_step number w name
+with_said grammar number w (Some line.Begin) = with_turn number w turn.Begin
+with_said grammar number w (Some line.End) = with_turn number w turn.End
 
 -- What stands after a line of this number: a skipped line changes nothing; one that is longer than a line may be is bad.
-unfoldable pub with_line : Forms → ℕ → Draft → List ℕ → Result Draft ScriptFault
-with_line forms n w text =
+unfoldable pub with_line : Grammar → ℕ → Draft → List ℕ → Result Draft ScriptFault
+with_line grammar number w text =
     let said = words (bare text) in
     if is_skipped said then Ok w
-    else if nat_lt LONGEST_LINE (length (bare text)) then Err (BadLine n)
-    else with_said forms n w (line_of forms said)
+    else if nat_lt LONGEST_LINE (length (bare text)) then Err (BadLine number)
+    else with_said grammar number w (line_of grammar said)
 
 -- what stands after all lines, of which the first has this number; the first bad one ends the reading
-abbrev pub with_lines : Forms → ℕ → Draft → List (List ℕ) → Result Draft ScriptFault
-with_lines forms n w [] = Ok w
-with_lines forms n w (text ∷ texts) = with_line forms n w text >>= λ more. with_lines forms (n + 1) more texts
+abbrev pub with_lines : Grammar → ℕ → Draft → List (List ℕ) → Result Draft ScriptFault
+with_lines grammar number w [] = Ok w
+with_lines grammar number w (text ∷ texts) = with_line grammar number w text >>= λ more. with_lines grammar (number + 1) more texts
 
 -- the script that a text is, whose first line has this number in the document, or its first bad line
-unfoldable pub script_with : Forms → ℕ → List ℕ → Result Script ScriptFault
-script_with forms first_line text = with_lines forms first_line nothing (raw_lines text) >>= λ w. Ok (script_in w)
+unfoldable pub script_with : Grammar → ℕ → List ℕ → Result Script ScriptFault
+script_with grammar first_line text = with_lines grammar first_line nothing (raw_lines text) >>= λ w. Ok (script_in w)

@@ -104,8 +104,8 @@ joint_ranged kind prefix j =
 
 -- one joint at least, and of an actuator one at most
 abbrev pub joint_count_fits : CompKind → ℕ → Bool
-joint_count_fits Actuator n = n == 1
-joint_count_fits _ n = nat_le 1 n
+joint_count_fits Actuator count = count == 1
+joint_count_fits _ count = nat_le 1 count
 
 -- the number of joints, then each joint
 abbrev pub component_ranged : List ℕ → CompDesc → Result (Unit {0}) CheckFault
@@ -115,16 +115,16 @@ component_ranged prefix c =
 
 -- how many claims a controller of this kind may have
 abbrev pub claims_fit : Params → ℕ → Bool
-claims_fit (Pid kp ki kd imax omax) n = n == 1
-claims_fit (Broadcaster ins) n = true
-claims_fit (Mock outs refuse_config not_ready fail_update) n = nat_le n MOST_CLAIMS_OF_ONE
-claims_fit _ n = nat_le 1 n && nat_le n MOST_CLAIMS_OF_ONE
+claims_fit (Pid kp ki kd imax omax) count = count == 1
+claims_fit (Broadcaster ins) count = true
+claims_fit (Mock outs refuse_config not_ready fail_update) count = nat_le count MOST_CLAIMS_OF_ONE
+claims_fit _ count = nat_le 1 count && nat_le count MOST_CLAIMS_OF_ONE
 
 -- how many reads beside so many claims: a pid has one, a trajectory as many as claims
 abbrev pub reads_fit : Params → ℕ → ℕ → Bool
-reads_fit (Pid kp ki kd imax omax) claims n = n == 1
-reads_fit (Trajectory outs) claims n = n == claims
-reads_fit _ claims n = true
+reads_fit (Pid kp ki kd imax omax) claims count = count == 1
+reads_fit (Trajectory outs) claims count = count == claims
+reads_fit _ claims count = true
 
 -- the limits of a pid are not negative
 abbrev pub limits_ranged : List ℕ → Params → Result (Unit {0}) CheckFault

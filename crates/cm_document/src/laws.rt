@@ -15,7 +15,7 @@ use crate::checked::Checked;
 
 /// What is told of a tree that is no description is the first of all that is wrong with it, in the order in which the keys
 /// are visited; and a tree is accepted exactly where nothing is wrong with it.
-pub fn the_first_of_all_faults_is_told()
+pub fn the_first_of_all_faults_is_answered()
     ensures { (ms : Members) → fault_in (description_in (Some ms)) ≡ take 1 (all_faults ms) }
 {}
 

@@ -1,15 +1,15 @@
 //! Scripts: what each session asks, line by line, and the turns in which sessions and the loop go on.
 
 ghost use Rattle.std.specs.Prelude.{◌≡◌};
-ghost use Rattle.cm_document.specs.Built.{built, every_form};
+ghost use Rattle.cm_document.specs.Built.{built, whole_grammar};
 
 use crate::call::Call;
 use iface_names::Name;
 use sequence::Seq;
 
-/// Which forms of line are accepted. A line of another form counts as a line without a form.
+/// Which lines a script may have. Another counts as a line that says nothing.
 #[derive(Clone, Copy, Debug, PartialEq, Eq)]
-pub struct Forms {
+pub struct Grammar {
     /// `session NAME`, the first of the script.
     pub first_session: bool,
     /// `session NAME` after another session.
@@ -42,11 +42,11 @@ pub struct Forms {
     pub schedule: bool,
 }
 
-/// The forms that are accepted today.
-pub fn built() -> Forms
+/// The lines that are accepted today.
+pub fn built() -> Grammar
     ensures { result ≡ built }
 {
-    Forms {
+    Grammar {
         first_session: true,
         further_session: false,
         load: true,
@@ -65,11 +65,11 @@ pub fn built() -> Forms
     }
 }
 
-/// Every form.
-pub fn every_form() -> Forms
-    ensures { result ≡ every_form }
+/// Every line.
+pub fn whole_grammar() -> Grammar
+    ensures { result ≡ whole_grammar }
 {
-    Forms {
+    Grammar {
         first_session: true,
         further_session: true,
         load: true,

@@ -15,7 +15,7 @@ use Rattle.cm_model.specs.declared.record.FailedPart.{FailedPart}
 use Rattle.cm_model.proofs.StillLemmas.{idle_cycle, idle_ended}
 use Rattle.loan_board.specs.declared.board.Loan.{Loan}
 use Rattle.cm_hardware.specs.Holding.{IsAtRest, IsHardwareOf, IsStill, RanCycle}
-use Rattle.cm_hardware.specs.Wiring.{Mounted, Wired, loan_of, component_of, leaves, after_failure, all_written, all_states, all_bodies, read, after_failures_of, loans_read, components_run, after_run, failures_told}
+use Rattle.cm_hardware.specs.Wiring.{Mounted, Wired, loan_of, component_of, leaves, after_failure, all_written, all_states, all_bodies, read, after_failures_of, loans_read, components_run, after_run, failures_at}
 use Rattle.cm_hardware.proofs.StateLemmas.{agrees_in, reads_are}
 use Rattle.cm_hardware.proofs.StillLemmas.{no_claims, nothing_claimed, claimed_nothing}
 use Rattle.cm_hardware.proofs.FailureLemmas.{failures_are}
@@ -142,7 +142,7 @@ module _ (s : State) (w : Wired) (is : IsHardwareOf s w) (still : IsStill s) whe
 
 -- A cycle of the hardware is a cycle of the state.
 pub ran_cycle : (s : State) (w : Wired) (failed : List FailedPart) (bodies : List BodyState) → IsHardwareOf s w → IsStill s
-    → RanCycle s (after_run s.ended (period s.description) w) failed (failed ++ failures_told s.ended w) bodies (bodies ++ all_bodies (components_run s.ended (period s.description) w))
+    → RanCycle s (after_run s.ended (period s.description) w) failed (failed ++ failures_at s.ended w) bodies (bodies ++ all_bodies (components_run s.ended (period s.description) w))
 ran_cycle s w failed bodies is still = record {
   hardware = rw (next_is s still) (hardware_after s w is still);
   failed = ap (λ (l : List FailedPart). failed ++ l) (failures_are s w is.wired);

@@ -8,7 +8,7 @@ use Rattle.cm_model.specs.Components.{is_listed, is_available, write_runs, read_
 use Rattle.cm_model.specs.Cycle.{component_is, failed_in}
 use Rattle.cm_model.specs.State.{State}
 use Rattle.cm_model.specs.declared.record.FailedPart.{FailedPart}
-use Rattle.cm_hardware.specs.Wiring.{Mounted, Wired, IsWired, failure, failures, read, fails_read, fails_write, failed_reads, failed_writes, failures_told, one_if, count, can_fail, most_failures}
+use Rattle.cm_hardware.specs.Wiring.{Mounted, Wired, IsWired, failure, failures, read, fails_read, fails_write, failed_reads, failed_writes, failures_at, one_if, count, can_fail, most_failures}
 use Rattle.cm_hardware.proofs.ReadLemmas.{Agrees}
 use Rattle.cm_hardware.proofs.StateLemmas.{asked_of, agrees_in}
 
@@ -18,33 +18,33 @@ use Rattle.cm_hardware.proofs.StateLemmas.{asked_of, agrees_in}
 abbrev part : Bool → ℕ → FailedPart
 part reading place = record { place = place; reading = reading }
 
-told_next : (reading : Bool) (test : ℕ → Bool) (holds : Mounted → Bool) (k : ℕ) (m : Mounted) (ms : List Mounted) (here : Bool) → holds m ≡ here → test k ≡ here
+failures_agree_next : (reading : Bool) (test : ℕ → Bool) (holds : Mounted → Bool) (k : ℕ) (m : Mounted) (ms : List Mounted) (here : Bool) → holds m ≡ here → test k ≡ here
     → failures reading holds (k + 1) ms ≡ map (part reading) (filter test (range_with_len (k + 1) (length ms)))
     → failures reading holds k (m ∷ ms) ≡ map (part reading) (filter test (range_with_len k (length (m ∷ ms))))
-told_next reading test holds k m ms true is at rest = rw (is, at) (ap (λ (l : List FailedPart). part reading k ∷ l) rest)
-told_next reading test holds k m ms false is at rest = rw (is, at) rest
+failures_agree_next reading test holds k m ms true is at rest = rw (is, at) (ap (λ (l : List FailedPart). part reading k ∷ l) rest)
+failures_agree_next reading test holds k m ms false is at rest = rw (is, at) rest
 
 -- of the components from this place on those are told whose places pass the test
-told : (reading : Bool) (test : ℕ → Bool) (holds : Mounted → Bool) (k : ℕ) (ms : List Mounted) → Agrees test holds k ms
+failures_agree : (reading : Bool) (test : ℕ → Bool) (holds : Mounted → Bool) (k : ℕ) (ms : List Mounted) → Agrees test holds k ms
     → failures reading holds k ms ≡ map (part reading) (filter test (range_with_len k (length ms)))
-told reading test holds k [] agrees = refl
-told reading test holds k (m ∷ ms) agrees = told_next reading test holds k m ms (holds m) refl agrees.0 (told reading test holds (k + 1) ms agrees.1)
+failures_agree reading test holds k [] agrees = refl
+failures_agree reading test holds k (m ∷ ms) agrees = failures_agree_next reading test holds k m ms (holds m) refl agrees.0 (failures_agree reading test holds (k + 1) ms agrees.1)
 
 -- whether a write fails is asked of a component after its read
-writes_told : (n k : ℕ) (ms : List Mounted) → failed_writes n k (map (read n) ms) ≡ failures false (asked_of write_fails n) k ms
-writes_told n k [] = refl
-writes_told n k (m ∷ ms) = ap (λ (l : List FailedPart). failure k false (fails_write n (read n m)) ++ l) (writes_told n (k + 1) ms)
+writes_agree : (n k : ℕ) (ms : List Mounted) → failed_writes n k (map (read n) ms) ≡ failures false (asked_of write_fails n) k ms
+writes_agree n k [] = refl
+writes_agree n k (m ∷ ms) = ap (λ (l : List FailedPart). failure k false (fails_write n (read n m)) ++ l) (writes_agree n (k + 1) ms)
 
 -- What is told is what a cycle of the state tells.
-pub failures_are : (s : State) (w : Wired) → IsWired s w.components → failures_told s.ended w ≡ failed_in s
+pub failures_are : (s : State) (w : Wired) → IsWired s w.components → failures_at s.ended w ≡ failed_in s
 failures_are s w wired =
     let number : length w.components ≡ length s.description.components =
     sym (length-map w.components (λ (m : Mounted). m.hardware.description)) ∙ ap length (sym wired.components) in
     let reads : failed_reads s.ended 0 w.components ≡ map (part true) (filter (component_is read_fails s) (range_with_len 0 (length s.description.components))) =
-    rw (sym number) (told true (component_is read_fails s) (fails_read s.ended) 0 w.components (agrees_in read_fails s w.components wired)) in
+    rw (sym number) (failures_agree true (component_is read_fails s) (fails_read s.ended) 0 w.components (agrees_in read_fails s w.components wired)) in
     let writes : failed_writes s.ended 0 (map (read s.ended) w.components) ≡ map (part false) (filter (component_is write_fails s) (range_with_len 0 (length s.description.components))) =
-    writes_told s.ended 0 w.components
-    ∙ rw (sym number) (told false (component_is write_fails s) (asked_of write_fails s.ended) 0 w.components (agrees_in write_fails s w.components wired)) in
+    writes_agree s.ended 0 w.components
+    ∙ rw (sym number) (failures_agree false (component_is write_fails s) (asked_of write_fails s.ended) 0 w.components (agrees_in write_fails s w.components wired)) in
     ap₂ (λ (xs ys : List FailedPart). xs ++ ys) reads writes
 
 -- ---- How many

@@ -41,10 +41,10 @@ lines_from : (s : State) (place : ℕ) (vs : List InterfaceValue) → loan_lines
 lines_from s place [] = refl
 lines_from s place (v ∷ vs) = ap (λ lines. interface_line s place v ∷ lines) (lines_from s (place + 1) vs)
 
-pub interfaces_told : (s : State) (w : Wired) → IsHardwareOf s w → loan_lines_from 0 w.loans ≡ interface_lines s
-interfaces_told s w is = ap (loan_lines_from 0) is.loans ∙ lines_from s 0 s.values
+pub interfaces_agree : (s : State) (w : Wired) → IsHardwareOf s w → loan_lines_from 0 w.loans ≡ interface_lines s
+interfaces_agree s w is = ap (loan_lines_from 0) is.loans ∙ lines_from s 0 s.values
 
-pub components_told : (s : State) (w : Wired) → IsHardwareOf s w → component_lines_from 0 (map (λ (m : Mounted). m.hardware.life) w.components) ≡ component_lines s
-components_told s w is = ap (component_lines_from 0) (sym is.wired.lives)
+pub components_agree : (s : State) (w : Wired) → IsHardwareOf s w → component_lines_from 0 (map (λ (m : Mounted). m.hardware.life) w.components) ≡ component_lines s
+components_agree s w is = ap (component_lines_from 0) (sym is.wired.lives)
 
-pub ruleset told = (interfaces_told, components_told)
+pub ruleset lists_agree = (interfaces_agree, components_agree)

@@ -140,16 +140,16 @@ lives_are n dt_us at loans (m ∷ ms) =
 written_off : (x : Mounted) → x.hardware.written ≡ false → (after_failure x).hardware.written ≡ false
 written_off x off = failure_keeps (λ (h : Hardware). h.written) x refl ∙ off
 
-told_off : (x : Mounted) → (after_failure x).failed ≡ false
-told_off x = told_case x x.failed refl
+cleared : (x : Mounted) → (after_failure x).failed ≡ false
+cleared x = cleared_case x x.failed refl
   where
-    told_case : (x : Mounted) (failed : Bool) → x.failed ≡ failed → (after_failure x).failed ≡ false
-    told_case x true is = rw is refl
-    told_case x false is = rw is refl
+    cleared_case : (x : Mounted) (failed : Bool) → x.failed ≡ failed → (after_failure x).failed ≡ false
+    cleared_case x true is = rw is refl
+    cleared_case x false is = rw is refl
 
 pub at_rest : (dt_us : ℕ) (ms : List Mounted) → AllByRecursion IsAtRest (map after_failure (map (stepped_on dt_us) ms))
 at_rest dt_us [] = tt
-at_rest dt_us (m ∷ ms) = (record { failed = told_off (stepped_on dt_us m); written = written_off (stepped_on dt_us m) refl }, at_rest dt_us ms)
+at_rest dt_us (m ∷ ms) = (record { failed = cleared (stepped_on dt_us m); written = written_off (stepped_on dt_us m) refl }, at_rest dt_us ms)
 
 -- ---- Bodies, where nothing is claimed
 

@@ -25,7 +25,7 @@ places_of ms = places_from states_count 0 ms ++ places_from commands_count 0 ms
 
 -- of so many places, those that follow are of no component
 abbrev pub all_places : List Mounted → ℕ → List (Option ℕ)
-all_places ms n = places_of ms ++ replicate (n - length (places_of ms)) None
+all_places ms count = places_of ms ++ replicate (count - length (places_of ms)) None
 
 -- ---- Available
 

@@ -47,20 +47,20 @@ with_values loans at (v ∷ vs) = with_values (with_loan loans at (set v)) (at +
 
 -- its read fails in this cycle
 abbrev pub fails_read : ℕ → Mounted → Bool
-fails_read n m = read_fails m.hardware.description m.hardware.life n
+fails_read cycle m = read_fails m.hardware.description m.hardware.life cycle
 
 -- a component after its read
 abbrev pub read : ℕ → Mounted → Mounted
-read n m = record m { failed = fails_read n m }
+read cycle m = record m { failed = fails_read cycle m }
 
 -- the board after the read of a component, whose state interfaces begin at this place
 abbrev pub after_read_of : ℕ → ℕ → List Loan → Hardware → List Loan
-after_read_of n at loans h = if read_succeeds h.description h.life n then with_values loans at (measured_states h.description h.bodies) else loans
+after_read_of cycle at loans h = if read_succeeds h.description h.life cycle then with_values loans at (measured_states h.description h.bodies) else loans
 
 -- and after the reads of components, one after the other
 abbrev pub after_reads_of : ℕ → ℕ → List Loan → List Mounted → List Loan
-after_reads_of n at loans [] = loans
-after_reads_of n at loans (m ∷ ms) = after_reads_of n (at + states_count m) (after_read_of n at loans m.hardware) ms
+after_reads_of cycle at loans [] = loans
+after_reads_of cycle at loans (m ∷ ms) = after_reads_of cycle (at + states_count m) (after_read_of cycle at loans m.hardware) ms
 
 -- what is told of a component at this place whose read failed, or else its write; nothing where none did
 abbrev pub failure : ℕ → Bool → Bool → List FailedPart
@@ -84,7 +84,7 @@ count holds (m ∷ ms) = one_if (holds m) + count holds ms
 
 -- of the reads that failed
 abbrev pub failed_reads : ℕ → ℕ → List Mounted → List FailedPart
-failed_reads n place ms = failures true (fails_read n) place ms
+failed_reads cycle place ms = failures true (fails_read cycle) place ms
 
 -- ---- In a state
 
@@ -119,22 +119,22 @@ is_due m = write_runs m.hardware.life && not m.failed
 
 -- its write fails in this cycle
 abbrev pub fails_write : ℕ → Mounted → Bool
-fails_write n m = is_due m && is_listed m.hardware.description.fail_write n
+fails_write cycle m = is_due m && is_listed m.hardware.description.fail_write cycle
 
 -- a component after its write, with what the board holds from its first command interface on
 abbrev pub written : ℕ → ℕ → List Loan → Mounted → Mounted
-written n at loans m =
-    if is_due m then record { hardware = after_write m.hardware n (values_at loans at (commands_count m)); failed = is_listed m.hardware.description.fail_write n }
+written cycle at loans m =
+    if is_due m then record { hardware = after_write m.hardware cycle (values_at loans at (commands_count m)); failed = is_listed m.hardware.description.fail_write cycle }
     else m
 
 -- components after their writes, the first of which has its first command interface at this place
 abbrev pub all_written : ℕ → ℕ → List Loan → List Mounted → List Mounted
-all_written n at loans [] = []
-all_written n at loans (m ∷ ms) = written n at loans m ∷ all_written n (at + commands_count m) loans ms
+all_written cycle at loans [] = []
+all_written cycle at loans (m ∷ ms) = written cycle at loans m ∷ all_written cycle (at + commands_count m) loans ms
 
 -- what is told of the writes that failed
 abbrev pub failed_writes : ℕ → ℕ → List Mounted → List FailedPart
-failed_writes n place ms = failures false (fails_write n) place ms
+failed_writes cycle place ms = failures false (fails_write cycle) place ms
 
 -- its description lists a cycle in which its read or its write fails
 abbrev pub can_fail : CompDesc → Bool
@@ -200,23 +200,23 @@ after_failures_of ms at cs loans = changed_where (has_left ms) (made_available f
 
 -- the board after the reads of a cycle
 abbrev pub loans_read : ℕ → Wired → List Loan
-loans_read n w = after_reads_of n 0 w.loans w.components
+loans_read cycle w = after_reads_of cycle 0 w.loans w.components
 
 -- the components when they were read and written and their bodies stepped
 abbrev pub components_run : ℕ → ℕ → Wired → List Mounted
-components_run n dt_us w = map (stepped_on dt_us) (all_written n (all_states w.components) (loans_read n w) (map (read n) w.components))
+components_run cycle dt_us w = map (stepped_on dt_us) (all_written cycle (all_states w.components) (loans_read cycle w) (map (read cycle) w.components))
 
 -- the hardware after the cycle, when those that failed went to their states on error
 abbrev pub after_run : ℕ → ℕ → Wired → Wired
-after_run n dt_us w = record {
-  components = map after_failure (components_run n dt_us w);
-  loans = after_failures_of (components_run n dt_us w) 0 w.places (loans_read n w);
+after_run cycle dt_us w = record {
+  components = map after_failure (components_run cycle dt_us w);
+  loans = after_failures_of (components_run cycle dt_us w) 0 w.places (loans_read cycle w);
   places = w.places;
 }
 
 -- what is told of its failures: reads come before writes
-abbrev pub failures_told : ℕ → Wired → List FailedPart
-failures_told n w = failed_reads n 0 w.components ++ failed_writes n 0 (map (read n) w.components)
+abbrev pub failures_at : ℕ → Wired → List FailedPart
+failures_at cycle w = failed_reads cycle 0 w.components ++ failed_writes cycle 0 (map (read cycle) w.components)
 
 -- ---- What is kept
 

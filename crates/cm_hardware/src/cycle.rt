@@ -3,7 +3,7 @@
 ghost use Rattle.std.specs.Prelude.{◌≡◌, ◌+◌, ◌<◌, ◌≤◌, ◌++◌};
 ghost use Rattle.cm_model.specs.Cycle.{period};
 ghost use Rattle.cm_model.specs.State.{State};
-ghost use Rattle.cm_hardware.specs.Wiring.{most_failures, all_joints, all_bodies, components_run, after_run, failures_told};
+ghost use Rattle.cm_hardware.specs.Wiring.{most_failures, all_joints, all_bodies, components_run, after_run, failures_at};
 ghost use Rattle.cm_hardware.specs.Holding.{IsHardwareOf, IsStill, RanCycle};
 
 use crate::hardware::{
@@ -66,7 +66,7 @@ impl ResourceManager {
         requires failures { most_failures self.old.components ≤ failed.old.room }
         requires joints { all_joints self.old.components ≤ bodies.old.room }
         ensures hardware { self.new ≡ after_run number dt_us self.old }
-        ensures failed { failed.new.items ≡ failed.old.items ++ failures_told number self.old }
+        ensures failed { failed.new.items ≡ failed.old.items ++ failures_at number self.old }
         ensures bodies { bodies.new.items ≡ bodies.old.items ++ all_bodies (components_run number dt_us self.old) }
     {
         let units = self.units.as_mut_slice();

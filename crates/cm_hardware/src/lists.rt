@@ -13,7 +13,7 @@ use std::alloc::Global;
 
 impl ResourceManager {
     /// The list of components, by place: the lifecycle state of each.
-    #[tactic(auto, using(crate::proofs::ListLemmas::told))]
+    #[tactic(auto, using(crate::proofs::ListLemmas::lists_agree))]
     pub fn component_lines(&self, alloc: Global) -> Result<Seq<CompLine>, Memory>
         ensures { IfOk result (λ lines. (s : State) → IsHardwareOf s self.now → lines ≡ component_lines s) }
     {
@@ -21,7 +21,7 @@ impl ResourceManager {
     }
 
     /// The list of interfaces, by place: what each holds, who claims it, and whether it is available.
-    #[tactic(auto, using(crate::proofs::ListLemmas::told))]
+    #[tactic(auto, using(crate::proofs::ListLemmas::lists_agree))]
     pub fn interface_lines(&self, alloc: Global) -> Result<Seq<IfaceLine>, Memory>
         ensures { IfOk result (λ lines. (s : State) → IsHardwareOf s self.now → lines ≡ interface_lines s) }
     {

@@ -38,7 +38,7 @@ fn main(rt: HostRuntime) -> ExitCode {
     let mut source = StdSource::make(rt.reader());
     let mut sink = StdSink::make(io::writer(&rt));
     let status = run_words(&rt, &rt, &mut source, &mut sink);
-    ExitCode::from(told(&rt, &status))
+    ExitCode::from(report(&rt, &status))
 }
 
 /// Runs the words between a source and a sink. Words that are not UTF-8 are not accepted.
@@ -88,7 +88,7 @@ fn words<E: Env + AllocGlobal>(rt: &E) -> Result<Vec<String>, Status>
 
 /// Tells a status that is not `Ok` on standard error, and gives the number that the program ends with. Whether the line could be
 /// written changes nothing.
-fn told<R: Eprint>(rt: &R, status: &Status) -> u8
+fn report<R: Eprint>(rt: &R, status: &Status) -> u8
     ensures { result ≡ code_of status.now }
 {
     if *status != Status::Ok {

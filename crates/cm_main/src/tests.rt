@@ -3,7 +3,7 @@
 
 mod memory;
 
-use crate::{run_words, told};
+use crate::{report, run_words};
 use cm_model::{
     CheckFault, DescFault, DescProblem, IfaceName, Name, NameFault, ScriptFault, Text, What,
 };
@@ -131,7 +131,7 @@ fn the_one_word_run_runs_and_others_are_refused(rt: HostRuntime) -> Result<(), F
 /// How a run ends by its status: the number, and what stands on standard error, without the end of its one line.
 fn end(alloc: Global, status: &Status) -> Result<String, Fail> {
     let heard = Heard::new(alloc);
-    let code = told(&heard, status);
+    let code = report(&heard, status);
     let told = heard.told.into_inner();
     match told.strip_suffix("\n") {
         Some(line) => Ok(format!(in alloc; "{code} {line}")?),

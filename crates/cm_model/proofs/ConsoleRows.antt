@@ -81,9 +81,9 @@ abbrev text : Reply → List ℕ
 text r = reply_text (names_in robot []) r
 
 -- the replies to calls, one after the other
-abbrev told : State → List Call → List (List ℕ)
-told s [] = []
-told s (call ∷ calls) = text (answered s call).1 ∷ told (answered s call).0 calls
+abbrev replies : State → List Call → List (List ℕ)
+replies s [] = []
+replies s (call ∷ calls) = text (answered s call).1 ∷ replies (answered s call).0 calls
 
 -- the state after calls, one after the other
 abbrev after : State → List Call → State
@@ -104,7 +104,7 @@ each s name = map (λ call. text (answered s call).1) (Configure name ∷ Cleanu
 -- ---- A session
 
 -- a controller is loaded, configured, given a rate, configured again, cleaned up and unloaded
-a_session : told (boot robot stock 1) (
+a_session : replies (boot robot stock 1) (
     Load (codes "fwd") ∷ Configure (codes "fwd") ∷ Rate (codes "fwd") 25 ∷ Configure (codes "fwd") ∷ ListControllers
     ∷ Cleanup (codes "fwd") ∷ ListControllers ∷ Send (codes "fwd") (Values (pos 1000000 ∷ [])) ∷ Unload (codes "fwd") ∷ Unload (codes "fwd") ∷ [])
     ≡ codes "ok 0" ∷ codes "ok" ∷ codes "ok" ∷ codes "ok" ∷ codes "fwd forward inactive 0 every 4"
@@ -113,7 +113,7 @@ unfolding digits
 a_session = refl
 
 -- the rate counts from the next configure on, and outlives a cleanup
-a_rate_counts_later : told (boot robot stock 1) (
+a_rate_counts_later : replies (boot robot stock 1) (
     Load (codes "fwd") ∷ Configure (codes "fwd") ∷ Rate (codes "fwd") 30 ∷ ListControllers ∷ Configure (codes "fwd") ∷ ListControllers
     ∷ Cleanup (codes "fwd") ∷ Configure (codes "fwd") ∷ ListControllers ∷ [])
     ≡ codes "ok 0" ∷ codes "ok" ∷ codes "ok" ∷ codes "fwd forward inactive 0 every 1" ∷ codes "ok" ∷ codes "fwd forward inactive 0 every 3"
@@ -122,7 +122,7 @@ unfolding digits
 a_rate_counts_later = refl
 
 -- A described rate counts at the first configure. A rate of 0, and one of at least the manager's, is every cycle.
-rates_of_all_sorts : told (boot robot stock 1) (
+rates_of_all_sorts : replies (boot robot stock 1) (
     Load (codes "traj") ∷ Configure (codes "traj") ∷ ListControllers ∷ Rate (codes "traj") 0 ∷ Configure (codes "traj") ∷ ListControllers
     ∷ Rate (codes "traj") 1000 ∷ Configure (codes "traj") ∷ ListControllers ∷ Rate (codes "traj") 1 ∷ Configure (codes "traj") ∷ ListControllers ∷ [])
     ≡ codes "ok 0" ∷ codes "ok" ∷ codes "traj trajectory inactive 0 every 3" ∷ codes "ok" ∷ codes "ok" ∷ codes "traj trajectory inactive 0 every 1"
@@ -132,7 +132,7 @@ rates_of_all_sorts = refl
 
 -- Controllers are loaded in another order than described. The one in the middle moves out; the others stay as they are, and the
 -- next load gets a serial that was never used.
-one_of_three_moves_out : told (boot robot stock 1) (
+one_of_three_moves_out : replies (boot robot stock 1) (
     Load (codes "jsb") ∷ Load (codes "fwd") ∷ Load (codes "pid") ∷ Configure (codes "pid") ∷ Unload (codes "fwd") ∷ ListControllers
     ∷ Load (codes "fwd") ∷ ListControllers ∷ [])
     ≡ codes "ok 0" ∷ codes "ok 1" ∷ codes "ok 2" ∷ codes "ok" ∷ codes "ok" ∷ codes "jsb broadcaster unconfigured 0; pid pid inactive 2 every 1"
@@ -143,19 +143,19 @@ one_of_three_moves_out = refl
 -- ---- The stock
 
 -- a controller that was unloaded brings no blank back
-a_blank_serves_once : told (boot robot stock 1) (Load (codes "fwd") ∷ Unload (codes "fwd") ∷ Load (codes "fwd") ∷ Unload (codes "fwd") ∷ Load (codes "fwd") ∷ [])
+a_blank_serves_once : replies (boot robot stock 1) (Load (codes "fwd") ∷ Unload (codes "fwd") ∷ Load (codes "fwd") ∷ Unload (codes "fwd") ∷ Load (codes "fwd") ∷ [])
     ≡ codes "ok 0" ∷ codes "ok" ∷ codes "ok 1" ∷ codes "ok" ∷ codes "stock_empty" ∷ []
 unfolding digits
 a_blank_serves_once = refl
 
 -- so 32 blanks serve 32 loads
-blanks_serve_as_often : told (boot robot (record stock { forward = 32 }) 1) (flat_map (λ n. Load (codes "fwd") ∷ Unload (codes "fwd") ∷ []) (range_with_len 0 32) ++ Load (codes "fwd") ∷ [])
+blanks_serve_as_often : replies (boot robot (record stock { forward = 32 }) 1) (flat_map (λ n. Load (codes "fwd") ∷ Unload (codes "fwd") ∷ []) (range_with_len 0 32) ++ Load (codes "fwd") ∷ [])
     ≡ flat_map (λ n. (codes "ok " ++ decimal n) ∷ codes "ok" ∷ []) (range_with_len 0 32) ++ codes "stock_empty" ∷ []
 unfolding digits
 blanks_serve_as_often = refl
 
 -- A load asks first whether the controller is described, then whether it is loaded, then for a blank.
-what_refuses_a_load : told (boot robot stock 1) (Load (codes "nosuch") ∷ Load (codes "mk") ∷ Load (codes "mk") ∷ Load (codes "mk2") ∷ Load (codes "nosuch") ∷ [])
+what_refuses_a_load : replies (boot robot stock 1) (Load (codes "nosuch") ∷ Load (codes "mk") ∷ Load (codes "mk") ∷ Load (codes "mk2") ∷ Load (codes "nosuch") ∷ [])
     ≡ codes "not_described" ∷ codes "ok 0" ∷ codes "loaded" ∷ codes "stock_empty" ∷ codes "not_described" ∷ []
 unfolding digits
 what_refuses_a_load = refl
@@ -215,7 +215,7 @@ where_it_is_active : each fwd_active (codes "fwd") ≡ codes "active" ∷ codes 
 where_it_is_active = refl
 
 -- A mock that refuses is asked only where it is not active. (No history leads to an active one.)
-a_mock_refuses : told (with (loaded 0 4 (fresh kind.Mock) ∷ [])) (Configure (codes "mk") ∷ ListControllers ∷ Cleanup (codes "mk") ∷ [])
+a_mock_refuses : replies (with (loaded 0 4 (fresh kind.Mock) ∷ [])) (Configure (codes "mk") ∷ ListControllers ∷ Cleanup (codes "mk") ∷ [])
     ≡ codes "refused" ∷ codes "mk mock unconfigured 0" ∷ codes "not_inactive" ∷ []
 unfolding digits
 a_mock_refuses = refl

@@ -33,15 +33,15 @@ cycles (suc n) names s =
     joined (record_items names made.happened) ∷ (lists names next ++ cycles n names next)
 
 -- what is told of so many cycles of what these bytes describe
-abbrev told : ℕ → List ℕ → List (List ℕ)
-told n bytes =
+abbrev lines_of_cycles : ℕ → List ℕ → List (List ℕ)
+lines_of_cycles n bytes =
     elim (description_in (tree_of bytes)) [
       | Ok d ↦ (let s = boot d nothing 0 in lists (names_in d []) s ++ cycles n (names_in d []) s)
       | Err e ↦ []
     ]
 
 -- one joint: nobody commands it, so it stands still
-one_joint : told 1 (codes "version = 1\nupdate_rate = 100\ncycles = 3\n[[component]]\nname = \"arm\"\nkind = \"actuator\"\n[[component.joint]]\nname = \"j1\"\nvmax = 1\ncommand = [\"position\"]\nstate = [\"position\"]\n")
+one_joint : lines_of_cycles 1 (codes "version = 1\nupdate_rate = 100\ncycles = 3\n[[component]]\nname = \"arm\"\nkind = \"actuator\"\n[[component.joint]]\nname = \"j1\"\nvmax = 1\ncommand = [\"position\"]\nstate = [\"position\"]\n")
     ≡ codes "arm actuator active"
     ∷ codes "state j1/position 0.000000; command j1/position unset free"
     ∷ codes "joint j1 0.000000 0.000000 0.000000"
@@ -52,7 +52,7 @@ unfolding tree_of is_utf8 chars toml_on_literals digits description_form top_tab
 one_joint = refl
 
 -- its read fails in cycle 1: it becomes unconfigured, and fails no more
-a_read_fails : told 3 (codes "version = 1\nupdate_rate = 100\ncycles = 3\n[[component]]\nname = \"arm\"\nkind = \"actuator\"\nfail_read = [1]\n[[component.joint]]\nname = \"j1\"\nvmax = 1\ncommand = [\"position\"]\nstate = [\"position\"]\n")
+a_read_fails : lines_of_cycles 3 (codes "version = 1\nupdate_rate = 100\ncycles = 3\n[[component]]\nname = \"arm\"\nkind = \"actuator\"\nfail_read = [1]\n[[component.joint]]\nname = \"j1\"\nvmax = 1\ncommand = [\"position\"]\nstate = [\"position\"]\n")
     ≡ codes "arm actuator active"
     ∷ codes "state j1/position 0.000000; command j1/position unset free"
     ∷ codes "joint j1 0.000000 0.000000 0.000000"
@@ -70,7 +70,7 @@ a_read_fails = refl
 
 -- Two components of which both fail, one after the other. The described velocity shows before cycle 0 alone, and where a component no
 -- longer runs its interfaces show nothing.
-both_fail : told 2 (codes "version = 1\nupdate_rate = 100\ncycles = 2\n[[component]]\nname = \"arm\"\nkind = \"system\"\non_error = \"finalized\"\nfail_write = [0]\n[[component.joint]]\nname = \"j1\"\nvmax = 1\nposition = \"0.5\"\nvelocity = \"0.25\"\ncommand = [\"position\", \"velocity\"]\nstate = [\"position\", \"velocity\"]\n[[component]]\nname = \"imu\"\nkind = \"sensor\"\ninitial = \"inactive\"\nfail_read = [1]\n[[component.joint]]\nname = \"tilt\"\nvmax = 0\nposition = \"-0.25\"\nvelocity = 2\nstate = [\"velocity\", \"position\"]\n")
+both_fail : lines_of_cycles 2 (codes "version = 1\nupdate_rate = 100\ncycles = 2\n[[component]]\nname = \"arm\"\nkind = \"system\"\non_error = \"finalized\"\nfail_write = [0]\n[[component.joint]]\nname = \"j1\"\nvmax = 1\nposition = \"0.5\"\nvelocity = \"0.25\"\ncommand = [\"position\", \"velocity\"]\nstate = [\"position\", \"velocity\"]\n[[component]]\nname = \"imu\"\nkind = \"sensor\"\ninitial = \"inactive\"\nfail_read = [1]\n[[component.joint]]\nname = \"tilt\"\nvmax = 0\nposition = \"-0.25\"\nvelocity = 2\nstate = [\"velocity\", \"position\"]\n")
     ≡ codes "arm system active; imu sensor inactive"
     ∷ codes "state j1/position 0.500000; state j1/velocity 0.250000; state tilt/velocity 2.000000; state tilt/position -0.250000; command j1/position unset free; command j1/velocity unset free"
     ∷ codes "fail arm write; joint j1 0.500000 0.000000 0.000000; joint tilt -0.250000 0.000000 0.000000"
@@ -85,7 +85,7 @@ both_fail = refl
 
 -- A component whose read failed is not written, so its write cannot fail in that cycle too. One that starts unconfigured has no
 -- interfaces to show, and neither fails.
-a_read_fails_first : told 1 (codes "version = 1\nupdate_rate = 100\ncycles = 1\n[[component]]\nname = \"arm\"\nkind = \"actuator\"\nfail_read = [2, 0]\nfail_write = [0]\n[[component.joint]]\nname = \"j1\"\nvmax = 1\ncommand = [\"effort\"]\n[[component]]\nname = \"leg\"\nkind = \"system\"\ninitial = \"unconfigured\"\nfail_read = [0]\nfail_write = [0]\n[[component.joint]]\nname = \"j2\"\nvmax = 1\nposition = 3\nstate = [\"position\"]\n[[component.joint]]\nname = \"j3\"\nvmax = 1\n")
+a_read_fails_first : lines_of_cycles 1 (codes "version = 1\nupdate_rate = 100\ncycles = 1\n[[component]]\nname = \"arm\"\nkind = \"actuator\"\nfail_read = [2, 0]\nfail_write = [0]\n[[component.joint]]\nname = \"j1\"\nvmax = 1\ncommand = [\"effort\"]\n[[component]]\nname = \"leg\"\nkind = \"system\"\ninitial = \"unconfigured\"\nfail_read = [0]\nfail_write = [0]\n[[component.joint]]\nname = \"j2\"\nvmax = 1\nposition = 3\nstate = [\"position\"]\n[[component.joint]]\nname = \"j3\"\nvmax = 1\n")
     ≡ codes "arm actuator active; leg system unconfigured"
     ∷ codes "state j2/position unavailable; command j1/effort unset free"
     ∷ codes "fail arm read; joint j1 0.000000 0.000000 0.000000; joint j2 3.000000 0.000000 0.000000; joint j3 0.000000 0.000000 0.000000"

@@ -6,7 +6,7 @@ use Rattle.std.proofs.lemmas.List.{take_all, take-append-le, drop-append-le}
 use Rattle.std.proofs.lemmas.List.Sums.{sum_by-cons, sum_by-append}
 use Rattle.fixed_num.specs.declared.value.Value.{Value}
 use Rattle.sequence.proofs.ListLemmas.{not_empty}
-use Rattle.cm_model.specs.Held.{nothing_in, told_of_parts, tells_nothing}
+use Rattle.cm_model.specs.Held.{nothing_in, happened_in_parts, tells_nothing}
 use Rattle.cm_model.specs.Ran.{Ran}
 use Rattle.cm_model.specs.Rans.{rans, IsWhole}
 use Rattle.cm_model.specs.declared.ran.RanHead.{RanHead}
@@ -76,9 +76,9 @@ quiet_is : (n : ℕ) (failed : List FailedPart) (ran : List Ran) (bodies : List 
 quiet_is n failed ran bodies stops no_failure none_ran no_body none_stopped = rw (no_failure, none_ran, no_body, none_stopped) refl
 
 -- parts that tell nothing are those of a cycle of which there is nothing to tell
-pub nothing_told : (p : CycleParts) → tells_nothing (told_of_parts p) ≡ true → nothing_in p.cycle ≡ told_of_parts p
-nothing_told p none =
-    let h = told_of_parts p in
+pub nothing_happened : (p : CycleParts) → tells_nothing (happened_in_parts p) ≡ true → nothing_in p.cycle ≡ happened_in_parts p
+nothing_happened p none =
+    let h = happened_in_parts p in
     let others = and_parts ((length h.failed == 0 && length h.ran == 0) && length h.bodies == 0) (length h.stops == 0) none in
     let parts = and_parts (length h.failed == 0 && length h.ran == 0) (length h.bodies == 0) others.0 in
     let first = and_parts (length h.failed == 0) (length h.ran == 0) parts.0 in

@@ -104,8 +104,8 @@ at_best off on = record { on = on; off = off; strict = false }
 abbrev plan_text : Planned → List ℕ
 plan_text p = outcome_text p.outcome ++ codes ";" ++ flat_map (λ n. codes " -" ++ decimal n) p.off ++ codes ";" ++ flat_map (λ n. codes " +" ++ decimal n) p.on
 
-abbrev told : List Seen → SwitchRequest → List ℕ
-told loaded r = plan_text (plan_of (over_arm loaded) r)
+abbrev planned_text : List Seen → SwitchRequest → List ℕ
+planned_text loaded r = plan_text (plan_of (over_arm loaded) r)
 
 -- ---- Order and rates
 
@@ -130,107 +130,107 @@ due_cycles = refl
 -- ---- Followers
 
 -- a trajectory over a pid that is not active
-follower_missing : told (inactive 0 pid ∷ inactive 1 traj ∷ []) (strictly [] (codes "traj" ∷ [])) ≡ codes "refused traj missing_follower pid/j1/position;;"
+follower_missing : planned_text (inactive 0 pid ∷ inactive 1 traj ∷ []) (strictly [] (codes "traj" ∷ [])) ≡ codes "refused traj missing_follower pid/j1/position;;"
 unfolding rank_within digits
 follower_missing = refl
 
 -- both together: the pid first, so that the trajectory comes to it
-follower_with_it : told (inactive 0 pid ∷ inactive 1 traj ∷ []) (strictly [] (codes "pid" ∷ codes "traj" ∷ [])) ≡ codes "done;; +0 +1"
+follower_with_it : planned_text (inactive 0 pid ∷ inactive 1 traj ∷ []) (strictly [] (codes "pid" ∷ codes "traj" ∷ [])) ≡ codes "done;; +0 +1"
 unfolding rank_within digits
 follower_with_it = refl
 
 -- the pid cannot leave below the trajectory
-follower_needed : told (chained 0 pid ∷ running 1 traj ∷ []) (strictly (codes "pid" ∷ []) []) ≡ codes "refused traj missing_follower pid/j1/position;;"
+follower_needed : planned_text (chained 0 pid ∷ running 1 traj ∷ []) (strictly (codes "pid" ∷ []) []) ≡ codes "refused traj missing_follower pid/j1/position;;"
 unfolding rank_within digits
 follower_needed = refl
 
 -- nor by best effort
-follower_kept : told (chained 0 pid ∷ running 1 traj ∷ []) (at_best (codes "pid" ∷ []) []) ≡ codes "done dropped pid missing_follower pid/j1/position;;"
+follower_kept : planned_text (chained 0 pid ∷ running 1 traj ∷ []) (at_best (codes "pid" ∷ []) []) ≡ codes "done dropped pid missing_follower pid/j1/position;;"
 unfolding rank_within stays_within digits
 follower_kept = refl
 
 -- both leave together, the trajectory first
-both_leave : told (chained 0 pid ∷ running 1 traj ∷ []) (strictly (codes "pid" ∷ codes "traj" ∷ []) []) ≡ codes "done; -1 -0;"
+both_leave : planned_text (chained 0 pid ∷ running 1 traj ∷ []) (strictly (codes "pid" ∷ codes "traj" ∷ []) []) ≡ codes "done; -1 -0;"
 unfolding rank_within digits
 both_leave = refl
 
 -- and by best effort too, in whatever order they stand
-both_leave_at_best : told (chained 0 pid ∷ running 1 traj ∷ []) (at_best (codes "pid" ∷ codes "traj" ∷ []) []) ≡ codes "done; -1 -0;"
+both_leave_at_best : planned_text (chained 0 pid ∷ running 1 traj ∷ []) (at_best (codes "pid" ∷ codes "traj" ∷ []) []) ≡ codes "done; -1 -0;"
 unfolding rank_within stays_within digits
 both_leave_at_best = refl
 
 -- by best effort both come, though the trajectory is named first
-both_come_at_best : told (inactive 0 pid ∷ inactive 1 traj ∷ []) (at_best [] (codes "traj" ∷ codes "pid" ∷ [])) ≡ codes "done;; +0 +1"
+both_come_at_best : planned_text (inactive 0 pid ∷ inactive 1 traj ∷ []) (at_best [] (codes "traj" ∷ codes "pid" ∷ [])) ≡ codes "done;; +0 +1"
 unfolding rank_within stays_within digits
 both_come_at_best = refl
 
 -- a pid that was active restarts where a trajectory comes above it
-chained_by_a_comer : told (running 0 pid ∷ inactive 1 traj ∷ []) (strictly [] (codes "traj" ∷ [])) ≡ codes "done; -0; +0 +1"
+chained_by_a_comer : planned_text (running 0 pid ∷ inactive 1 traj ∷ []) (strictly [] (codes "traj" ∷ [])) ≡ codes "done; -0; +0 +1"
 unfolding rank_within digits
 chained_by_a_comer = refl
 
 -- ---- Conflicts and modes
 
 -- one joint interface, two claims
-conflict : told (running 0 fwd ∷ inactive 1 traj2 ∷ []) (strictly [] (codes "traj2" ∷ [])) ≡ codes "refused traj2 conflict j1/position fwd;;"
+conflict : planned_text (running 0 fwd ∷ inactive 1 traj2 ∷ []) (strictly [] (codes "traj2" ∷ [])) ≡ codes "refused traj2 conflict j1/position fwd;;"
 unfolding rank_within digits
 conflict = refl
 
 -- two interfaces of one joint
-mode : told (running 0 fwd ∷ inactive 1 pid ∷ []) (strictly [] (codes "pid" ∷ [])) ≡ codes "refused pid mode_refused j1;;"
+mode : planned_text (running 0 fwd ∷ inactive 1 pid ∷ []) (strictly [] (codes "pid" ∷ [])) ≡ codes "refused pid mode_refused j1;;"
 unfolding rank_within digits
 mode = refl
 
 -- the one leaves for the other
-exchanged : told (running 0 fwd ∷ inactive 1 traj2 ∷ []) (strictly (codes "fwd" ∷ []) (codes "traj2" ∷ [])) ≡ codes "done; -0; +1"
+exchanged : planned_text (running 0 fwd ∷ inactive 1 traj2 ∷ []) (strictly (codes "fwd" ∷ []) (codes "traj2" ∷ [])) ≡ codes "done; -0; +1"
 unfolding rank_within digits
 exchanged = refl
 
 -- ---- Best effort
 
 -- what can join joins
-what_can_be_done : told (running 0 fwd ∷ inactive 1 traj2 ∷ inactive 2 jsb ∷ []) (at_best [] (codes "nosuch" ∷ codes "traj2" ∷ codes "jsb" ∷ []))
+what_can_be_done : planned_text (running 0 fwd ∷ inactive 1 traj2 ∷ inactive 2 jsb ∷ []) (at_best [] (codes "nosuch" ∷ codes "traj2" ∷ codes "jsb" ∷ []))
     ≡ codes "done dropped nosuch unknown, traj2 conflict j1/position fwd;; +2"
 unfolding rank_within stays_within digits
 what_can_be_done = refl
 
 -- a name twice: strictly refused, and at best done once
-twice : told (inactive 0 fwd ∷ []) (strictly [] (codes "fwd" ∷ codes "fwd" ∷ [])) ≡ codes "refused fwd twice;;"
+twice : planned_text (inactive 0 fwd ∷ []) (strictly [] (codes "fwd" ∷ codes "fwd" ∷ [])) ≡ codes "refused fwd twice;;"
 unfolding rank_within digits
 twice = refl
 
-twice_at_best : told (inactive 0 fwd ∷ []) (at_best [] (codes "fwd" ∷ codes "fwd" ∷ [])) ≡ codes "done dropped fwd twice;; +0"
+twice_at_best : planned_text (inactive 0 fwd ∷ []) (at_best [] (codes "fwd" ∷ codes "fwd" ∷ [])) ≡ codes "done dropped fwd twice;; +0"
 unfolding rank_within stays_within digits
 twice_at_best = refl
 
 -- a follower that is to restart and is needed stays as it is, so it is active already
-restart_of_a_needed_one : told (chained 0 pid ∷ running 1 traj ∷ []) (at_best (codes "pid" ∷ []) (codes "pid" ∷ []))
+restart_of_a_needed_one : planned_text (chained 0 pid ∷ running 1 traj ∷ []) (at_best (codes "pid" ∷ []) (codes "pid" ∷ []))
     ≡ codes "done dropped pid missing_follower pid/j1/position, pid already_active;;"
 unfolding rank_within stays_within digits
 restart_of_a_needed_one = refl
 
 -- a restart that cannot join leaves
-restart_that_fails : told (record (unready 0 mk) { life = Active } ∷ []) (at_best (codes "mk" ∷ []) (codes "mk" ∷ [])) ≡ codes "done dropped mk not_ready; -0;"
+restart_that_fails : planned_text (record (unready 0 mk) { life = Active } ∷ []) (at_best (codes "mk" ∷ []) (codes "mk" ∷ [])) ≡ codes "done dropped mk not_ready; -0;"
 unfolding rank_within stays_within digits
 restart_that_fails = refl
 
 -- ---- Other causes
 
 -- a name that is not loaded, and one that is not active
-not_active : told (inactive 0 fwd ∷ []) (strictly (codes "fwd" ∷ []) (codes "fwd" ∷ [])) ≡ codes "refused fwd not_active;;"
+not_active : planned_text (inactive 0 fwd ∷ []) (strictly (codes "fwd" ∷ []) (codes "fwd" ∷ [])) ≡ codes "refused fwd not_active;;"
 unfolding rank_within digits
 not_active = refl
 
-not_configured : told (fresh 0 fwd ∷ []) (strictly [] (codes "fwd" ∷ [])) ≡ codes "refused fwd not_configured;;"
+not_configured : planned_text (fresh 0 fwd ∷ []) (strictly [] (codes "fwd" ∷ [])) ≡ codes "refused fwd not_configured;;"
 unfolding rank_within digits
 not_configured = refl
 
-already_active : told (running 0 fwd ∷ []) (strictly [] (codes "fwd" ∷ [])) ≡ codes "refused fwd already_active;;"
+already_active : planned_text (running 0 fwd ∷ []) (strictly [] (codes "fwd" ∷ [])) ≡ codes "refused fwd already_active;;"
 unfolding rank_within digits
 already_active = refl
 
 -- what is not ready is named, though it is last
-not_ready : told (inactive 0 fwd ∷ inactive 1 jsb ∷ unready 2 mk ∷ []) (strictly [] (codes "fwd" ∷ codes "jsb" ∷ codes "mk" ∷ [])) ≡ codes "refused mk not_ready;;"
+not_ready : planned_text (inactive 0 fwd ∷ inactive 1 jsb ∷ unready 2 mk ∷ []) (strictly [] (codes "fwd" ∷ codes "jsb" ∷ codes "mk" ∷ [])) ≡ codes "refused mk not_ready;;"
 unfolding rank_within digits
 not_ready = refl
 
@@ -241,11 +241,11 @@ unfolding rank_within digits
 unavailable = refl
 
 -- a restart
-restarted : told (running 0 fwd ∷ []) (strictly (codes "fwd" ∷ []) (codes "fwd" ∷ [])) ≡ codes "done; -0; +0"
+restarted : planned_text (running 0 fwd ∷ []) (strictly (codes "fwd" ∷ []) (codes "fwd" ∷ [])) ≡ codes "done; -0; +0"
 unfolding rank_within digits
 restarted = refl
 
 -- nothing asked, nothing done
-nothing : told (running 0 fwd ∷ []) (strictly [] []) ≡ codes "done;;"
+nothing : planned_text (running 0 fwd ∷ []) (strictly [] []) ≡ codes "done;;"
 unfolding rank_within digits
 nothing = refl

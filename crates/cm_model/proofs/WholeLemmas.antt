@@ -13,7 +13,7 @@ use Rattle.cm_model.specs.State.{State, boot, controller_lines, interface_lines,
 use Rattle.cm_model.specs.Machine.{step, unless_refused, load_refusals, place_of, with_controller, with_loaded, load_effect, can_begin, can_end, can_close}
 use Rattle.cm_model.specs.Scheduled.{Session, Advanced, Progress, with_entry, ticket_in, advance, advances, settle, settle_from, settle_all, looped, with_cycle, cycles, finish, start, scheduled}
 use Rattle.cm_document.specs.Built.{built}
-use Rattle.cm_document.specs.ScriptLaws.{has_form}
+use Rattle.cm_document.specs.ScriptLaws.{allows}
 use Rattle.cm_model.specs.Sessions.{entries_by, calls_of, is_told, with_its_told, asked, Follows, cycle_calls, loop_calls, IsWhole}
 use Rattle.cm_model.proofs.AdvanceLemmas.{settle-stays}
 use Rattle.cm_document.specs.declared.call.Call.{Call}
@@ -70,7 +70,7 @@ no_ticket (r ∷ refusals) n = chosen (λ (answer : Reply). ticket_in answer ≡
 
 -- the form of this call is built
 abbrev IsBuilt : Call → Type 0
-IsBuilt c = IsTrue (has_form built c)
+IsBuilt c = IsTrue (allows built c)
 
 -- What a call of a session whose form is built makes: it is enabled, leaves the loop as it is, is no Told, and gets no ticket.
 record Makes (s : State) (who : ℕ) (call : Call) : Type 0 where
@@ -383,11 +383,11 @@ waiting_lines (t ∷ sessions) = ap (λ l. waiting t.lines ∷ l) (waiting_lines
 
 -- each line of each session has a form that is built
 abbrev pub AllBuilt : List SessionText → Type 0
-AllBuilt sessions = AllByRecursion (λ s. AllByRecursion (λ c. IsTrue (has_form built c)) s.lines) sessions
+AllBuilt sessions = AllByRecursion (λ s. AllByRecursion (λ c. IsTrue (allows built c)) s.lines) sessions
 
 built_lines : (sessions : List SessionText) → AllBuilt sessions → AllByRecursion (λ lines. AllByRecursion IsBuilt lines) (lines_of sessions)
-built_lines [] forms = tt
-built_lines (s ∷ sessions) forms = (forms.0, built_lines sessions forms.1)
+built_lines [] grammar = tt
+built_lines (s ∷ sessions) grammar = (grammar.0, built_lines sessions grammar.1)
 
 start-Cycled : (d : Document) (blanks : Blanks) → AllBuilt d.script.sessions
     → Cycled 0 d.description.cycles (length d.script.sessions) (lines_of d.script.sessions) (settle_all (start d blanks))

@@ -45,39 +45,39 @@ has_move life target = true
 
 -- The cycle is among these, in whatever order they stand.
 abbrev pub is_listed : List ℕ → ℕ → Bool
-is_listed cycles n = list_any (λ m. m == n) cycles
+is_listed these cycle = list_any (λ each. each == cycle) these
 
 -- How a read or a write that runs ends in a cycle: it fails where the cycle is listed.
 abbrev pub ends : List ℕ → ℕ → Done
-ends cycles n = if is_listed cycles n then done.Error else done.Ok
+ends these cycle = if is_listed these cycle then done.Error else done.Ok
 
 -- Its read fails in a cycle: it runs, and the cycle is listed.
 abbrev pub read_fails : CompDesc → Life → ℕ → Bool
-read_fails c life n = read_runs life && is_listed c.fail_read n
+read_fails c life cycle = read_runs life && is_listed c.fail_read cycle
 
 -- Its read succeeds.
 abbrev pub read_succeeds : CompDesc → Life → ℕ → Bool
-read_succeeds c life n = read_runs life && not (is_listed c.fail_read n)
+read_succeeds c life cycle = read_runs life && not (is_listed c.fail_read cycle)
 
 -- Its turn to be written comes where it is active and its read of that cycle did not fail.
 abbrev pub is_up_for_write : CompDesc → Life → ℕ → Bool
-is_up_for_write c life n = write_runs life && not (read_fails c life n)
+is_up_for_write c life cycle = write_runs life && not (read_fails c life cycle)
 
 -- Its write fails in a cycle: its turn comes, and the cycle is listed.
 abbrev pub write_fails : CompDesc → Life → ℕ → Bool
-write_fails c life n = is_up_for_write c life n && is_listed c.fail_write n
+write_fails c life cycle = is_up_for_write c life cycle && is_listed c.fail_write cycle
 
 -- It is written in a cycle: its write ran and did not fail.
 abbrev pub is_written : CompDesc → Life → ℕ → Bool
-is_written c life n = is_up_for_write c life n && not (is_listed c.fail_write n)
+is_written c life cycle = is_up_for_write c life cycle && not (is_listed c.fail_write cycle)
 
 -- It failed in a cycle where its read or its write did.
 abbrev pub has_failed : CompDesc → Life → ℕ → Bool
-has_failed c life n = read_fails c life n || write_fails c life n
+has_failed c life cycle = read_fails c life cycle || write_fails c life cycle
 
 -- A component that failed in a cycle goes to the state that is described for it.
 abbrev pub life_after : CompDesc → Life → ℕ → Life
-life_after c life n = if has_failed c life n then c.on_error else life
+life_after c life cycle = if has_failed c life cycle then c.on_error else life
 
 -- ---- Bodies
 
@@ -129,7 +129,7 @@ measured_states c bodies = map (measured_at bodies) (state_interfaces c)
 
 -- What they hold after a cycle's read: the numbers of the bodies where it succeeded, else what they held.
 abbrev pub states_after_read : CompDesc → Life → ℕ → List BodyState → List Value → List Value
-states_after_read c life n bodies values = if read_succeeds c life n then measured_states c bodies else values
+states_after_read c life cycle bodies values = if read_succeeds c life cycle then measured_states c bodies else values
 
 -- ---- What command interfaces hold
 

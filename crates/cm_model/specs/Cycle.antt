@@ -147,7 +147,7 @@ commands_at component values = filter (λ v. v.interface.called.is_command && be
 
 -- the command interface of this number is claimed
 abbrev pub is_claimed : State → List InterfaceValue → ℕ → Bool
-is_claimed s commands n = option_map_or (λ v. is_some (owner s v.interface)) (slice_get commands n) false
+is_claimed s commands place = option_map_or (λ v. is_some (owner s v.interface)) (slice_get commands place) false
 
 -- the numbers of those that are claimed
 abbrev pub claims_in : State → List InterfaceValue → List ℕ

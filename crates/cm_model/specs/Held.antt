@@ -7,17 +7,17 @@ use Rattle.cm_model.specs.declared.record.Held.TheVariants.{Quiet, Whole}
 
 -- nothing happened in this cycle but that it ended
 abbrev pub nothing_in : ℕ → Happened
-nothing_in n = record { cycle = n; failed = []; ran = []; bodies = []; stops = [] }
+nothing_in cycle = record { cycle = cycle; failed = []; ran = []; bodies = []; stops = [] }
 
 -- there is nothing to tell of a cycle but its number
 abbrev pub tells_nothing : Happened → Bool
 tells_nothing h = ((length h.failed == 0 && length h.ran == 0) && length h.bodies == 0) && length h.stops == 0
 
 -- what these parts tell
-abbrev pub told_of_parts : CycleParts → Happened
-told_of_parts p = record { cycle = p.cycle; failed = p.failed; ran = p.ran; bodies = p.bodies; stops = p.stops }
+abbrev pub happened_in_parts : CycleParts → Happened
+happened_in_parts p = record { cycle = p.cycle; failed = p.failed; ran = p.ran; bodies = p.bodies; stops = p.stops }
 
 -- what a record that is kept so tells
 abbrev pub happened : Held → Happened
-happened (Quiet n) = nothing_in n
-happened (Whole p) = told_of_parts p.value
+happened (Quiet cycle) = nothing_in cycle
+happened (Whole p) = happened_in_parts p.value

@@ -25,7 +25,7 @@ pub record Names : Type 0 where
 
 -- the name at this place; nothing past the last
 abbrev pub nth_name : List (List ℕ) → ℕ → List ℕ
-nth_name names n = unwrap_or (slice_get names n) []
+nth_name names place = unwrap_or (slice_get names place) []
 
 -- the name of the component at this place
 abbrev pub component_name : Names → ℕ → List ℕ
@@ -89,7 +89,7 @@ abbrev pub outs_text : List Value → List ℕ
 outs_text values = flat_map (λ v. codes " " ++ value_text v) values
 
 abbrev pub numbers_text : List ℤ → List ℕ
-numbers_text numbers = flat_map (λ n. codes " " ++ spelled n) numbers
+numbers_text numbers = flat_map (λ number. codes " " ++ spelled number) numbers
 
 -- what an update gave out and published, or `error`
 abbrev pub done_text : Ran → Done → List ℕ

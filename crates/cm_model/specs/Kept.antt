@@ -7,11 +7,11 @@ use Rattle.cm_model.specs.declared.entry.Short.TheVariants as short
 -- the call that is kept so
 abbrev pub kept_call : Short → Call
 kept_call (short.Told ticket) = call.Told ticket
-kept_call (short.Await n) = call.Await n
+kept_call (short.Await cycles) = call.Await cycles
 kept_call short.ListControllers = call.ListControllers
 kept_call short.ListInterfaces = call.ListInterfaces
 kept_call short.ListComponents = call.ListComponents
-kept_call (short.Begin n) = call.Begin n
-kept_call (short.End n) = call.End n
+kept_call (short.Begin cycle) = call.Begin cycle
+kept_call (short.End cycle) = call.End cycle
 kept_call short.Close = call.Close
 kept_call (short.Long c) = c

@@ -23,8 +23,8 @@ shape_of (Mock outs refuse_config not_ready fail_update) = record { claims = out
 
 -- so many states are as many as it reads
 abbrev pub AreItsReads : Option ℕ → ℕ → Type 0
-AreItsReads None n = Unit {0}
-AreItsReads (Some reads) n = n ≡ reads
+AreItsReads None count = Unit {0}
+AreItsReads (Some reads) count = count ≡ reads
 
 -- ---- What it may be configured with
 

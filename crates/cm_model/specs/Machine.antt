@@ -32,15 +32,15 @@ is_decided s ticket = false
 
 -- So many cycles have ended, or the loop is closed.
 abbrev pub is_reached : State → ℕ → Bool
-is_reached s n = not (nat_lt s.ended n) || s.closed
+is_reached s cycles = not (nat_lt s.ended cycles) || s.closed
 
 -- A cycle begins where none is aloft, the loop is open, so many have ended, and the description has one more.
 abbrev pub can_begin : State → ℕ → Bool
-can_begin s n = (((not s.aloft && not s.closed) && s.ended == n) && nat_lt n s.description.cycles)
+can_begin s cycle = (((not s.aloft && not s.closed) && s.ended == cycle) && nat_lt cycle s.description.cycles)
 
 -- It ends where it is aloft.
 abbrev pub can_end : State → ℕ → Bool
-can_end s n = s.aloft && s.ended == n
+can_end s cycle = s.aloft && s.ended == cycle
 
 -- The loop closes once, where no cycle is aloft.
 abbrev pub can_close : State → Bool
@@ -49,9 +49,9 @@ can_close s = not s.aloft && not s.closed
 -- whether this caller can make this call now
 abbrev pub is_enabled : State → ℕ → Call → Bool
 is_enabled s who (Told ticket) = is_session s who && is_decided s ticket
-is_enabled s who (Await n) = is_session s who && is_reached s n
-is_enabled s who (Begin n) = is_loop s who && can_begin s n
-is_enabled s who (End n) = is_loop s who && can_end s n
+is_enabled s who (Await cycles) = is_session s who && is_reached s cycles
+is_enabled s who (Begin cycle) = is_loop s who && can_begin s cycle
+is_enabled s who (End cycle) = is_loop s who && can_end s cycle
 is_enabled s who Close = is_loop s who && can_close s
 is_enabled s who _ = is_session s who
 
@@ -93,13 +93,13 @@ reply_of s (Hardware component target) = None
 -- not built yet
 reply_of s (Told ticket) = None
 -- not built yet
-reply_of s (Await n) = None
+reply_of s (Await _) = None
 reply_of s ListControllers = Some (reply.Controllers (controller_lines s))
 reply_of s ListInterfaces = Some (reply.Interfaces (interface_lines s))
 reply_of s ListComponents = Some (reply.Components (component_lines s))
 -- no request can wait yet
-reply_of s (Begin n) = Some (reply.Decisions [])
-reply_of s (End n) = Some (reply.Cycle (cycle s).happened)
+reply_of s (Begin _) = Some (reply.Decisions [])
+reply_of s (End _) = Some (reply.Cycle (cycle s).happened)
 -- no request can wait yet
 reply_of s Close = Some (reply.Decisions [])
 
@@ -121,14 +121,14 @@ with_loaded s (Some place) = with_controller s place (slice_get s.description.co
 
 -- what a load that was answered so leaves: it loads where it gave a serial
 abbrev pub load_effect : State → List ℕ → Reply → State
-load_effect s name (reply.Serial n) = with_loaded s (place_of s name)
+load_effect s name (reply.Serial serial) = with_loaded s (place_of s name)
 load_effect s name _ = s
 
 -- the state after each call that was answered so
 abbrev pub effect : State → Call → Reply → State
 effect s (Load name) r = load_effect s name r
-effect s (Begin n) r = record s { aloft = true }
-effect s (End n) r = after_cycle s (cycle s)
+effect s (Begin _) r = record s { aloft = true }
+effect s (End _) r = after_cycle s (cycle s)
 effect s Close r = record s { closed = true }
 effect s _ r = s
 

@@ -100,7 +100,7 @@ looped call p =
 
 -- the sessions settle, and the n-th cycle begins and ends
 unfoldable pub with_cycle : ℕ → Progress → Progress
-with_cycle n p = looped (End n) (looped (Begin n) (settle_all p))
+with_cycle cycle p = looped (End cycle) (looped (Begin cycle) (settle_all p))
 
 -- the first n cycles
 abbrev pub cycles : ℕ → Progress → Progress

@@ -10,8 +10,8 @@ use Rattle.cm_model.specs.declared.reply.Reply.{Reply}
 
 -- A call of a session is any but the loop's three.
 abbrev pub IsConsole : Call → Type 0
-IsConsole (Begin n) = ⊥
-IsConsole (End n) = ⊥
+IsConsole (Begin _) = ⊥
+IsConsole (End _) = ⊥
 IsConsole Close = ⊥
 IsConsole _ = Unit {0}
 

@@ -26,7 +26,7 @@ load_name _ = None
 
 -- the name of the controller that a call loaded with this answer
 abbrev pub loaded_by : Call → Reply → Option (List ℕ)
-loaded_by call (reply.Serial n) = load_name call
+loaded_by call (reply.Serial _) = load_name call
 loaded_by call _ = None
 
 -- The names of the controllers by serial: each load that was given one is of the next.
@@ -68,7 +68,7 @@ joined (x ∷ xs) = x ++ flat_map (λ y. codes "; " ++ y) xs
 -- the reply
 abbrev pub reply_text : Names → Reply → List ℕ
 reply_text names reply.Done = codes "ok"
-reply_text names (reply.Serial n) = codes "ok " ++ decimal n
+reply_text names (reply.Serial serial) = codes "ok " ++ decimal serial
 reply_text names (reply.Queued ticket) = codes "queued " ++ decimal ticket
 reply_text names (reply.Not reason) = why_word reason
 reply_text names (reply.Outcome outcome) = outcome_text outcome

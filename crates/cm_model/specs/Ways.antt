@@ -6,12 +6,12 @@ use Rattle.fixed_num.specs.Arithmetic.{floor_div}
 use Rattle.cm_document.specs.declared.call.Point2.{Point2}
 
 -- at the time t on the line from p0 at t0 to p1 at t1, rounded down
-abbrev pub on_line : ℕ → ℕ → ℕ → ℤ × ℤ → ℤ
-on_line t t0 t1 ends = clamped (ends.0 +ℤ floor_div ((ends.1 -ℤ ends.0) *ℤ pos (t - t0)) (pos (t1 - t0)))
+abbrev pub on_segment : ℕ → ℕ → ℕ → ℤ × ℤ → ℤ
+on_segment t t0 t1 ends = clamped (ends.0 +ℤ floor_div ((ends.1 -ℤ ends.0) *ℤ pos (t - t0)) (pos (t1 - t0)))
 
 -- each value on its line from where it was at t0 to the point
 abbrev pub towards : ℕ → ℕ → List ℤ → Point2 → List ℤ
-towards t t0 from point = map (on_line t t0 point.at_us) (zip from point.values)
+towards t t0 from point = map (on_segment t t0 point.at_us) (zip from point.values)
 
 -- the values at the time t, on the way from where they were at t0 through these points: the first that is still to come is the one to go to
 abbrev pub on_way : ℕ → ℕ → List ℤ → List Point2 → List ℤ

@@ -4,7 +4,7 @@ ghost use Rattle.std.specs.Prelude.{◌≡◌, ◌<◌, ℕ, ℤ, true, List, le
 ghost use Rattle.cm_document.specs.declared.call.Call.{Call};
 ghost use Rattle.cm_document.specs.declared.document.Document.{Document};
 ghost use Rattle.cm_document.specs.Built.{built};
-ghost use Rattle.cm_document.specs.ScriptLaws.{UsesForms};
+ghost use Rattle.cm_document.specs.ScriptLaws.{UsesGrammar};
 ghost use Rattle.cm_model.specs.declared.blanks.Blanks.{Blanks};
 ghost use Rattle.fixed_num.specs.declared.value.Value.{Value};
 ghost use Rattle.cm_document.specs.declared.call.Mail.{Mail};
@@ -27,7 +27,7 @@ pub fn scheduled_histories_are_legal()
 /// Each history that is scheduled for a document whose lines have forms that are built is whole for it: it has every session's
 /// lines, each once and in order, the begin and the end of each cycle, the close, and nothing else.
 pub fn scheduled_histories_are_whole()
-    ensures { (d : Document) (blanks : Blanks) → UsesForms built d.script → IsWhole d (scheduled d blanks) }
+    ensures { (d : Document) (blanks : Blanks) → UsesGrammar built d.script → IsWhole d (scheduled d blanks) }
 {}
 
 /// A session that settled cannot advance: it has nothing left to do, or its next call is not enabled.

@@ -7,9 +7,9 @@ pub use blanks::Blanks;
 pub use cause::{Cause, Decision, Dropped, Outcome};
 pub use cm_document::{
     Call, CheckFault, Checked, CompDesc, CompKind, CtlDesc, CtlKind, DescFault, DescProblem,
-    Description, Document, DocumentFault, Forms, Fx, IfaceName, JointDesc, Kind, Life, Mail,
+    Description, Document, DocumentFault, Fx, Grammar, IfaceName, JointDesc, Kind, Life, Mail,
     Memory, Name, NameFault, Params, Point2, Script, ScriptFault, ScriptLine, Seq, SessionText,
-    Shared, SwitchRequest, Text, Turn, Verb, What, Wrong, built, every_form,
+    Shared, SwitchRequest, Text, Turn, Verb, What, Wrong, built, whole_grammar,
 };
 pub use component::JointInterface;
 pub use data::{CtlData, RunData};

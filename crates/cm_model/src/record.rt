@@ -36,11 +36,11 @@ pub struct CycleParts {
 const _: () = prove!(size_of::<CycleParts>() == 152);
 
 impl CycleParts {
-    ghost use Rattle.cm_model.specs.Held.{tells_nothing, told_of_parts};
+    ghost use Rattle.cm_model.specs.Held.{tells_nothing, happened_in_parts};
 
     /// Whether there is nothing to tell but the cycle's number.
     pub(crate) fn tells_nothing(&self) -> bool
-        ensures { result ≡ tells_nothing (told_of_parts self.now) }
+        ensures { result ≡ tells_nothing (happened_in_parts self.now) }
     {
         self.failed.as_slice().is_empty()
             && self.ran.is_empty()
@@ -75,7 +75,7 @@ impl Model for CycleRecord {
 }
 
 impl CycleRecord {
-    ghost use Rattle.cm_model.specs.Held.{told_of_parts};
+    ghost use Rattle.cm_model.specs.Held.{happened_in_parts};
 
     /// The record of a cycle of which there is nothing to tell. It takes no memory.
     pub fn quiet(cycle: u64) -> CycleRecord
@@ -88,7 +88,7 @@ impl CycleRecord {
 
     /// The record of these parts.
     pub fn whole(alloc: Global, parts: CycleParts) -> Result<CycleRecord, AllocError>
-        ensures { IfOk result (λ made. made ≡ told_of_parts parts) }
+        ensures { IfOk result (λ made. made ≡ happened_in_parts parts) }
     {
         Ok(CycleRecord {
             held: Held::Whole(Box::new(alloc, parts)?),
@@ -97,7 +97,7 @@ impl CycleRecord {
 
     /// The record of the parts that stand in this place. It takes no memory.
     pub(crate) fn at(place: Box<CycleParts>) -> CycleRecord
-        ensures { result ≡ told_of_parts place.value }
+        ensures { result ≡ happened_in_parts place.value }
     {
         CycleRecord {
             held: Held::Whole(place),

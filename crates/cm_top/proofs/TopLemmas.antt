@@ -11,7 +11,7 @@ use Rattle.cm_document.specs.declared.limits.TheConstants.{LONGEST_DOCUMENT}
 use Rattle.cm_document.specs.Built.{built}
 use Rattle.cm_document.specs.Document.{accepted_script, document}
 use Rattle.cm_document.specs.Lines.{parts_of}
-use Rattle.cm_document.specs.ScriptLaws.{MeetsRules, UsesForms}
+use Rattle.cm_document.specs.ScriptLaws.{MeetsRules, UsesGrammar}
 use Rattle.cm_model.specs.Trace.{output}
 use Rattle.cm_document.specs.declared.document.Document.{Document}
 use Rattle.cm_document.specs.declared.script.Script.{Script}
@@ -45,12 +45,12 @@ pub rules_few : (s : Script) → MeetsRules s → length s.sessions < 2 ^ 32
 rules_few s rules = omega (arith, rules.few_sessions)
 
 -- what an accepted script is
-accepted_script-Rules : (lines : ℕ) (text : Option (List ℕ)) (s : Script) → accepted_script lines text ≡ Ok s → MeetsRules s × UsesForms built s
+accepted_script-Rules : (lines : ℕ) (text : Option (List ℕ)) (s : Script) → accepted_script lines text ≡ Ok s → MeetsRules s × UsesGrammar built s
 accepted_script-Rules lines None s e = cc
 accepted_script-Rules lines (Some text) s e = (read_script_meets built (lines + 2) text s e, read_script_uses built (lines + 2) text s e)
 
 -- the script of an accepted document meets the rules, and has the forms that are built
-pub document-Rules : (bytes : List ℕ) (d : Document) → document bytes ≡ Ok d → MeetsRules d.script × UsesForms built d.script
+pub document-Rules : (bytes : List ℕ) (d : Document) → document bytes ≡ Ok d → MeetsRules d.script × UsesGrammar built d.script
 document-Rules bytes d accepted =
     let parts = parts_of bytes in accepted_script-Rules parts.lines parts.script d.script (document-AcceptedParts bytes d accepted).script
 

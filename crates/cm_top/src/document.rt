@@ -3,7 +3,7 @@
 ghost use Rattle.std.specs.Prelude.{◌≡◌, ◌+◌, ◌<◌, ◌≤◌, ◌^◌, length, option_map, unwrap_or, IfErr};
 ghost use Rattle.sequence.specs.Answers.{Answers};
 ghost use Rattle.cm_document.specs.declared.limits.TheConstants.{LONGEST_DOCUMENT};
-ghost use Rattle.cm_document.specs.Reading.{told_as};
+ghost use Rattle.cm_document.specs.Reading.{fault_as};
 ghost use Rattle.cm_document.specs.Document.{accepted_description, accepted_script, document_of, document};
 ghost use Rattle.cm_document.specs.Valid.{valid, IsDescribed};
 ghost use Rattle.cm_top.specs.Status.{IsPlainFault};
@@ -37,7 +37,7 @@ pub fn read_document(alloc: Global, bytes: &[u8]) -> Result<Document, DocumentFa
 /// The description in its text: read, and then checked; or its first fault.
 #[tactic(auto, unfolding(cm_document::specs::Document::accepted_description), using(crate::proofs::PlainLemmas::plain_faults))]
 fn description(alloc: Global, text: &[u8]) -> Result<Checked, DocumentFault>
-    ensures reads { Answers DocumentFault.Memory (told_as DocumentFault.Description (accepted_description text.now))
+    ensures reads { Answers DocumentFault.Memory (fault_as DocumentFault.Description (accepted_description text.now))
         result }
     ensures plain { IfErr result IsPlainFault }
 {
@@ -53,7 +53,7 @@ fn description(alloc: Global, text: &[u8]) -> Result<Checked, DocumentFault>
 fn checked(alloc: Global, description: Description) -> Result<Checked, DocumentFault>
     requires described { IsDescribed description }
     ensures reads { Answers DocumentFault.Memory
-        (told_as DocumentFault.Description (told_as DescProblem.Check (valid description))) result }
+        (fault_as DocumentFault.Description (fault_as DescProblem.Check (valid description))) result }
     ensures plain { IfErr result IsPlainFault }
 {
     match check(alloc, description) {
@@ -69,7 +69,7 @@ fn checked(alloc: Global, description: Description) -> Result<Checked, DocumentF
 fn script(alloc: Global, lines: usize, text: Option<&[u8]>) -> Result<Script, DocumentFault>
     requires { lines + unwrap_or (option_map (λ t. length t.now) text) 0 + 2 < 2 ^ 32 }
     ensures reads { Answers DocumentFault.Memory
-        (told_as DocumentFault.Script (accepted_script lines (option_map (λ t. t.now) text.entry))) result }
+        (fault_as DocumentFault.Script (accepted_script lines (option_map (λ t. t.now) text.entry))) result }
     ensures plain { IfErr result IsPlainFault }
 {
     let Some(text) = text else {

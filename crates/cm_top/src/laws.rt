@@ -4,7 +4,7 @@ ghost use Rattle.std.specs.Prelude.{◌≡◌, ℕ, List, Ok};
 ghost use Rattle.cm_document.specs.Built.{built};
 ghost use Rattle.cm_document.specs.Document.{document};
 ghost use Rattle.cm_model.specs.Scheduled.{scheduled};
-ghost use Rattle.cm_document.specs.ScriptLaws.{MeetsRules, UsesForms};
+ghost use Rattle.cm_document.specs.ScriptLaws.{MeetsRules, UsesGrammar};
 ghost use Rattle.cm_model.specs.Sessions.{IsWhole};
 ghost use Rattle.cm_document.specs.declared.document.Document.{Document};
 ghost use Rattle.cm_model.specs.declared.blanks.Blanks.{Blanks};
@@ -13,7 +13,7 @@ ghost use Rattle.cm_model.specs.declared.blanks.Blanks.{Blanks};
 /// session at most and at most 10,000 calls, and numbers of sessions, lines and loads stay far below 2^32.
 pub fn accepted_scripts_meet_the_rules()
     ensures rules { (bytes : List ℕ) (d : Document) → document bytes ≡ Ok d → MeetsRules d.script }
-    ensures forms { (bytes : List ℕ) (d : Document) → document bytes ≡ Ok d → UsesForms built d.script }
+    ensures grammar { (bytes : List ℕ) (d : Document) → document bytes ≡ Ok d → UsesGrammar built d.script }
 {}
 
 /// Each history that is scheduled for an accepted document is whole for it: it has every session's lines, each once and in

@@ -10,7 +10,7 @@ ghost use Rattle.cm_document.specs.ScriptLaws.{MeetsRules};
 ghost use Rattle.cm_model.specs.Scheduled.{scheduled};
 ghost use Rattle.cm_model.specs.Trace.{output};
 ghost use Rattle.cm_top.specs.Status.{Wrote, ComesBeforeWriting};
-ghost use Rattle.cm_top.specs.Calls.Run.{source_told, sink_told, RefusesWords, Runs, RunsBytes};
+ghost use Rattle.cm_top.specs.Calls.Run.{source_facts, sink_facts, RefusesWords, Runs, RunsBytes};
 
 use crate::document::read_document;
 use crate::session::history;
@@ -46,8 +46,8 @@ where
     ensures words { RefusesWords (map string_bytes words.now) source.old source.new sink.old sink.new result }
     ensures runs { is_asked (map string_bytes words.now) ≡ true
         → Runs (λ d. scheduled d stock) stock
-        (source_told S.left S.faults source.old) (source_told S.left S.faults source.new)
-        (sink_told K.taken K.flushed K.faults sink.old) (sink_told K.taken K.flushed K.faults sink.new)
+        (source_facts S.left S.faults source.old) (source_facts S.left S.faults source.new)
+        (sink_facts K.taken K.flushed K.faults sink.old) (sink_facts K.taken K.flushed K.faults sink.new)
         result }
     // Statuses 2 to 6 leave the sink as it was.
     ensures untouched { ComesBeforeWriting result → sink.new ≡ sink.old }
@@ -78,8 +78,8 @@ pub fn run_alone<S: Source, K: Sink>(
     stock: Blanks,
 ) -> Status
     ensures runs { Runs (λ d. scheduled d stock) stock
-        (source_told S.left S.faults source.old) (source_told S.left S.faults source.new)
-        (sink_told K.taken K.flushed K.faults sink.old) (sink_told K.taken K.flushed K.faults sink.new)
+        (source_facts S.left S.faults source.old) (source_facts S.left S.faults source.new)
+        (sink_facts K.taken K.flushed K.faults sink.old) (sink_facts K.taken K.flushed K.faults sink.new)
         result }
     // Statuses 3 to 6 leave the sink as it was.
     ensures untouched { ComesBeforeWriting result → sink.new ≡ sink.old }
@@ -96,7 +96,7 @@ pub fn run_alone<S: Source, K: Sink>(
 fn run_bytes<K: Sink>(alloc: Global, bytes: &[u8], sink: &mut K, stock: Blanks) -> Status
     requires { length bytes.now ≤ LONGEST_DOCUMENT }
     ensures runs { RunsBytes (λ d. scheduled d stock) stock bytes.now
-        (sink_told K.taken K.flushed K.faults sink.old) (sink_told K.taken K.flushed K.faults sink.new)
+        (sink_facts K.taken K.flushed K.faults sink.old) (sink_facts K.taken K.flushed K.faults sink.new)
         result }
     ensures untouched { ComesBeforeWriting result → sink.new ≡ sink.old }
 {

@@ -10,7 +10,7 @@ use Rattle.fixed_num.specs.Micro.{IsInRange, clamped}
 use Rattle.fixed_num.specs.Arithmetic.{floor_div}
 use Rattle.fixed_num.proofs.ArithmeticLemmas.{floor_between}
 use Rattle.cm_document.specs.declared.call.Point2.{Point2}
-use Rattle.cm_model.specs.Ways.{on_line, on_way, last_point, led}
+use Rattle.cm_model.specs.Ways.{on_segment, on_way, last_point, led}
 use Rattle.std.specs.List.{AllByRecursion}
 use Rattle.ctl_traj.specs.Between.{GoesBetween, AreNumbers, LiesBetween, LieBetween, point_at_start}
 
@@ -33,16 +33,16 @@ shifted_lies a b share in_a in_b lies = record {
   not_above = omega (arith, ints, clamps, in_a.0, in_a.1, in_b.0, in_b.1, lies.not_below, lies.not_above);
 }
 
--- so does a value on its line
-line_lies : (t t0 t1 : ℕ) (a b : ℤ) → t0 ≤ t → t < t1 → IsInRange a → IsInRange b → LiesBetween a b (on_line t t0 t1 (a, b))
-line_lies t t0 t1 a b come to_come in_a in_b =
+-- so does a value on its segment
+segment_lies : (t t0 t1 : ℕ) (a b : ℤ) → t0 ≤ t → t < t1 → IsInRange a → IsInRange b → LiesBetween a b (on_segment t t0 t1 (a, b))
+segment_lies t t0 t1 a b come to_come in_a in_b =
     shifted_lies a b (floor_div ((b -ℤ a) *ℤ pos (t - t0)) (pos (t1 - t0))) in_a in_b (share_lies (b -ℤ a) (t - t0) (t1 - t0) (omega (arith, come, to_come)))
 
-lines_lie : (t t0 t1 : ℕ) (from to : List ℤ) → t0 ≤ t → t < t1 → AllByRecursion IsInRange from → AllByRecursion IsInRange to
-    → LieBetween from to (map (on_line t t0 t1) (zip from to))
-lines_lie t t0 t1 [] to come to_come all all' = tt
-lines_lie t t0 t1 (a ∷ from) [] come to_come all all' = tt
-lines_lie t t0 t1 (a ∷ from) (b ∷ to) come to_come all all' = (line_lies t t0 t1 a b come to_come all.0 all'.0, lines_lie t t0 t1 from to come to_come all.1 all'.1)
+segments_lie : (t t0 t1 : ℕ) (from to : List ℤ) → t0 ≤ t → t < t1 → AllByRecursion IsInRange from → AllByRecursion IsInRange to
+    → LieBetween from to (map (on_segment t t0 t1) (zip from to))
+segments_lie t t0 t1 [] to come to_come all all' = tt
+segments_lie t t0 t1 (a ∷ from) [] come to_come all all' = tt
+segments_lie t t0 t1 (a ∷ from) (b ∷ to) come to_come all all' = (segment_lies t t0 t1 a b come to_come all.0 all'.0, segments_lie t t0 t1 from to come to_come all.1 all'.1)
 
 -- a way between two of some points is one between two of more
 one_more : (t : ℕ) (p : Point2) (points : List Point2) (outs : List ℤ) → GoesBetween t points outs → GoesBetween t (p ∷ points) outs
@@ -66,7 +66,7 @@ towards_next t p q qs come numbers ahead =
       follow = inl (refl, refl);
       come = come;
       to_come = ahead;
-      between = lines_lie t p.at_us q.at_us p.values q.values come ahead numbers.0 numbers.1.0;
+      between = segments_lie t p.at_us q.at_us p.values q.values come ahead numbers.0 numbers.1.0;
     })
 
 -- where it has come it goes on from there

@@ -21,7 +21,7 @@ pub record Way : Type 0 where
 
 -- each point has so many values
 abbrev pub all_have : ℕ → List Point2 → Bool
-all_have n points = list_all (λ p. length p.values == n) points
+all_have count points = list_all (λ p. length p.values == count) points
 
 -- there is a value for each claim everywhere
 pub record IsWay (hold from : List ℤ) (points : List Point2) : Type 0 where

@@ -5,7 +5,7 @@ ghost use Rattle.fixed_num.specs.declared.value.Value.TheVariants.{Num};
 ghost use Rattle.cm_model.specs.Ways.{towards, on_way, led};
 ghost use Rattle.ctl_traj.specs.Led.{all_have};
 
-use crate::line::on_line;
+use crate::segment::on_segment;
 use cm_model::Point2;
 use ctl_trait::{Fx, Value, set_numbers};
 
@@ -43,7 +43,7 @@ fn lead_on(t: u64, from: &[Fx], points: &[Point2], outs: &mut [Value])
     set_numbers(outs, begin);
 }
 
-/// Puts each value on its line from where it was at `t0` to the point.
+/// Puts each value on its segment from where it was at `t0` to the point.
 fn lead_towards(t: u64, t0: u64, from: &[Fx], point: &Point2, outs: &mut [Value])
     requires begun { t0 ≤ t }
     requires ahead { t < point.now.at_us }
@@ -53,6 +53,6 @@ fn lead_towards(t: u64, t0: u64, from: &[Fx], point: &Point2, outs: &mut [Value]
 {
     let to = point.values.as_slice();
     for i in 0..outs.len() {
-        outs[i] = Value::Num(on_line(t, t0, point.at_us, from[i], to[i]));
+        outs[i] = Value::Num(on_segment(t, t0, point.at_us, from[i], to[i]));
     }
 }

@@ -6,5 +6,5 @@ pub use trajectory::TrajCtl;
 
 pub mod laws;
 mod lead;
-mod line;
+mod segment;
 mod trajectory;

@@ -8,7 +8,7 @@ use std::alloc::{AllocError, Global};
 use std::test::Fail;
 
 /// What the checks say, in the words that a user reads.
-fn told(alloc: Global, description: &Description) -> Result<String, AllocError> {
+fn verdict_text(alloc: Global, description: &Description) -> Result<String, AllocError> {
     match no_fault(alloc, description) {
         Ok(()) => String::from_str(alloc, "valid"),
         Err(fault) => format!(in alloc; "{fault}"),
@@ -81,7 +81,7 @@ fn states_and_commands_at_their_limits(rt: HostRuntime) -> Result<(), Fail> {
         (1, 33, 3, 3, "too_many joints"),
     ] {
         let made = described(rt.alloc(), systems, joints, commands, states)?;
-        let got = told(rt.alloc(), &made)?;
+        let got = verdict_text(rt.alloc(), &made)?;
         assert_eq!(rt;
             got.as_str(),
             want,

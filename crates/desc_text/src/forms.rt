@@ -5,7 +5,7 @@ ghost use Rattle.sequence.specs.Answers.{Answers};
 ghost use Rattle.toml.specs.Data.{Data, Members};
 ghost use Rattle.toml.specs.View.{view, items_view, table_view};
 ghost use Rattle.cm_document.specs.Forms.{Form, one, list_after, items_from, item_path, tables_of, tables_from, placed};
-ghost use Rattle.cm_document.specs.Reading.{told_as};
+ghost use Rattle.cm_document.specs.Reading.{fault_as};
 ghost use Rattle.cm_document.specs.declared.faults.Wrong.{Wrong};
 ghost use Rattle.desc_text.specs.declared.faults.Refused.TheVariants as refused;
 
@@ -25,7 +25,7 @@ pub trait Rule {
 
     /// The value as it was read, or what is wrong with it.
     fn read(alloc: Global, before: &[Self::Read], value: &Value) -> Result<Self::Read, Refused>
-        ensures { Answers Refused.Memory (told_as refused.Wrong (rule before.now (view value.now))) result };
+        ensures { Answers Refused.Memory (fault_as refused.Wrong (rule before.now (view value.now))) result };
 }
 
 /// How the value of a key is read.

@@ -5,7 +5,7 @@ ghost use Rattle.std.specs.List.{list_any};
 ghost use Rattle.sequence.specs.Answers.{Answers};
 ghost use Rattle.toml.specs.View.{view};
 ghost use Rattle.cm_document.specs.Forms.{whole_in, where_some, quantity_in, boolean_in, name_in, interface_in, state_in, new_kind, kind_in};
-ghost use Rattle.cm_document.specs.Reading.{told_as};
+ghost use Rattle.cm_document.specs.Reading.{fault_as};
 ghost use Rattle.iface_names.specs.Interfaces.{same_kind};
 
 use crate::faults::Refused;
@@ -142,7 +142,7 @@ impl Rule for Interface {
 }
 
 fn interface_of(alloc: Global, value: &Value) -> Result<IfaceName, Refused>
-    ensures { Answers Refused.Memory (told_as Refused.Wrong (interface_in (view value.now))) result }
+    ensures { Answers Refused.Memory (fault_as Refused.Wrong (interface_in (view value.now))) result }
 {
     match value {
         Value::String(text) => Ok(IfaceName::read(alloc, text.as_bytes())?),

@@ -4,4 +4,4 @@ use Rattle.cm_model.specs.Components.{is_listed}
 
 -- the same cycles are listed
 pub record ListsSame (these those : List ℕ) : Type 0 where
-  pub at : (n : ℕ) → is_listed these n ≡ is_listed those n
+  pub at : (cycle : ℕ) → is_listed these cycle ≡ is_listed those cycle

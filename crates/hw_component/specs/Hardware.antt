@@ -53,11 +53,11 @@ at_start c = record {
 
 -- what the places of its state interfaces hold after a read in a cycle
 abbrev pub after_read : Hardware → ℕ → List Value → List Value
-after_read h n values = states_after_read h.description h.life n h.bodies values
+after_read h cycle values = states_after_read h.description h.life cycle h.bodies values
 
 -- What a write of these commands in a cycle leaves: one that succeeds is applied, one that fails changes nothing.
 abbrev pub after_write : Hardware → ℕ → List Value → Hardware
-after_write h n commands = if is_listed h.description.fail_write n then h else record h { commands = commands; written = true }
+after_write h cycle commands = if is_listed h.description.fail_write cycle then h else record h { commands = commands; written = true }
 
 -- Its joints are commanded where it is active and was written since the last step.
 abbrev pub is_commanded : Hardware → Bool

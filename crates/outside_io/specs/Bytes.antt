@@ -1,4 +1,4 @@
--- What whole reads, whole writes and flushes do to bytes that are told. Where a source or a sink tells nothing, they say nothing.
+-- What whole reads, whole writes and flushes do to bytes that are known. Of unknown ones they say nothing.
 use Rattle.std.specs.Prelude.{◌≡◌, ℕ, ◌<◌, ◌≤◌, List, [], length, take, Option, None, Some}
 use Rattle.std.specs.Io.KnownBytes.{Appends, Consumes}
 

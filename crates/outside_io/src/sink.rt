@@ -9,10 +9,10 @@ use crate::Failed;
 
 /// Takes bytes, in pieces of its own choice.
 pub trait Sink {
-    /// The bytes taken so far, where told.
+    /// The bytes taken so far, where they are known.
     ghost taken: { Self → Option (List ℕ) };
 
-    /// How many of them had been taken at the last flush that succeeded, where told.
+    /// How many of them had been taken at the last flush that succeeded, where that is known.
     ghost flushed: { Self → Option ℕ };
 
     /// How often it failed. It never falls, and stands still at its type's end, 2^64 - 1.

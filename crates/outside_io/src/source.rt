@@ -8,7 +8,7 @@ use crate::Failed;
 
 /// Gives bytes, in pieces of its own choice.
 pub trait Source {
-    /// The bytes still to come, where told.
+    /// The bytes still to come, where they are known.
     ghost left: { Self → Option (List ℕ) };
 
     /// How often it failed. It never falls, and stands still at its type's end, 2^64 - 1.

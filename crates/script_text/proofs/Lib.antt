@@ -1,7 +1,7 @@
 pub mod NumberLemmas
 pub mod MailLemmas
 pub mod SwitchLemmas
-pub mod FormLemmas
+pub mod GrammarLemmas
 pub mod RuleLemmas
 pub mod PrintWordLemmas
 pub mod PrintValueLemmas

@@ -1,6 +1,6 @@
 -- Values and points, read one by one from the front.
 use Rattle.std.proofs.Common.{◌≡◌, ℕ, true, false, List, [], ◌∷◌, ◌++◌, Option, Some, None, ℤ, refl, ap, append_assoc, append-nil}
-use Rattle.cm_document.specs.LineForms.{in_front, all_words, value_word, values_in, is_time, untimed, timed, time_word, point_at, later, points_after}
+use Rattle.cm_document.specs.LineGrammar.{in_front, all_words, value_word, values_in, is_time, untimed, timed, time_word, point_at, later, points_after}
 use Rattle.cm_document.specs.declared.call.Point2.{Point2}
 use Rattle.script_text.specs.FewWords.{one_or_more}
 

@@ -7,15 +7,15 @@ use Rattle.std.proofs.lemmas.List.{append-nil}
 use Rattle.cm_document.specs.Vocabulary.{life_word, listed, lives, strictness_word}
 use Rattle.cm_document.specs.Lines.{is_comment}
 use Rattle.cm_document.specs.CallText.{call_text}
-use Rattle.cm_document.specs.LineForms.{line_of}
-use Rattle.cm_document.specs.ScriptLaws.{IsName, CanBeSent, CanBeAsked, CanBeWritten, has_form}
+use Rattle.cm_document.specs.LineGrammar.{line_of}
+use Rattle.cm_document.specs.ScriptLaws.{IsName, CanBeSent, CanBeAsked, CanBeWritten, allows}
 use Rattle.cm_document.specs.declared.call.Call.{Call}
 use Rattle.cm_document.specs.declared.call.Call.TheVariants as call
 use Rattle.cm_document.specs.declared.call.Mail.{Mail}
 use Rattle.cm_document.specs.declared.call.SwitchRequest.{SwitchRequest}
 use Rattle.cm_document.specs.declared.life.Life.{Life}
 use Rattle.cm_document.specs.declared.life.Life.TheVariants as life
-use Rattle.cm_document.specs.declared.script.Forms.{Forms}
+use Rattle.cm_document.specs.declared.script.Grammar.{Grammar}
 use Rattle.cm_document.specs.declared.script.ScriptLine.TheVariants as line
 use Rattle.script_text.proofs.PrintWordLemmas.{IsWord, IsLine, spaced, spaced_long}
 use Rattle.script_text.proofs.PrintValueLemmas.{name_IsWord, name_short, whole_IsWord, whole_short, whole_reads}
@@ -25,7 +25,7 @@ use Rattle.script_text.proofs.PrintMailLemmas.{mail_words, mail_spaced, mail_are
 pub record SaysCall (c : Call) (word : List ℕ) (ws : List (List ℕ)) : Type 0 where
   pub text : call_text c ≡ word ++ spaced ws
   pub shape : IsLine word ws
-  pub says : (forms : Forms) → has_form forms c ≡ true → line_of forms (word ∷ ws) ≡ Some (line.Call c)
+  pub says : (grammar : Grammar) → allows grammar c ≡ true → line_of grammar (word ∷ ws) ≡ Some (line.Call c)
 
 -- one word behind a verb of at most nine bytes
 pub one_behind : (verb word : List ℕ) → IsWord verb → is_comment verb ≡ false → length verb ≤ 9 → IsWord word → length word ≤ 64 → IsLine verb (word ∷ [])
@@ -44,7 +44,7 @@ two_behind verb a b first said few one short other shorter =
 
 -- a call on one name
 named : (make : List ℕ → Call) (verb name : List ℕ) → call_text (make name) ≡ verb ++ 32 ∷ name → IsWord verb → is_comment verb ≡ false → length verb ≤ 9
-    → IsName name → ((forms : Forms) → has_form forms (make name) ≡ true → line_of forms (verb ∷ name ∷ []) ≡ Some (line.Call (make name)))
+    → IsName name → ((grammar : Grammar) → allows grammar (make name) ≡ true → line_of grammar (verb ∷ name ∷ []) ≡ Some (line.Call (make name)))
     → SaysCall (make name) verb (name ∷ [])
 named make verb name text first said few name_is says = record {
   text = text ∙ ap (λ t. verb ++ 32 ∷ t) (sym (append-nil name));
@@ -79,7 +79,7 @@ rate_says name hz name_is small =
       text = ap (λ t. codes "rate " ++ t) (append_assoc name (codes " ") (decimal hz) ∙ ap (λ t. name ++ 32 ∷ t) (sym (append-nil (decimal hz))));
       shape = two_behind (codes "rate") name (decimal hz) (search (arith, rules)) refl (omega arith) (name_IsWord name name_is) (name_short name name_is)
           (whole_IsWord hz (omega arith)) (let few = whole_short hz (omega arith) in omega arith);
-      says = λ forms accepted. rw (accepted, name_is, whole_reads hz (omega arith), low) refl;
+      says = λ grammar accepted. rw (accepted, name_is, whole_reads hz (omega arith), low) refl;
     }
 
 -- `hw NAME STATE`
@@ -88,7 +88,7 @@ hardware_says name target name_is = record {
   text = ap (λ t. codes "hw " ++ t) (append_assoc name (codes " ") (life_word target) ∙ ap (λ t. name ++ 32 ∷ t) (sym (append-nil (life_word target))));
   shape = two_behind (codes "hw") name (life_word target) (search (arith, rules)) refl (omega arith) (name_IsWord name name_is) (name_short name name_is)
       (life_IsWord target) (life_short target);
-  says = λ forms accepted. rw (accepted, name_is, life_reads target) refl;
+  says = λ grammar accepted. rw (accepted, name_is, life_reads target) refl;
 }
 
 -- `await N`
@@ -96,7 +96,7 @@ await_says : (n : ℕ) → n ≤ 999999999 → SaysCall (call.Await n) (codes "a
 await_says n small = record {
   text = ap (λ t. codes "await " ++ t) (sym (append-nil (decimal n)));
   shape = one_behind (codes "await") (decimal n) (search (arith, rules)) refl (omega arith) (whole_IsWord n small) (let few = whole_short n small in omega arith);
-  says = λ forms accepted. rw (accepted, whole_reads n small) refl;
+  says = λ grammar accepted. rw (accepted, whole_reads n small) refl;
 }
 
 -- `send NAME ..`
@@ -109,7 +109,7 @@ send_says name mail name_is sent =
     record {
       text = ap (λ t. codes "send " ++ (name ++ t)) (mail_spaced mail);
       shape = record { first = search (arith, rules); others = (name_IsWord name name_is, mail_are_words mail sent); said = refl; short = omega arith };
-      says = λ forms accepted. rw (accepted, name_is, mail_reads mail sent) refl;
+      says = λ grammar accepted. rw (accepted, name_is, mail_reads mail sent) refl;
     }
 
 -- `switch ..`
@@ -130,12 +130,12 @@ switch_says r asked =
     record {
       text = ap (λ t. codes "switch " ++ t) (append_assoc (strictness_word r.strict) _ _ ∙ ap (λ t. strictness_word r.strict ++ t) (asked_spaced r));
       shape = record { first = search (arith, rules); others = (strictness_IsWord r.strict, asked_are_words r asked); said = refl; short = omega arith };
-      says = λ forms accepted. rw (accepted, asked_reads r asked) refl;
+      says = λ grammar accepted. rw (accepted, asked_reads r asked) refl;
     }
 
 -- `list WORD`
 list_says : (c : Call) (word : List ℕ) → call_text c ≡ codes "list " ++ word → IsWord word → length word ≤ 64
-    → ((forms : Forms) → has_form forms c ≡ true → line_of forms (codes "list" ∷ word ∷ []) ≡ Some (line.Call c)) → SaysCall c (codes "list") (word ∷ [])
+    → ((grammar : Grammar) → allows grammar c ≡ true → line_of grammar (codes "list" ∷ word ∷ []) ≡ Some (line.Call c)) → SaysCall c (codes "list") (word ∷ [])
 list_says c word text behind short says = record {
   text = text ∙ ap (λ t. codes "list " ++ t) (sym (append-nil word));
   shape = one_behind (codes "list") word (search (arith, rules)) refl (omega arith) behind short;
@@ -144,18 +144,18 @@ list_says c word text behind short says = record {
 
 -- each call that can be written
 pub call_says : (c : Call) → CanBeWritten c → (word : List ℕ) × (ws : List (List ℕ)) × SaysCall c word ws
-call_says (call.Load name) can = (codes "load", name ∷ [], named call.Load (codes "load") name refl (search (arith, rules)) refl (omega arith) can (λ forms accepted. rw (accepted, can) refl))
-call_says (call.Configure name) can = (codes "configure", name ∷ [], named call.Configure (codes "configure") name refl (search (arith, rules)) refl (omega arith) can (λ forms accepted. rw (accepted, can) refl))
-call_says (call.Cleanup name) can = (codes "cleanup", name ∷ [], named call.Cleanup (codes "cleanup") name refl (search (arith, rules)) refl (omega arith) can (λ forms accepted. rw (accepted, can) refl))
-call_says (call.Unload name) can = (codes "unload", name ∷ [], named call.Unload (codes "unload") name refl (search (arith, rules)) refl (omega arith) can (λ forms accepted. rw (accepted, can) refl))
+call_says (call.Load name) can = (codes "load", name ∷ [], named call.Load (codes "load") name refl (search (arith, rules)) refl (omega arith) can (λ grammar accepted. rw (accepted, can) refl))
+call_says (call.Configure name) can = (codes "configure", name ∷ [], named call.Configure (codes "configure") name refl (search (arith, rules)) refl (omega arith) can (λ grammar accepted. rw (accepted, can) refl))
+call_says (call.Cleanup name) can = (codes "cleanup", name ∷ [], named call.Cleanup (codes "cleanup") name refl (search (arith, rules)) refl (omega arith) can (λ grammar accepted. rw (accepted, can) refl))
+call_says (call.Unload name) can = (codes "unload", name ∷ [], named call.Unload (codes "unload") name refl (search (arith, rules)) refl (omega arith) can (λ grammar accepted. rw (accepted, can) refl))
 call_says (call.Rate name hz) can = (codes "rate", name ∷ decimal hz ∷ [], rate_says name hz can.0 can.1)
 call_says (call.Send name mail) can = (codes "send", name ∷ mail_words mail, send_says name mail can.0 can.1)
 call_says (call.Switch r) can = (codes "switch", strictness_word r.strict ∷ asked_words r, switch_says r can)
 call_says (call.Hardware name target) can = (codes "hw", name ∷ life_word target ∷ [], hardware_says name target can)
 call_says (call.Await n) can = (codes "await", decimal n ∷ [], await_says n can)
-call_says call.ListControllers can = (codes "list", codes "controllers" ∷ [], list_says call.ListControllers (codes "controllers") refl (search (arith, rules)) (omega arith) (λ forms accepted. rw accepted refl))
-call_says call.ListInterfaces can = (codes "list", codes "interfaces" ∷ [], list_says call.ListInterfaces (codes "interfaces") refl (search (arith, rules)) (omega arith) (λ forms accepted. rw accepted refl))
-call_says call.ListComponents can = (codes "list", codes "components" ∷ [], list_says call.ListComponents (codes "components") refl (search (arith, rules)) (omega arith) (λ forms accepted. rw accepted refl))
+call_says call.ListControllers can = (codes "list", codes "controllers" ∷ [], list_says call.ListControllers (codes "controllers") refl (search (arith, rules)) (omega arith) (λ grammar accepted. rw accepted refl))
+call_says call.ListInterfaces can = (codes "list", codes "interfaces" ∷ [], list_says call.ListInterfaces (codes "interfaces") refl (search (arith, rules)) (omega arith) (λ grammar accepted. rw accepted refl))
+call_says call.ListComponents can = (codes "list", codes "components" ∷ [], list_says call.ListComponents (codes "components") refl (search (arith, rules)) (omega arith) (λ grammar accepted. rw accepted refl))
 call_says (call.Told ticket) can = absurd can
 call_says (call.Begin n) can = absurd can
 call_says (call.End n) can = absurd can

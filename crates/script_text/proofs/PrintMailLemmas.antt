@@ -11,7 +11,7 @@ use Rattle.fixed_num.specs.Micro.{IsInRange}
 use Rattle.fixed_num.specs.Text.{spelled}
 use Rattle.cm_document.specs.Vocabulary.{listed, strictnesses, strictness_word}
 use Rattle.cm_document.specs.CallText.{values_text, point_text, mail_text, signed_text}
-use Rattle.cm_document.specs.LineForms.{whole_word, value_word, in_front, all_words, values_in, untimed, timed, points_after, mail_in, behind, is_signed, switch_in}
+use Rattle.cm_document.specs.LineGrammar.{whole_word, value_word, in_front, all_words, values_in, untimed, timed, points_after, mail_in, behind, is_signed, switch_in}
 use Rattle.cm_document.specs.ScriptLaws.{IsName, AreValues, ArePointsAfter, CanBeSent, CanBeAsked}
 use Rattle.cm_document.specs.declared.call.Mail.{Mail}
 use Rattle.cm_document.specs.declared.call.Mail.TheVariants.{Values, Points}

@@ -15,13 +15,13 @@ use Rattle.cm_document.specs.Lines.{raw_lines}
 use Rattle.cm_document.specs.CallText.{call_text, session_text, session_name, turn_text, schedule_text, script_text}
 use Rattle.cm_document.specs.ScriptRules.{Draft, nothing, script_in, session_accepted, mail_fits, call_fits, then_calling, with_lines, script_with}
 use Rattle.cm_document.specs.declared.limits.TheConstants.{MOST_SESSIONS, MOST_CALLS}
-use Rattle.cm_document.specs.ScriptLaws.{IsName, ArePointsAfter, CanBeSent, CanBeWritten, IsSession, AreApart, IsTurnAmong, MeetsRules, has_form, UsesForms}
+use Rattle.cm_document.specs.ScriptLaws.{IsName, ArePointsAfter, CanBeSent, CanBeWritten, IsSession, AreApart, IsTurnAmong, MeetsRules, allows, UsesGrammar}
 use Rattle.cm_document.specs.declared.call.Call.{Call}
 use Rattle.cm_document.specs.declared.call.Call.TheVariants as call
 use Rattle.cm_document.specs.declared.call.Mail.{Mail}
 use Rattle.cm_document.specs.declared.call.Mail.TheVariants.{Values, Points}
 use Rattle.cm_document.specs.declared.call.Point2.{Point2}
-use Rattle.cm_document.specs.declared.script.Forms.{Forms}
+use Rattle.cm_document.specs.declared.script.Grammar.{Grammar}
 use Rattle.cm_document.specs.declared.script.Script.{Script}
 use Rattle.cm_document.specs.declared.script.SessionText.{SessionText}
 use Rattle.cm_document.specs.declared.script.Turn.{Turn}
@@ -76,34 +76,34 @@ room_for : (k : ℕ) → k < MOST_CALLS → nat_lt k MOST_CALLS ≡ true
 room_for k few = grind (arith, nat_tests)
 
 -- a call's line
-call_read : (forms : Forms) (done : List SessionText) (name : List ℕ) (lines : List Call) (c : Call)
-    → CanBeWritten c → has_form forms c ≡ true → calls_of done + length lines < MOST_CALLS
-    → Reads forms (call_text c ++ codes "\n") (writing done name lines) (writing done name (lines ++ c ∷ []))
-call_read forms done name lines c can accepted few =
+call_read : (grammar : Grammar) (done : List SessionText) (name : List ℕ) (lines : List Call) (c : Call)
+    → CanBeWritten c → allows grammar c ≡ true → calls_of done + length lines < MOST_CALLS
+    → Reads grammar (call_text c ++ codes "\n") (writing done name lines) (writing done name (lines ++ c ∷ []))
+call_read grammar done name lines c can accepted few =
     let s : SessionText = record { name = name; lines = lines } in
     let said = call_says c can in
     let sum = sum_by_push (λ t. length t.lines) done s in
     let below = room_for (calls_of (done ++ s ∷ []) + 0) (omega (arith, few)) in
     let fits = call_fits_written c can in
-    let read = Reads-line forms said.0 said.1 (writing done name lines) (writing done name (lines ++ c ∷ [])) said.2.shape
-    (λ n. rw (said.2.says forms accepted, not_empty_push done s, below, fits, in_last_push (then_calling c) done s) refl) in
-    subst (λ t. Reads forms (t ++ codes "\n") (writing done name lines) (writing done name (lines ++ c ∷ []))) (sym said.2.text) read
+    let read = Reads-line grammar said.0 said.1 (writing done name lines) (writing done name (lines ++ c ∷ [])) said.2.shape
+    (λ n. rw (said.2.says grammar accepted, not_empty_push done s, below, fits, in_last_push (then_calling c) done s) refl) in
+    subst (λ t. Reads grammar (t ++ codes "\n") (writing done name lines) (writing done name (lines ++ c ∷ []))) (sym said.2.text) read
 
 -- the lines of calls
 abbrev calls_text : List Call → List ℕ
 calls_text cs = flat_map (λ c. call_text c ++ codes "\n") cs
 
-calls_read : (forms : Forms) (done : List SessionText) (name : List ℕ) (lines cs : List Call)
-    → AllByRecursion CanBeWritten cs → AllByRecursion (λ c. IsTrue (has_form forms c)) cs → calls_of done + (length lines + length cs) ≤ MOST_CALLS
-    → Reads forms (calls_text cs) (writing done name lines) (writing done name (lines ++ cs))
-calls_read forms done name lines [] can accepted few =
-    subst (λ ls. Reads forms [] (writing done name lines) (writing done name ls)) (sym (append-nil lines)) (Reads-nil forms (writing done name lines))
-calls_read forms done name lines (c ∷ cs) can accepted few =
+calls_read : (grammar : Grammar) (done : List SessionText) (name : List ℕ) (lines cs : List Call)
+    → AllByRecursion CanBeWritten cs → AllByRecursion (λ c. IsTrue (allows grammar c)) cs → calls_of done + (length lines + length cs) ≤ MOST_CALLS
+    → Reads grammar (calls_text cs) (writing done name lines) (writing done name (lines ++ cs))
+calls_read grammar done name lines [] can accepted few =
+    subst (λ ls. Reads grammar [] (writing done name lines) (writing done name ls)) (sym (append-nil lines)) (Reads-nil grammar (writing done name lines))
+calls_read grammar done name lines (c ∷ cs) can accepted few =
     let more = length-append lines (c ∷ []) in
-    let rest = calls_read forms done name (lines ++ c ∷ []) cs can.1 accepted.1 (omega arith) in
-    Reads-append forms (call_text c ++ codes "\n") (calls_text cs) (writing done name lines) (writing done name (lines ++ c ∷ [])) (writing done name (lines ++ c ∷ cs))
-    (call_read forms done name lines c can.0 accepted.0 (omega arith))
-    (subst (λ ls. Reads forms (calls_text cs) (writing done name (lines ++ c ∷ [])) (writing done name ls)) (append_assoc lines (c ∷ []) cs) rest)
+    let rest = calls_read grammar done name (lines ++ c ∷ []) cs can.1 accepted.1 (omega arith) in
+    Reads-append grammar (call_text c ++ codes "\n") (calls_text cs) (writing done name lines) (writing done name (lines ++ c ∷ [])) (writing done name (lines ++ c ∷ cs))
+    (call_read grammar done name lines c can.0 accepted.0 (omega arith))
+    (subst (λ ls. Reads grammar (calls_text cs) (writing done name (lines ++ c ∷ [])) (writing done name ls)) (append_assoc lines (c ∷ []) cs) rest)
 
 -- ---- Sessions
 
@@ -116,32 +116,32 @@ abbrev standing : List SessionText → Draft
 standing sessions = record { sessions = sessions; turns = None }
 
 -- a session can be read behind those that stand
-record CanFollow (forms : Forms) (sessions : List SessionText) (s : SessionText) : Type 0 where
+record CanFollow (grammar : Grammar) (sessions : List SessionText) (s : SessionText) : Type 0 where
   session : IsSession s
-  accepted : session_accepted forms (standing sessions) ≡ true
+  accepted : session_accepted grammar (standing sessions) ≡ true
   new : IsNew sessions s.name
   few : length sessions < MOST_SESSIONS
-  calls : AllByRecursion (λ c. IsTrue (has_form forms c)) s.lines
+  calls : AllByRecursion (λ c. IsTrue (allows grammar c)) s.lines
   room : calls_of sessions + length s.lines ≤ MOST_CALLS
 
 -- a session's line
-name_read : (forms : Forms) (sessions : List SessionText) (s : SessionText) → CanFollow forms sessions s
-    → Reads forms ((codes "session " ++ s.name) ++ codes "\n") (standing sessions) (writing sessions s.name [])
-name_read forms sessions s can =
+name_read : (grammar : Grammar) (sessions : List SessionText) (s : SessionText) → CanFollow grammar sessions s
+    → Reads grammar ((codes "session " ++ s.name) ++ codes "\n") (standing sessions) (writing sessions s.name [])
+name_read grammar sessions s can =
     let few : nat_le MOST_SESSIONS (length sessions) ≡ false = grind (arith, nat_tests, can.few) in
     let named = can.session.named in
     let shape = one_behind (codes "session") s.name (search (arith, rules)) refl (omega arith) (name_IsWord s.name named) (name_short s.name named) in
-    let read = Reads-line forms (codes "session") (s.name ∷ []) (standing sessions) (writing sessions s.name []) shape
+    let read = Reads-line grammar (codes "session") (s.name ∷ []) (standing sessions) (writing sessions s.name []) shape
     (λ n. rw (named, can.accepted, can.session.not_loop, can.new, few) refl) in
-    subst (λ t. Reads forms ((codes "session " ++ t) ++ codes "\n") (standing sessions) (writing sessions s.name [])) (append-nil s.name) read
+    subst (λ t. Reads grammar ((codes "session " ++ t) ++ codes "\n") (standing sessions) (writing sessions s.name [])) (append-nil s.name) read
 
 -- a session
-session_read : (forms : Forms) (sessions : List SessionText) (s : SessionText) → CanFollow forms sessions s
-    → Reads forms (session_text s) (standing sessions) (standing (sessions ++ s ∷ []))
-session_read forms sessions s can =
-    Reads-append forms ((codes "session " ++ s.name) ++ codes "\n") (calls_text s.lines) (standing sessions) (writing sessions s.name []) (writing sessions s.name s.lines)
-    (name_read forms sessions s can)
-    (calls_read forms sessions s.name [] s.lines can.session.written can.calls (omega (arith, can.room)))
+session_read : (grammar : Grammar) (sessions : List SessionText) (s : SessionText) → CanFollow grammar sessions s
+    → Reads grammar (session_text s) (standing sessions) (standing (sessions ++ s ∷ []))
+session_read grammar sessions s can =
+    Reads-append grammar ((codes "session " ++ s.name) ++ codes "\n") (calls_text s.lines) (standing sessions) (writing sessions s.name []) (writing sessions s.name s.lines)
+    (name_read grammar sessions s can)
+    (calls_read grammar sessions s.name [] s.lines can.session.written can.calls (omega (arith, can.room)))
 
 -- sessions that are new stay so behind one that is apart from them
 still_new : (sessions : List SessionText) (s : SessionText) (later : List SessionText)
@@ -157,29 +157,29 @@ all_new [] = tt
 all_new (s ∷ sessions) = (refl, all_new sessions)
 
 -- a session's line is accepted behind these, where first and further ones are
-accepted_behind : (forms : Forms) (done : List SessionText) → IsTrue forms.first_session → (0 < length done → IsTrue forms.further_session) → session_accepted forms (standing done) ≡ true
-accepted_behind forms [] first further = first
-accepted_behind forms (s ∷ done) first further = rw (not_empty (s ∷ done) (omega arith)) (further (omega arith))
+accepted_behind : (grammar : Grammar) (done : List SessionText) → IsTrue grammar.first_session → (0 < length done → IsTrue grammar.further_session) → session_accepted grammar (standing done) ≡ true
+accepted_behind grammar [] first further = first
+accepted_behind grammar (s ∷ done) first further = rw (not_empty (s ∷ done) (omega arith)) (further (omega arith))
 
 -- all sessions, behind those that are done
-sessions_read : (forms : Forms) (done later : List SessionText)
+sessions_read : (grammar : Grammar) (done later : List SessionText)
     → AllByRecursion IsSession later → AreApart later → AllByRecursion (λ t. IsNew done t.name) later
-    → AllByRecursion (λ t. AllByRecursion (λ c. IsTrue (has_form forms c)) t.lines) later
-    → (0 < length later → IsTrue forms.first_session) → (1 < length done + length later → IsTrue forms.further_session)
+    → AllByRecursion (λ t. AllByRecursion (λ c. IsTrue (allows grammar c)) t.lines) later
+    → (0 < length later → IsTrue grammar.first_session) → (1 < length done + length later → IsTrue grammar.further_session)
     → length done + length later ≤ MOST_SESSIONS → calls_of done + calls_of later ≤ MOST_CALLS
-    → Reads forms (flat_map session_text later) (standing done) (standing (done ++ later))
-sessions_read forms done [] sessions apart new calls first further few room =
-    subst (λ ss. Reads forms [] (standing done) (standing ss)) (sym (append-nil done)) (Reads-nil forms (standing done))
-sessions_read forms done (s ∷ later) sessions apart new calls first further few room =
+    → Reads grammar (flat_map session_text later) (standing done) (standing (done ++ later))
+sessions_read grammar done [] sessions apart new calls first further few room =
+    subst (λ ss. Reads grammar [] (standing done) (standing ss)) (sym (append-nil done)) (Reads-nil grammar (standing done))
+sessions_read grammar done (s ∷ later) sessions apart new calls first further few room =
     let all = done ++ s ∷ [] in
     let sum : calls_of (s ∷ later) ≡ length s.lines + calls_of later = sum_by-cons (λ t. length t.lines) s later in
     let pushed : calls_of all ≡ calls_of done + length s.lines = sum_by_push (λ t. length t.lines) done s in
     let long = length-append done (s ∷ []) in
-    let accepted = accepted_behind forms done (first (omega arith)) (λ some. further (omega arith)) in
-    let one = session_read forms done s (record { session = sessions.0; accepted = accepted; new = new.0; few = omega arith; calls = calls.0; room = omega arith }) in
-    let rest = sessions_read forms all later sessions.1 apart.1 (still_new done s later new.1 apart.0) calls.1 (λ _. first (omega arith)) (λ many. further (omega arith)) (omega arith) (omega arith) in
-    Reads-append forms (session_text s) (flat_map session_text later) (standing done) (standing all) (standing (done ++ s ∷ later)) one
-    (subst (λ ss. Reads forms (flat_map session_text later) (standing all) (standing ss)) (append_assoc done (s ∷ []) later) rest)
+    let accepted = accepted_behind grammar done (first (omega arith)) (λ some. further (omega arith)) in
+    let one = session_read grammar done s (record { session = sessions.0; accepted = accepted; new = new.0; few = omega arith; calls = calls.0; room = omega arith }) in
+    let rest = sessions_read grammar all later sessions.1 apart.1 (still_new done s later new.1 apart.0) calls.1 (λ _. first (omega arith)) (λ many. further (omega arith)) (omega arith) (omega arith) in
+    Reads-append grammar (session_text s) (flat_map session_text later) (standing done) (standing all) (standing (done ++ s ∷ later)) one
+    (subst (λ ss. Reads grammar (flat_map session_text later) (standing all) (standing ss)) (append_assoc done (s ∷ []) later) rest)
 
 -- ---- The schedule
 
@@ -218,81 +218,81 @@ found sessions who within apart =
     position_from-zero (λ s. same_name (session_name sessions who) s.name) sessions ∙ found_from sessions who 0 within apart ∙ ap Some e
 
 -- the schedule's first line
-schedule_read : (forms : Forms) (sessions : List SessionText) → IsTrue forms.schedule → Reads forms (codes "schedule\n") (standing sessions) (turning sessions [])
-schedule_read forms sessions accepted = Reads-line forms (codes "schedule") [] (standing sessions) (turning sessions []) (search (arith, rules)) (λ n. rw accepted refl)
+schedule_read : (grammar : Grammar) (sessions : List SessionText) → IsTrue grammar.schedule → Reads grammar (codes "schedule\n") (standing sessions) (turning sessions [])
+schedule_read grammar sessions accepted = Reads-line grammar (codes "schedule") [] (standing sessions) (turning sessions []) (search (arith, rules)) (λ n. rw accepted refl)
 
 -- a turn's line
-turn_read : (forms : Forms) (sessions : List SessionText) (ts : List Turn) (t : Turn) → IsTrue forms.schedule → IsTurnAmong (length sessions) t
+turn_read : (grammar : Grammar) (sessions : List SessionText) (ts : List Turn) (t : Turn) → IsTrue grammar.schedule → IsTurnAmong (length sessions) t
     → AllByRecursion IsSession sessions → AreApart sessions → calls_of sessions + length ts < MOST_CALLS
-    → Reads forms (turn_text sessions t) (turning sessions ts) (turning sessions (ts ++ t ∷ []))
-turn_read forms sessions ts (turn.Step who) accepted among all apart few =
+    → Reads grammar (turn_text sessions t) (turning sessions ts) (turning sessions (ts ++ t ∷ []))
+turn_read grammar sessions ts (turn.Step who) accepted among all apart few =
     let below = room_for (calls_of sessions + length ts) few in
     let name = session_name sessions who in
     let named = named_at sessions who among all in
     let number : position (λ s. same_name name s.name) sessions ≡ Some who = found sessions who among apart in
     let shape = one_behind (codes "step") name (search (arith, rules)) refl (omega arith) (name_IsWord name named) (name_short name named) in
-    let read = Reads-line forms (codes "step") (name ∷ []) (turning sessions ts) (turning sessions (ts ++ turn.Step who ∷ [])) shape (λ n. rw (accepted, named, number, below) refl) in
-    subst (λ t. Reads forms ((codes "step " ++ t) ++ codes "\n") (turning sessions ts) (turning sessions (ts ++ turn.Step who ∷ []))) (append-nil name) read
-turn_read forms sessions ts turn.Begin accepted among all apart few =
+    let read = Reads-line grammar (codes "step") (name ∷ []) (turning sessions ts) (turning sessions (ts ++ turn.Step who ∷ [])) shape (λ n. rw (accepted, named, number, below) refl) in
+    subst (λ t. Reads grammar ((codes "step " ++ t) ++ codes "\n") (turning sessions ts) (turning sessions (ts ++ turn.Step who ∷ []))) (append-nil name) read
+turn_read grammar sessions ts turn.Begin accepted among all apart few =
     let below = room_for (calls_of sessions + length ts) few in
-    Reads-line forms (codes "begin") [] (turning sessions ts) (turning sessions (ts ++ turn.Begin ∷ [])) (search (arith, rules)) (λ n. rw (accepted, below) refl)
-turn_read forms sessions ts turn.End accepted among all apart few =
+    Reads-line grammar (codes "begin") [] (turning sessions ts) (turning sessions (ts ++ turn.Begin ∷ [])) (search (arith, rules)) (λ n. rw (accepted, below) refl)
+turn_read grammar sessions ts turn.End accepted among all apart few =
     let below = room_for (calls_of sessions + length ts) few in
-    Reads-line forms (codes "end") [] (turning sessions ts) (turning sessions (ts ++ turn.End ∷ [])) (search (arith, rules)) (λ n. rw (accepted, below) refl)
+    Reads-line grammar (codes "end") [] (turning sessions ts) (turning sessions (ts ++ turn.End ∷ [])) (search (arith, rules)) (λ n. rw (accepted, below) refl)
 
 -- all turns
-turns_read : (forms : Forms) (sessions : List SessionText) (ts more : List Turn) → IsTrue forms.schedule → AllByRecursion (IsTurnAmong (length sessions)) more
+turns_read : (grammar : Grammar) (sessions : List SessionText) (ts more : List Turn) → IsTrue grammar.schedule → AllByRecursion (IsTurnAmong (length sessions)) more
     → AllByRecursion IsSession sessions → AreApart sessions → calls_of sessions + (length ts + length more) ≤ MOST_CALLS
-    → Reads forms (flat_map (turn_text sessions) more) (turning sessions ts) (turning sessions (ts ++ more))
-turns_read forms sessions ts [] accepted among all apart few =
-    subst (λ us. Reads forms [] (turning sessions ts) (turning sessions us)) (sym (append-nil ts)) (Reads-nil forms (turning sessions ts))
-turns_read forms sessions ts (t ∷ more) accepted among all apart few =
+    → Reads grammar (flat_map (turn_text sessions) more) (turning sessions ts) (turning sessions (ts ++ more))
+turns_read grammar sessions ts [] accepted among all apart few =
+    subst (λ us. Reads grammar [] (turning sessions ts) (turning sessions us)) (sym (append-nil ts)) (Reads-nil grammar (turning sessions ts))
+turns_read grammar sessions ts (t ∷ more) accepted among all apart few =
     let long = length-append ts (t ∷ []) in
-    let rest = turns_read forms sessions (ts ++ t ∷ []) more accepted among.1 all apart (omega arith) in
-    Reads-append forms (turn_text sessions t) (flat_map (turn_text sessions) more) (turning sessions ts) (turning sessions (ts ++ t ∷ [])) (turning sessions (ts ++ t ∷ more))
-    (turn_read forms sessions ts t accepted among.0 all apart (omega arith))
-    (subst (λ us. Reads forms (flat_map (turn_text sessions) more) (turning sessions (ts ++ t ∷ [])) (turning sessions us)) (append_assoc ts (t ∷ []) more) rest)
+    let rest = turns_read grammar sessions (ts ++ t ∷ []) more accepted among.1 all apart (omega arith) in
+    Reads-append grammar (turn_text sessions t) (flat_map (turn_text sessions) more) (turning sessions ts) (turning sessions (ts ++ t ∷ [])) (turning sessions (ts ++ t ∷ more))
+    (turn_read grammar sessions ts t accepted among.0 all apart (omega arith))
+    (subst (λ us. Reads grammar (flat_map (turn_text sessions) more) (turning sessions (ts ++ t ∷ [])) (turning sessions us)) (append_assoc ts (t ∷ []) more) rest)
 
 -- ---- Scripts
 
 -- reading all of this text leads to what is this script
-record IsRead (forms : Forms) (text : List ℕ) (s : Script) : Type 0 where
+record IsRead (grammar : Grammar) (text : List ℕ) (s : Script) : Type 0 where
   after : Draft
-  reads : Reads forms text nothing after
+  reads : Reads grammar text nothing after
   script : script_in after ≡ s
 
 -- a script of these sessions, without turns and with them
-script_read : (forms : Forms) (sessions : List SessionText) (schedule : List Turn) → MeetsRules (record { sessions = sessions; schedule = schedule })
-    → UsesForms forms (record { sessions = sessions; schedule = schedule })
-    → IsRead forms (flat_map session_text sessions ++ schedule_text sessions schedule) (record { sessions = sessions; schedule = schedule })
-script_read forms sessions [] meets uses =
+script_read : (grammar : Grammar) (sessions : List SessionText) (schedule : List Turn) → MeetsRules (record { sessions = sessions; schedule = schedule })
+    → UsesGrammar grammar (record { sessions = sessions; schedule = schedule })
+    → IsRead grammar (flat_map session_text sessions ++ schedule_text sessions schedule) (record { sessions = sessions; schedule = schedule })
+script_read grammar sessions [] meets uses =
     let few = meets.few_calls in
-    let front = sessions_read forms [] sessions meets.sessions meets.apart (all_new sessions) uses.calls uses.first (λ many. uses.further (omega arith)) (omega (arith, meets.few_sessions)) (omega arith) in
+    let front = sessions_read grammar [] sessions meets.sessions meets.apart (all_new sessions) uses.calls uses.first (λ many. uses.further (omega arith)) (omega (arith, meets.few_sessions)) (omega arith) in
     record {
       after = standing sessions;
-      reads = Reads-append forms (flat_map session_text sessions) [] nothing (standing sessions) (standing sessions) front (Reads-nil forms (standing sessions));
+      reads = Reads-append grammar (flat_map session_text sessions) [] nothing (standing sessions) (standing sessions) front (Reads-nil grammar (standing sessions));
       script = refl;
     }
-script_read forms sessions (t ∷ ts) meets uses =
+script_read grammar sessions (t ∷ ts) meets uses =
     let few = meets.few_calls in
-    let front = sessions_read forms [] sessions meets.sessions meets.apart (all_new sessions) uses.calls uses.first (λ many. uses.further (omega arith)) (omega (arith, meets.few_sessions)) (omega arith) in
+    let front = sessions_read grammar [] sessions meets.sessions meets.apart (all_new sessions) uses.calls uses.first (λ many. uses.further (omega arith)) (omega (arith, meets.few_sessions)) (omega arith) in
     let accepted = uses.turns (omega arith) in
-    let turns = turns_read forms sessions [] (t ∷ ts) accepted meets.turns meets.sessions meets.apart (omega arith) in
-    let behind = Reads-append forms (codes "schedule\n") (flat_map (turn_text sessions) (t ∷ ts)) (standing sessions) (turning sessions []) (turning sessions (t ∷ ts))
-    (schedule_read forms sessions accepted) turns in
+    let turns = turns_read grammar sessions [] (t ∷ ts) accepted meets.turns meets.sessions meets.apart (omega arith) in
+    let behind = Reads-append grammar (codes "schedule\n") (flat_map (turn_text sessions) (t ∷ ts)) (standing sessions) (turning sessions []) (turning sessions (t ∷ ts))
+    (schedule_read grammar sessions accepted) turns in
     record {
       after = turning sessions (t ∷ ts);
-      reads = Reads-append forms (flat_map session_text sessions) (schedule_text sessions (t ∷ ts)) nothing (standing sessions) (turning sessions (t ∷ ts)) front behind;
+      reads = Reads-append grammar (flat_map session_text sessions) (schedule_text sessions (t ∷ ts)) nothing (standing sessions) (turning sessions (t ∷ ts)) front behind;
       script = refl;
     }
 
 -- what is printed of a script that meets the rules reads back
-pub printed_reads_back : (s : Script) (forms : Forms) (n : ℕ) → MeetsRules s → UsesForms forms s → script_with forms n (script_text s) ≡ Ok s
+pub printed_reads_back : (s : Script) (grammar : Grammar) (n : ℕ) → MeetsRules s → UsesGrammar grammar s → script_with grammar n (script_text s) ≡ Ok s
 unfolding script_with script_text
-printed_reads_back s forms n meets uses =
+printed_reads_back s grammar n meets uses =
     let text = flat_map session_text s.sessions ++ schedule_text s.sessions s.schedule in
-    let read = script_read forms s.sessions s.schedule meets uses in
+    let read = script_read grammar s.sessions s.schedule meets uses in
     let whole = read.reads n [] in
-    ap (λ t. with_lines forms n nothing (raw_lines t) >>= λ w. Ok (script_in w)) (sym (append-nil text))
+    ap (λ t. with_lines grammar n nothing (raw_lines t) >>= λ w. Ok (script_in w)) (sym (append-nil text))
     ∙ ap (λ r. r >>= λ w. Ok (script_in w)) whole.1
     ∙ ap Ok read.script

@@ -8,9 +8,9 @@ use Rattle.std.proofs.lemmas.List.{append-nil}
 use Rattle.sequence.proofs.ListLemmas.{not_empty}
 use Rattle.cm_document.specs.Reading.{◌>>=◌}
 use Rattle.cm_document.specs.Lines.{raw_lines, without_last, bare, is_blank, words, is_comment}
-use Rattle.cm_document.specs.LineForms.{line_of}
+use Rattle.cm_document.specs.LineGrammar.{line_of}
 use Rattle.cm_document.specs.ScriptRules.{Draft, with_said, with_line, with_lines}
-use Rattle.cm_document.specs.declared.script.Forms.{Forms}
+use Rattle.cm_document.specs.declared.script.Grammar.{Grammar}
 
 -- bytes from the space on: none of them ends a line
 abbrev pub IsPrinted : List ℕ → Type 0
@@ -86,19 +86,19 @@ spaced_IsPrinted (w ∷ ws) all = (omega arith, IsPrinted-append w (spaced ws) (
 -- ---- Reading
 
 -- reading this text leads from what stands before it to what stands behind it, whatever text follows
-abbrev pub Reads : Forms → List ℕ → Draft → Draft → Type 0
-Reads forms text before behind = (n : ℕ) (rest : List ℕ) → (m : ℕ) × (with_lines forms n before (raw_lines (text ++ rest)) ≡ with_lines forms m behind (raw_lines rest))
+abbrev pub Reads : Grammar → List ℕ → Draft → Draft → Type 0
+Reads grammar text before behind = (n : ℕ) (rest : List ℕ) → (m : ℕ) × (with_lines grammar n before (raw_lines (text ++ rest)) ≡ with_lines grammar m behind (raw_lines rest))
 
 -- no text leads nowhere
-pub Reads-nil : (forms : Forms) (w : Draft) → Reads forms [] w w
-Reads-nil forms w = λ n rest. (n, refl)
+pub Reads-nil : (grammar : Grammar) (w : Draft) → Reads grammar [] w w
+Reads-nil grammar w = λ n rest. (n, refl)
 
 -- one text after another
-pub Reads-append : (forms : Forms) (xs ys : List ℕ) (a b c : Draft) → Reads forms xs a b → Reads forms ys b c → Reads forms (xs ++ ys) a c
-Reads-append forms xs ys a b c f g = λ n rest.
+pub Reads-append : (grammar : Grammar) (xs ys : List ℕ) (a b c : Draft) → Reads grammar xs a b → Reads grammar ys b c → Reads grammar (xs ++ ys) a c
+Reads-append grammar xs ys a b c f g = λ n rest.
     let first = f n (ys ++ rest) in
     let second = g first.0 rest in
-    (second.0, ap (λ text. with_lines forms n a (raw_lines text)) (append_assoc xs ys rest) ∙ first.1 ∙ second.1)
+    (second.0, ap (λ text. with_lines grammar n a (raw_lines text)) (append_assoc xs ys rest) ∙ first.1 ∙ second.1)
 
 -- a line of these words, which is no comment and not too long
 pub record IsLine (word : List ℕ) (ws : List (List ℕ)) : Type 0 where
@@ -107,25 +107,25 @@ pub record IsLine (word : List ℕ) (ws : List (List ℕ)) : Type 0 where
   pub said : is_comment word ≡ false
   pub short : length (word ++ spaced ws) ≤ 65536
 
-line_read : (forms : Forms) (n : ℕ) (word : List ℕ) (ws : List (List ℕ)) (before : Draft) → IsLine word ws
-    → with_line forms n before ((word ++ spaced ws) ++ 10 ∷ []) ≡ with_said forms n before (line_of forms (word ∷ ws))
+line_read : (grammar : Grammar) (n : ℕ) (word : List ℕ) (ws : List (List ℕ)) (before : Draft) → IsLine word ws
+    → with_line grammar n before ((word ++ spaced ws) ++ 10 ∷ []) ≡ with_said grammar n before (line_of grammar (word ∷ ws))
 unfolding with_line
-line_read forms n word ws before line =
+line_read grammar n word ws before line =
     let printed = IsPrinted-append word (spaced ws) (shown_IsPrinted word line.first.shown) (spaced_IsPrinted ws line.others) in
     let fits : nat_lt 65536 (length (word ++ spaced ws)) ≡ false = le-ltb 65536 (length (word ++ spaced ws)) line.short in
     rw (bare_line (word ++ spaced ws) printed, words_spaced word ws line.first line.others, line.said, fits) refl
 
 -- reading a line is what it says
-pub Reads-line : (forms : Forms) (word : List ℕ) (ws : List (List ℕ)) (before behind : Draft) → IsLine word ws
-    → ((n : ℕ) → with_said forms n before (line_of forms (word ∷ ws)) ≡ Ok behind) → Reads forms ((word ++ spaced ws) ++ 10 ∷ []) before behind
-Reads-line forms word ws before behind line says = λ n rest.
+pub Reads-line : (grammar : Grammar) (word : List ℕ) (ws : List (List ℕ)) (before behind : Draft) → IsLine word ws
+    → ((n : ℕ) → with_said grammar n before (line_of grammar (word ∷ ws)) ≡ Ok behind) → Reads grammar ((word ++ spaced ws) ++ 10 ∷ []) before behind
+Reads-line grammar word ws before behind line says = λ n rest.
     let text = word ++ spaced ws in
     let printed = IsPrinted-append word (spaced ws) (shown_IsPrinted word line.first.shown) (spaced_IsPrinted ws line.others) in
-    let read : with_line forms n before (text ++ 10 ∷ []) ≡ Ok behind = line_read forms n word ws before line ∙ says n in (
+    let read : with_line grammar n before (text ++ 10 ∷ []) ≡ Ok behind = line_read grammar n word ws before line ∙ says n in (
       n + 1,
-      ap (λ t. with_lines forms n before (raw_lines t)) (append_assoc text (10 ∷ []) rest)
-          ∙ ap (with_lines forms n before) (line_then text rest printed)
-          ∙ ap (λ r. r >>= λ more. with_lines forms (n + 1) more (raw_lines rest)) read,
+      ap (λ t. with_lines grammar n before (raw_lines t)) (append_assoc text (10 ∷ []) rest)
+          ∙ ap (with_lines grammar n before) (line_then text rest printed)
+          ∙ ap (λ r. r >>= λ more. with_lines grammar (n + 1) more (raw_lines rest)) read,
     )
 
 -- ---- Length

@@ -18,15 +18,15 @@ use Rattle.fixed_num.proofs.DigitLemmas.{own}
 use Rattle.fixed_num.proofs.ReadBackLemmas.{number_of_small}
 use Rattle.iface_names.specs.Names.{is_name, same_name}
 use Rattle.cm_document.specs.Vocabulary.{listed, lives, strictnesses, verbs}
-use Rattle.cm_document.specs.LineForms.{name_word, whole_word, at_most, value_word, in_front, all_words, values_in, is_time, untimed, timed, time_word, point_at, later, points_after, mail_in, behind, is_signed, switch_in, where_accepted, a_call, on_name, rate_in, send_in, hardware_in, lists, list_in, said, line_of}
+use Rattle.cm_document.specs.LineGrammar.{name_word, whole_word, at_most, value_word, in_front, all_words, values_in, is_time, untimed, timed, time_word, point_at, later, points_after, mail_in, behind, is_signed, switch_in, where_accepted, a_call, on_name, rate_in, send_in, hardware_in, lists, list_in, said, line_of}
 use Rattle.cm_document.specs.ScriptRules.{mail_fits, call_fits}
-use Rattle.cm_document.specs.ScriptLaws.{IsName, AreValues, ArePointsAfter, CanBeSent, CanBeAsked, CanBeWritten, has_form}
+use Rattle.cm_document.specs.ScriptLaws.{IsName, AreValues, ArePointsAfter, CanBeSent, CanBeAsked, CanBeWritten, allows}
 use Rattle.cm_document.specs.declared.call.Call.{Call}
 use Rattle.cm_document.specs.declared.call.Call.TheVariants as call
 use Rattle.cm_document.specs.declared.call.Mail.{Mail}
 use Rattle.cm_document.specs.declared.call.Mail.TheVariants.{Values, Points}
 use Rattle.cm_document.specs.declared.call.Point2.{Point2}
-use Rattle.cm_document.specs.declared.script.Forms.{Forms}
+use Rattle.cm_document.specs.declared.script.Grammar.{Grammar}
 use Rattle.cm_document.specs.declared.script.ScriptLine.{ScriptLine}
 use Rattle.cm_document.specs.declared.script.ScriptLine.TheVariants as line
 use Rattle.cm_document.specs.declared.script.Verb.{Verb}
@@ -207,84 +207,84 @@ switch_asked (Some strict) words =
 
 -- What a line that was read says: a session's name is a name, a call can be written once it is small enough, and but for a session's
 -- line its form is accepted.
-abbrev pub Says : Forms → ScriptLine → Type 0
-Says forms (line.Session name) = IsName name
-Says forms (line.Call c) = (call_fits c ≡ true → CanBeWritten c) × (has_form forms c ≡ true)
-Says forms line.Schedule = forms.schedule ≡ true
-Says forms (line.Step name) = forms.schedule ≡ true
-Says forms line.Begin = forms.schedule ≡ true
-Says forms line.End = forms.schedule ≡ true
+abbrev pub Says : Grammar → ScriptLine → Type 0
+Says grammar (line.Session name) = IsName name
+Says grammar (line.Call c) = (call_fits c ≡ true → CanBeWritten c) × (allows grammar c ≡ true)
+Says grammar line.Schedule = grammar.schedule ≡ true
+Says grammar (line.Step name) = grammar.schedule ≡ true
+Says grammar line.Begin = grammar.schedule ≡ true
+Says grammar line.End = grammar.schedule ≡ true
 
 -- a form says so where it is accepted
-accepted_Says : (forms : Forms) (accepted : Bool) (o : Option ScriptLine) → (accepted ≡ true → IfSome o (Says forms)) → IfSome (where_accepted accepted o) (Says forms)
-accepted_Says forms accepted o says = cond_both accepted o None (λ o. IfSome o (Says forms)) says (λ _. tt)
+accepted_Says : (grammar : Grammar) (accepted : Bool) (o : Option ScriptLine) → (accepted ≡ true → IfSome o (Says grammar)) → IfSome (where_accepted accepted o) (Says grammar)
+accepted_Says grammar accepted o says = cond_both accepted o None (λ o. IfSome o (Says grammar)) says (λ _. tt)
 
 -- a call of an accepted form
-call_Says : (forms : Forms) (accepted : Bool) (o : Option Call) → IfSome o (λ c. call_fits c ≡ true → CanBeWritten c) → (accepted ≡ true → IfSome o (λ c. has_form forms c ≡ true))
-    → IfSome (where_accepted accepted (a_call o)) (Says forms)
-call_Says forms accepted o can has = accepted_Says forms accepted (a_call o)
-    (λ yes. mapped (λ c. (call_fits c ≡ true → CanBeWritten c) × (has_form forms c ≡ true)) (Says forms) line.Call o
-    (both_of (λ c. call_fits c ≡ true → CanBeWritten c) (λ c. has_form forms c ≡ true) o can (has yes)) (λ c says. says))
+call_Says : (grammar : Grammar) (accepted : Bool) (o : Option Call) → IfSome o (λ c. call_fits c ≡ true → CanBeWritten c) → (accepted ≡ true → IfSome o (λ c. allows grammar c ≡ true))
+    → IfSome (where_accepted accepted (a_call o)) (Says grammar)
+call_Says grammar accepted o can has = accepted_Says grammar accepted (a_call o)
+    (λ yes. mapped (λ c. (call_fits c ≡ true → CanBeWritten c) × (allows grammar c ≡ true)) (Says grammar) line.Call o
+    (both_of (λ c. call_fits c ≡ true → CanBeWritten c) (λ c. allows grammar c ≡ true) o can (has yes)) (λ c says. says))
 
 -- a call on one name
-named_Says : (forms : Forms) (accepted : Bool) (make : List ℕ → Call) (words : List (List ℕ)) → ((name : List ℕ) → IsName name → CanBeWritten (make name))
-    → (accepted ≡ true → (name : List ℕ) → has_form forms (make name) ≡ true) → IfSome (where_accepted accepted (on_name make words)) (Says forms)
-named_Says forms accepted make [] can has = accepted_Says forms accepted None (λ _. tt)
-named_Says forms accepted make (name ∷ []) can has =
-    call_Says forms accepted (option_map make (name_word name))
+named_Says : (grammar : Grammar) (accepted : Bool) (make : List ℕ → Call) (words : List (List ℕ)) → ((name : List ℕ) → IsName name → CanBeWritten (make name))
+    → (accepted ≡ true → (name : List ℕ) → allows grammar (make name) ≡ true) → IfSome (where_accepted accepted (on_name make words)) (Says grammar)
+named_Says grammar accepted make [] can has = accepted_Says grammar accepted None (λ _. tt)
+named_Says grammar accepted make (name ∷ []) can has =
+    call_Says grammar accepted (option_map make (name_word name))
     (mapped IsName (λ c. call_fits c ≡ true → CanBeWritten c) make (name_word name) (name_word_names name) (λ n named _. can n named))
-    (λ yes. mapped (λ n. Unit {0}) (λ c. has_form forms c ≡ true) make (name_word name) (anything (name_word name)) (λ n _. has yes n))
-named_Says forms accepted make (name ∷ word ∷ words) can has = accepted_Says forms accepted None (λ _. tt)
+    (λ yes. mapped (λ n. Unit {0}) (λ c. allows grammar c ≡ true) make (name_word name) (anything (name_word name)) (λ n _. has yes n))
+named_Says grammar accepted make (name ∷ word ∷ words) can has = accepted_Says grammar accepted None (λ _. tt)
 
 -- `rate NAME HZ`
-rate_Says : (forms : Forms) (words : List (List ℕ)) → IfSome (where_accepted forms.rate (a_call (rate_in words))) (Says forms)
-rate_Says forms [] = accepted_Says forms forms.rate None (λ _. tt)
-rate_Says forms (name ∷ []) = accepted_Says forms forms.rate None (λ _. tt)
-rate_Says forms (name ∷ hz ∷ []) =
-    call_Says forms forms.rate (rate_in (name ∷ hz ∷ []))
+rate_Says : (grammar : Grammar) (words : List (List ℕ)) → IfSome (where_accepted grammar.rate (a_call (rate_in words))) (Says grammar)
+rate_Says grammar [] = accepted_Says grammar grammar.rate None (λ _. tt)
+rate_Says grammar (name ∷ []) = accepted_Says grammar grammar.rate None (λ _. tt)
+rate_Says grammar (name ∷ hz ∷ []) =
+    call_Says grammar grammar.rate (rate_in (name ∷ hz ∷ []))
     (chained IsName (λ c. call_fits c ≡ true → CanBeWritten c) (λ n. option_map (call.Rate n) (at_most 10000 (whole_word hz))) (name_word name) (name_word_names name)
     (λ n named. mapped (λ h. h ≤ 10000) (λ c. call_fits c ≡ true → CanBeWritten c) (call.Rate n) (at_most 10000 (whole_word hz)) (at_most_small 10000 (whole_word hz)) (λ h small _. (named, small))))
-    (λ yes. chained (λ n. Unit {0}) (λ c. has_form forms c ≡ true) (λ n. option_map (call.Rate n) (at_most 10000 (whole_word hz))) (name_word name) (anything (name_word name))
-    (λ n _. mapped (λ h. Unit {0}) (λ c. has_form forms c ≡ true) (call.Rate n) (at_most 10000 (whole_word hz)) (anything (at_most 10000 (whole_word hz))) (λ h _. yes)))
-rate_Says forms (name ∷ hz ∷ word ∷ words) = accepted_Says forms forms.rate None (λ _. tt)
+    (λ yes. chained (λ n. Unit {0}) (λ c. allows grammar c ≡ true) (λ n. option_map (call.Rate n) (at_most 10000 (whole_word hz))) (name_word name) (anything (name_word name))
+    (λ n _. mapped (λ h. Unit {0}) (λ c. allows grammar c ≡ true) (call.Rate n) (at_most 10000 (whole_word hz)) (anything (at_most 10000 (whole_word hz))) (λ h _. yes)))
+rate_Says grammar (name ∷ hz ∷ word ∷ words) = accepted_Says grammar grammar.rate None (λ _. tt)
 
 -- `send NAME ..`
-send_Says : (forms : Forms) (words : List (List ℕ)) → IfSome (where_accepted forms.send (a_call (send_in words))) (Says forms)
-send_Says forms [] = accepted_Says forms forms.send None (λ _. tt)
-send_Says forms (name ∷ words) =
-    call_Says forms forms.send (send_in (name ∷ words))
+send_Says : (grammar : Grammar) (words : List (List ℕ)) → IfSome (where_accepted grammar.send (a_call (send_in words))) (Says grammar)
+send_Says grammar [] = accepted_Says grammar grammar.send None (λ _. tt)
+send_Says grammar (name ∷ words) =
+    call_Says grammar grammar.send (send_in (name ∷ words))
     (chained IsName (λ c. call_fits c ≡ true → CanBeWritten c) (λ n. option_map (call.Send n) (mail_in words)) (name_word name) (name_word_names name)
     (λ n named. mapped FewSent (λ c. call_fits c ≡ true → CanBeWritten c) (call.Send n) (mail_in words) (mail_sent words) (λ mail sent few. (named, sent few))))
-    (λ yes. chained (λ n. Unit {0}) (λ c. has_form forms c ≡ true) (λ n. option_map (call.Send n) (mail_in words)) (name_word name) (anything (name_word name))
-    (λ n _. mapped (λ mail. Unit {0}) (λ c. has_form forms c ≡ true) (call.Send n) (mail_in words) (anything (mail_in words)) (λ mail _. yes)))
+    (λ yes. chained (λ n. Unit {0}) (λ c. allows grammar c ≡ true) (λ n. option_map (call.Send n) (mail_in words)) (name_word name) (anything (name_word name))
+    (λ n _. mapped (λ mail. Unit {0}) (λ c. allows grammar c ≡ true) (call.Send n) (mail_in words) (anything (mail_in words)) (λ mail _. yes)))
 
 -- `switch ..`
-switch_Says : (forms : Forms) (strictness : List ℕ) (words : List (List ℕ))
-    → IfSome (where_accepted forms.switch (a_call (option_map call.Switch (switch_in (listed strictnesses strictness) words)))) (Says forms)
-switch_Says forms strictness words =
+switch_Says : (grammar : Grammar) (strictness : List ℕ) (words : List (List ℕ))
+    → IfSome (where_accepted grammar.switch (a_call (option_map call.Switch (switch_in (listed strictnesses strictness) words)))) (Says grammar)
+switch_Says grammar strictness words =
     let request = switch_in (listed strictnesses strictness) words in
-    call_Says forms forms.switch (option_map call.Switch request)
+    call_Says grammar grammar.switch (option_map call.Switch request)
     (mapped (λ r. call_fits (call.Switch r) ≡ true → CanBeAsked r) (λ c. call_fits c ≡ true → CanBeWritten c) call.Switch request (switch_asked (listed strictnesses strictness) words) (λ r asked. asked))
-    (λ yes. mapped (λ r. Unit {0}) (λ c. has_form forms c ≡ true) call.Switch request (anything request) (λ r _. yes))
+    (λ yes. mapped (λ r. Unit {0}) (λ c. allows grammar c ≡ true) call.Switch request (anything request) (λ r _. yes))
 
 -- `hw NAME STATE`
-hardware_Says : (forms : Forms) (words : List (List ℕ)) → IfSome (where_accepted forms.hardware (a_call (hardware_in words))) (Says forms)
-hardware_Says forms [] = accepted_Says forms forms.hardware None (λ _. tt)
-hardware_Says forms (name ∷ []) = accepted_Says forms forms.hardware None (λ _. tt)
-hardware_Says forms (name ∷ state ∷ []) =
-    call_Says forms forms.hardware (hardware_in (name ∷ state ∷ []))
+hardware_Says : (grammar : Grammar) (words : List (List ℕ)) → IfSome (where_accepted grammar.hardware (a_call (hardware_in words))) (Says grammar)
+hardware_Says grammar [] = accepted_Says grammar grammar.hardware None (λ _. tt)
+hardware_Says grammar (name ∷ []) = accepted_Says grammar grammar.hardware None (λ _. tt)
+hardware_Says grammar (name ∷ state ∷ []) =
+    call_Says grammar grammar.hardware (hardware_in (name ∷ state ∷ []))
     (chained IsName (λ c. call_fits c ≡ true → CanBeWritten c) (λ n. option_map (call.Hardware n) (listed lives state)) (name_word name) (name_word_names name)
     (λ n named. mapped (λ l. Unit {0}) (λ c. call_fits c ≡ true → CanBeWritten c) (call.Hardware n) (listed lives state) (anything (listed lives state)) (λ l _ few. named)))
-    (λ yes. chained (λ n. Unit {0}) (λ c. has_form forms c ≡ true) (λ n. option_map (call.Hardware n) (listed lives state)) (name_word name) (anything (name_word name))
-    (λ n _. mapped (λ l. Unit {0}) (λ c. has_form forms c ≡ true) (call.Hardware n) (listed lives state) (anything (listed lives state)) (λ l _. yes)))
-hardware_Says forms (name ∷ state ∷ word ∷ words) = accepted_Says forms forms.hardware None (λ _. tt)
+    (λ yes. chained (λ n. Unit {0}) (λ c. allows grammar c ≡ true) (λ n. option_map (call.Hardware n) (listed lives state)) (name_word name) (anything (name_word name))
+    (λ n _. mapped (λ l. Unit {0}) (λ c. allows grammar c ≡ true) (call.Hardware n) (listed lives state) (anything (listed lives state)) (λ l _. yes)))
+hardware_Says grammar (name ∷ state ∷ word ∷ words) = accepted_Says grammar grammar.hardware None (λ _. tt)
 
 -- `await N`
-await_Says : (forms : Forms) (n : List ℕ) → IfSome (where_accepted forms.await_cycles (a_call (option_map call.Await (whole_word n)))) (Says forms)
-await_Says forms n =
-    call_Says forms forms.await_cycles (option_map call.Await (whole_word n))
+await_Says : (grammar : Grammar) (n : List ℕ) → IfSome (where_accepted grammar.await_cycles (a_call (option_map call.Await (whole_word n)))) (Says grammar)
+await_Says grammar n =
+    call_Says grammar grammar.await_cycles (option_map call.Await (whole_word n))
     (mapped (λ k. k ≤ 999999999) (λ c. call_fits c ≡ true → CanBeWritten c) call.Await (whole_word n) (whole_word_small n) (λ k small _. small))
-    (λ yes. mapped (λ k. Unit {0}) (λ c. has_form forms c ≡ true) call.Await (whole_word n) (anything (whole_word n)) (λ k _. yes))
+    (λ yes. mapped (λ k. Unit {0}) (λ c. allows grammar c ≡ true) call.Await (whole_word n) (anything (whole_word n)) (λ k _. yes))
 
 -- what holds of all listed meanings holds of the one that is found
 listed_all : {A : Type 0} (P : A → Type 0) (rows : List (List ℕ × A)) (word : List ℕ) → AllByRecursion (λ row. P row.1) rows → IfSome (listed rows word) P
@@ -292,48 +292,48 @@ listed_all P [] word all = tt
 listed_all P (row ∷ rows) word all = cond_both (same_name word row.0) (Some row.1) (listed rows word) (λ o. IfSome o P) (λ _. all.0) (λ _. listed_all P rows word all.1)
 
 -- `list ..`
-list_Says : (forms : Forms) (words : List (List ℕ)) → IfSome (list_in forms words) (Says forms)
-list_Says forms [] = tt
-list_Says forms (word ∷ []) =
-    chained (λ row. row.0 ≡ true → Says forms (line.Call row.1)) (Says forms) (λ row. where_accepted row.0 (Some (line.Call row.1))) (listed (lists forms) word)
-    (listed_all (λ row. row.0 ≡ true → Says forms (line.Call row.1)) (lists forms) word ((λ yes. ((λ _. tt), yes)), (((λ yes. ((λ _. tt), yes)), ((λ yes. ((λ _. tt), yes)), tt)))))
-    (λ row says. accepted_Says forms row.0 (Some (line.Call row.1)) says)
-list_Says forms (word ∷ other ∷ words) = tt
+list_Says : (grammar : Grammar) (words : List (List ℕ)) → IfSome (list_in grammar words) (Says grammar)
+list_Says grammar [] = tt
+list_Says grammar (word ∷ []) =
+    chained (λ row. row.0 ≡ true → Says grammar (line.Call row.1)) (Says grammar) (λ row. where_accepted row.0 (Some (line.Call row.1))) (listed (lists grammar) word)
+    (listed_all (λ row. row.0 ≡ true → Says grammar (line.Call row.1)) (lists grammar) word ((λ yes. ((λ _. tt), yes)), (((λ yes. ((λ _. tt), yes)), ((λ yes. ((λ _. tt), yes)), tt)))))
+    (λ row says. accepted_Says grammar row.0 (Some (line.Call row.1)) says)
+list_Says grammar (word ∷ other ∷ words) = tt
 
 -- a line of one word more
-step_Says : (forms : Forms) (name : List ℕ) → IfSome (where_accepted forms.schedule (option_map line.Step (name_word name))) (Says forms)
-step_Says forms name = accepted_Says forms forms.schedule (option_map line.Step (name_word name))
-    (λ yes. mapped (λ n. Unit {0}) (Says forms) line.Step (name_word name) (anything (name_word name)) (λ n _. yes))
+step_Says : (grammar : Grammar) (name : List ℕ) → IfSome (where_accepted grammar.schedule (option_map line.Step (name_word name))) (Says grammar)
+step_Says grammar name = accepted_Says grammar grammar.schedule (option_map line.Step (name_word name))
+    (λ yes. mapped (λ n. Unit {0}) (Says grammar) line.Step (name_word name) (anything (name_word name)) (λ n _. yes))
 
 -- every form
-said_Says : (forms : Forms) (v : Verb) (words : List (List ℕ)) → IfSome (said forms v words) (Says forms)
-said_Says forms verb.Session [] = tt
-said_Says forms verb.Session (name ∷ []) = mapped IsName (Says forms) line.Session (name_word name) (name_word_names name) (λ n named. named)
-said_Says forms verb.Session (name ∷ word ∷ words) = tt
-said_Says forms verb.Load words = named_Says forms forms.load call.Load words (λ name named. named) (λ yes name. yes)
-said_Says forms verb.Configure words = named_Says forms forms.configure call.Configure words (λ name named. named) (λ yes name. yes)
-said_Says forms verb.Cleanup words = named_Says forms forms.cleanup call.Cleanup words (λ name named. named) (λ yes name. yes)
-said_Says forms verb.Unload words = named_Says forms forms.unload call.Unload words (λ name named. named) (λ yes name. yes)
-said_Says forms verb.Rate words = rate_Says forms words
-said_Says forms verb.Send words = send_Says forms words
-said_Says forms verb.Switch [] = tt
-said_Says forms verb.Switch (strictness ∷ words) = switch_Says forms strictness words
-said_Says forms verb.Hardware words = hardware_Says forms words
-said_Says forms verb.Await [] = tt
-said_Says forms verb.Await (n ∷ []) = await_Says forms n
-said_Says forms verb.Await (n ∷ word ∷ words) = tt
-said_Says forms verb.List words = list_Says forms words
-said_Says forms verb.Schedule [] = accepted_Says forms forms.schedule (Some line.Schedule) (λ yes. yes)
-said_Says forms verb.Schedule (word ∷ words) = tt
-said_Says forms verb.Step [] = tt
-said_Says forms verb.Step (name ∷ []) = step_Says forms name
-said_Says forms verb.Step (name ∷ word ∷ words) = tt
-said_Says forms verb.Begin [] = accepted_Says forms forms.schedule (Some line.Begin) (λ yes. yes)
-said_Says forms verb.Begin (word ∷ words) = tt
-said_Says forms verb.End [] = accepted_Says forms forms.schedule (Some line.End) (λ yes. yes)
-said_Says forms verb.End (word ∷ words) = tt
+said_Says : (grammar : Grammar) (v : Verb) (words : List (List ℕ)) → IfSome (said grammar v words) (Says grammar)
+said_Says grammar verb.Session [] = tt
+said_Says grammar verb.Session (name ∷ []) = mapped IsName (Says grammar) line.Session (name_word name) (name_word_names name) (λ n named. named)
+said_Says grammar verb.Session (name ∷ word ∷ words) = tt
+said_Says grammar verb.Load words = named_Says grammar grammar.load call.Load words (λ name named. named) (λ yes name. yes)
+said_Says grammar verb.Configure words = named_Says grammar grammar.configure call.Configure words (λ name named. named) (λ yes name. yes)
+said_Says grammar verb.Cleanup words = named_Says grammar grammar.cleanup call.Cleanup words (λ name named. named) (λ yes name. yes)
+said_Says grammar verb.Unload words = named_Says grammar grammar.unload call.Unload words (λ name named. named) (λ yes name. yes)
+said_Says grammar verb.Rate words = rate_Says grammar words
+said_Says grammar verb.Send words = send_Says grammar words
+said_Says grammar verb.Switch [] = tt
+said_Says grammar verb.Switch (strictness ∷ words) = switch_Says grammar strictness words
+said_Says grammar verb.Hardware words = hardware_Says grammar words
+said_Says grammar verb.Await [] = tt
+said_Says grammar verb.Await (n ∷ []) = await_Says grammar n
+said_Says grammar verb.Await (n ∷ word ∷ words) = tt
+said_Says grammar verb.List words = list_Says grammar words
+said_Says grammar verb.Schedule [] = accepted_Says grammar grammar.schedule (Some line.Schedule) (λ yes. yes)
+said_Says grammar verb.Schedule (word ∷ words) = tt
+said_Says grammar verb.Step [] = tt
+said_Says grammar verb.Step (name ∷ []) = step_Says grammar name
+said_Says grammar verb.Step (name ∷ word ∷ words) = tt
+said_Says grammar verb.Begin [] = accepted_Says grammar grammar.schedule (Some line.Begin) (λ yes. yes)
+said_Says grammar verb.Begin (word ∷ words) = tt
+said_Says grammar verb.End [] = accepted_Says grammar grammar.schedule (Some line.End) (λ yes. yes)
+said_Says grammar verb.End (word ∷ words) = tt
 
 -- a line of words
-pub line_of_Says : (forms : Forms) (words : List (List ℕ)) → IfSome (line_of forms words) (Says forms)
-line_of_Says forms [] = tt
-line_of_Says forms (first ∷ words) = chained (λ v. Unit {0}) (Says forms) (λ v. said forms v words) (listed verbs first) (anything (listed verbs first)) (λ v _. said_Says forms v words)
+pub line_of_Says : (grammar : Grammar) (words : List (List ℕ)) → IfSome (line_of grammar words) (Says grammar)
+line_of_Says grammar [] = tt
+line_of_Says grammar (first ∷ words) = chained (λ v. Unit {0}) (Says grammar) (λ v. said grammar v words) (listed verbs first) (anything (listed verbs first)) (λ v _. said_Says grammar v words)

@@ -8,12 +8,12 @@ use Rattle.std.proofs.lemmas.List.Sums.{sum_by_push}
 use Rattle.std.proofs.lemmas.List.Quantifiers.{position-Some}
 use Rattle.iface_names.specs.Names.{same_name}
 use Rattle.cm_document.specs.Lines.{raw_lines, bare, words, is_skipped}
-use Rattle.cm_document.specs.LineForms.{line_of}
+use Rattle.cm_document.specs.LineGrammar.{line_of}
 use Rattle.cm_document.specs.declared.limits.TheConstants.{LONGEST_LINE, MOST_SESSIONS, MOST_CALLS}
 use Rattle.cm_document.specs.ScriptRules.{Draft, nothing, script_in, calls_and_turns, has_room, session_accepted, is_session_line, with_session, call_fits, then_calling, with_call, with_schedule, with_turn, session_number, with_step, with_said, with_line, with_lines, script_with}
-use Rattle.cm_document.specs.ScriptLaws.{IsName, CanBeWritten, IsSession, AreApart, IsTurnAmong, MeetsRules, has_form, UsesForms}
+use Rattle.cm_document.specs.ScriptLaws.{IsName, CanBeWritten, IsSession, AreApart, IsTurnAmong, MeetsRules, allows, UsesGrammar}
 use Rattle.cm_document.specs.declared.call.Call.{Call}
-use Rattle.cm_document.specs.declared.script.Forms.{Forms}
+use Rattle.cm_document.specs.declared.script.Grammar.{Grammar}
 use Rattle.cm_document.specs.declared.script.Script.{Script}
 use Rattle.cm_document.specs.declared.script.ScriptLine.{ScriptLine}
 use Rattle.cm_document.specs.declared.script.ScriptLine.TheVariants as line
@@ -53,33 +53,33 @@ apart_calling made (x ∷ y ∷ xs) apart = (
 -- ---- What is kept from line to line
 
 -- what stands meets the rules and uses accepted forms alone
-record Keeps (forms : Forms) (w : Draft) : Type 0 where
+record Keeps (grammar : Grammar) (w : Draft) : Type 0 where
   meets : MeetsRules (script_in w)
-  uses : UsesForms forms (script_in w)
+  uses : UsesGrammar grammar (script_in w)
 
 -- what a session's line keeps
-record IsNewSession (forms : Forms) (sessions : List SessionText) (name : List ℕ) : Type 0 where
-  accepted : session_accepted forms (record { sessions = sessions; turns = None }) ≡ true
+record IsNewSession (grammar : Grammar) (sessions : List SessionText) (name : List ℕ) : Type 0 where
+  accepted : session_accepted grammar (record { sessions = sessions; turns = None }) ≡ true
   named : IsName name
   not_loop : same_name name (codes "loop") ≡ false
   new : list_any (λ s. same_name name s.name) sessions ≡ false
   few : length sessions < MOST_SESSIONS
 
 -- a new session is the first, or a further one
-first_accepted : (forms : Forms) (sessions : List SessionText) → session_accepted forms (record { sessions = sessions; turns = None }) ≡ true
-    → (0 < length sessions → IsTrue forms.first_session) → IsTrue forms.first_session
-first_accepted forms [] accepted first = accepted
-first_accepted forms (s ∷ sessions) accepted first = first (omega arith)
+first_accepted : (grammar : Grammar) (sessions : List SessionText) → session_accepted grammar (record { sessions = sessions; turns = None }) ≡ true
+    → (0 < length sessions → IsTrue grammar.first_session) → IsTrue grammar.first_session
+first_accepted grammar [] accepted first = accepted
+first_accepted grammar (s ∷ sessions) accepted first = first (omega arith)
 
-further_accepted : (forms : Forms) (sessions : List SessionText) → session_accepted forms (record { sessions = sessions; turns = None }) ≡ true
-    → 1 < length sessions + 1 → IsTrue forms.further_session
-further_accepted forms [] accepted many = absurd (omega arith)
-further_accepted forms (s ∷ sessions) accepted many = rw (not_empty (s ∷ sessions) (omega arith)) at accepted
+further_accepted : (grammar : Grammar) (sessions : List SessionText) → session_accepted grammar (record { sessions = sessions; turns = None }) ≡ true
+    → 1 < length sessions + 1 → IsTrue grammar.further_session
+further_accepted grammar [] accepted many = absurd (omega arith)
+further_accepted grammar (s ∷ sessions) accepted many = rw (not_empty (s ∷ sessions) (omega arith)) at accepted
 
-session_added : (forms : Forms) (sessions : List SessionText) (name : List ℕ)
-    → Keeps forms (record { sessions = sessions; turns = None }) → IsNewSession forms sessions name
-    → Keeps forms (record { sessions = sessions ++ record { name = name; lines = [] } ∷ []; turns = None })
-session_added forms sessions name keeps new =
+session_added : (grammar : Grammar) (sessions : List SessionText) (name : List ℕ)
+    → Keeps grammar (record { sessions = sessions; turns = None }) → IsNewSession grammar sessions name
+    → Keeps grammar (record { sessions = sessions ++ record { name = name; lines = [] } ∷ []; turns = None })
+session_added grammar sessions name keeps new =
     let s : SessionText = record { name = name; lines = [] } in
     let long = length-append sessions (s ∷ []) in
     let sum = sum_by_push (λ t. length t.lines) sessions s in
@@ -93,9 +93,9 @@ session_added forms sessions name keeps new =
         turns = tt;
       };
       uses = record {
-        first = λ _. first_accepted forms sessions new.accepted keeps.uses.first;
-        further = λ many. further_accepted forms sessions new.accepted (omega arith);
-        calls = all_push (λ t. AllByRecursion (λ c. IsTrue (has_form forms c)) t.lines) sessions s keeps.uses.calls tt;
+        first = λ _. first_accepted grammar sessions new.accepted keeps.uses.first;
+        further = λ many. further_accepted grammar sessions new.accepted (omega arith);
+        calls = all_push (λ t. AllByRecursion (λ c. IsTrue (allows grammar c)) t.lines) sessions s keeps.uses.calls tt;
         turns = keeps.uses.turns;
       };
     }
@@ -109,32 +109,32 @@ not_false : (b : Bool) → not b ≡ false → b ≡ true
 not_false true h = refl
 not_false false h = cc
 
-with_session_keeps : (forms : Forms) (n : ℕ) (sessions : List SessionText) (turns : Option (List Turn)) (name : List ℕ)
-    → Keeps forms (record { sessions = sessions; turns = turns }) → IsName name
-    → IfOk (with_session forms n (record { sessions = sessions; turns = turns }) name) (Keeps forms)
-with_session_keeps forms n sessions (Some ts) name keeps named =
-    cond_both (not (is_session_line forms (record { sessions = sessions; turns = Some ts }) name)) _ _ (λ r. IfOk r (Keeps forms)) (λ _. tt)
+with_session_keeps : (grammar : Grammar) (n : ℕ) (sessions : List SessionText) (turns : Option (List Turn)) (name : List ℕ)
+    → Keeps grammar (record { sessions = sessions; turns = turns }) → IsName name
+    → IfOk (with_session grammar n (record { sessions = sessions; turns = turns }) name) (Keeps grammar)
+with_session_keeps grammar n sessions (Some ts) name keeps named =
+    cond_both (not (is_session_line grammar (record { sessions = sessions; turns = Some ts }) name)) _ _ (λ r. IfOk r (Keeps grammar)) (λ _. tt)
     (λ line.
     let a = and_parts _ _ (not_false _ line) in
     let b = and_parts _ _ a.0 in
-    let c = and_parts (session_accepted forms (record { sessions = sessions; turns = Some ts })) _ b.0 in
+    let c = and_parts (session_accepted grammar (record { sessions = sessions; turns = Some ts })) _ b.0 in
     let no = c.1 in cc)
-with_session_keeps forms n sessions None name keeps named =
-    cond_both (not (is_session_line forms (record { sessions = sessions; turns = None }) name)) _ _ (λ r. IfOk r (Keeps forms)) (λ _. tt)
-    (λ line. cond_both (nat_le MOST_SESSIONS (length sessions)) _ _ (λ r. IfOk r (Keeps forms)) (λ _. tt)
+with_session_keeps grammar n sessions None name keeps named =
+    cond_both (not (is_session_line grammar (record { sessions = sessions; turns = None }) name)) _ _ (λ r. IfOk r (Keeps grammar)) (λ _. tt)
+    (λ line. cond_both (nat_le MOST_SESSIONS (length sessions)) _ _ (λ r. IfOk r (Keeps grammar)) (λ _. tt)
     (λ room.
     let a = and_parts _ _ (not_false _ line) in
     let b = and_parts _ _ a.0 in
-    let c = and_parts (session_accepted forms (record { sessions = sessions; turns = None })) _ b.0 in
-    session_added forms sessions name keeps
+    let c = and_parts (session_accepted grammar (record { sessions = sessions; turns = None })) _ b.0 in
+    session_added grammar sessions name keeps
     (record { accepted = c.0; named = named; not_loop = not_true _ b.1; new = not_true _ a.1; few = grind (arith, nat_tests) })))
 
 -- ---- Calls
 
 -- a call more in the last session
-call_added : (forms : Forms) (w : Draft) (c : Call) → Keeps forms w → CanBeWritten c → has_form forms c ≡ true → (length w.sessions == 0) ≡ false
-    → calls_and_turns (script_in w) < MOST_CALLS → Keeps forms (record w { sessions = in_last (then_calling c) w.sessions })
-call_added forms w c keeps can accepted some room =
+call_added : (grammar : Grammar) (w : Draft) (c : Call) → Keeps grammar w → CanBeWritten c → allows grammar c ≡ true → (length w.sessions == 0) ≡ false
+    → calls_and_turns (script_in w) < MOST_CALLS → Keeps grammar (record w { sessions = in_last (then_calling c) w.sessions })
+call_added grammar w c keeps can accepted some room =
     let long = length_in_last (then_calling c) w.sessions in
     let sum = count_calling c w.sessions some in
     let few = keeps.meets.few_sessions in
@@ -150,36 +150,36 @@ call_added forms w c keeps can accepted some room =
       uses = record {
         first = λ some'. keeps.uses.first (omega arith);
         further = λ many. keeps.uses.further (omega arith);
-        calls = all_in_last (λ t. AllByRecursion (λ c. IsTrue (has_form forms c)) t.lines) (then_calling c) w.sessions keeps.uses.calls
-            (λ t all. all_push (λ c. IsTrue (has_form forms c)) t.lines c all accepted);
+        calls = all_in_last (λ t. AllByRecursion (λ c. IsTrue (allows grammar c)) t.lines) (then_calling c) w.sessions keeps.uses.calls
+            (λ t all. all_push (λ c. IsTrue (allows grammar c)) t.lines c all accepted);
         turns = keeps.uses.turns;
       };
     }
 
 -- a call's line
-with_call_keeps : (forms : Forms) (n : ℕ) (w : Draft) (c : Call) → Keeps forms w → (call_fits c ≡ true → CanBeWritten c) → has_form forms c ≡ true → IfOk (with_call n w c) (Keeps forms)
-with_call_keeps forms n w c keeps can accepted =
-    cond_both (is_some w.turns) _ _ (λ r. IfOk r (Keeps forms)) (λ _. tt)
-    (λ _. cond_both (length w.sessions == 0) _ _ (λ r. IfOk r (Keeps forms)) (λ _. tt)
-    (λ some. cond_both (has_room w && call_fits c) _ _ (λ r. IfOk r (Keeps forms))
+with_call_keeps : (grammar : Grammar) (n : ℕ) (w : Draft) (c : Call) → Keeps grammar w → (call_fits c ≡ true → CanBeWritten c) → allows grammar c ≡ true → IfOk (with_call n w c) (Keeps grammar)
+with_call_keeps grammar n w c keeps can accepted =
+    cond_both (is_some w.turns) _ _ (λ r. IfOk r (Keeps grammar)) (λ _. tt)
+    (λ _. cond_both (length w.sessions == 0) _ _ (λ r. IfOk r (Keeps grammar)) (λ _. tt)
+    (λ some. cond_both (has_room w && call_fits c) _ _ (λ r. IfOk r (Keeps grammar))
     (λ fits.
     let both = and_parts (has_room w) (call_fits c) fits in
-    call_added forms w c keeps (can both.1) accepted some (ltb-true _ _ both.0))
+    call_added grammar w c keeps (can both.1) accepted some (ltb-true _ _ both.0))
     (λ _. tt)))
 
 -- ---- The schedule
 
 -- the schedule's line
-with_schedule_keeps : (forms : Forms) (n : ℕ) (sessions : List SessionText) (turns : Option (List Turn)) → Keeps forms (record { sessions = sessions; turns = turns })
-    → IfOk (with_schedule n (record { sessions = sessions; turns = turns })) (Keeps forms)
-with_schedule_keeps forms n sessions (Some ts) keeps = tt
-with_schedule_keeps forms n sessions None keeps = record { meets = keeps.meets; uses = keeps.uses }
+with_schedule_keeps : (grammar : Grammar) (n : ℕ) (sessions : List SessionText) (turns : Option (List Turn)) → Keeps grammar (record { sessions = sessions; turns = turns })
+    → IfOk (with_schedule n (record { sessions = sessions; turns = turns })) (Keeps grammar)
+with_schedule_keeps grammar n sessions (Some ts) keeps = tt
+with_schedule_keeps grammar n sessions None keeps = record { meets = keeps.meets; uses = keeps.uses }
 
 -- a turn more
-turn_added : (forms : Forms) (sessions : List SessionText) (ts : List Turn) (t : Turn) → Keeps forms (record { sessions = sessions; turns = Some ts })
-    → IsTurnAmong (length sessions) t → forms.schedule ≡ true → calls_and_turns (record { sessions = sessions; schedule = ts }) < MOST_CALLS
-    → Keeps forms (record { sessions = sessions; turns = Some (ts ++ t ∷ []) })
-turn_added forms sessions ts t keeps among accepted room =
+turn_added : (grammar : Grammar) (sessions : List SessionText) (ts : List Turn) (t : Turn) → Keeps grammar (record { sessions = sessions; turns = Some ts })
+    → IsTurnAmong (length sessions) t → grammar.schedule ≡ true → calls_and_turns (record { sessions = sessions; schedule = ts }) < MOST_CALLS
+    → Keeps grammar (record { sessions = sessions; turns = Some (ts ++ t ∷ []) })
+turn_added grammar sessions ts t keeps among accepted room =
     let more = length-append ts (t ∷ []) in
     record {
       meets = record {
@@ -193,84 +193,84 @@ turn_added forms sessions ts t keeps among accepted room =
     }
 
 -- a turn's line
-with_turn_keeps : (forms : Forms) (n : ℕ) (sessions : List SessionText) (turns : Option (List Turn)) (t : Turn) → Keeps forms (record { sessions = sessions; turns = turns })
-    → IsTurnAmong (length sessions) t → forms.schedule ≡ true → IfOk (with_turn n (record { sessions = sessions; turns = turns }) t) (Keeps forms)
-with_turn_keeps forms n sessions None t keeps among accepted = tt
-with_turn_keeps forms n sessions (Some ts) t keeps among accepted =
-    cond_both (has_room (record { sessions = sessions; turns = Some ts })) _ _ (λ r. IfOk r (Keeps forms))
-    (λ room. turn_added forms sessions ts t keeps among accepted (ltb-true _ _ room))
+with_turn_keeps : (grammar : Grammar) (n : ℕ) (sessions : List SessionText) (turns : Option (List Turn)) (t : Turn) → Keeps grammar (record { sessions = sessions; turns = turns })
+    → IsTurnAmong (length sessions) t → grammar.schedule ≡ true → IfOk (with_turn n (record { sessions = sessions; turns = turns }) t) (Keeps grammar)
+with_turn_keeps grammar n sessions None t keeps among accepted = tt
+with_turn_keeps grammar n sessions (Some ts) t keeps among accepted =
+    cond_both (has_room (record { sessions = sessions; turns = Some ts })) _ _ (λ r. IfOk r (Keeps grammar))
+    (λ room. turn_added grammar sessions ts t keeps among accepted (ltb-true _ _ room))
     (λ _. tt)
 
 -- a step's line, once its session is looked for
-step_keeps : (forms : Forms) (n : ℕ) (w : Draft) (found : Option ℕ) → Keeps forms w → ((who : ℕ) → found ≡ Some who → who < length w.sessions) → forms.schedule ≡ true
-    → IfOk (elim found [ None ↦ Err (NoSession n) | Some who ↦ with_turn n w (turn.Step who) ]) (Keeps forms)
-step_keeps forms n w None keeps within accepted = tt
-step_keeps forms n w (Some who) keeps within accepted = with_turn_keeps forms n w.sessions w.turns (turn.Step who) keeps (within who refl) accepted
+step_keeps : (grammar : Grammar) (n : ℕ) (w : Draft) (found : Option ℕ) → Keeps grammar w → ((who : ℕ) → found ≡ Some who → who < length w.sessions) → grammar.schedule ≡ true
+    → IfOk (elim found [ None ↦ Err (NoSession n) | Some who ↦ with_turn n w (turn.Step who) ]) (Keeps grammar)
+step_keeps grammar n w None keeps within accepted = tt
+step_keeps grammar n w (Some who) keeps within accepted = with_turn_keeps grammar n w.sessions w.turns (turn.Step who) keeps (within who refl) accepted
 
 -- a session that is found is there
 found_within : (sessions : List SessionText) (name : List ℕ) (who : ℕ) → position (λ s. same_name name s.name) sessions ≡ Some who → who < length sessions
 found_within sessions name who h = (position-Some (λ s. same_name name s.name) sessions who (record { name = []; lines = [] }) h).0
 
-with_step_keeps : (forms : Forms) (n : ℕ) (w : Draft) (name : List ℕ) → Keeps forms w → forms.schedule ≡ true → IfOk (with_step n w name) (Keeps forms)
-with_step_keeps forms n w name keeps accepted =
-    cond_both (not (is_some w.turns)) _ _ (λ r. IfOk r (Keeps forms)) (λ _. tt)
-    (λ _. step_keeps forms n w (session_number name w) keeps (found_within w.sessions name) accepted)
+with_step_keeps : (grammar : Grammar) (n : ℕ) (w : Draft) (name : List ℕ) → Keeps grammar w → grammar.schedule ≡ true → IfOk (with_step n w name) (Keeps grammar)
+with_step_keeps grammar n w name keeps accepted =
+    cond_both (not (is_some w.turns)) _ _ (λ r. IfOk r (Keeps grammar)) (λ _. tt)
+    (λ _. step_keeps grammar n w (session_number name w) keeps (found_within w.sessions name) accepted)
 
 -- ---- Lines
 
 -- what a line says
-with_said_keeps : (forms : Forms) (n : ℕ) (w : Draft) (o : Option ScriptLine) → Keeps forms w → IfSome o (Says forms) → IfOk (with_said forms n w o) (Keeps forms)
-with_said_keeps forms n w None keeps says = tt
-with_said_keeps forms n w (Some (line.Session name)) keeps says = with_session_keeps forms n w.sessions w.turns name keeps says
-with_said_keeps forms n w (Some (line.Call c)) keeps says = with_call_keeps forms n w c keeps says.0 says.1
-with_said_keeps forms n w (Some line.Schedule) keeps says = with_schedule_keeps forms n w.sessions w.turns keeps
-with_said_keeps forms n w (Some (line.Step name)) keeps says = with_step_keeps forms n w name keeps says
-with_said_keeps forms n w (Some line.Begin) keeps says = with_turn_keeps forms n w.sessions w.turns turn.Begin keeps tt says
-with_said_keeps forms n w (Some line.End) keeps says = with_turn_keeps forms n w.sessions w.turns turn.End keeps tt says
+with_said_keeps : (grammar : Grammar) (n : ℕ) (w : Draft) (o : Option ScriptLine) → Keeps grammar w → IfSome o (Says grammar) → IfOk (with_said grammar n w o) (Keeps grammar)
+with_said_keeps grammar n w None keeps says = tt
+with_said_keeps grammar n w (Some (line.Session name)) keeps says = with_session_keeps grammar n w.sessions w.turns name keeps says
+with_said_keeps grammar n w (Some (line.Call c)) keeps says = with_call_keeps grammar n w c keeps says.0 says.1
+with_said_keeps grammar n w (Some line.Schedule) keeps says = with_schedule_keeps grammar n w.sessions w.turns keeps
+with_said_keeps grammar n w (Some (line.Step name)) keeps says = with_step_keeps grammar n w name keeps says
+with_said_keeps grammar n w (Some line.Begin) keeps says = with_turn_keeps grammar n w.sessions w.turns turn.Begin keeps tt says
+with_said_keeps grammar n w (Some line.End) keeps says = with_turn_keeps grammar n w.sessions w.turns turn.End keeps tt says
 
 -- a skipped line keeps what stands, and so does one that is read
-read_keeps : (forms : Forms) (skipped long : Bool) (n : ℕ) (w : Draft) (r : Result Draft ScriptFault) → Keeps forms w → IfOk r (Keeps forms)
-    → IfOk (if skipped then Ok w else if long then Err (BadLine n) else r) (Keeps forms)
-read_keeps forms true long n w r keeps read = keeps
-read_keeps forms false true n w r keeps read = tt
-read_keeps forms false false n w r keeps read = read
+read_keeps : (grammar : Grammar) (skipped long : Bool) (n : ℕ) (w : Draft) (r : Result Draft ScriptFault) → Keeps grammar w → IfOk r (Keeps grammar)
+    → IfOk (if skipped then Ok w else if long then Err (BadLine n) else r) (Keeps grammar)
+read_keeps grammar true long n w r keeps read = keeps
+read_keeps grammar false true n w r keeps read = tt
+read_keeps grammar false false n w r keeps read = read
 
 -- a line
-with_line_keeps : (forms : Forms) (n : ℕ) (w : Draft) (text : List ℕ) → Keeps forms w → IfOk (with_line forms n w text) (Keeps forms)
+with_line_keeps : (grammar : Grammar) (n : ℕ) (w : Draft) (text : List ℕ) → Keeps grammar w → IfOk (with_line grammar n w text) (Keeps grammar)
 unfolding with_line
-with_line_keeps forms n w text keeps =
+with_line_keeps grammar n w text keeps =
     let said = words (bare text) in
-    read_keeps forms (is_skipped said) (nat_lt LONGEST_LINE (length (bare text))) n w (with_said forms n w (line_of forms said)) keeps
-    (with_said_keeps forms n w (line_of forms said) keeps (line_of_Says forms said))
+    read_keeps grammar (is_skipped said) (nat_lt LONGEST_LINE (length (bare text))) n w (with_said grammar n w (line_of grammar said)) keeps
+    (with_said_keeps grammar n w (line_of grammar said) keeps (line_of_Says grammar said))
 
 -- all lines
-with_lines_keeps : (forms : Forms) (n : ℕ) (w : Draft) (texts : List (List ℕ)) → Keeps forms w → IfOk (with_lines forms n w texts) (Keeps forms)
-with_lines_keeps forms n w [] keeps = keeps
-with_lines_keeps forms n w (text ∷ texts) keeps =
-    bind_keeps (Keeps forms) (Keeps forms) (with_line forms n w text) (λ more. with_lines forms (n + 1) more texts) (with_line_keeps forms n w text keeps)
-    (λ more kept. with_lines_keeps forms (n + 1) more texts kept)
+with_lines_keeps : (grammar : Grammar) (n : ℕ) (w : Draft) (texts : List (List ℕ)) → Keeps grammar w → IfOk (with_lines grammar n w texts) (Keeps grammar)
+with_lines_keeps grammar n w [] keeps = keeps
+with_lines_keeps grammar n w (text ∷ texts) keeps =
+    bind_keeps (Keeps grammar) (Keeps grammar) (with_line grammar n w text) (λ more. with_lines grammar (n + 1) more texts) (with_line_keeps grammar n w text keeps)
+    (λ more kept. with_lines_keeps grammar (n + 1) more texts kept)
 
-nothing_keeps : (forms : Forms) → Keeps forms nothing
-nothing_keeps forms = record {
+nothing_keeps : (grammar : Grammar) → Keeps grammar nothing
+nothing_keeps grammar = record {
   meets = record { few_sessions = omega arith; few_calls = omega arith; sessions = tt; apart = tt; turns = tt };
   uses = record { first = λ some. absurd (omega arith); further = λ some. absurd (omega arith); calls = tt; turns = λ some. absurd (omega arith) };
 }
 
 -- what both laws say
-record Lawful (forms : Forms) (s : Script) : Type 0 where
+record Lawful (grammar : Grammar) (s : Script) : Type 0 where
   meets : MeetsRules s
-  uses : UsesForms forms s
+  uses : UsesGrammar grammar s
 
-script_with_Lawful : (forms : Forms) (n : ℕ) (text : List ℕ) → IfOk (script_with forms n text) (Lawful forms)
+script_with_Lawful : (grammar : Grammar) (n : ℕ) (text : List ℕ) → IfOk (script_with grammar n text) (Lawful grammar)
 unfolding script_with
-script_with_Lawful forms n text =
-    bind_keeps (Keeps forms) (Lawful forms) (with_lines forms n nothing (raw_lines text)) (λ w. Ok (script_in w))
-    (with_lines_keeps forms n nothing (raw_lines text) (nothing_keeps forms)) (λ w keeps. record { meets = keeps.meets; uses = keeps.uses })
+script_with_Lawful grammar n text =
+    bind_keeps (Keeps grammar) (Lawful grammar) (with_lines grammar n nothing (raw_lines text)) (λ w. Ok (script_in w))
+    (with_lines_keeps grammar n nothing (raw_lines text) (nothing_keeps grammar)) (λ w keeps. record { meets = keeps.meets; uses = keeps.uses })
 
 -- a script that is read meets the rules
-pub read_script_meets : (forms : Forms) (n : ℕ) (text : List ℕ) (s : Script) → script_with forms n text ≡ Ok s → MeetsRules s
-read_script_meets forms n text s e = (subst (λ (r : Result Script ScriptFault). IfOk r (Lawful forms)) e (script_with_Lawful forms n text)).meets
+pub read_script_meets : (grammar : Grammar) (n : ℕ) (text : List ℕ) (s : Script) → script_with grammar n text ≡ Ok s → MeetsRules s
+read_script_meets grammar n text s e = (subst (λ (r : Result Script ScriptFault). IfOk r (Lawful grammar)) e (script_with_Lawful grammar n text)).meets
 
 -- and uses accepted forms alone
-pub read_script_uses : (forms : Forms) (n : ℕ) (text : List ℕ) (s : Script) → script_with forms n text ≡ Ok s → UsesForms forms s
-read_script_uses forms n text s e = (subst (λ (r : Result Script ScriptFault). IfOk r (Lawful forms)) e (script_with_Lawful forms n text)).uses
+pub read_script_uses : (grammar : Grammar) (n : ℕ) (text : List ℕ) (s : Script) → script_with grammar n text ≡ Ok s → UsesGrammar grammar s
+read_script_uses grammar n text s e = (subst (λ (r : Result Script ScriptFault). IfOk r (Lawful grammar)) e (script_with_Lawful grammar n text)).uses

@@ -4,7 +4,7 @@ use Rattle.std.specs.Prelude.{filter_map, ◌==◌, if◌then◌else◌}
 use Rattle.std.specs.List.{list_all}
 use Rattle.std.proofs.lemmas.Bool.{cases_Bool}
 use Rattle.std.proofs.lemmas.Bool.Decides.{nat_tests}
-use Rattle.cm_document.specs.LineForms.{behind, is_signed, name_word, switch_in}
+use Rattle.cm_document.specs.LineGrammar.{behind, is_signed, name_word, switch_in}
 
 -- These names were read from the front of a text's words, and these words are left.
 pub record Switched (on off left text : List (List ℕ)) : Type 0 where

@@ -4,7 +4,7 @@ ghost use Rattle.std.specs.Prelude.{◌≡◌, Ok, option_map};
 ghost use Rattle.std.specs.Option.{option_and_then};
 ghost use Rattle.sequence.specs.Answers.{Answers};
 ghost use Rattle.cm_document.specs.Lines.{words};
-ghost use Rattle.cm_document.specs.LineForms.{name_word, whole_word, rate_in, send_in, hardware_in};
+ghost use Rattle.cm_document.specs.LineGrammar.{name_word, whole_word, rate_in, send_in, hardware_in};
 ghost use Rattle.cm_document.specs.declared.call.Call.TheVariants as call;
 ghost use Rattle.script_text.specs.FewWords.{only};
 ghost use Rattle.script_text.specs.SwitchWords.{switch_words};
@@ -28,7 +28,7 @@ pub fn one_name(alloc: Global, rest: &[u8]) -> Result<Option<Name>, ScriptFault>
 }
 
 /// `rate NAME HZ`, of at most the highest rate.
-#[tactic(auto, using(crate::proofs::FormLemmas::rate_pair))]
+#[tactic(auto, using(crate::proofs::GrammarLemmas::rate_pair))]
 pub fn rate(alloc: Global, rest: &[u8]) -> Result<Option<Call>, ScriptFault>
     ensures { Answers ScriptFault.Memory (Ok (rate_in (words rest.now))) result }
 {
@@ -68,7 +68,7 @@ pub fn switched(alloc: Global, rest: &[u8]) -> Result<Option<Call>, ScriptFault>
 }
 
 /// `hw NAME STATE`.
-#[tactic(auto, using(crate::proofs::FormLemmas::hardware_pair))]
+#[tactic(auto, using(crate::proofs::GrammarLemmas::hardware_pair))]
 pub fn hardware(alloc: Global, rest: &[u8]) -> Result<Option<Call>, ScriptFault>
     ensures { Answers ScriptFault.Memory (Ok (hardware_in (words rest.now))) result }
 {

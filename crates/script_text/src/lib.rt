@@ -1,5 +1,5 @@
 //! Scripts as text, both ways: the script that a text is, or its first bad line; and a script in its one spelling, which reads back.
-//! What each form says and which rules hold stands in `cm_document`, in `LineForms`, `ScriptRules` and `ScriptLaws`.
+//! What each line says and which rules hold stands in `cm_document`, in `LineGrammar`, `ScriptRules` and `ScriptLaws`.
 #![tactic(auto)]
 
 pub use lines::{bare_line, first_line};
@@ -7,7 +7,7 @@ pub use print::print_script;
 pub use reading::{read_script, read_script_with};
 
 mod calls;
-mod forms;
+mod grammar;
 pub mod laws;
 mod limits;
 mod lines;

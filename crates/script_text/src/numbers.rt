@@ -5,7 +5,7 @@ ghost use Rattle.std.specs.List.{list_all};
 ghost use Rattle.std.specs.Char.{is_ascii_digit};
 ghost use Rattle.std.specs.Str.Parse.{digits_value};
 ghost use Rattle.cm_document.specs.declared.limits.TheConstants.{MOST_DIGITS};
-ghost use Rattle.cm_document.specs.LineForms.{whole_word, at_most, value_word, is_time, time_word};
+ghost use Rattle.cm_document.specs.LineGrammar.{whole_word, at_most, value_word, is_time, time_word};
 
 use cm_document::{Fx, MOST_DIGITS};
 

@@ -10,7 +10,7 @@ ghost use Rattle.cm_document.specs.ScriptRules.{nothing, script_in, with_session
 use crate::limits::call_fits;
 use crate::rules::sessions::calling_last;
 use cm_document::{
-    Call, Forms, MOST_CALLS, MOST_SESSIONS, Name, Script, ScriptFault, ScriptLine, Seq,
+    Call, Grammar, MOST_CALLS, MOST_SESSIONS, Name, Script, ScriptFault, ScriptLine, Seq,
     SessionText, Turn,
 };
 use std::alloc::Global;
@@ -55,15 +55,15 @@ impl Draft {
     pub fn with_said(
         self,
         alloc: Global,
-        forms: Forms,
+        grammar: Grammar,
         line: u32,
         said: Option<ScriptLine>,
     ) -> Result<Draft, ScriptFault>
-        ensures { Answers ScriptFault.Memory (with_said forms line self said) result }
+        ensures { Answers ScriptFault.Memory (with_said grammar line self said) result }
     {
         match said {
             None => Err(ScriptFault::BadLine(line)),
-            Some(ScriptLine::Session(name)) => self.with_session(alloc, forms, line, name),
+            Some(ScriptLine::Session(name)) => self.with_session(alloc, grammar, line, name),
             Some(ScriptLine::Call(call)) => self.with_call(line, call),
             Some(ScriptLine::Schedule) => self.with_schedule(alloc, line),
             Some(ScriptLine::Step(name)) => self.with_step(line, &name),
@@ -77,13 +77,13 @@ impl Draft {
     fn with_session(
         self,
         alloc: Global,
-        forms: Forms,
+        grammar: Grammar,
         line: u32,
         name: Name,
     ) -> Result<Draft, ScriptFault>
-        ensures { Answers ScriptFault.Memory (with_session forms line self name) result }
+        ensures { Answers ScriptFault.Memory (with_session grammar line self name) result }
     {
-        if !self.is_session_line(forms, &name) {
+        if !self.is_session_line(grammar, &name) {
             return Err(ScriptFault::BadLine(line));
         }
         if self.sessions.as_slice().len() >= MOST_SESSIONS {

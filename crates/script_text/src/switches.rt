@@ -3,7 +3,7 @@
 ghost use Rattle.std.specs.Prelude.{◌≡◌, Some, Ok};
 ghost use Rattle.sequence.specs.Answers.{Answers};
 ghost use Rattle.cm_document.specs.Lines.{words};
-ghost use Rattle.cm_document.specs.LineForms.{name_word, behind, switch_in};
+ghost use Rattle.cm_document.specs.LineGrammar.{name_word, behind, switch_in};
 
 use crate::words::next_word;
 use cm_document::{Name, NameFault, ScriptFault, Seq, SwitchRequest};

@@ -2,9 +2,9 @@
 
 ghost use Rattle.std.specs.Prelude.{◌≡◌};
 ghost use Rattle.cm_document.specs.Vocabulary.{listed, lives, strictnesses, verbs};
-ghost use Rattle.cm_document.specs.LineForms.{lists};
+ghost use Rattle.cm_document.specs.LineGrammar.{lists};
 
-use cm_document::{Call, Forms, LIVES, Life, STRICTNESSES, VERBS, Verb, meaning_of};
+use cm_document::{Call, Grammar, LIVES, Life, STRICTNESSES, VERBS, Verb, meaning_of};
 
 /// What this word says as the first of a line.
 pub fn verb(word: &[u8]) -> Option<Verb>
@@ -28,15 +28,15 @@ pub fn strictness(word: &[u8]) -> Option<bool>
 }
 
 /// The list of this word, and whether its form is accepted.
-pub fn list(forms: Forms, word: &[u8]) -> Option<(bool, Call)>
-    ensures { result ≡ listed (lists forms) word.now }
+pub fn list(grammar: Grammar, word: &[u8]) -> Option<(bool, Call)>
+    ensures { result ≡ listed (lists grammar) word.now }
 {
     if word == b"controllers".as_slice() {
-        Some((forms.list_controllers, Call::ListControllers))
+        Some((grammar.list_controllers, Call::ListControllers))
     } else if word == b"interfaces".as_slice() {
-        Some((forms.list_interfaces, Call::ListInterfaces))
+        Some((grammar.list_interfaces, Call::ListInterfaces))
     } else if word == b"components".as_slice() {
-        Some((forms.list_components, Call::ListComponents))
+        Some((grammar.list_components, Call::ListComponents))
     } else {
         None
     }

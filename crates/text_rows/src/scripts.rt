@@ -6,7 +6,7 @@ mod printed;
 mod sessions;
 
 use crate::pages::{Teller, hold, hold_lines};
-use cm_document::{Script, ScriptFault, SessionText, Turn, every_form};
+use cm_document::{Script, ScriptFault, SessionText, Turn, whole_grammar};
 use lines::{BYTES, CALLS_ON_NAMES, POINTS, SWITCHES, VALUES, WHOLE_NUMBERS};
 use long::{CALLS_AND_TURNS, LONG_LINES, SIZES_OF_CALLS};
 use printed::PRINTED;
@@ -26,7 +26,7 @@ fn read_every_form(alloc: Global, text: &str) -> Result<Result<Script, ScriptFau
     if bytes.len() > LONGEST {
         return Err(Fail::new("a text too long"));
     }
-    Ok(read_script_with(alloc, every_form(), bytes, 1))
+    Ok(read_script_with(alloc, whole_grammar(), bytes, 1))
 }
 
 /// The same where the forms of today are accepted, and the first line is line 20.

@@ -51,21 +51,21 @@ module _ {E G : Type 0} (caller : E → ℕ) where
   knows_right v w Cycles = omega arith
   knows_right v w Tickets = omega arith
 
-  rest : (v w : View E G) (log : List E) → Agrees caller log (joined v w) → All (λ t. Saw caller log t.0 t.1) (v.told ++ w.told)
+  rest : (v w : View E G) (log : List E) → Agrees caller log (joined v w) → All (λ t. Saw caller log t.0 t.1) (v.absorbed ++ w.absorbed)
   rest v w log a =
       let P = λ (t : List ℕ × List E). Saw caller log t.0 t.1 in
-      All-tail P (w.mine, w.seen) (v.told ++ w.told) (All-tail P (v.mine, v.seen) ((w.mine, w.seen) ∷ (v.told ++ w.told)) a.told)
+      All-tail P (w.mine, w.seen) (v.absorbed ++ w.absorbed) (All-tail P (v.mine, v.seen) ((w.mine, w.seen) ∷ (v.absorbed ++ w.absorbed)) a.absorbed)
 
   pub covers_left : (v w : View E G) → Covers caller (joined v w) v
   covers_left v w = record {
-    agrees = λ log a. record { saw = a.told 0 (v.mine, v.seen) (omega arith); told = all_left (λ t. Saw caller log t.0 t.1) v.told w.told (rest v w log a) };
+    agrees = λ log a. record { saw = a.absorbed 0 (v.mine, v.seen) (omega arith); absorbed = all_left (λ t. Saw caller log t.0 t.1) v.absorbed w.absorbed (rest v w log a) };
     numbers = λ n c. Contains-append_left v.mine w.mine n c;
     knows = knows_left v w;
   }
 
   pub covers_right : (v w : View E G) → Covers caller (joined v w) w
   covers_right v w = record {
-    agrees = λ log a. record { saw = a.told 1 (w.mine, w.seen) (omega arith); told = all_right (λ t. Saw caller log t.0 t.1) v.told w.told (rest v w log a) };
+    agrees = λ log a. record { saw = a.absorbed 1 (w.mine, w.seen) (omega arith); absorbed = all_right (λ t. Saw caller log t.0 t.1) v.absorbed w.absorbed (rest v w log a) };
     numbers = λ n c. Contains-append_right v.mine w.mine n c;
     knows = knows_right v w;
   }

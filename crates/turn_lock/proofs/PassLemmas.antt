@@ -12,7 +12,7 @@ use Rattle.turn_lock.specs.declared.table.Spot.TheVariants.{Home, Counted}
 use Rattle.turn_lock.specs.declared.view.View.{View}
 use Rattle.turn_lock.specs.Stands.{is_emptied, has_slot, is_nil, is_idle, stands}
 use Rattle.turn_lock.specs.Rule.{Ruled}
-use Rattle.turn_lock.specs.Steps.{word_of, drawn, Hit, looked, counts, publishes, loads, passes_on}
+use Rattle.turn_lock.specs.Steps.{atomic_word_of, drawn, Hit, looked, counts, publishes, loads, passes_on}
 use Rattle.turn_lock.specs.Calls.Count.{AddsOne}
 use Rattle.turn_lock.specs.Calls.Put.{IsSettled}
 use Rattle.turn_lock.specs.Calls.Take.{Waits}
@@ -52,13 +52,13 @@ module _ {K E G : Type 0} where
     pub spot : Spot K
     pub slot : me.1 ≡ (0, spot) ∷ []
     pub emptied : is_emptied spot ≡ true
-    pub told : me.0.told ≡ []
+    pub absorbed : me.0.absorbed ≡ []
 
   pub holder : (me : Me (Spot K) (View E G)) → stands me ≡ true → me.0.holds ≡ true → Holder me
   holder me e holds =
-      let b = both (is_nil me.0.told) (cond me.0.holds (has_slot me.1) (is_idle me)) e in
+      let b = both (is_nil me.0.absorbed) (cond me.0.holds (has_slot me.1) (is_idle me)) e in
       let s = slot_is me.1 (subst (λ h. cond h (has_slot me.1) (is_idle me) ≡ true) holds b.1) in
-      record { spot = s.0; slot = s.1; emptied = s.2; told = nil_is me.0.told b.0 }
+      record { spot = s.0; slot = s.1; emptied = s.2; absorbed = nil_is me.0.absorbed b.0 }
 
   -- who does not has no ticket, no slot and no debt
   pub record Idle (me : Me (Spot K) (View E G)) : Type 0 where
@@ -66,16 +66,16 @@ module _ {K E G : Type 0} where
     pub slot : me.1 ≡ []
     pub cycles : me.0.cycles.owes ≡ false
     pub tickets : me.0.tickets.owes ≡ false
-    pub told : me.0.told ≡ []
+    pub absorbed : me.0.absorbed ≡ []
 
   pub idle : (me : Me (Spot K) (View E G)) → stands me ≡ true → me.0.holds ≡ false → Idle me
   idle me e waits =
-      let b = both (is_nil me.0.told) (cond me.0.holds (has_slot me.1) (is_idle me)) e in
+      let b = both (is_nil me.0.absorbed) (cond me.0.holds (has_slot me.1) (is_idle me)) e in
       let i : is_idle me ≡ true = subst (λ h. cond h (has_slot me.1) (is_idle me) ≡ true) waits b.1 in
       let x = both (is_none me.0.number && is_nil me.1 && not me.0.cycles.owes) (not me.0.tickets.owes) i in
       let y = both (is_none me.0.number && is_nil me.1) (not me.0.cycles.owes) x.0 in
       let z = both (is_none me.0.number) (is_nil me.1) y.0 in
-      record { number = none_is me.0.number z.0; slot = nil_is me.1 z.1; cycles = not_true me.0.cycles.owes y.1; tickets = not_true me.0.tickets.owes x.1; told = nil_is me.0.told b.0 }
+      record { number = none_is me.0.number z.0; slot = nil_is me.1 z.1; cycles = not_true me.0.cycles.owes y.1; tickets = not_true me.0.tickets.owes x.1; absorbed = nil_is me.0.absorbed b.0 }
 
   -- the slot can be written, since it is held
   pub slot_held : (me : Me (Spot K) (View E G)) → stands me ≡ true → me.0.holds ≡ true → (old : Spot K) × (me.1 ≡ (0, old) ∷ rest me.1)
@@ -90,19 +90,19 @@ module _ {K E G : Type 0} (m : Ghosts K E G) (footing : G) (seats : ℕ) where
       → Allows (Ruled m footing seats) slots i me 1 (λ n. n) (looked m some_step me)
   looks_waiting slots i me mine w = looks m footing seats slots i me w.ticket w.alive (ap (λ (x : Me (Spot K) (View E G)). x.0.number) w.is) w.waits (ap (λ (x : Me (Spot K) (View E G)). x.1) w.is)
 
-  pub publishes_at : (slots : ℕ) (i : ℕ) (me : Me (Spot K) (View E G)) (which : Shown) (word n : ℕ) → word ≡ word_of which → me.0.holds ≡ true → n ≡ m.shown which me.0.seen
+  pub publishes_at : (slots : ℕ) (i : ℕ) (me : Me (Spot K) (View E G)) (which : Shown) (word n : ℕ) → word ≡ atomic_word_of which → me.0.holds ≡ true → n ≡ m.shown which me.0.seen
       → Allows (Ruled m footing seats) slots i me word (λ _. n) (λ _. publishes (step slots word n 0 none) me n)
   publishes_at slots i me which word n is holds number =
       subst (λ k. Allows (Ruled m footing seats) slots i me k (λ _. n) (λ _. publishes (step slots k n 0 none) me n)) (sym is)
-      (publishes_one m footing seats slots (step slots (word_of which) n 0 none) i me which n refl holds number)
+      (publishes_one m footing seats slots (step slots (atomic_word_of which) n 0 none) i me which n refl holds number)
 
-  pub loads_at : (slots : ℕ) (i : ℕ) (me : Me (Spot K) (View E G)) (which : Shown) (word : ℕ) → word ≡ word_of which
+  pub loads_at : (slots : ℕ) (i : ℕ) (me : Me (Spot K) (View E G)) (which : Shown) (word : ℕ) → word ≡ atomic_word_of which
       → Allows (Ruled m footing seats) slots i me word (λ n. n) (loads m (step slots word 0 0 none) me)
   loads_at slots i me which word is =
       subst (λ k. Allows (Ruled m footing seats) slots i me k (λ n. n) (loads m (step slots k 0 0 none) me)) (sym is)
-      (loads_one m footing seats slots (step slots (word_of which) 0 0 none) i me which refl)
+      (loads_one m footing seats slots (step slots (atomic_word_of which) 0 0 none) i me which refl)
 
-pub word_within : (which : Shown) (word words : ℕ) → word ≡ word_of which → words ≡ 5 → word < words
+pub word_within : (which : Shown) (word words : ℕ) → word ≡ atomic_word_of which → words ≡ 5 → word < words
 word_within Cycles word words is five = omega arith
 word_within Tickets word words is five = omega arith
 
@@ -124,7 +124,7 @@ module _ {K E G : Type 0} {g : Ghosts K E G} (footing : G) (seats : ℕ) where
       let own : Contains (view p).mine (g.caller adds.entry) = subst (λ (l : List ℕ). Contains l (g.caller adds.entry)) (sym p.mine) (0, omega arith, sym adds.caller) in
       let few = adds.room in
       subst (λ (x : Me (Spot K) (View E G)). Allows (Ruled g footing seats) slots i x 2 (λ n. (n + 1) % 2 ^ 64) (counts g some_step x)) (sym is)
-      (counts_one g footing seats slots i (view p, (0, Counted named) ∷ []) named adds.entry refl holds h.told (ap g.entries names ∙ adds.list) own (omega (arith, ap length (ap g.entries names))))
+      (counts_one g footing seats slots i (view p, (0, Counted named) ∷ []) named adds.entry refl holds h.absorbed (ap g.entries names ∙ adds.list) own (omega (arith, ap length (ap g.entries names))))
 
   -- passing on, once the value is home
   pub passes_after : (slots : ℕ) (i : ℕ) (p : TurnPass K E G g) (me : Me (Spot K) (View E G)) (kept : K)

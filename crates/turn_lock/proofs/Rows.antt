@@ -10,7 +10,7 @@ use Rattle.turn_lock.specs.declared.kept.Shown.TheVariants.{Cycles, Tickets}
 use Rattle.turn_lock.specs.declared.table.Spot.{Spot}
 use Rattle.turn_lock.specs.declared.view.View.{View}
 use Rattle.turn_lock.specs.Entries.{of}
-use Rattle.turn_lock.specs.Rule.{words, Ruled}
+use Rattle.turn_lock.specs.Rule.{atomic_words, Ruled}
 use Rattle.turn_lock.specs.Views.{first_view, dealer, dealt, waiting, at_turn, counted, published, loaded, passed_on, joined}
 
 -- a pass that was just made, of this number
@@ -27,7 +27,7 @@ fresh number = record {
   given = None;
   cycles = record { number = 0; owes = false };
   tickets = record { number = 0; owes = false };
-  told = [];
+  absorbed = [];
 }
 
 -- the first pass gives number 1 to a second one, and has given two
@@ -57,7 +57,7 @@ a_load = refl
 
 -- joined, the seat has the longer list and both numbers, and remembers what each had seen
 together : joined (loaded Cycles 2 (fresh 0)) (record (fresh 1) { seen = 0 ∷ 1 ∷ [] })
-    ≡ record (fresh 0) { loads = 1; seen = 0 ∷ 1 ∷ []; mine = 0 ∷ 1 ∷ []; cycles = record { number = 2; owes = false }; told = (0 ∷ [], []) ∷ (1 ∷ [], 0 ∷ 1 ∷ []) ∷ [] }
+    ≡ record (fresh 0) { loads = 1; seen = 0 ∷ 1 ∷ []; mine = 0 ∷ 1 ∷ []; cycles = record { number = 2; owes = false }; absorbed = (0 ∷ [], []) ∷ (1 ∷ [], 0 ∷ 1 ∷ []) ∷ [] }
 unfolding fresh
 together = refl
 
@@ -66,7 +66,7 @@ entries_of_one : of (λ (e : ℕ). e) 1 (0 ∷ 1 ∷ 0 ∷ 1 ∷ []) ≡ 1 ∷ 1
 entries_of_one = refl
 
 -- ticket 2 ^ 64 + 3 is drawn next, and 2 ^ 64 - 1 is served: the words wrap, the tickets do not
-wrapped : words {E = ℕ} (record { ticket = 18446744073709551619; serving = 18446744073709551615; given = 8; log = 0 ∷ 1 ∷ []; cycles = 1; tickets = 0 }) ≡ 3 ∷ 18446744073709551615 ∷ 2 ∷ 1 ∷ 0 ∷ []
+wrapped : atomic_words {E = ℕ} (record { ticket = 18446744073709551619; serving = 18446744073709551615; given = 8; log = 0 ∷ 1 ∷ []; cycles = 1; tickets = 0 }) ≡ 3 ∷ 18446744073709551615 ∷ 2 ∷ 1 ∷ 0 ∷ []
 wrapped = refl
 
 -- no two seats hold the turn

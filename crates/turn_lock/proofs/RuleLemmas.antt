@@ -13,7 +13,7 @@ use Rattle.turn_lock.specs.declared.view.View.{View}
 use Rattle.turn_lock.specs.declared.kept.Kept.{Ghosts}
 use Rattle.turn_lock.specs.Entries.{of}
 use Rattle.turn_lock.specs.Views.{known}
-use Rattle.turn_lock.specs.Rule.{Standing, words, value, out, living, Saw, Told, Posted, Apart, Fits, IsHome, IsOut, Ruled}
+use Rattle.turn_lock.specs.Rule.{Standing, atomic_words, value, out, living, Saw, Absorbed, Posted, Apart, Fits, IsHome, IsOut, Ruled}
 use Rattle.turn_lock.proofs.ListLemmas.{at_get, sum_set, every_set, pairs_set, snoc_at}
 
 pub some_none : {C : Type 0} (a : Option ℕ) (n : ℕ) → a ≡ None → a ≡ Some n → C
@@ -34,7 +34,7 @@ module _ {K E G : Type 0} (m : Ghosts K E G) (footing : G) (seats : ℕ) where
   -- the seat i goes from v to w, and with it the words, the slot and where the lock stands
   unfoldable pub change : (s : State (Spot K) (View E G)) (r : Ruled m footing seats s) (i : ℕ) (v w : View E G) → get_elem? s.views i ≡ some v
       → (ws : List ℕ) (hs : List (Maybe (Spot K))) (t : Standing E)
-      → ws ≡ words t
+      → ws ≡ atomic_words t
       → out w + t.serving + r.at.ticket ≡ out v + t.ticket + r.at.serving
       → living w ≤ living v
       → (r.at.given ≤ t.given) × (t.given ≤ seats)
@@ -105,7 +105,7 @@ module _ {K E G : Type 0} (m : Ghosts K E G) (footing : G) (seats : ℕ) where
     within = within;
     turn = turn;
     saw = f.saw;
-    told = f.told;
+    absorbed = f.absorbed;
     ground_is = f.ground_is;
     given = f.given;
     owner = f.owner;
@@ -115,17 +115,17 @@ module _ {K E G : Type 0} (m : Ghosts K E G) (footing : G) (seats : ℕ) where
 
   -- a seat without a ticket
   pub idle_fits : (homes : List (Maybe (Spot K))) (t : Standing E) (v : View E G) → v.number ≡ None → v.holds ≡ false
-      → Saw m.caller t.log v.mine v.seen → All (Told m.caller t.log v.mine) v.told → (v.alive ≡ true → v.footing ≡ Some footing)
+      → Saw m.caller t.log v.mine v.seen → All (Absorbed m.caller t.log v.mine) v.absorbed → (v.alive ≡ true → v.footing ≡ Some footing)
       → ((n : ℕ) → Contains v.mine n → n < t.given) → (v.alive ≡ true → (n : ℕ) × Contains v.mine n) → ((k : ℕ) → v.given ≡ Some k → k ≡ t.given)
       → ((which : Shown) → Posted (value which t) (m.shown which) (known which v) v.holds v.seen)
       → Fits m footing homes t v
-  idle_fits homes t v idle waits saw told ground_is given owner counts posted =
+  idle_fits homes t v idle waits saw absorbed ground_is given owner counts posted =
       let none : out v ≡ 0 = rw idle in record {
         one = omega arith;
         within = λ n e. some_none v.number n idle e;
         turn = λ h. absurd (true≢false (sym h ∙ waits));
         saw = saw;
-        told = told;
+        absorbed = absorbed;
         ground_is = ground_is;
         given = given;
         owner = owner;

@@ -18,7 +18,7 @@ use Rattle.turn_lock.specs.declared.view.View.{View}
 use Rattle.turn_lock.specs.declared.kept.Kept.{Ghosts}
 use Rattle.turn_lock.specs.Entries.{of, pick}
 use Rattle.turn_lock.specs.Views.{known, first_view, dealer, dealt, joined, spent, better, longer, either_count}
-use Rattle.turn_lock.specs.Rule.{Standing, value, out, living, Saw, Told, Posted, Apart, Fits, IsHome, IsOut, Ruled}
+use Rattle.turn_lock.specs.Rule.{Standing, value, out, living, Saw, Absorbed, Posted, Apart, Fits, IsHome, IsOut, Ruled}
 use Rattle.turn_lock.specs.Calls.Finish.{Ends}
 use Rattle.turn_lock.proofs.ListLemmas.{sum_set, every_set, prefix_same, of_none, of_between, longer_is, only, nothing}
 use Rattle.turn_lock.proofs.RuleLemmas.{some_none, same_number, change, slot_kept, idle_fits, enter}
@@ -105,7 +105,7 @@ module _ {K E G : Type 0} (m : Ghosts K E G) (footing : G) (seats : ℕ) where
         within = f.within;
         turn = f.turn;
         saw = f.saw;
-        told = f.told;
+        absorbed = f.absorbed;
         ground_is = f.ground_is;
         given = λ n c. let b = f.given n c in omega arith;
         owner = f.owner;
@@ -118,7 +118,7 @@ module _ {K E G : Type 0} (m : Ghosts K E G) (footing : G) (seats : ℕ) where
           within = g.within;
           turn = g.turn;
           saw = g.saw;
-          told = g.told;
+          absorbed = g.absorbed;
           ground_is = g.ground_is;
           given = λ n c. let b = g.given n c in omega arith;
           owner = g.owner;
@@ -198,19 +198,19 @@ module _ {K E G : Type 0} (m : Ghosts K E G) (footing : G) (seats : ℕ) where
   either_apart None b c k l left right e h = right k l e h
   either_apart (Some j) b c k l left right e h = left k l e h
 
-  told_more : (log : List E) (mine more : List ℕ) (told : List (List ℕ × List E)) → ((n : ℕ) → Contains mine n → Contains more n) → All (Told m.caller log mine) told → All (Told m.caller log more) told
-  told_more log mine more told each all = λ k d lt. let x = all k d lt in record { saw = x.saw; within = λ n c. each n (x.within n c) }
+  absorbed_more : (log : List E) (mine more : List ℕ) (absorbed : List (List ℕ × List E)) → ((n : ℕ) → Contains mine n → Contains more n) → All (Absorbed m.caller log mine) absorbed → All (Absorbed m.caller log more) absorbed
+  absorbed_more log mine more absorbed each all = λ k d lt. let x = all k d lt in record { saw = x.saw; within = λ n c. each n (x.within n c) }
 
   -- what is told of both is so: what each has seen, and what each was told
-  told_joined : (log : List E) (v w : View E G) → Saw m.caller log v.mine v.seen → Saw m.caller log w.mine w.seen → All (Told m.caller log v.mine) v.told → All (Told m.caller log w.mine) w.told
-      → All (Told m.caller log (joined v w).mine) (joined v w).told
-  told_joined log v w saw saw' told told' =
-      let P = Told m.caller log (v.mine ++ w.mine) in
+  absorbed_joined : (log : List E) (v w : View E G) → Saw m.caller log v.mine v.seen → Saw m.caller log w.mine w.seen → All (Absorbed m.caller log v.mine) v.absorbed → All (Absorbed m.caller log w.mine) w.absorbed
+      → All (Absorbed m.caller log (joined v w).mine) (joined v w).absorbed
+  absorbed_joined log v w saw saw' absorbed absorbed' =
+      let P = Absorbed m.caller log (v.mine ++ w.mine) in
       let left = λ (n : ℕ) (c : Contains v.mine n). Contains-append_left v.mine w.mine n c in
       let right = λ (n : ℕ) (c : Contains w.mine n). Contains-append_right v.mine w.mine n c in
-      All-cons P (v.mine, v.seen) ((w.mine, w.seen) ∷ (v.told ++ w.told)) (record { saw = saw; within = left }) (
-      All-cons P (w.mine, w.seen) (v.told ++ w.told) (record { saw = saw'; within = right }) (
-      All-append P v.told w.told (told_more log v.mine (v.mine ++ w.mine) v.told left told) (told_more log w.mine (v.mine ++ w.mine) w.told right told')
+      All-cons P (v.mine, v.seen) ((w.mine, w.seen) ∷ (v.absorbed ++ w.absorbed)) (record { saw = saw; within = left }) (
+      All-cons P (w.mine, w.seen) (v.absorbed ++ w.absorbed) (record { saw = saw'; within = right }) (
+      All-append P v.absorbed w.absorbed (absorbed_more log v.mine (v.mine ++ w.mine) v.absorbed left absorbed) (absorbed_more log w.mine (v.mine ++ w.mine) w.absorbed right absorbed')
       )
       )
 
@@ -263,7 +263,7 @@ module _ {K E G : Type 0} (m : Ghosts K E G) (footing : G) (seats : ℕ) where
             (λ (x : Contains w.mine n). own_longer' n v.seen w.seen log f.saw.begins g.saw.begins (g.saw.own n x))
             (Contains-append_cases v.mine w.mine n c);
       })
-      (told_joined log v w f.saw g.saw f.told g.told)
+      (absorbed_joined log v w f.saw g.saw f.absorbed g.absorbed)
       (λ h. f.ground_is alive)
       (λ n c. ⊎_elim (λ (x : Contains v.mine n). f.given n x) (λ (x : Contains w.mine n). g.given n x) (Contains-append_cases v.mine w.mine n c))
       (λ h. let o = f.owner alive in (o.0, Contains-append_left v.mine w.mine o.0 o.1))
@@ -323,7 +323,7 @@ module _ {K E G : Type 0} (m : Ghosts K E G) (footing : G) (seats : ℕ) where
         record {
           agrees = record {
             saw = subst (λ l. Saw m.caller l v.mine v.seen) (sym list) f.saw;
-            told = subst (λ l. All (λ t. Saw m.caller l t.0 t.1) v.told) (sym list) (λ k d lt. (f.told k d lt).saw);
+            absorbed = subst (λ l. All (λ t. Saw m.caller l t.0 t.1) v.absorbed) (sym list) (λ k d lt. (f.absorbed k d lt).saw);
           };
           ground_is = f.ground_is alive ∙ ap Some (sym h.ground_is);
           knows = λ which. let k = (f.posted which).knows in let p = r.published which in let same = ap (m.shown which) list in omega arith;

@@ -18,8 +18,8 @@ use Rattle.turn_lock.specs.declared.view.View.{View}
 use Rattle.turn_lock.specs.declared.kept.Kept.{Ghosts}
 use Rattle.turn_lock.specs.Entries.{of}
 use Rattle.turn_lock.specs.Views.{known, waiting, at_turn, counted, published, loaded, passed_on}
-use Rattle.turn_lock.specs.Rule.{Standing, words, value, with_value, out, living, Saw, Told, Posted, IsHome, IsOut, Ruled}
-use Rattle.turn_lock.specs.Steps.{word_of, drawn, looked, counts, publishes, Loads, loads, passes_on}
+use Rattle.turn_lock.specs.Rule.{Standing, atomic_words, value, with_value, out, living, Saw, Absorbed, Posted, IsHome, IsOut, Ruled}
+use Rattle.turn_lock.specs.Steps.{atomic_word_of, drawn, looked, counts, publishes, Loads, loads, passes_on}
 use Rattle.turn_lock.proofs.ListLemmas.{at_get, sum_le, prefix_same, prefix_more, of_other}
 use Rattle.turn_lock.proofs.RuleLemmas.{some_none, same_number, change, slot_kept, still_fits, idle_fits, others_wait}
 
@@ -30,28 +30,28 @@ some_step = step 0 0 0 0 none
 -- ---- The words after a step
 
 module _ {E : Type 0} where
-  draw_words : (ws : List ℕ) (t : Standing E) → ws ≡ words t → set ws 0 ((get_or ws 0 0 + 1) % 2 ^ 64) ≡ words (record t { ticket = t.ticket + 1 })
+  draw_words : (ws : List ℕ) (t : Standing E) → ws ≡ atomic_words t → set ws 0 ((get_or ws 0 0 + 1) % 2 ^ 64) ≡ atomic_words (record t { ticket = t.ticket + 1 })
   draw_words ws t e = rw e (ap (λ n. n ∷ t.serving % 2 ^ 64 ∷ length t.log ∷ t.cycles ∷ t.tickets ∷ []) (mod-add-mod t.ticket (2 ^ 64) 1))
 
-  pass_words : (ws : List ℕ) (t : Standing E) → ws ≡ words t → set ws 1 ((get_or ws 1 0 + 1) % 2 ^ 64) ≡ words (record t { serving = t.serving + 1 })
+  pass_words : (ws : List ℕ) (t : Standing E) → ws ≡ atomic_words t → set ws 1 ((get_or ws 1 0 + 1) % 2 ^ 64) ≡ atomic_words (record t { serving = t.serving + 1 })
   pass_words ws t e = rw e (ap (λ n. t.ticket % 2 ^ 64 ∷ n ∷ length t.log ∷ t.cycles ∷ t.tickets ∷ []) (mod-add-mod t.serving (2 ^ 64) 1))
 
-  count_words : (ws : List ℕ) (t : Standing E) (e : E) (log : List E) → ws ≡ words t → log ≡ t.log ++ e ∷ [] → length log < 2 ^ 64
-      → set ws 2 ((get_or ws 2 0 + 1) % 2 ^ 64) ≡ words (record t { log = log })
+  count_words : (ws : List ℕ) (t : Standing E) (e : E) (log : List E) → ws ≡ atomic_words t → log ≡ t.log ++ e ∷ [] → length log < 2 ^ 64
+      → set ws 2 ((get_or ws 2 0 + 1) % 2 ^ 64) ≡ atomic_words (record t { log = log })
   count_words ws t e log is more few =
       let n : length log ≡ length t.log + 1 = ap length more ∙ length-append t.log (e ∷ []) in
       let long : (length t.log + 1) % 2 ^ 64 ≡ length log = mod-eq_of_lt (subst (λ k. k < 2 ^ 64) n few) ∙ sym n in
       rw is (ap (λ k. t.ticket % 2 ^ 64 ∷ t.serving % 2 ^ 64 ∷ k ∷ t.cycles ∷ t.tickets ∷ []) long)
 
-  publish_words : (which : Shown) (ws : List ℕ) (t : Standing E) (n : ℕ) → ws ≡ words t → set ws (word_of which) n ≡ words (with_value which n t)
+  publish_words : (which : Shown) (ws : List ℕ) (t : Standing E) (n : ℕ) → ws ≡ atomic_words t → set ws (atomic_word_of which) n ≡ atomic_words (with_value which n t)
   publish_words Cycles ws t n e = rw e refl
   publish_words Tickets ws t n e = rw e refl
 
-  load_words : (which : Shown) (ws : List ℕ) (t : Standing E) → ws ≡ words t → set ws (word_of which) (get_or ws (word_of which) 0) ≡ words t
+  load_words : (which : Shown) (ws : List ℕ) (t : Standing E) → ws ≡ atomic_words t → set ws (atomic_word_of which) (get_or ws (atomic_word_of which) 0) ≡ atomic_words t
   load_words Cycles ws t e = rw e refl
   load_words Tickets ws t e = rw e refl
 
-  load_finds : (which : Shown) (ws : List ℕ) (t : Standing E) → ws ≡ words t → get_or ws (word_of which) 0 ≡ value which t
+  load_finds : (which : Shown) (ws : List ℕ) (t : Standing E) → ws ≡ atomic_words t → get_or ws (atomic_word_of which) 0 ≡ value which t
   load_finds Cycles ws t e = rw e refl
   load_finds Tickets ws t e = rw e refl
 
@@ -73,7 +73,7 @@ module _ {E : Type 0} where
   value_within Tickets Tickets t n most old new = new
 
 -- the word tells which of the two it is
-same_word : (which each : Shown) → word_of which ≡ word_of each → which ≡ each
+same_word : (which each : Shown) → atomic_word_of which ≡ atomic_word_of each → which ≡ each
 same_word Cycles Cycles e = refl
 same_word Cycles Tickets e = absurd (omega arith)
 same_word Tickets Cycles e = absurd (omega arith)
@@ -156,7 +156,7 @@ module _ {K E G : Type 0} (m : Ghosts K E G) (footing : G) (seats : ℕ) where
               within = λ n e. let same : r.at.ticket ≡ n = cc in (omega arith, omega arith);
               turn = λ h. absurd (holds_not h);
               saw = f.saw;
-              told = f.told;
+              absorbed = f.absorbed;
               ground_is = f.ground_is;
               given = f.given;
               owner = f.owner;
@@ -193,7 +193,7 @@ module _ {K E G : Type 0} (m : Ghosts K E G) (footing : G) (seats : ℕ) where
       let v = me.0 in
       let f = r.fits i v at in
       let found : get_or s.words 1 0 ≡ r.at.serving % 2 ^ 64 = ap (λ ws. get_or ws 1 0) r.words_are in
-      let same_words : set s.words 1 (get_or s.words 1 0) ≡ words r.at = rw r.words_are refl in
+      let same_words : set s.words 1 (get_or s.words 1 0) ≡ atomic_words r.at = rw r.words_are refl in
       let within = f.within ticket mine in
       dite (ℕ_discrete (get_or s.words 1 0) (ticket % 2 ^ 64))
       (λ hit.
@@ -218,7 +218,7 @@ module _ {K E G : Type 0} (m : Ghosts K E G) (footing : G) (seats : ℕ) where
               within = f.within;
               turn = λ _. (mine', list, gone);
               saw = record { begins = subst (λ l. IsPrefix l r.at.log) (sym list) (prefix_same r.at.log); own = λ n c. ap (of m.caller n) list };
-              told = f.told;
+              absorbed = f.absorbed;
               ground_is = f.ground_is;
               given = f.given;
               owner = f.owner;
@@ -276,10 +276,10 @@ module _ {K E G : Type 0} (m : Ghosts K E G) (footing : G) (seats : ℕ) where
   }
 
   pub counts_one : (slots : ℕ) (i : ℕ) (me : Me (Spot K) (View E G)) (named : Snapshot K) (e : E)
-      → me.1 ≡ (0, Counted named) ∷ [] → me.0.holds ≡ true → me.0.told ≡ []
+      → me.1 ≡ (0, Counted named) ∷ [] → me.0.holds ≡ true → me.0.absorbed ≡ []
       → m.entries named.value ≡ me.0.seen ++ e ∷ [] → Contains me.0.mine (m.caller e) → length (m.entries named.value) < 2 ^ 64
       → Allows (Ruled m footing seats) slots i me 2 (λ n. (n + 1) % 2 ^ 64) (counts m some_step me)
-  counts_one slots i me named e has holds told more own few s r long at small =
+  counts_one slots i me named e has holds absorbed more own few s r long at small =
       let v = me.0 in
       let f = r.fits i v at in
       let turn = f.turn holds in
@@ -305,7 +305,7 @@ module _ {K E G : Type 0} (m : Ghosts K E G) (footing : G) (seats : ℕ) where
               within = f.within;
               turn = λ h. (turn.0, refl, turn.2);
               saw = record { begins = prefix_same now; own = λ n c. refl };
-              told = subst (All (Told m.caller now v.mine)) (sym told) (λ k d lt. absurd (omega arith));
+              absorbed = subst (All (Absorbed m.caller now v.mine)) (sym absorbed) (λ k d lt. absurd (omega arith));
               ground_is = f.ground_is;
               given = f.given;
               owner = f.owner;
@@ -318,7 +318,7 @@ module _ {K E G : Type 0} (m : Ghosts K E G) (footing : G) (seats : ℕ) where
                 within = g.within;
                 turn = λ h. others_wait m footing seats s.homes r.at v u turn.0 a g h;
                 saw = saw_more r.at.log e now u.mine u.seen longer_by (λ n c h. a.numbers n (subst (Contains v.mine) h own) c) g.saw;
-                told = λ k d lt. let x = g.told k d lt in record {
+                absorbed = λ k d lt. let x = g.absorbed k d lt in record {
                   saw = saw_more r.at.log e now _ _ longer_by (λ n c h. a.numbers n (subst (Contains v.mine) h own) (x.within n c)) x.saw;
                   within = x.within;
                 };
@@ -334,9 +334,9 @@ module _ {K E G : Type 0} (m : Ghosts K E G) (footing : G) (seats : ℕ) where
         λ named' has'. let same : named ≡ named' = ap (named_in named) (sym has ∙ has') in ap (λ (x : Snapshot K). (counted (m.entries x.value) v, me.1)) same,
       )
 
-  pub publishes_one : (slots : ℕ) (st : Step (Spot K)) (i : ℕ) (me : Me (Spot K) (View E G)) (which : Shown) (n : ℕ) → st.word ≡ word_of which
+  pub publishes_one : (slots : ℕ) (st : Step (Spot K)) (i : ℕ) (me : Me (Spot K) (View E G)) (which : Shown) (n : ℕ) → st.word ≡ atomic_word_of which
       → me.0.holds ≡ true → n ≡ m.shown which me.0.seen
-      → Allows (Ruled m footing seats) slots i me (word_of which) (λ _. n) (λ _. publishes st me n)
+      → Allows (Ruled m footing seats) slots i me (atomic_word_of which) (λ _. n) (λ _. publishes st me n)
   publishes_one slots st i me which n word holds is s r long at small =
       let v = me.0 in
       let f = r.fits i v at in
@@ -360,7 +360,7 @@ module _ {K E G : Type 0} (m : Ghosts K E G) (footing : G) (seats : ℕ) where
               within = f.within;
               turn = f.turn;
               saw = f.saw;
-              told = f.told;
+              absorbed = f.absorbed;
               ground_is = f.ground_is;
               given = f.given;
               owner = f.owner;
@@ -373,7 +373,7 @@ module _ {K E G : Type 0} (m : Ghosts K E G) (footing : G) (seats : ℕ) where
                 within = g.within;
                 turn = g.turn;
                 saw = g.saw;
-                told = g.told;
+                absorbed = g.absorbed;
                 ground_is = g.ground_is;
                 given = g.given;
                 owner = g.owner;
@@ -390,13 +390,13 @@ module _ {K E G : Type 0} (m : Ghosts K E G) (footing : G) (seats : ℕ) where
         λ each same. ap (λ k. (published k v, me.1)) (same_word which each (sym word ∙ same)),
       )
 
-  pub loads_one : (slots : ℕ) (st : Step (Spot K)) (i : ℕ) (me : Me (Spot K) (View E G)) (which : Shown) → st.word ≡ word_of which
-      → Allows (Ruled m footing seats) slots i me (word_of which) (λ n. n) (loads m st me)
+  pub loads_one : (slots : ℕ) (st : Step (Spot K)) (i : ℕ) (me : Me (Spot K) (View E G)) (which : Shown) → st.word ≡ atomic_word_of which
+      → Allows (Ruled m footing seats) slots i me (atomic_word_of which) (λ n. n) (loads m st me)
   loads_one slots st i me which word s r long at small =
       let v = me.0 in
       let f = r.fits i v at in
       let p = f.posted which in
-      let n = get_or s.words (word_of which) 0 in
+      let n = get_or s.words (atomic_word_of which) 0 in
       let found : n ≡ value which r.at = load_finds which s.words r.at r.words_are in
       let w = loaded which n v in (
         w,
@@ -414,7 +414,7 @@ module _ {K E G : Type 0} (m : Ghosts K E G) (footing : G) (seats : ℕ) where
               within = f.within;
               turn = f.turn;
               saw = f.saw;
-              told = f.told;
+              absorbed = f.absorbed;
               ground_is = f.ground_is;
               given = f.given;
               owner = f.owner;
@@ -449,7 +449,7 @@ module _ {K E G : Type 0} (m : Ghosts K E G) (footing : G) (seats : ℕ) where
             (omega arith, r.most.0)
             r.callers
             r.published
-            (idle_fits m footing seats (homes_after s.homes me.1 gives) t w refl refl f.saw f.told f.ground_is f.given f.owner f.counts
+            (idle_fits m footing seats (homes_after s.homes me.1 gives) t w refl refl f.saw f.absorbed f.ground_is f.given f.owner f.counts
             (λ which. let p = f.posted which in record { knows = p.knows; current = p.current; owes = λ e. absurd (true≢false (sym e ∙ paid which)) }))
             (λ j u apart e a g. (
               still_fits m footing seats s.homes (homes_after s.homes me.1 gives) r.at r.at.ticket (r.at.serving + 1) u g

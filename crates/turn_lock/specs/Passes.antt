@@ -1,4 +1,4 @@
--- The words of the contracts: a pass, what it knows, and its lock.
+-- What the contracts speak of: a pass, what it knows, and its lock.
 use Rattle.std.specs.Prelude.{◌≡◌, ℕ, ◌<◌, true, false, List, length, slice_index_or}
 use Rattle.turn_lock.specs.declared.kept.Kept.{Ghosts}
 use Rattle.turn_lock.specs.declared.lock.TurnLock.{TurnLock}

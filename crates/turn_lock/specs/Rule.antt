@@ -31,19 +31,19 @@ module _ {E : Type 0} where
   with_value which n t = record t { cycles = pick which n t.cycles; tickets = pick which t.tickets n }
 
   -- the words: a ticket's word is its remainder, so tickets may wrap
-  abbrev pub words : Standing E → List ℕ
-  words t = t.ticket % 2 ^ 64 ∷ t.serving % 2 ^ 64 ∷ length t.log ∷ t.cycles ∷ t.tickets ∷ []
+  abbrev pub atomic_words : Standing E → List ℕ
+  atomic_words t = t.ticket % 2 ^ 64 ∷ t.serving % 2 ^ 64 ∷ length t.log ∷ t.cycles ∷ t.tickets ∷ []
 
 module _ {E : Type 0} where
   -- this list was seen by the passes of these numbers: the counted list begins with it, and has no more entries of theirs
   pub record Saw (caller : E → ℕ) (log : List E) (numbers : List ℕ) (seen : List E) : Type 0 where
     pub begins : IsPrefix seen log
-    pub own : (n : ℕ) → Contains numbers n → of caller n seen ≡ of caller n log
+    pub own : (pass : ℕ) → Contains numbers pass → of caller pass seen ≡ of caller pass log
 
   -- the same of a pass that was joined into a seat with these numbers
-  pub record Told (caller : E → ℕ) (log : List E) (mine : List ℕ) (told : List ℕ × List E) : Type 0 where
-    pub saw : Saw caller log told.0 told.1
-    pub within : (n : ℕ) → Contains told.0 n → Contains mine n
+  pub record Absorbed (caller : E → ℕ) (log : List E) (mine : List ℕ) (absorbed : List ℕ × List E) : Type 0 where
+    pub saw : Saw caller log absorbed.0 absorbed.1
+    pub within : (pass : ℕ) → Contains absorbed.0 pass → Contains mine pass
 
   -- What is published is not below what the seat knows, nor below what it has seen, unless it owes this publish; and only the turn's holder owes one
   pub record Posted (published : ℕ) (shown : List E → ℕ) (k : Known) (holds : Bool) (seen : List E) : Type 0 where
@@ -65,8 +65,8 @@ module _ {E G : Type 0} where
 
   -- Two seats have no ticket and no number in common, and do not both keep count of the numbers given
   pub record Apart (v w : View E G) : Type 0 where
-    pub tickets : (n : ℕ) → v.number ≡ Some n → w.number ≡ Some n → ⊥
-    pub numbers : (n : ℕ) → Contains v.mine n → Contains w.mine n → ⊥
+    pub tickets : (ticket : ℕ) → v.number ≡ Some ticket → w.number ≡ Some ticket → ⊥
+    pub numbers : (pass : ℕ) → Contains v.mine pass → Contains w.mine pass → ⊥
     pub counts : (k l : ℕ) → v.given ≡ Some k → w.given ≡ Some l → ⊥
 
 module _ {K E G : Type 0} where
@@ -83,17 +83,17 @@ module _ {K E G : Type 0} (m : Ghosts K E G) (footing : G) where
   pub record Fits (homes : List (Maybe (Spot K))) (t : Standing E) (v : View E G) : Type 0 where
     -- only a pass's seat has a ticket out, at most one, which is from the served one up to the next one
     pub one : out v ≤ living v
-    pub within : (n : ℕ) → v.number ≡ Some n → (t.serving ≤ n) × (n < t.ticket)
+    pub within : (ticket : ℕ) → v.number ≡ Some ticket → (t.serving ≤ ticket) × (ticket < t.ticket)
     -- who holds the turn has the served ticket and has seen the counted list, and the slot is away
     pub turn : v.holds ≡ true → (v.number ≡ Some t.serving) × (v.seen ≡ t.log) × (homes ≡ none ∷ [])
     -- what it has seen, and what those had seen that were joined into it
     pub saw : Saw m.caller t.log v.mine v.seen
-    pub told : All (Told m.caller t.log v.mine) v.told
+    pub absorbed : All (Absorbed m.caller t.log v.mine) v.absorbed
     -- the ground of the lock
     pub ground_is : v.alive ≡ true → v.footing ≡ Some footing
     -- its numbers are given ones, a pass's seat has one, and who keeps count of them is right
-    pub given : (n : ℕ) → Contains v.mine n → n < t.given
-    pub owner : v.alive ≡ true → (n : ℕ) × Contains v.mine n
+    pub given : (pass : ℕ) → Contains v.mine pass → pass < t.given
+    pub owner : v.alive ≡ true → (pass : ℕ) × Contains v.mine pass
     pub counts : (k : ℕ) → v.given ≡ Some k → k ≡ t.given
     pub posted : (which : Shown) → Posted (value which t) (m.shown which) (known which v) v.holds v.seen
 
@@ -108,13 +108,13 @@ module _ {K E G : Type 0} (m : Ghosts K E G) (footing : G) where
   -- the rule, of a lock with so many passes at most
   pub record Ruled (seats : ℕ) (s : State (Spot K) (View E G)) : Type 0 where
     pub at : Standing E
-    pub words_are : s.words ≡ words at
+    pub words_are : s.words ≡ atomic_words at
     -- as many tickets are out as lie from the served one up to the next one, and so few that their remainders differ
     pub as_many : sum_by out s.views + at.serving ≡ at.ticket
     pub few : sum_by living s.views ≤ at.given
     pub most : (at.given ≤ seats) × (seats ≤ MOST_SEATS)
     -- each entry's number is a given one, and nothing is published that the counted list does not have
-    pub callers : (n : ℕ) → at.given ≤ n → of m.caller n at.log ≡ []
+    pub callers : (pass : ℕ) → at.given ≤ pass → of m.caller pass at.log ≡ []
     pub published : (which : Shown) → value which at ≤ m.shown which at.log
     pub fits : (i : ℕ) (v : View E G) → get_elem? s.views i ≡ some v → Fits s.homes at v
     pub apart : (i j : ℕ) (v w : View E G) → i ≢ j → get_elem? s.views i ≡ some v → get_elem? s.views j ≡ some w → Apart v w

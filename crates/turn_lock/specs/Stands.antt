@@ -28,4 +28,4 @@ module _ {K E G : Type 0} where
 
   -- no other pass was joined into it, and it holds the turn or is idle
   abbrev pub stands : Me (Spot K) (View E G) → Bool
-  stands me = is_nil me.0.told && cond me.0.holds (has_slot me.1) (is_idle me)
+  stands me = is_nil me.0.absorbed && cond me.0.holds (has_slot me.1) (is_idle me)

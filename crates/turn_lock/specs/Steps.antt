@@ -13,8 +13,8 @@ use Rattle.turn_lock.specs.Entries.{of, pick}
 use Rattle.turn_lock.specs.Views.{known, waiting, at_turn, counted, published, loaded, passed_on}
 
 -- the word of a published number
-abbrev pub word_of : Shown → ℕ
-word_of which = pick which CYCLES TICKETS
+abbrev pub atomic_word_of : Shown → ℕ
+atomic_word_of which = pick which CYCLES TICKETS
 
 module _ {K E G : Type 0} where
   -- it waits with a ticket, of which it found the remainder
@@ -27,7 +27,7 @@ module _ {K E G : Type 0} where
 
   -- it has published the number of this word
   abbrev pub publishes : Step (Spot K) → Me (Spot K) (View E G) → ℕ → Me (Spot K) (View E G) → Type 0
-  publishes step me found after = (which : Shown) → step.word ≡ word_of which → after ≡ (published which me.0, me.1)
+  publishes step me found after = (which : Shown) → step.word ≡ atomic_word_of which → after ≡ (published which me.0, me.1)
 
   module _ (m : Ghosts K E G) where
     -- it found its ticket, holds the turn, and has this value: the lock's ground, and the counted list, which begins with what it had seen and has no more entries of its own
@@ -35,7 +35,7 @@ module _ {K E G : Type 0} where
       pub kept : K
       pub holds : after ≡ (at_turn (m.entries kept) me.0, (0, Home kept) ∷ [])
       pub begins : IsPrefix me.0.seen (m.entries kept)
-      pub own : (n : ℕ) → Contains me.0.mine n → of m.caller n me.0.seen ≡ of m.caller n (m.entries kept)
+      pub own : (pass : ℕ) → Contains me.0.mine pass → of m.caller pass me.0.seen ≡ of m.caller pass (m.entries kept)
       pub ground_is : me.0.footing ≡ Some (m.footing kept)
 
     -- it holds the turn where it found the remainder of its ticket, else nothing changed
@@ -53,4 +53,4 @@ module _ {K E G : Type 0} where
       pub current : (known which me.0).owes ≡ false → m.shown which me.0.seen ≤ found
 
     abbrev pub loads : Step (Spot K) → Me (Spot K) (View E G) → ℕ → Me (Spot K) (View E G) → Type 0
-    loads step me found after = (which : Shown) → step.word ≡ word_of which → Loads which me found after
+    loads step me found after = (which : Shown) → step.word ≡ atomic_word_of which → Loads which me found after

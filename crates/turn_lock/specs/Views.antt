@@ -51,7 +51,7 @@ module _ {E G : Type 0} where
     given = Some 1;
     cycles = unknown;
     tickets = unknown;
-    told = [];
+    absorbed = [];
   }
 
   -- ---- Steps of one seat
@@ -88,7 +88,7 @@ module _ {E G : Type 0} where
 
   -- and the new seat has that number, has seen what the other has, and has no entries yet
   abbrev pub dealt : View E G → View E G
-  dealt v = record v { turns = 0; loads = 0; mine = if_any v.given; given = None; told = [] }
+  dealt v = record v { turns = 0; loads = 0; mine = if_any v.given; given = None; absorbed = [] }
 
   -- ---- A seat is joined into another
 
@@ -102,7 +102,7 @@ module _ {E G : Type 0} where
     given = either_count v.given w.given;
     cycles = better v.cycles w.cycles;
     tickets = better v.tickets w.tickets;
-    told = (v.mine, v.seen) ∷ (w.mine, w.seen) ∷ (v.told ++ w.told);
+    absorbed = (v.mine, v.seen) ∷ (w.mine, w.seen) ∷ (v.absorbed ++ w.absorbed);
   }
 
   -- a seat that was joined into another
@@ -119,5 +119,5 @@ module _ {E G : Type 0} where
     given = None;
     cycles = unknown;
     tickets = unknown;
-    told = [];
+    absorbed = [];
   }

@@ -1,7 +1,7 @@
 //! The lock as a table of five words and one slot, under the lock's rule.
 
 ghost use Rattle.std.specs.Prelude.{◌≡◌};
-ghost use Rattle.turn_lock.specs.Steps.{word_of};
+ghost use Rattle.turn_lock.specs.Steps.{atomic_word_of};
 
 use crate::kept::{Kept, Shown};
 use crate::view::View;
@@ -45,8 +45,8 @@ pub const TICKETS: usize = 4;
 pub const SLOT: usize = 0;
 
 /// The word of a published number.
-pub fn word_of(which: Shown) -> usize
-    ensures { result ≡ word_of which }
+pub fn atomic_word_of(which: Shown) -> usize
+    ensures { result ≡ atomic_word_of which }
 {
     match which {
         Shown::Cycles => CYCLES,

@@ -11,7 +11,7 @@ use crate::kept::{Kept, Shown};
 use crate::lock::TurnLock;
 use crate::pass::TurnPass;
 use crate::steps::{Counts, Loads, PassesOn, Publishes};
-use crate::table::{HISTORY, SERVING, Spot, TICKET, word_of};
+use crate::table::{HISTORY, SERVING, Spot, TICKET, atomic_word_of};
 use std::snapshot::Snapshot;
 use std::sync::Wait;
 
@@ -46,7 +46,7 @@ impl<K: Kept> TurnLock<K> {
     {
         self.table
             .shared
-            .store::<Publishes>(&mut pass.seat, word_of(which), n);
+            .store::<Publishes>(&mut pass.seat, atomic_word_of(which), n);
     }
 
     /// Puts the value back and passes the turn on. All entries are counted; where this turn counted one, both numbers were
@@ -75,6 +75,6 @@ impl<K: Kept> TurnLock<K> {
     {
         self.table
             .shared
-            .load::<Loads>(&mut pass.seat, word_of(which))
+            .load::<Loads>(&mut pass.seat, atomic_word_of(which))
     }
 }

@@ -33,5 +33,5 @@ pub struct View<E, G> {
     pub cycles: Known,
     pub tickets: Known,
     /// The passes that were joined into it: the numbers of each, beside what that pass had seen.
-    pub told: LinkedList<(LinkedList<u64>, LinkedList<E>)>,
+    pub absorbed: LinkedList<(LinkedList<u64>, LinkedList<E>)>,
 }

@@ -11,22 +11,22 @@ use Rattle.cm_top.specs.declared.status.Status.{Status}
 use Rattle.cm_top.specs.declared.status.Status.TheVariants as status
 
 -- what a source tells: the bytes that are left, and how often it failed
-pub record SourceTold : Type 0 where
+pub record SourceFacts : Type 0 where
   pub left : Option (List ℕ)
   pub faults : ℕ
 
 -- what a sink tells: the bytes taken, how many of them are flushed, and how often it failed
-pub record SinkTold : Type 0 where
+pub record SinkFacts : Type 0 where
   pub taken : Option (List ℕ)
   pub flushed : Option ℕ
   pub faults : ℕ
 
 -- what a source of this kind tells now, and what a sink of this kind does
-abbrev pub source_told : {S : Type 0} → (S → Option (List ℕ)) → (S → ℕ) → S → SourceTold
-source_told left faults source = record { left = left source; faults = faults source }
+abbrev pub source_facts : {S : Type 0} → (S → Option (List ℕ)) → (S → ℕ) → S → SourceFacts
+source_facts left faults source = record { left = left source; faults = faults source }
 
-abbrev pub sink_told : {K : Type 0} → (K → Option (List ℕ)) → (K → Option ℕ) → (K → ℕ) → K → SinkTold
-sink_told taken flushed faults sink = record { taken = taken sink; flushed = flushed sink; faults = faults sink }
+abbrev pub sink_facts : {K : Type 0} → (K → Option (List ℕ)) → (K → Option ℕ) → (K → ℕ) → K → SinkFacts
+sink_facts taken flushed faults sink = record { taken = taken sink; flushed = flushed sink; faults = faults sink }
 
 -- Words that are not accepted, and they alone, are answered so; then nothing was read and nothing written.
 pub record RefusesWords {S K : Type 0} (words : List (List ℕ)) (source source' : S) (sink sink' : K) (ended : Status) : Type 0 where
@@ -35,7 +35,7 @@ pub record RefusesWords {S K : Type 0} (words : List (List ℕ)) (source source'
   pub nothing_written : ended ≡ status.BadWords → sink' ≡ sink
 
 -- A run of these bytes into this sink, before and after, with its status.
-pub record RunsBytes (made : Histories) (blanks : Blanks) (bytes : List ℕ) (sink sink' : SinkTold) (ended : Status) : Type 0 where
+pub record RunsBytes (made : Histories) (blanks : Blanks) (bytes : List ℕ) (sink sink' : SinkFacts) (ended : Status) : Type 0 where
   pub ran : EndedWith made bytes blanks sink.taken sink'.taken sink'.flushed ended
   pub of_bytes : ComesOfBytes ended
   pub plain : IsPlain ended
@@ -43,8 +43,8 @@ pub record RunsBytes (made : Histories) (blanks : Blanks) (bytes : List ℕ) (si
   pub later : sink.faults ≤ sink'.faults
 
 -- A run from this source, before and after, into this sink, before and after, with its status. The job made these histories.
-pub record Runs (made : Histories) (blanks : Blanks) (source source' : SourceTold) (sink sink' : SinkTold) (ended : Status) : Type 0 where
-  -- by the bytes of the source, where they are told
+pub record Runs (made : Histories) (blanks : Blanks) (source source' : SourceFacts) (sink sink' : SinkFacts) (ended : Status) : Type 0 where
+  -- by the bytes of the source, where they are known
   pub ran : IfSome source.left (λ bytes. EndedWith made bytes blanks sink.taken sink'.taken sink'.flushed ended)
   -- the words are none of its business
   pub never_words : ended ≡ status.BadWords → ⊥

@@ -7,27 +7,27 @@ ghost use Rattle.iface_names.specs.Names.{same_name};
 ghost use Rattle.cm_document.specs.ScriptRules.{is_used, session_accepted, is_session_line, then_calling, session_number};
 
 use crate::rules::Draft;
-use cm_document::{Call, Forms, Name, ScriptFault, Seq, SessionText};
+use cm_document::{Call, Grammar, Name, ScriptFault, Seq, SessionText};
 
 impl Draft {
     /// Whether a session of this name may begin: the name is new and not `loop`, and no schedule stands.
-    pub fn is_session_line(&self, forms: Forms, name: &Name) -> bool
-        ensures { result ≡ is_session_line forms self.now name.now }
+    pub fn is_session_line(&self, grammar: Grammar, name: &Name) -> bool
+        ensures { result ≡ is_session_line grammar self.now name.now }
     {
-        self.accepts_session(forms)
+        self.accepts_session(grammar)
             && self.turns.is_none()
             && name.bytes() != b"loop".as_slice()
             && !self.is_used(name)
     }
 
     /// Whether a session's line is accepted, as the first one or as a further one.
-    fn accepts_session(&self, forms: Forms) -> bool
-        ensures { result ≡ session_accepted forms self.now }
+    fn accepts_session(&self, grammar: Grammar) -> bool
+        ensures { result ≡ session_accepted grammar self.now }
     {
         if self.sessions.as_slice().is_empty() {
-            forms.first_session
+            grammar.first_session
         } else {
-            forms.further_session
+            grammar.further_session
         }
     }
 

@@ -15,7 +15,7 @@ module _ {K E G : Type 0} {g : Ghosts K E G} where
   -- These are all passes of the lock, in whatever order, and none holds the turn.
   pub record AreAll (lock : TurnLock K E G) (passes : List (TurnPass K E G g)) : Type 0 where
     pub ready : All (IsReady lock) passes
-    pub all : (n : ℕ) → n < seats_of lock → Contains (map (λ p. p.number) passes) n
+    pub all : (pass : ℕ) → pass < seats_of lock → Contains (map (λ p. p.number) passes) pass
 
 -- The list begins with what the pass had seen, has its entries and no more of its number, and what the pass knows was published of a beginning of it.
 pub record Keeps {K E G : Type 0} {g : Ghosts K E G} (list : List E) (p : TurnPass K E G g) : Type 0 where
@@ -32,15 +32,15 @@ pub record Finishes {K E G : Type 0} {g : Ghosts K E G} (lock : TurnLock K E G) 
 
 -- ---- What its parts promise each other
 
--- what is so of a list by all that this seat has seen, and was told by those that were joined into it
+-- what is so of a list by all that this seat has seen, and by what those had seen that were joined into it
 pub record Agrees {E G : Type 0} (caller : E → ℕ) (log : List E) (v : View E G) : Type 0 where
   pub saw : Saw caller log v.mine v.seen
-  pub told : All (λ t. Saw caller log t.0 t.1) v.told
+  pub absorbed : All (λ t. Saw caller log t.0 t.1) v.absorbed
 
 -- the seat v knows all that w knew
 pub record Covers {E G : Type 0} (caller : E → ℕ) (v w : View E G) : Type 0 where
   pub agrees : (log : List E) → Agrees caller log v → Agrees caller log w
-  pub numbers : (n : ℕ) → Contains w.mine n → Contains v.mine n
+  pub numbers : (pass : ℕ) → Contains w.mine pass → Contains v.mine pass
   pub knows : (which : Shown) → (known which w).number ≤ (known which v).number
 
 -- the value that is home at the end, as the seat that all others were joined into knows it
@@ -48,7 +48,7 @@ pub record Ends {K E G : Type 0} (m : Ghosts K E G) (seats : ℕ) (v : View E G)
   pub agrees : Agrees m.caller (m.entries kept) v
   pub ground_is : v.footing ≡ Some (m.footing kept)
   pub knows : (which : Shown) → (known which v).number ≤ m.shown which (m.entries kept)
-  pub callers : (n : ℕ) → seats ≤ n → of m.caller n (m.entries kept) ≡ []
+  pub callers : (pass : ℕ) → seats ≤ pass → of m.caller pass (m.entries kept) ≡ []
 
 -- One seat that the first pass and all others were joined into.
 pub record Gathered {K E G : Type 0} {g : Ghosts K E G} (v : View E G) (first : TurnPass K E G g) (others : List (TurnPass K E G g)) : Type 0 where

@@ -45,5 +45,5 @@ module _ {K E G : Type 0} where
   pub record Found (m : Ghosts K E G) (old me : Me (Spot K) (View E G)) (kept : K) : Type 0 where
     pub is : me ≡ (at_turn (m.entries kept) old.0, (0, Away) ∷ [])
     pub begins : IsPrefix old.0.seen (m.entries kept)
-    pub own : (n : ℕ) → Contains old.0.mine n → of m.caller n old.0.seen ≡ of m.caller n (m.entries kept)
+    pub own : (pass : ℕ) → Contains old.0.mine pass → of m.caller pass old.0.seen ≡ of m.caller pass (m.entries kept)
     pub ground_is : old.0.footing ≡ Some (m.footing kept)

@@ -4,5 +4,5 @@ use Rattle.cm_top.proofs.laws.accepted_scripts_meet_the_rules.Goals as goal
 pub returns-clause-rules : goal.returns-clause-rules
 returns-clause-rules c = λ bytes d accepted. (document-Rules bytes d accepted).0
 
-pub returns-clause-forms : goal.returns-clause-forms
-returns-clause-forms c = λ bytes d accepted. (document-Rules bytes d accepted).1
+pub returns-clause-grammar : goal.returns-clause-grammar
+returns-clause-grammar c = λ bytes d accepted. (document-Rules bytes d accepted).1

@@ -1,6 +1,6 @@
 use Rattle.std.proofs.Common.{map, ap, sym, ◌∙◌}
 use Rattle.fixed_num.specs.declared.value.Value.TheVariants.{Num}
-use Rattle.ctl_traj.proofs.LineLemmas.{led_at_end, led_before_end}
+use Rattle.ctl_traj.proofs.SegmentLemmas.{led_at_end, led_before_end}
 use Rattle.ctl_traj.proofs.lead.lead.Goals as goal
 
 pub returns-in-Some : goal.returns-in-Some

@@ -6,8 +6,8 @@ use Rattle.std.proofs.lemmas.Slice.Zip.{get_or-zip, length-zip}
 use lib.Seq.{paste}
 use Rattle.fixed_num.specs.declared.value.Value.{Value}
 use Rattle.fixed_num.specs.declared.value.Value.TheVariants.{Num}
-use Rattle.cm_model.specs.Ways.{on_line, towards}
-use Rattle.ctl_traj.proofs.LineLemmas.{length_towards}
+use Rattle.cm_model.specs.Ways.{on_segment, towards}
+use Rattle.ctl_traj.proofs.SegmentLemmas.{length_towards}
 use Rattle.ctl_traj.proofs.lead.lead_towards.Goals as goal
 
 pub loop-i-preserved : goal.loop-i-preserved
@@ -17,7 +17,7 @@ loop-i-preserved c =
     let to = c.args.point.now.values in
     let x = c.index-from-i.result in
     let y = c.index-to-i.result in
-    let f = on_line c.args.t c.args.t0 c.args.point.now.at_us in
+    let f = on_segment c.args.t c.args.t0 c.args.point.now.at_us in
     let lines = map f (zip from to) in
     let values = map Num lines in
     let v : ℤ = f (x, y) in
@@ -34,7 +34,7 @@ loop-i-preserved c =
     let written : set (paste c.args.outs.now 0 values i) (0 + i) (get_or values i (Num v)) ≡ paste c.args.outs.now 0 values (i + 1) =
     paste_more c.args.outs.now 0 values i (Num v) (omega (arith, c.loop-i-test.true)) (omega (arith, in_lines, long)) in
     let from_0 : i ≡ 0 + i = omega arith in
-    ap (λ (z : ℤ). set c.loop-i.outs i (Num z)) c.on_line.ensures
+    ap (λ (z : ℤ). set c.loop-i.outs i (Num z)) c.on_segment.ensures
     ∙ ap (λ l. set l i (Num v)) c.loop-i.invariant
     ∙ ap (λ k. set (paste c.args.outs.now 0 values i) k (Num v)) from_0
     ∙ ap (λ (w : Value). set (paste c.args.outs.now 0 values i) (0 + i) w) (sym read)

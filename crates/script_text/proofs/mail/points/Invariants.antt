@@ -1,6 +1,6 @@
 use Rattle.std.proofs.Common.{◌≡◌, length}
 use Rattle.cm_document.specs.Lines.{words}
-use Rattle.cm_document.specs.LineForms.{points_after, timed}
+use Rattle.cm_document.specs.LineGrammar.{points_after, timed}
 use Rattle.script_text.proofs.MailLemmas.{found_before}
 use Rattle.script_text.proofs.mail.points.Given as goal
 

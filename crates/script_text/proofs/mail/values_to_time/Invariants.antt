@@ -1,6 +1,6 @@
 use Rattle.std.proofs.Common.{◌≡◌, length}
 use Rattle.cm_document.specs.Lines.{words}
-use Rattle.cm_document.specs.LineForms.{all_words, value_word, untimed}
+use Rattle.cm_document.specs.LineGrammar.{all_words, value_word, untimed}
 use Rattle.script_text.proofs.MailLemmas.{found_before}
 use Rattle.script_text.proofs.mail.values_to_time.Given as goal
 

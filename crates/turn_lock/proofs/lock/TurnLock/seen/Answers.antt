@@ -4,6 +4,6 @@ use Rattle.turn_lock.proofs.lock.TurnLock.seen.Goals as goal
 pub load-requires : goal.load-requires
 load-requires g c = (
   c.requires.pass,
-  word_within _ _ _ c.word_of.ensures c.args.self.now.sized.0,
-  loads_at _ _ _ _ _ _ _ _ c.word_of.ensures,
+  word_within _ _ _ c.atomic_word_of.ensures c.args.self.now.sized.0,
+  loads_at _ _ _ _ _ _ _ _ c.atomic_word_of.ensures,
 )

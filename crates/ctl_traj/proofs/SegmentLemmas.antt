@@ -7,7 +7,7 @@ use Rattle.std.proofs.lemmas.List.{length-map}
 use Rattle.std.proofs.lemmas.Slice.Zip.{length-zip}
 use Rattle.std.proofs.lemmas.Int.{ints, to_z-of_z}
 use Rattle.cm_document.specs.declared.call.Point2.{Point2}
-use Rattle.cm_model.specs.Ways.{on_line, towards, last_point, on_way, led}
+use Rattle.cm_model.specs.Ways.{on_segment, towards, last_point, on_way, led}
 use Rattle.fixed_num.specs.Arithmetic.{IsWithin, floor_div}
 use Rattle.fixed_num.proofs.ArithmeticLemmas.{product_within, floor_within}
 
@@ -59,4 +59,4 @@ led_before_end t hold from (p ∷ ps) last is ahead =
 -- a value for each, where there is one at both ends
 pub length_towards : (t t0 : ℕ) (from : List ℤ) (point : Point2) → length from ≡ length point.values → length (towards t t0 from point) ≡ length from
 length_towards t t0 from point same =
-    omega (arith, length-map (zip from point.values) (on_line t t0 point.at_us), length-zip from point.values, same)
+    omega (arith, length-map (zip from point.values) (on_segment t t0 point.at_us), length-zip from point.values, same)

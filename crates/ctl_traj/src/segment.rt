@@ -1,19 +1,19 @@
-//! The straight line from one value to the next, exact on whole micro-units and rounded down.
+//! The segment from one value to the next, straight, exact on whole micro-units and rounded down.
 
 ghost use Rattle.std.specs.Prelude.{◌≡◌, ◌<◌, ◌≤◌, ◌-◌, ◌*◌, ◌*ℤ◌, ◌+ℤ◌, ◌-ℤ◌, ◌<ℤ◌, pos, nat_abs, IfSome};
 ghost use Rattle.fixed_num.specs.Micro.{clamped};
 ghost use Rattle.fixed_num.specs.Arithmetic.{floor_div};
-ghost use Rattle.cm_model.specs.Ways.{on_line};
+ghost use Rattle.cm_model.specs.Ways.{on_segment};
 
 use ctl_trait::Fx;
 use fixed_num::LARGEST;
 
-/// The value at the time `t`, on the line from one at `t0` to one at `t1`.
-#[tactic(auto, using(crate::proofs::LineLemmas::sizes))]
-pub(crate) fn on_line(t: u64, t0: u64, t1: u64, from: Fx, to: Fx) -> Fx
+/// The value at the time `t`, on the segment from one at `t0` to one at `t1`.
+#[tactic(auto, using(crate::proofs::SegmentLemmas::sizes))]
+pub(crate) fn on_segment(t: u64, t0: u64, t1: u64, from: Fx, to: Fx) -> Fx
     requires begun { t0 ≤ t }
     requires ahead { t < t1 }
-    ensures { result ≡ on_line t t0 t1 (from, to) }
+    ensures { result ≡ on_segment t t0 t1 (from, to) }
 {
     shifted(from, share(difference(to, from), t - t0, t1 - t0))
 }
@@ -35,7 +35,7 @@ fn difference(more: Fx, less: Fx) -> i64
 }
 
 /// The part of a way that is gone in a part of its time. Nearly always the product fits 64 bits, which divide far faster than 128.
-#[tactic(auto, using(crate::proofs::LineLemmas::sizes))]
+#[tactic(auto, using(crate::proofs::SegmentLemmas::sizes))]
 fn share(way: i64, gone: u64, time: u64) -> i64
     requires part { gone < time }
     requires small { nat_abs way ≤ 2 * LARGEST }

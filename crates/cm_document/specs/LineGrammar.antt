@@ -1,4 +1,4 @@
--- The forms that a line of a script can have: what its words say. Each form is one equation of `said`.
+-- The grammar of a script's lines: what the words of a line say. Each verb has its equation of `said`.
 use Rattle.std.specs.Prelude.{ℕ, ℤ, Bool, false, ◌&&◌, ◌||◌, ◌==◌, nat_lt, nat_le, if◌then◌else◌, List, [], ◌∷◌, length, codes, Option, Some, None, option_map, is_some, filter_map, Ok, Err}
 use Rattle.std.specs.List.{list_all}
 use Rattle.std.specs.Option.{option_and_then}
@@ -14,7 +14,7 @@ use Rattle.cm_document.specs.declared.call.Mail.{Mail}
 use Rattle.cm_document.specs.declared.call.Mail.TheVariants.{Values, Points}
 use Rattle.cm_document.specs.declared.call.Point2.{Point2}
 use Rattle.cm_document.specs.declared.call.SwitchRequest.{SwitchRequest}
-use Rattle.cm_document.specs.declared.script.Forms.{Forms}
+use Rattle.cm_document.specs.declared.script.Grammar.{Grammar}
 use Rattle.cm_document.specs.declared.script.ScriptLine.{ScriptLine}
 use Rattle.cm_document.specs.declared.script.ScriptLine.TheVariants as line
 use Rattle.cm_document.specs.declared.script.Verb.{Verb}
@@ -116,9 +116,9 @@ switch_in None words = None
 switch_in (Some strict) words =
     if list_all is_signed words then Some (record { on = filter_map (behind 43) words; off = filter_map (behind 45) words; strict = strict }) else None
 
--- ---- Forms
+-- ---- Grammar
 
--- what a line says where its form is accepted
+-- what a line says where the grammar has it
 abbrev pub where_accepted : Bool → Option ScriptLine → Option ScriptLine
 where_accepted accepted says = if accepted then says else None
 
@@ -133,52 +133,52 @@ on_name make _ = None
 
 -- `rate NAME HZ`: at most 10,000 hertz
 abbrev pub rate_in : List (List ℕ) → Option Call
-rate_in (name ∷ hz ∷ []) = option_and_then (λ n. option_map (call.Rate n) (at_most HIGHEST_RATE (whole_word hz))) (name_word name)
+rate_in (name ∷ hz ∷ []) = option_and_then (λ controller. option_map (call.Rate controller) (at_most HIGHEST_RATE (whole_word hz))) (name_word name)
 rate_in _ = None
 
 -- `send NAME ..`
 abbrev pub send_in : List (List ℕ) → Option Call
-send_in (name ∷ words) = option_and_then (λ n. option_map (call.Send n) (mail_in words)) (name_word name)
+send_in (name ∷ words) = option_and_then (λ controller. option_map (call.Send controller) (mail_in words)) (name_word name)
 send_in _ = None
 
 -- `hw NAME STATE`
 abbrev pub hardware_in : List (List ℕ) → Option Call
-hardware_in (name ∷ state ∷ []) = option_and_then (λ n. option_map (call.Hardware n) (listed lives state)) (name_word name)
+hardware_in (name ∷ state ∷ []) = option_and_then (λ component. option_map (call.Hardware component) (listed lives state)) (name_word name)
 hardware_in _ = None
 
--- the lists, each where its form is accepted
-abbrev pub lists : Forms → List (List ℕ × (Bool × Call))
-lists forms =
-    (codes "controllers", (forms.list_controllers, call.ListControllers)) ∷
-    (codes "interfaces", (forms.list_interfaces, call.ListInterfaces)) ∷
-    (codes "components", (forms.list_components, call.ListComponents)) ∷ []
+-- the lists, each where the grammar has it
+abbrev pub lists : Grammar → List (List ℕ × (Bool × Call))
+lists grammar =
+    (codes "controllers", (grammar.list_controllers, call.ListControllers)) ∷
+    (codes "interfaces", (grammar.list_interfaces, call.ListInterfaces)) ∷
+    (codes "components", (grammar.list_components, call.ListComponents)) ∷ []
 
 -- `list controllers`, `list interfaces`, `list components`
-abbrev pub list_in : Forms → List (List ℕ) → Option ScriptLine
-list_in forms (word ∷ []) = option_and_then (λ row. where_accepted row.0 (Some (line.Call row.1))) (listed (lists forms) word)
-list_in forms _ = None
+abbrev pub list_in : Grammar → List (List ℕ) → Option ScriptLine
+list_in grammar (word ∷ []) = option_and_then (λ row. where_accepted row.0 (Some (line.Call row.1))) (listed (lists grammar) word)
+list_in grammar _ = None
 
 -- What a line says that begins with this verb and goes on with these words. Whether a session's line is accepted depends on the
 -- sessions before it, so that is asked later.
-abbrev pub said : Forms → Verb → List (List ℕ) → Option ScriptLine
-said forms verb.Session (name ∷ []) = option_map line.Session (name_word name)
-said forms verb.Load words = where_accepted forms.load (on_name call.Load words)
-said forms verb.Configure words = where_accepted forms.configure (on_name call.Configure words)
-said forms verb.Cleanup words = where_accepted forms.cleanup (on_name call.Cleanup words)
-said forms verb.Unload words = where_accepted forms.unload (on_name call.Unload words)
-said forms verb.Rate words = where_accepted forms.rate (a_call (rate_in words))
-said forms verb.Send words = where_accepted forms.send (a_call (send_in words))
-said forms verb.Switch (strictness ∷ words) = where_accepted forms.switch (a_call (option_map call.Switch (switch_in (listed strictnesses strictness) words)))
-said forms verb.Hardware words = where_accepted forms.hardware (a_call (hardware_in words))
-said forms verb.Await (n ∷ []) = where_accepted forms.await_cycles (a_call (option_map call.Await (whole_word n)))
-said forms verb.List words = list_in forms words
-said forms verb.Schedule [] = where_accepted forms.schedule (Some line.Schedule)
-said forms verb.Step (name ∷ []) = where_accepted forms.schedule (option_map line.Step (name_word name))
-said forms verb.Begin [] = where_accepted forms.schedule (Some line.Begin)
-said forms verb.End [] = where_accepted forms.schedule (Some line.End)
-said forms _ _ = None
+abbrev pub said : Grammar → Verb → List (List ℕ) → Option ScriptLine
+said grammar verb.Session (name ∷ []) = option_map line.Session (name_word name)
+said grammar verb.Load words = where_accepted grammar.load (on_name call.Load words)
+said grammar verb.Configure words = where_accepted grammar.configure (on_name call.Configure words)
+said grammar verb.Cleanup words = where_accepted grammar.cleanup (on_name call.Cleanup words)
+said grammar verb.Unload words = where_accepted grammar.unload (on_name call.Unload words)
+said grammar verb.Rate words = where_accepted grammar.rate (a_call (rate_in words))
+said grammar verb.Send words = where_accepted grammar.send (a_call (send_in words))
+said grammar verb.Switch (strictness ∷ words) = where_accepted grammar.switch (a_call (option_map call.Switch (switch_in (listed strictnesses strictness) words)))
+said grammar verb.Hardware words = where_accepted grammar.hardware (a_call (hardware_in words))
+said grammar verb.Await (word ∷ []) = where_accepted grammar.await_cycles (a_call (option_map call.Await (whole_word word)))
+said grammar verb.List words = list_in grammar words
+said grammar verb.Schedule [] = where_accepted grammar.schedule (Some line.Schedule)
+said grammar verb.Step (name ∷ []) = where_accepted grammar.schedule (option_map line.Step (name_word name))
+said grammar verb.Begin [] = where_accepted grammar.schedule (Some line.Begin)
+said grammar verb.End [] = where_accepted grammar.schedule (Some line.End)
+said grammar _ _ = None
 
--- what a line of these words says; other words have no form
-abbrev pub line_of : Forms → List (List ℕ) → Option ScriptLine
-line_of forms [] = None
-line_of forms (first ∷ words) = option_and_then (λ v. said forms v words) (listed verbs first)
+-- what a line of these words says; other words say nothing
+abbrev pub line_of : Grammar → List (List ℕ) → Option ScriptLine
+line_of grammar [] = None
+line_of grammar (first ∷ words) = option_and_then (λ v. said grammar v words) (listed verbs first)

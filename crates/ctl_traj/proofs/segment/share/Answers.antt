@@ -3,8 +3,8 @@ use Rattle.std.proofs.lemmas.Int.{ints}
 use mir.Val.{to_z, of_z}
 use mir.Syntax.{w64, w128}
 use Rattle.fixed_num.specs.Arithmetic.{floor_div}
-use Rattle.ctl_traj.proofs.LineLemmas.{share_no_more}
-use Rattle.ctl_traj.proofs.line.share.Goals as goal
+use Rattle.ctl_traj.proofs.SegmentLemmas.{share_no_more}
+use Rattle.ctl_traj.proofs.segment.share.Goals as goal
 
 -- what the 128 bits hold is the share, which is no more than the way
 wide_is_share : (c : goal.After-wide_share) → c.wide_share.result ≡ floor_div (c.args.way *ℤ pos c.args.gone) (pos c.args.time)
