@@ -1,0 +1,180 @@
+-- What the desk's calls make of the loaded controllers.
+use Rattle.std.proofs.Common.{◌≡◌, ℕ, suc, ◌+◌, ◌<◌, Bool, true, false, Result, Ok, Err, List, [], ◌∷◌, ◌++◌, length, get_or, take, drop, set, Option, Some, None, refl, sym, subst, ap, ◌∙◌, arith}
+use Rattle.std.specs.Prelude.{◌==◌, ◌↔◌, slice_get, option_map, IsSomeAnd, OnOk, OnErr}
+use Rattle.std.specs.List.{All, remove}
+use Rattle.std.proofs.lemmas.List.{set-get_or}
+use Rattle.std.proofs.lemmas.List.Elements.{All-append, All-take, All-drop, All-push, All-set}
+use Rattle.std.proofs.lemmas.Option.{slice_get_within, slice_get_read, get_or_from_slice_get}
+use Rattle.cm_document.specs.Params.{kind_of}
+use Rattle.cm_document.specs.declared.description.CtlDesc.{CtlDesc}
+use Rattle.cm_document.specs.declared.description.CtlKind.{CtlKind}
+use Rattle.cm_document.specs.declared.description.CtlKind.TheVariants.{Forward, Passthrough, Pid, Trajectory, Broadcaster, Mock}
+use Rattle.cm_document.specs.declared.description.Description.{Description}
+use Rattle.cm_document.specs.declared.description.Params.{Params}
+use Rattle.cm_model.specs.Console.{unless_refused, controller_in, controller_of, slot_of, reply_on, with_changed}
+use Rattle.cm_model.specs.Controllers.{configured, CanBeConfigured}
+use Rattle.cm_model.specs.Kinds.{are_ranged, is_refused}
+use Rattle.cm_model.specs.Machine.{is_sold_out_at}
+use Rattle.cm_model.specs.Order.{divisor}
+use Rattle.cm_model.specs.State.{State, Loaded, blanks_of, with_one_less, is_active}
+use Rattle.cm_model.specs.declared.blanks.Blanks.{Blanks}
+use Rattle.cm_model.specs.declared.reply.Reply.TheVariants as reply
+use Rattle.cm_model.specs.declared.reply.Why.{Why}
+use Rattle.ctl_rack.specs.Stocks.{total}
+use Rattle.cm_desk.proofs.LifeLemmas.{none_is}
+use Rattle.cm_desk.specs.Flight.{Flown}
+use Rattle.cm_desk.specs.Works.{IsAsDescribed, IsKept, IsConfigured}
+use Rattle.ctl_trait.specs.declared.fault.CfgFault.{CfgFault}
+use Rattle.ctl_trait.specs.declared.fault.CfgFault.TheVariants.{Refused, Memory}
+
+-- ---- Lists
+
+-- what holds of all holds of all but one
+pub All-remove : {X : Type 0} (P : X → Type 0) (xs : List X) (i : ℕ) → All P xs → All P (remove xs i)
+All-remove P xs i all = All-append P (take i xs) (drop (suc i) xs) (All-take P i xs all) (All-drop P (suc i) xs all)
+
+-- ---- Places
+
+described_from : (o : Option CtlDesc) (kind : CtlKind) → option_map (λ c. kind_of c.params) o ≡ Some kind → (c : CtlDesc) × (o ≡ Some c) × (kind_of c.params ≡ kind)
+described_from None kind e = cc
+described_from (Some c) kind e = (c, refl, cc)
+
+-- the description of a loaded controller is there
+pub described_there : (d : Description) (l : Loaded) → IsAsDescribed d l → (c : CtlDesc) × (slice_get d.controllers l.place ≡ Some c) × (kind_of c.params ≡ l.ctl.kind)
+described_there d l e = described_from (slice_get d.controllers l.place) l.ctl.kind e
+
+-- ---- Blanks
+
+-- each load takes a blank, so that loads and blanks stay as many together
+pub one_less : (b : Blanks) (kind : CtlKind) → 0 < blanks_of b kind → total (with_one_less b kind) + 1 ≡ total b
+one_less b Forward some = omega (arith, some)
+one_less b Passthrough some = omega (arith, some)
+one_less b Pid some = omega (arith, some)
+one_less b Trajectory some = omega (arith, some)
+one_less b Broadcaster some = omega (arith, some)
+one_less b Mock some = omega (arith, some)
+
+-- no blank of its kind is left for the controller that is described at a place, or some are
+pub sold_out : (s : State) (place : ℕ) (c : CtlDesc) → slice_get s.description.controllers place ≡ Some c
+    → is_sold_out_at s place ≡ (blanks_of s.blanks (kind_of c.params) == 0)
+sold_out s place c e = rw e refl
+
+-- ---- What is kept
+
+-- a controller of the described kind was loaded, which is not active
+pub kept_after_load : (d : Description) (names : List (List ℕ)) (blanks : Blanks) (loads : ℕ) (loaded : List Loaded) (f : Flown) (ended : ℕ) (c : CtlDesc) (l : Loaded)
+    → IsKept d names blanks loads loaded f ended → 0 < blanks_of blanks (kind_of c.params) → slice_get d.controllers l.place ≡ Some c → l.ctl.kind ≡ kind_of c.params → is_active l ≡ false
+    → IsKept d names (with_one_less blanks (kind_of c.params)) (loads + 1) (loaded ++ l ∷ []) f ended
+kept_after_load d names blanks loads loaded f ended c l kept some there kind idle = record {
+  named = kept.named;
+  described = All-push (IsAsDescribed d) loaded l kept.described (rw (there, kind) refl);
+  still = All-push (λ (m : Loaded). is_active m ≡ false) loaded l kept.still idle;
+  counted = omega (arith, kept.counted, one_less blanks (kind_of c.params) some);
+  flown = kept.flown;
+}
+
+-- one was changed, which stays of its kind and is not active
+pub kept_after_change : (d : Description) (names : List (List ℕ)) (blanks : Blanks) (loads : ℕ) (loaded : List Loaded) (f : Flown) (ended : ℕ) (i : ℕ) (l : Loaded)
+    → IsKept d names blanks loads loaded f ended → IsAsDescribed d l → is_active l ≡ false → IsKept d names blanks loads (set loaded i l) f ended
+kept_after_change d names blanks loads loaded f ended i l kept same idle = record {
+  named = kept.named;
+  described = All-set (IsAsDescribed d) loaded i l same kept.described;
+  still = All-set (λ (m : Loaded). is_active m ≡ false) loaded i l idle kept.still;
+  counted = kept.counted;
+  flown = kept.flown;
+}
+
+-- one was unloaded
+pub kept_after_unload : (d : Description) (names : List (List ℕ)) (blanks : Blanks) (loads : ℕ) (loaded : List Loaded) (f : Flown) (ended : ℕ) (i : ℕ)
+    → IsKept d names blanks loads loaded f ended → IsKept d names blanks loads (remove loaded i) f ended
+kept_after_unload d names blanks loads loaded f ended i kept = record {
+  named = kept.named;
+  described = All-remove (IsAsDescribed d) loaded i kept.described;
+  still = All-remove (λ (m : Loaded). is_active m ≡ false) loaded i kept.still;
+  counted = kept.counted;
+  flown = kept.flown;
+}
+
+-- the one that stands somewhere is as described
+pub kept_there : (d : Description) (names : List (List ℕ)) (blanks : Blanks) (loads : ℕ) (loaded : List Loaded) (f : Flown) (ended : ℕ) (i : ℕ) (l : Loaded)
+    → IsKept d names blanks loads loaded f ended → slice_get loaded i ≡ Some l → IsAsDescribed d l
+kept_there d names blanks loads loaded f ended i l kept there =
+    let is : get_or loaded i l ≡ l = get_or_from_slice_get loaded i l l there in
+    subst (IsAsDescribed d) is (kept.described i l (slice_get_within loaded i l there))
+
+-- what is kept of what is read there
+pub kept_at : (d : Description) (names : List (List ℕ)) (blanks : Blanks) (loads : ℕ) (loaded : List Loaded) (f : Flown) (ended : ℕ) (i : ℕ) (l : Loaded)
+    → IsKept d names blanks loads loaded f ended → i < length loaded → l ≡ get_or loaded i l
+    → (slice_get loaded i ≡ Some l) × IsAsDescribed d l × (is_active l ≡ false)
+kept_at d names blanks loads loaded f ended i l kept within read = (
+  slice_get_read loaded (length loaded) i l refl within read,
+  subst (IsAsDescribed d) (sym read) (kept.described i l within),
+  subst (λ (m : Loaded). is_active m ≡ false) (sym read) (kept.still i l within),
+)
+
+-- ---- What stands somewhere
+
+there_from : {X : Type 0} (P : X → Type 0) (xs : List X) (i : ℕ) (x : X) (o : Option X) → slice_get xs i ≡ o → IsSomeAnd o P → x ≡ get_or xs i x
+    → (slice_get xs i ≡ Some x) × P x
+there_from P xs i x None e holds same = absurd holds
+there_from P xs i x (Some y) e holds same =
+    let is : y ≡ x = sym (get_or_from_slice_get xs i y x e) ∙ sym same in
+    (e ∙ ap Some is, subst P is holds)
+
+-- what is read there is what stands there
+pub there : {X : Type 0} (P : X → Type 0) (xs : List X) (i : ℕ) (x : X) → IsSomeAnd (slice_get xs i) P → x ≡ get_or xs i x → (slice_get xs i ≡ Some x) × P x
+there P xs i x holds same = there_from P xs i x (slice_get xs i) refl holds same
+
+-- what was configured, or was not, stays of its kind and is not active
+pub still_as_described : (d : Description) (l after : Loaded) (p : Params) (n : ℕ) (result : Result (Unit {0}) CfgFault)
+    → OnOk result (after ≡ record l { ctl = configured l.ctl p; divisor = Some n }) → OnErr result (after ≡ l)
+    → IsAsDescribed d l → is_active l ≡ false → IsAsDescribed d after × (is_active after ≡ false)
+still_as_described d l after p n (Ok u) made kept same idle = (rw made same, rw made refl)
+still_as_described d l after p n (Err e) made kept same idle = (rw kept same, rw kept idle)
+
+changed_from : (s new : State) (o : Option ℕ) (i : ℕ) (l after : Loaded) (refusals : Loaded → List (Bool × Why)) (change : Loaded → Loaded)
+    → Some i ≡ o → slice_get s.loaded i ≡ Some l → unless_refused (refusals l) reply.Done ≡ reply.Done → after ≡ change l
+    → new ≡ record s { loaded = set s.loaded i after }
+    → (reply.Done ≡ reply_on refusals (controller_in s o)) × (new ≡ with_changed change s o)
+changed_from s new o i l after refusals change found stands allowed made next =
+    rw (← found) (rw stands (sym allowed), next ∙ ap (λ x. record s { loaded = set s.loaded i x }) made ∙ sym (rw stands refl))
+
+-- the one of a name is changed, where nothing refuses it
+pub changed_there : (s new : State) (name : List ℕ) (i : ℕ) (l after : Loaded) (refusals : Loaded → List (Bool × Why)) (change : Loaded → Loaded)
+    → Some i ≡ slot_of s name → slice_get s.loaded i ≡ Some l → unless_refused (refusals l) reply.Done ≡ reply.Done → after ≡ change l
+    → new ≡ record s { loaded = set s.loaded i after }
+    → (reply.Done ≡ reply_on refusals (controller_of s name)) × (new ≡ with_changed change s (slot_of s name))
+changed_there s new name i l after refusals change found stands allowed made next =
+    changed_from s new (slot_of s name) i l after refusals change found stands allowed made next
+
+-- ---- Configuring
+
+-- a controller that is not active can be configured with ranged parameters of its kind
+pub can_be_configured : (l : Loaded) (p : Params) → is_active l ≡ false → kind_of p ≡ l.ctl.kind → are_ranged p ≡ true → CanBeConfigured l.ctl p
+can_be_configured l p idle kind ranged = record { idle = none_is l.ctl.run idle; own_kind = kind; ranged = ranged }
+
+-- what stands in its place again leaves all as it was
+pub put_back : {X : Type 0} (xs : List X) (i : ℕ) (x d : X) → x ≡ get_or xs i d → set xs i x ≡ xs
+put_back xs i x d e = ap (set xs i) e ∙ set-get_or xs i d
+
+never : (b : Bool) → (b ≡ true → ⊥) → b ≡ false
+never true not_so = absurd (not_so refl)
+never false not_so = refl
+
+-- a configure of what stands somewhere, by what it made of it
+pub configured_there : (old new : State) (i : ℕ) (l after : Loaded) (c : CtlDesc) (n : ℕ) (result : Result (Unit {0}) CfgFault)
+    → slice_get old.loaded i ≡ Some l → is_active l ≡ false → slice_get old.description.controllers l.place ≡ Some c
+    → n ≡ divisor old.description.update_rate l.rate → new ≡ record old { loaded = set old.loaded i after }
+    → OnOk result (after ≡ record l { ctl = configured l.ctl c.params; divisor = Some n })
+    → ((result ≡ Err Refused) ↔ (is_refused c.params ≡ true)) → OnErr result (after ≡ l)
+    → IsConfigured old i new result
+configured_there old new i l after c n (Ok u) there idle described rate next made refused kept =
+    let allowed : is_refused c.params ≡ false = never (is_refused c.params) (λ e. let other = refused.1 e in cc) in
+    (rw there (rw (idle, described, allowed) refl), next ∙ ap (λ x. record old { loaded = set old.loaded i x }) (made ∙ rate_in) ∙ sym (rw there (rw described refl)))
+  where
+    rate_in : record l { ctl = configured l.ctl c.params; divisor = Some n } ≡ record l { ctl = configured l.ctl c.params; divisor = Some (divisor old.description.update_rate l.rate) }
+    rate_in = ap (λ m. record l { ctl = configured l.ctl c.params; divisor = Some m }) rate
+configured_there old new i l after c n (Err Refused) there idle described rate next made refused kept =
+    (rw there (rw (idle, described, refused.0 refl) refl), next ∙ ap (λ x. record old { loaded = x }) (put_back old.loaded i after l (kept ∙ sym (get_or_from_slice_get old.loaded i l l there))))
+configured_there old new i l after c n (Err Memory) there idle described rate next made refused kept =
+    next ∙ ap (λ x. record old { loaded = x }) (put_back old.loaded i after l (kept ∙ sym (get_or_from_slice_get old.loaded i l l there)))

@@ -1,0 +1,93 @@
+//! The list of controllers, and which of them are chained.
+
+ghost use Rattle.std.specs.Prelude.{◌≡◌, ◌++◌, ◌&&◌, ◌<◌, length, slice_get, false, option_to_list, IfOk, OnOk};
+ghost use Rattle.std.specs.List.{list_any};
+ghost use Rattle.std.specs.Option.{option_map_or};
+ghost use Rattle.cm_document.specs.Links.{precedes};
+ghost use Rattle.cm_model.specs.State.{is_active, is_chained, precedes_described, controller_line, controller_lines};
+
+use crate::slot::Slot;
+use crate::works::Works;
+use chain_order::exports;
+use cm_model::{CtlDesc, CtlLine, Memory, Seq};
+use ctl_trait::Controller;
+use std::alloc::Global;
+
+impl<C: Controller> Works<C> {
+    /// The list of controllers: a line for each loaded one, by serial.
+    pub fn controllers(&self, alloc: Global) -> Result<Seq<CtlLine>, Memory>
+        ensures { IfOk result (λ lines. lines ≡ controller_lines self.now) }
+    {
+        let mut lines = Seq::from_vec(Vec::with_capacity(alloc, self.slots.len())?);
+        for slot in &self.slots {
+            push_if_some(&mut lines, self.line(slot)?)?;
+        }
+        Ok(lines)
+    }
+
+    /// The line of a loaded controller.
+    fn line(&self, slot: &Slot<C>) -> Result<Option<CtlLine>, Memory>
+        ensures { IfOk result (λ line. line ≡ controller_line self.now slot.now) }
+    {
+        let Some(controller) = self
+            .checked
+            .description()
+            .controllers
+            .as_slice()
+            .get(slot.place())
+        else {
+            return Ok(None);
+        };
+        Ok(Some(CtlLine {
+            name: self.names[slot.place()].share()?,
+            serial: slot.serial(),
+            divisor: slot.divisor(),
+            kind: slot.kind(),
+            life: slot.life(),
+            chained: self.is_chained(controller),
+        }))
+    }
+
+    /// Whether an active controller claims one of its references.
+    pub(crate) fn is_chained(&self, controller: &CtlDesc) -> bool
+        ensures { result ≡ is_chained self.now controller.now }
+    {
+        self.slots.iter().any(|slot| slot.is_active() && self.is_precedent(slot, controller))
+    }
+
+    /// Whether the loaded controller precedes this described one: it claims one of its references.
+    fn is_precedent(&self, slot: &Slot<C>, controller: &CtlDesc) -> bool
+        ensures { result ≡ precedes_described self.now.description.controllers controller.now slot.now }
+    {
+        match self
+            .checked
+            .description()
+            .controllers
+            .as_slice()
+            .get(slot.place())
+        {
+            Some(other) => precedes(other, controller),
+            None => false,
+        }
+    }
+}
+
+/// Whether the one controller precedes the other: it claims a reference of it.
+fn precedes(controller: &CtlDesc, other: &CtlDesc) -> bool
+    ensures { result ≡ precedes controller.now other.now }
+{
+    controller
+        .claims
+        .as_slice()
+        .iter()
+        .any(|claim| exports(other, claim))
+}
+
+fn push_if_some(lines: &mut Seq<CtlLine>, line: Option<CtlLine>) -> Result<(), Memory>
+    ensures { OnOk result (lines.new ≡ lines.old ++ option_to_list line) }
+{
+    if let Some(line) = line {
+        lines.push(line)?;
+    }
+    Ok(())
+}

@@ -1,0 +1,183 @@
+//! What the desk keeps, and loads.
+
+ghost use Rattle.std.specs.Prelude.{◌≡◌, ◌<◌, true, false, map, length, slice_get, Some, IfOk, IfSome, OnErr, MatchOption};
+ghost use Rattle.cm_document.specs.Valid.{IsValid};
+ghost use Rattle.cm_model.specs.Console.{place_of, slot_at, slot_of};
+ghost use Rattle.cm_model.specs.Machine.{is_loaded_at, is_sold_out_at, with_loaded, load_effect};
+ghost use Rattle.cm_model.specs.State.{boot};
+ghost use Rattle.cm_desk.specs.Works.{IsAnswered, load_reply};
+
+use crate::flight::Flight;
+use crate::slot::Slot;
+use cm_model::{Checked, CtlDesc, Memory, Name, Reply, Shared, Why};
+use ctl_rack::{Piles, Stock};
+use ctl_trait::Controller;
+use std::alloc::Global;
+use std::marker::Model;
+
+/// The loaded controllers with their boxes, the blanks that are left, and the hardware. Contracts see the written state.
+#[derive(Drop)]
+pub struct Works<C: Controller> {
+    pub(crate) checked: Checked,
+    /// The names of the described controllers, by place, for the lines of lists.
+    pub(crate) names: Vec<Shared<Name>>,
+    pub(crate) sessions: u32,
+    pub(crate) blanks: Piles<C>,
+    pub(crate) loads: u32,
+    /// By serial: a load comes last.
+    pub(crate) slots: Vec<Slot<C>>,
+    /// What a cycle needs.
+    pub(crate) flight: Flight,
+    /// How many cycles have ended.
+    pub(crate) ended: u64,
+    /// Whether the loop is closed.
+    pub(crate) closed: bool,
+}
+
+impl<C: Controller> Model for Works<C> {
+    ghost use Rattle.cm_model.specs.State.{State};
+    ghost use Rattle.cm_desk.specs.Works.{state_with, IsKept};
+
+    ghost Value = { State };
+
+    ghost view = { λ w. state_with w.checked w.blanks w.sessions w.loads w.slots.items w.flight w.ended w.closed };
+
+    ghost invariant = { λ w. IsKept w.checked w.names.items w.blanks w.loads w.slots.items w.flight w.ended };
+}
+
+impl<C: Controller> Works<C> {
+    /// Nothing is loaded, all of the stock is left, and the hardware is as at start.
+    pub fn boot(
+        alloc: Global,
+        checked: Checked,
+        stock: Stock<C>,
+        sessions: u32,
+    ) -> Result<Works<C>, Memory>
+        ensures { IfOk result (λ works. works ≡ boot checked stock sessions) }
+    {
+        let names = names_of(alloc, checked.description().controllers.as_slice())?;
+        let flight = Flight::make(alloc, &checked)?;
+        let blanks = stock.sorted(alloc)?;
+        Ok(Works {
+            checked,
+            names,
+            sessions,
+            blanks,
+            loads: 0,
+            slots: Vec::new(alloc),
+            flight,
+            ended: 0,
+            closed: false,
+        })
+    }
+
+    /// The number of sessions, which is also that of the loop as a caller.
+    pub fn sessions(&self) -> u32
+        ensures { result ≡ self.now.sessions }
+    {
+        self.sessions
+    }
+
+    /// The loaded controllers, by serial.
+    pub fn slots(&self) -> &[Slot<C>]
+        ensures { result.now ≡ self.now.loaded }
+    {
+        self.slots.as_slice()
+    }
+
+    /// A controller takes a blank of its kind and the next serial, or the first refusal is told.
+    pub fn load(&mut self, name: &Name) -> Result<Reply, Memory>
+        ensures made { IfOk result
+            (IsAnswered (load_reply self.old name.now) (load_effect self.old name.now) self.new) }
+        ensures kept { OnErr result (self.new ≡ self.old) }
+    {
+        let Some(place) = self.place_of(name) else {
+            return Ok(Reply::Not(Why::NotDescribed));
+        };
+        if self.is_loaded_at(place) {
+            return Ok(Reply::Not(Why::Loaded));
+        }
+        match self.load_at(place)? {
+            Some(serial) => Ok(Reply::Serial(serial)),
+            None => Ok(Reply::Not(Why::StockEmpty)),
+        }
+    }
+
+    /// The controller that is described at this place takes a blank of its kind and the next serial; None where no blank is left.
+    #[tactic(auto, using(crate::proofs::WorksLemmas::sold_out))]
+    fn load_at(&mut self, place: usize) -> Result<Option<u32>, Memory>
+        requires described { place < length self.old.description.controllers }
+        ensures made { IfOk result
+            (λ serial. MatchOption serial
+            ((is_sold_out_at self.old place ≡ true) × (self.new ≡ self.old))
+            (λ n. (is_sold_out_at self.old place ≡ false) × (n ≡ self.old.loads)
+            × (self.new ≡ with_loaded self.old (Some place)))) }
+        ensures kept { OnErr result (self.new ≡ self.old) }
+    {
+        self.slots.reserve(1)?;
+        let controller = described_at(&self.checked, place);
+        let Some(blank) = self.blanks.take(controller.params.kind()) else {
+            return Ok(None);
+        };
+        let serial = self.loads;
+        let slot = Slot::new(serial, place, controller.rate, blank);
+        self.slots.push_reserved(slot);
+        self.loads += 1;
+        Ok(Some(serial))
+    }
+
+    /// The place of the described controller of this name.
+    pub(crate) fn place_of(&self, name: &Name) -> Option<usize>
+        ensures found { result ≡ place_of self.now name.now }
+        ensures within { IfSome result (λ place. place < length self.now.description.controllers) }
+    {
+        let controllers = self.checked.description().controllers.as_slice();
+        controllers.iter().position(|c| c.name == *name)
+    }
+
+    fn is_loaded_at(&self, place: usize) -> bool
+        ensures { result ≡ is_loaded_at self.now place }
+    {
+        self.slots.iter().any(|slot| slot.place() == place)
+    }
+
+    /// Where the controller of this name stands among the loaded ones.
+    pub(crate) fn slot_of(&self, name: &Name) -> Option<usize>
+        ensures found { result ≡ slot_of self.now name.now }
+        ensures within { IfSome result (λ index. index < length self.now.loaded) }
+    {
+        match self.place_of(name) {
+            Some(place) => self.slot_at(place),
+            None => None,
+        }
+    }
+
+    /// Where the controller that is described at this place stands among the loaded ones.
+    fn slot_at(&self, place: usize) -> Option<usize>
+        ensures found { result ≡ slot_at self.now (Some place) }
+        ensures within { IfSome result (λ index. index < length self.now.loaded) }
+    {
+        self.slots.iter().position(|slot| slot.place() == place)
+    }
+}
+
+/// The controller that is described at this place.
+#[tactic(auto, using(std::proofs::lemmas::Option::slice_get_read))]
+pub(crate) fn described_at(checked: &Checked, place: usize) -> &CtlDesc
+    requires { place < length checked.now.controllers }
+    ensures same { slice_get checked.now.controllers place ≡ Some result.now }
+    ensures valid { IsValid checked.now }
+{
+    &checked.description().controllers.as_slice()[place]
+}
+
+/// The names of these controllers, each to be shared by all lines that tell it.
+fn names_of(alloc: Global, controllers: &[CtlDesc]) -> Result<Vec<Shared<Name>>, Memory>
+    ensures { IfOk result (λ names. names.items ≡ map (λ c. c.name) controllers.now) }
+{
+    let mut names = Vec::with_capacity(alloc, controllers.len())?;
+    for controller in controllers {
+        names.push(Shared::new(alloc, controller.name.clone()?)?)?;
+    }
+    Ok(names)
+}
