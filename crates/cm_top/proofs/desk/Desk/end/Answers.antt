@@ -36,6 +36,6 @@ returns c =
     let room : HasRoom c.self.inside.hardware r = rw begun at old.room in
     let failed = ran.failed ∙ ap (λ l. l ++ failed_in s) room.no_failure in
     let bodies = ran.bodies ∙ ap (λ l. l ++ (cycle s).bodies) room.no_body in
-    let told = c.land.ensures ∙ happened_in s c.args.cycle c.cycle.new.failed.items r.ran.rans c.cycle.new.bodies.items r.stops.items old.still now failed room.none_ran bodies room.none_stopped in
+    let told = c.land-record.ensures ∙ happened_in s c.args.cycle c.cycle.new.failed.items r.ran.rans c.cycle.new.bodies.items r.stops.items old.still now failed room.none_ran bodies room.none_stopped in
     rw (← c.self.view_is, c.one_more-self-inside.ensures, c.take.ensures.after)
-    (end_steps s c.args.cycle c.cycle.new.self c.land.result old.still (ap is_some begun) now ran.hardware told)
+    (end_steps s c.args.cycle c.cycle.new.self c.land-record.result.0 old.still (ap is_some begun) now ran.hardware told)
