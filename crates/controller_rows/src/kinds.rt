@@ -7,16 +7,14 @@ mod computing;
 mod pages;
 mod tried;
 
-use crate::kinds::computing::{BROADCASTERS, LIMITS, LINES, PIDS, TRAJECTORIES};
+use crate::kinds::computing::{BROADCASTERS, LINES, TRAJECTORIES};
 use crate::kinds::pages::{FORWARDS, LIFECYCLE, MOCKS, PASSTHROUGHS};
 use crate::kinds::tried::Tried;
-use case_pages::pages::{Teller, halves, hold, push_parted};
-use case_pages::words::number;
+use case_pages::pages::{Teller, hold, push_parted};
 use cm_model::{Fx, Mail, Params, Point2, Seq};
 use ctl_bcast::Broadcaster;
 use ctl_forward::{Forward, Passthrough};
 use ctl_mock::Mock;
-use ctl_pid::PidCtl;
 use ctl_trait::{Controller, Tick, Value};
 use ctl_traj::TrajCtl;
 use std::alloc::Global;
@@ -34,8 +32,6 @@ fn each_kind_does_what_its_row_says(rt: HostRuntime) -> Result<(), Fail> {
 #[test]
 fn each_kind_that_computes_does_what_its_row_says(rt: HostRuntime) -> Result<(), Fail> {
     let alloc = rt.alloc();
-    hold(alloc, &Pids, "", PIDS)?;
-    hold(alloc, &Pids, "", LIMITS)?;
     hold(alloc, &Trajectories, "", TRAJECTORIES)?;
     hold(alloc, &Trajectories, "", LINES)?;
     hold(alloc, &Broadcasters, "", BROADCASTERS)
@@ -46,7 +42,8 @@ struct Forwards;
 
 impl Teller for Forwards {
     fn told(&self, alloc: Global, text: &str) -> Result<String, Fail> {
-        play(alloc, Forward::blank(), Vec::new(alloc), text)
+        let (params, calls) = text.split_once("\n").unwrap_or((text, ""));
+        play(alloc, Forward::blank(), Vec::new(alloc), params, calls)
     }
 }
 
@@ -55,16 +52,8 @@ struct Passthroughs;
 
 impl Teller for Passthroughs {
     fn told(&self, alloc: Global, text: &str) -> Result<String, Fail> {
-        play(alloc, Passthrough::blank(), Vec::new(alloc), text)
-    }
-}
-
-/// Tells the answers of a pid to the calls of a case.
-struct Pids;
-
-impl Teller for Pids {
-    fn told(&self, alloc: Global, text: &str) -> Result<String, Fail> {
-        play(alloc, PidCtl::blank(), Vec::new(alloc), text)
+        let (params, calls) = text.split_once("\n").unwrap_or((text, ""));
+        play(alloc, Passthrough::blank(), Vec::new(alloc), params, calls)
     }
 }
 
@@ -73,7 +62,8 @@ struct Trajectories;
 
 impl Teller for Trajectories {
     fn told(&self, alloc: Global, text: &str) -> Result<String, Fail> {
-        play(alloc, TrajCtl::blank(), Vec::new(alloc), text)
+        let (params, calls) = text.split_once("\n").unwrap_or((text, ""));
+        play(alloc, TrajCtl::blank(), Vec::new(alloc), params, calls)
     }
 }
 
@@ -82,7 +72,8 @@ struct Broadcasters;
 
 impl Teller for Broadcasters {
     fn told(&self, alloc: Global, text: &str) -> Result<String, Fail> {
-        play(alloc, Broadcaster::blank(), Vec::new(alloc), text)
+        let (params, calls) = text.split_once("\n").unwrap_or((text, ""));
+        play(alloc, Broadcaster::blank(), Vec::new(alloc), params, calls)
     }
 }
 
@@ -91,21 +82,22 @@ struct Mocks;
 
 impl Teller for Mocks {
     fn told(&self, alloc: Global, text: &str) -> Result<String, Fail> {
-        play(alloc, Mock::blank(), Vec::new(alloc), text)
+        let (params, calls) = text.split_once("\n").unwrap_or((text, ""));
+        play(alloc, Mock::blank(), Vec::new(alloc), params, calls)
     }
 }
 
-/// The answers of a blank, whose claims hold these values, to the calls behind a line of parameters, a line for each.
+/// The answers of a blank, whose claims hold these values, to these calls, a line for each.
 fn play<C: Controller>(
     alloc: Global,
     blank: C,
     outs: Vec<Value>,
-    text: &str,
+    params: &str,
+    calls: &str,
 ) -> Result<String, Fail>
     requires { IsBlank (C.meaning blank) }
 {
-    let (head, calls) = halves(text, "\n")?;
-    let params = params_of(alloc, head)?;
+    let params = params_of(alloc, params)?;
     let mut told = String::new(alloc);
     let mut tried = Tried::new(blank, outs);
     for call in calls.lines() {
@@ -236,21 +228,9 @@ fn params_of(alloc: Global, text: &str) -> Result<Params, Fail> {
         "broadcaster" => Ok(Params::Broadcaster {
             ins: given.parse()?,
         }),
-        "pid" => pid_of(given),
         "mock" => mock_of(alloc, given),
         _ => Err(Fail::new("an unknown kind")),
     }
-}
-
-/// The parameters of a pid: its three gains and its two limits.
-fn pid_of(given: &str) -> Result<Params, Fail> {
-    Ok(Params::Pid {
-        kp: number(given, 0)?,
-        ki: number(given, 1)?,
-        kd: number(given, 2)?,
-        imax: number(given, 3)?,
-        omax: number(given, 4)?,
-    })
 }
 
 /// The parameters of a mock.
