@@ -9,6 +9,7 @@ use std::rt::{Clock, Env};
 use std::sync::Wait;
 use std::{env, io};
 use steps::{FastStep, PlainStep};
+use switches::{PlainPlan, RelatedPlan};
 use timing::{Course, Pair};
 use turns::{LockTurn, MutexTurn};
 
@@ -19,6 +20,7 @@ mod plain;
 mod plan;
 mod reading;
 mod steps;
+mod switches;
 mod texts;
 mod timing;
 mod turns;
@@ -60,9 +62,10 @@ where
     )?;
     tell(rt, plan, "turn", "answers", &turn)?;
     let stepped = compare_steps(rt, plan)?;
+    let switched = compare_switches(rt, plan)?;
     let checked = compare_checks(rt, plan)?;
     let read = compare_readers(rt, plan)?;
-    Ok(mul.same && over.same && text.same && turn.same && stepped && checked && read)
+    Ok(mul.same && over.same && text.same && turn.same && stepped && switched && checked && read)
 }
 
 /// Prints the line of a body's step.
@@ -79,6 +82,25 @@ where
     tell(rt, plan, "step", "answers", &step)?;
     Ok(step.same)
 }
+
+/// Prints the line of a switch.
+fn compare_switches<R>(rt: &R, plan: Plan) -> anyhow::Result<bool>
+where
+    R: Clock + Print + AllocGlobal,
+{
+    let alloc = rt.alloc();
+    let cases = [switches::made(alloc)?];
+    let course = Course {
+        cases: cases.as_slice(),
+        turns: plan.turns / SWITCH_SHARE + 1,
+    };
+    let pair = course.compare(rt, &mut PlainPlan { alloc }, &mut RelatedPlan { alloc })?;
+    tell(rt, plan, "switch", "plans", &pair)?;
+    Ok(pair.same)
+}
+
+/// A switch is decided in some microseconds, so it gets one turn for so many of the others.
+const SWITCH_SHARE: u64 = 200;
 
 /// Prints the line of the checks, over a description near every limit: what reading it takes, and what checking it takes besides.
 fn compare_checks<R>(rt: &R, plan: Plan) -> anyhow::Result<bool>

@@ -14,7 +14,7 @@ use desc_check::check;
 use desc_text::read_description;
 use std::alloc::Global;
 use std::test::Fail;
-use switch_plan::{Planned, SwitchRequest, View, plan};
+use switch_plan::{Planned, Relations, SwitchRequest, View, plan, plan_with};
 
 #[test]
 fn requests_have_their_plans(rt: HostRuntime) -> Result<(), Fail> {
@@ -119,7 +119,12 @@ impl Scene {
             loaded: &self.loaded,
             components: &self.components,
         };
-        Ok(plan(alloc, &view, request)?)
+        let planned = plan(alloc, &view, request)?;
+        let relations = Relations::of(alloc, &self.checked)?;
+        if plan_with(alloc, &view, &relations, request)? != planned {
+            return Err(Fail::new("with the relations it is another plan"));
+        }
+        Ok(planned)
     }
 
     /// The names of the controllers with these serials, each behind a sign.

@@ -1,0 +1,135 @@
+//! A strict switch that is decided with every controller loaded.
+
+ghost use Rattle.std.specs.Prelude.{◌≡◌, ◌<◌, length, IfOk, All};
+ghost use Rattle.switch_plan.specs.Relations.{relations_of};
+
+use crate::bodies::Body;
+use crate::described::chained;
+use cm_document::{Checked, CtlDesc, Life, Name, Seq};
+use cm_model::{Outcome, Seen};
+use desc_check::check;
+use desc_text::read_description;
+use fixed_num::Memory;
+use std::alloc::Global;
+use switch_plan::{Planned, Relations, SwitchRequest, View, plan, plan_with};
+
+/// What one turn is given: the description with its relations, its controllers, all of which are loaded, and a request.
+#[derive(Drop)]
+pub struct Switching {
+    checked: Checked,
+    relations: Relations,
+    loaded: Vec<Seen>,
+    components: Vec<Life>,
+    request: SwitchRequest,
+    ghost related: { relations ≡ relations_of checked },
+    ghost placed: { All (λ l. l.place < length checked.controllers) loaded.items },
+}
+
+/// The switch of all: the topmost of a chain stops and one mock takes over from another, so the second of the chain restarts.
+pub fn made(alloc: Global) -> anyhow::Result<Switching> {
+    let text = chained(alloc)?;
+    let checked = check(alloc, read_description(alloc, text.as_bytes())?)?;
+    let components = checked.description().components.as_slice().len();
+    let request = SwitchRequest {
+        on: names(alloc, &["m1"])?,
+        off: names(alloc, &["m0", "p0"])?,
+        strict: true,
+    };
+    let relations = Relations::of(alloc, &checked)?;
+    let loaded = loaded(alloc, &checked)?;
+    let components = vec![in alloc; Life::Active; components]?;
+    Ok(Switching {
+        checked,
+        relations,
+        loaded,
+        components,
+        request,
+    })
+}
+
+/// These names as a list.
+fn names(alloc: Global, words: &[&str]) -> anyhow::Result<Seq<Name>> {
+    let mut list = Seq::new(alloc);
+    for word in words {
+        list.push(Name::read(alloc, word.as_bytes())?)?;
+    }
+    Ok(list)
+}
+
+/// Each described controller as it is loaded, the last described first.
+fn loaded(alloc: Global, checked: &Checked) -> anyhow::Result<Vec<Seen>>
+    ensures { IfOk result (λ list. All (λ l. l.place < length checked.now.controllers) list.items) }
+{
+    let controllers = checked.description().controllers.as_slice();
+    let count = u32::try_from(controllers.len())?;
+    let mut list = Vec::new(alloc);
+    for serial in 0..count {
+        list.push(seen(controllers, serial, count - 1 - serial))?;
+    }
+    Ok(list)
+}
+
+/// A loaded controller: it is active, unless it is a mock after the first.
+fn seen(controllers: &[CtlDesc], serial: u32, place: u32) -> Seen
+    requires { place < length controllers.now }
+    ensures { result.place ≡ place }
+{
+    let name = controllers[place as usize].name.as_str();
+    let first_mock = name == "m0";
+    let active = first_mock || !name.starts_with('m');
+    Seen {
+        serial,
+        place,
+        life: if active { Life::Active } else { Life::Inactive },
+        chained: active && !first_mock && place != 0,
+        ready: true,
+    }
+}
+
+/// A plan whose names are looked up for each request.
+#[derive(Drop)]
+pub struct PlainPlan {
+    pub alloc: Global,
+}
+
+impl Body<Switching> for PlainPlan {
+    fn turn(&mut self, case: &Switching) -> Result<i64, Memory> {
+        let view = View {
+            checked: &case.checked,
+            loaded: case.loaded.as_slice(),
+            components: case.components.as_slice(),
+        };
+        let plan = plan(self.alloc, &view, &case.request)?;
+        Ok(weight(&plan))
+    }
+}
+
+/// A plan with the relations of the description, which are made once for all requests.
+#[derive(Drop)]
+pub struct RelatedPlan {
+    pub alloc: Global,
+}
+
+impl Body<Switching> for RelatedPlan {
+    fn turn(&mut self, case: &Switching) -> Result<i64, Memory> {
+        let view = View {
+            checked: &case.checked,
+            loaded: case.loaded.as_slice(),
+            components: case.components.as_slice(),
+        };
+        let plan = plan_with(self.alloc, &view, &case.relations, &case.request)?;
+        Ok(weight(&plan))
+    }
+}
+
+/// A number of what a plan has: of its outcome and of each serial in its place.
+fn weight(plan: &Planned) -> i64 {
+    let mut sum: i64 = match plan.outcome {
+        Outcome::Done { .. } => 1,
+        _ => 2,
+    };
+    for serial in plan.off.as_slice().iter().chain(plan.on.as_slice().iter()) {
+        sum = sum.wrapping_mul(64).wrapping_add(i64::from(*serial));
+    }
+    sum
+}
