@@ -33,7 +33,7 @@ Leads-cons : (from mid to : State) (e : Entry) (made : List Entry) → step from
 Leads-cons from mid to e made stepped rest = record { legal = rw (stepped, LegalFrom) (refl, rest.legal); ends = rw (stepped, state_after) rest.ends }
 
 -- one step more at the end
-Leads-step : (made : List Entry) (from s : State) (who : ℕ) (call : Call) (next : State) (r : Reply)
+pub Leads-step : (made : List Entry) (from s : State) (who : ℕ) (call : Call) (next : State) (r : Reply)
     → Leads from made s → step s who call ≡ Some (next, r) → Leads from (with_entry made who call r) next
 Leads-step [] from s who call next r leads stepped = Leads-cons from next next (record { who = who; call = call; reply = r }) [] (rw leads.ends stepped) (Leads-nil next)
 Leads-step (e ∷ made) from s who call next r leads stepped =

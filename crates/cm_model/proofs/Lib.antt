@@ -1,6 +1,7 @@
 pub mod RanLemmas
 pub mod AdvanceLemmas
 pub mod LegalLemmas
+pub mod StayLemmas
 pub mod WholeLemmas
 pub mod EnabledLemmas
 mod Rows

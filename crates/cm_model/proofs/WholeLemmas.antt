@@ -8,60 +8,37 @@ use Rattle.std.proofs.lemmas.Bool.Decides.{nat_tests}
 use Rattle.std.proofs.lemmas.Option.{same_Some, slice_get-map, slice_get_within}
 use Rattle.cm_document.proofs.ReadingLemmas.{cases_Option, chosen}
 use Rattle.cm_model.specs.Commit.{commit}
+use Rattle.cm_model.specs.Console.{controller_of, reply_on, configure_refusals, configure_reply, cleanup_refusals, cleanup_reply, unload_refusals, unload_reply, rate_refusals, rate_reply, send_refusals, send_reply}
 use Rattle.cm_model.specs.Cycle.{CycleResult, cycle, after_cycle}
-use Rattle.cm_model.specs.State.{State, boot, controller_lines, interface_lines, component_lines}
-use Rattle.cm_model.specs.Machine.{step, unless_refused, load_refusals, place_of, with_controller, with_loaded, load_effect, can_begin, can_end, can_close}
+use Rattle.cm_model.specs.State.{State, Loaded, boot, controller_lines, interface_lines, component_lines}
+use Rattle.cm_model.specs.Machine.{step, answered, effect, unless_refused, load_refusals, place_of, can_begin, can_end, can_close}
 use Rattle.cm_model.specs.Scheduled.{Session, Advanced, Progress, with_entry, ticket_in, advance, advances, settle, settle_from, settle_all, looped, with_cycle, cycles, finish, start, scheduled}
 use Rattle.cm_document.specs.Built.{built}
 use Rattle.cm_document.specs.ScriptLaws.{allows}
-use Rattle.cm_model.specs.Sessions.{entries_by, calls_of, is_told, with_its_told, asked, Follows, cycle_calls, loop_calls, IsWhole}
+use Rattle.cm_model.specs.Sessions.{IsConsole, entries_by, calls_of, is_told, with_its_told, asked, Follows, cycle_calls, loop_calls, IsWhole}
 use Rattle.cm_model.proofs.AdvanceLemmas.{settle-stays}
+use Rattle.cm_model.proofs.StayLemmas.{SameLoop, same, same-trans, effect-SameLoop}
 use Rattle.cm_document.specs.declared.call.Call.{Call}
-use Rattle.cm_document.specs.declared.call.Call.TheVariants.{Load, ListControllers, ListInterfaces, ListComponents, Begin, End, Close}
+use Rattle.cm_document.specs.declared.call.Call.TheVariants.{Load, Configure, Cleanup, Unload, Rate, Send, ListControllers, ListInterfaces, ListComponents, Begin, End, Close}
 use Rattle.cm_model.specs.declared.entry.Entry.{Entry}
 use Rattle.cm_model.specs.declared.reply.Reply.{Reply}
 use Rattle.cm_model.specs.declared.reply.Reply.TheVariants as reply
 use Rattle.cm_model.specs.declared.reply.Why.{Why}
-use Rattle.cm_document.specs.declared.description.CtlDesc.{CtlDesc}
 use Rattle.cm_document.specs.declared.description.Description.{Description}
 use Rattle.cm_document.specs.declared.document.Document.{Document}
 use Rattle.cm_document.specs.declared.script.SessionText.{SessionText}
 use Rattle.cm_model.specs.declared.blanks.Blanks.{Blanks}
 
--- ---- What console calls leave as it is
+-- ---- Tickets
 
--- the loop's part of the two states is the same
-pub record SameLoop (s t : State) : Type 0 where
-  pub sessions : t.sessions ≡ s.sessions
-  pub description : t.description ≡ s.description
-  pub ended : t.ended ≡ s.ended
-  pub aloft : t.aloft ≡ s.aloft
-  pub closed : t.closed ≡ s.closed
+-- a call on one loaded controller gives no ticket
+none_refused : (refusals : List (Bool × Why)) → ticket_in (unless_refused refusals reply.Done) ≡ None
+none_refused [] = refl
+none_refused (r ∷ refusals) = chosen (λ (answer : Reply). ticket_in answer ≡ None) r.0 (reply.Not r.1) (unless_refused refusals reply.Done) refl (none_refused refusals)
 
-same : (s : State) → SameLoop s s
-same s = record { sessions = refl; description = refl; ended = refl; aloft = refl; closed = refl }
-
-same-trans : (s t u : State) → SameLoop s t → SameLoop t u → SameLoop s u
-same-trans s t u p q = record {
-  sessions = q.sessions ∙ p.sessions;
-  description = q.description ∙ p.description;
-  ended = q.ended ∙ p.ended;
-  aloft = q.aloft ∙ p.aloft;
-  closed = q.closed ∙ p.closed;
-}
-
-with_controller-SameLoop : (s : State) (place : ℕ) (c : Option CtlDesc) → SameLoop s (with_controller s place c)
-with_controller-SameLoop s place None = same s
-with_controller-SameLoop s place (Some c) = record { sessions = refl; description = refl; ended = refl; aloft = refl; closed = refl }
-
-with_loaded-SameLoop : (s : State) (place : Option ℕ) → SameLoop s (with_loaded s place)
-with_loaded-SameLoop s None = same s
-with_loaded-SameLoop s (Some place) = with_controller-SameLoop s place (slice_get s.description.controllers place)
-
--- a load leaves the loop as it is
-pub load_effect-SameLoop : (s : State) (name : List ℕ) (r : Reply) → SameLoop s (load_effect s name r)
-load_effect-SameLoop s name (reply.Serial n) = with_loaded-SameLoop s (place_of s name)
-load_effect-SameLoop s name _ = same s
+none_on : (refusals : Loaded → List (Bool × Why)) (l : Option Loaded) → ticket_in (reply_on refusals l) ≡ None
+none_on refusals None = refl
+none_on refusals (Some l) = none_refused (refusals l)
 
 -- a load gives no ticket
 no_ticket : (refusals : List (Bool × Why)) (n : ℕ) → ticket_in (unless_refused refusals (reply.Serial n)) ≡ None
@@ -81,42 +58,29 @@ record Makes (s : State) (who : ℕ) (call : Call) : Type 0 where
   no_told : is_told call ≡ false
   unqueued : ticket_in answer ≡ None
 
+-- a console call that gets this reply
+makes : (s : State) (who : ℕ) (call : Call) (answer : Reply) → IsConsole call → step s who call ≡ Some (answered s call answer) → is_told call ≡ false
+    → ticket_in answer ≡ None → Makes s who call
+makes s who call answer console stepped no_told unqueued = record {
+  next = effect s call answer;
+  answer = answer;
+  stepped = stepped;
+  loop = effect-SameLoop s call answer console;
+  no_told = no_told;
+  unqueued = unqueued;
+}
+
 built-step : (s : State) (who : ℕ) (call : Call) → IsBuilt call → nat_lt who s.sessions ≡ true → Makes s who call
 unfolding step
-built-step s who (Load name) built known =
-    let answer = unless_refused (load_refusals s (place_of s name)) (reply.Serial s.loads) in
-    record {
-      next = load_effect s name answer;
-      answer = answer;
-      stepped = rw known refl;
-      loop = load_effect-SameLoop s name answer;
-      no_told = refl;
-      unqueued = no_ticket (load_refusals s (place_of s name)) s.loads;
-    }
-built-step s who ListControllers built known = record {
-  next = s;
-  answer = reply.Controllers (controller_lines s);
-  stepped = rw known refl;
-  loop = same s;
-  no_told = refl;
-  unqueued = refl;
-}
-built-step s who ListInterfaces built known = record {
-  next = s;
-  answer = reply.Interfaces (interface_lines s);
-  stepped = rw known refl;
-  loop = same s;
-  no_told = refl;
-  unqueued = refl;
-}
-built-step s who ListComponents built known = record {
-  next = s;
-  answer = reply.Components (component_lines s);
-  stepped = rw known refl;
-  loop = same s;
-  no_told = refl;
-  unqueued = refl;
-}
+built-step s who (Load name) built known = makes s who (Load name) (unless_refused (load_refusals s (place_of s name)) (reply.Serial s.loads)) tt (rw known refl) refl (no_ticket (load_refusals s (place_of s name)) s.loads)
+built-step s who (Configure name) built known = makes s who (Configure name) (configure_reply s name) tt (rw known refl) refl (none_on (configure_refusals s) (controller_of s name))
+built-step s who (Cleanup name) built known = makes s who (Cleanup name) (cleanup_reply s name) tt (rw known refl) refl (none_on cleanup_refusals (controller_of s name))
+built-step s who (Unload name) built known = makes s who (Unload name) (unload_reply s name) tt (rw known refl) refl (none_on unload_refusals (controller_of s name))
+built-step s who (Rate name hz) built known = makes s who (Rate name hz) (rate_reply s name) tt (rw known refl) refl (none_on rate_refusals (controller_of s name))
+built-step s who (Send name mail) built known = makes s who (Send name mail) (send_reply s name mail) tt (rw known refl) refl (none_on (send_refusals s mail) (controller_of s name))
+built-step s who ListControllers built known = makes s who ListControllers (reply.Controllers (controller_lines s)) tt (rw known refl) refl refl
+built-step s who ListInterfaces built known = makes s who ListInterfaces (reply.Interfaces (interface_lines s)) tt (rw known refl) refl refl
+built-step s who ListComponents built known = makes s who ListComponents (reply.Components (component_lines s)) tt (rw known refl) refl refl
 built-step s who _ built known = let no : false ≡ true = built in cc
 
 -- ---- Who called what

@@ -8,6 +8,7 @@ use Rattle.cm_document.specs.declared.call.Call.TheVariants.{Load, Configure, Cl
 use Rattle.cm_document.specs.declared.description.CtlDesc.{CtlDesc}
 use Rattle.cm_document.specs.declared.description.Description.{Description}
 pub use Rattle.cm_model.specs.Console.{unless_refused, place_of}
+use Rattle.cm_model.specs.Console.{configure_reply, configure_effect, cleanup_reply, cleanup_effect, unload_reply, unload_effect, rate_reply, rate_effect, send_reply, send_effect}
 use Rattle.cm_model.specs.Cycle.{cycle, after_cycle}
 use Rattle.cm_model.specs.State.{State, boot, blanks_of, with_one_less, newly_loaded, controller_lines, interface_lines, component_lines}
 use Rattle.cm_model.specs.declared.entry.Entry.{Entry}
@@ -76,16 +77,11 @@ load_refusals s place =
 -- The reply to each call, where it is enabled; to one that is not built yet there is none.
 abbrev pub reply_of : State → Call → Option Reply
 reply_of s (Load name) = Some (unless_refused (load_refusals s (place_of s name)) (reply.Serial s.loads))
--- not built yet
-reply_of s (Configure name) = None
--- not built yet
-reply_of s (Cleanup name) = None
--- not built yet
-reply_of s (Unload name) = None
--- not built yet
-reply_of s (Rate name hz) = None
--- not built yet
-reply_of s (Send name mail) = None
+reply_of s (Configure name) = Some (configure_reply s name)
+reply_of s (Cleanup name) = Some (cleanup_reply s name)
+reply_of s (Unload name) = Some (unload_reply s name)
+reply_of s (Rate name hz) = Some (rate_reply s name)
+reply_of s (Send name mail) = Some (send_reply s name mail)
 -- not built yet
 reply_of s (Switch request) = None
 -- not built yet
@@ -127,6 +123,11 @@ load_effect s name _ = s
 -- the state after each call that was answered so
 abbrev pub effect : State → Call → Reply → State
 effect s (Load name) r = load_effect s name r
+effect s (Configure name) r = configure_effect s name r
+effect s (Cleanup name) r = cleanup_effect s name r
+effect s (Unload name) r = unload_effect s name r
+effect s (Rate name hz) r = rate_effect s name hz r
+effect s (Send name mail) r = send_effect s name mail r
 effect s (Begin _) r = record s { aloft = true }
 effect s (End _) r = after_cycle s (cycle s)
 effect s Close r = record s { closed = true }

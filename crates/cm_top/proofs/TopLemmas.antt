@@ -1,8 +1,10 @@
 -- From the parts of a run to what it promises.
 use Rattle.std.proofs.Common.{◌≡◌, ℕ, ◌+◌, ◌<◌, ◌≤◌, ◌^◌, List, [], ◌∷◌, length, map, Option, Some, None, Ok, true, false, refl, ap, sym, ◌∙◌, inl, inr, ◌⊎◌, arith}
-use Rattle.std.specs.Prelude.{sum_by, IfSome, IsSome, nat_lt}
+use Rattle.std.specs.Prelude.{sum_by, IfSome, IsSome, IsTrue, nat_lt}
+use Rattle.std.specs.List.{All, AllByRecursion}
 use Rattle.std.proofs.lemmas.Bool.Decides.{nat_tests}
 use Rattle.std.proofs.lemmas.List.Sums.{sum_by-cons}
+use Rattle.std.proofs.lemmas.List.Elements.{All-from_recursion}
 use Rattle.std.specs.Io.KnownBytes.{Keeps, Appends, IsAtEnd}
 use Rattle.std.proofs.KnownBytes.{Appends-kept}
 use Rattle.outside_io.specs.Bytes.{AllFlushed, GivesAll}
@@ -11,8 +13,10 @@ use Rattle.cm_document.specs.declared.limits.TheConstants.{LONGEST_DOCUMENT}
 use Rattle.cm_document.specs.Built.{built}
 use Rattle.cm_document.specs.Document.{accepted_script, document}
 use Rattle.cm_document.specs.Lines.{parts_of}
-use Rattle.cm_document.specs.ScriptLaws.{MeetsRules, UsesGrammar}
+use Rattle.cm_document.specs.ScriptLaws.{MeetsRules, allows, UsesGrammar}
 use Rattle.cm_model.specs.Trace.{output}
+use Rattle.cm_document.specs.declared.call.Call.{Call}
+use Rattle.cm_document.specs.declared.call.Call.TheVariants.{Configure, Cleanup, Unload, Rate, Send}
 use Rattle.cm_document.specs.declared.document.Document.{Document}
 use Rattle.cm_document.specs.declared.script.Script.{Script}
 use Rattle.cm_document.specs.declared.script.SessionText.{SessionText}
@@ -22,6 +26,7 @@ use Rattle.cm_model.proofs.LegalLemmas.{scheduled-IsLegal}
 use Rattle.cm_model.proofs.WholeLemmas.{scheduled-IsWhole}
 use Rattle.script_text.proofs.ReadScriptLemmas.{read_script_meets, read_script_uses}
 use Rattle.cm_top.specs.Room.{lines_left}
+use Rattle.cm_top.specs.Session.{NeedsNoBox, NeedNoBoxes}
 use Rattle.cm_model.specs.Scheduled.{Session, scheduled}
 use Rattle.cm_top.specs.Status.{Histories, EndedWith, Wrote, IsPlain, ComesOfBytes, status_of, status_of_document}
 use Rattle.cm_top.specs.declared.status.Status.{Status}
@@ -43,6 +48,28 @@ rules_room s rules = omega (arith, rules.few_calls, lines_left_all s.sessions)
 -- and for the numbers of its sessions
 pub rules_few : (s : Script) → MeetsRules s → length s.sessions < 2 ^ 32
 rules_few s rules = omega (arith, rules.few_sessions)
+
+-- a call that is built reaches no box
+built_call : (c : Call) → IsTrue (allows built c) → NeedsNoBox c
+built_call (Configure name) uses = let no : false ≡ true = uses in cc
+built_call (Cleanup name) uses = let no : false ≡ true = uses in cc
+built_call (Unload name) uses = let no : false ≡ true = uses in cc
+built_call (Rate name hz) uses = let no : false ≡ true = uses in cc
+built_call (Send name mail) uses = let no : false ≡ true = uses in cc
+built_call _ uses = tt
+
+built_calls : (calls : List Call) → AllByRecursion (λ c. IsTrue (allows built c)) calls → NeedNoBoxes calls
+built_calls [] uses = tt
+built_calls (c ∷ calls) uses = (built_call c uses.0, built_calls calls uses.1)
+
+built_sessions : (sessions : List SessionText) → AllByRecursion (λ t. AllByRecursion (λ c. IsTrue (allows built c)) t.lines) sessions
+    → AllByRecursion (λ t. NeedNoBoxes t.lines) sessions
+built_sessions [] uses = tt
+built_sessions (t ∷ sessions) uses = (built_calls t.lines uses.0, built_sessions sessions uses.1)
+
+-- a script with built lines alone has none that reaches a box
+pub built_boxless : (s : Script) → UsesGrammar built s → All (λ t. NeedNoBoxes t.lines) s.sessions
+built_boxless s uses = All-from_recursion (λ (t : SessionText). NeedNoBoxes t.lines) s.sessions (built_sessions s.sessions uses.calls)
 
 -- what an accepted script is
 accepted_script-Rules : (lines : ℕ) (text : Option (List ℕ)) (s : Script) → accepted_script lines text ≡ Ok s → MeetsRules s × UsesGrammar built s

@@ -1,12 +1,27 @@
 -- What one call and one advance of a session come to.
 use Rattle.std.specs.Prelude.{◌≡◌, ℕ, Bool, true, false, List, Option, Some, None}
+use Rattle.std.specs.List.{AllByRecursion}
 use Rattle.cm_document.specs.declared.call.Call.{Call}
+use Rattle.cm_document.specs.declared.call.Call.TheVariants.{Configure, Cleanup, Unload, Rate, Send}
 use Rattle.cm_model.specs.State.{State}
 use Rattle.cm_model.specs.Scheduled.{Session, Advanced, with_entry, ticket_in}
 use Rattle.cm_model.specs.declared.entry.Entry.{Entry}
 use Rattle.cm_model.specs.declared.reply.Reply.{Reply}
 use Rattle.cm_top.specs.declared.session.Asked.{Asked}
 use Rattle.cm_top.specs.declared.session.Asked.TheVariants.{Waits, Made}
+
+-- A call that reaches no controller's box. The desk keeps no boxes, so it makes no other call; and no accepted script has one.
+abbrev pub NeedsNoBox : Call → Type 0
+NeedsNoBox (Configure _) = ⊥
+NeedsNoBox (Cleanup _) = ⊥
+NeedsNoBox (Unload _) = ⊥
+NeedsNoBox (Rate _ _) = ⊥
+NeedsNoBox (Send _ _) = ⊥
+NeedsNoBox _ = Unit {0}
+
+-- calls of which each is so
+abbrev pub NeedNoBoxes : List Call → Type 0
+NeedNoBoxes calls = AllByRecursion NeedsNoBox calls
 
 -- a call that was enabled: its step, its entry, and the ticket that it was given
 pub record IsMade (expected : Option (State × Reply)) (who : ℕ) (call : Call) (next : State) (made made' : List Entry) (ticket : Option ℕ) : Type 0 where

@@ -78,6 +78,7 @@ impl<'a> Desk<'a> {
     ghost use Rattle.cm_model.specs.State.{boot, controller_line, is_chained, controller_lines, interface_lines, component_lines};
     ghost use Rattle.cm_model.specs.Machine.{place_of, is_loaded_at, is_sold_out_at, with_loaded, load_effect, reply_of, can_begin, can_end, can_close, step};
     ghost use Rattle.cm_top.specs.Room.{serials_of};
+    ghost use Rattle.cm_top.specs.Session.{NeedsNoBox};
 
     /// The manager at boot: nothing is loaded, aloft or ended, and the hardware is as described.
     pub fn boot(
@@ -117,7 +118,8 @@ impl<'a> Desk<'a> {
     /// Makes a call where it is enabled, and gives its reply; None where it is not. Want of memory changes nothing.
     #[tactic(auto, unfolding(cm_model::specs::Machine::step))]
     pub fn step(&mut self, alloc: Global, who: u32, call: &Call) -> Result<Option<Reply>, Memory>
-        requires { self.old.loads + serials_of call.now < 2 ^ 32 }
+        requires room { self.old.loads + serials_of call.now < 2 ^ 32 }
+        requires boxless { NeedsNoBox call.now }
         ensures made { IfOk result (Makes (step self.old who call.now) self.old self.new) }
         ensures kept { OnErr result (self.new ≡ self.old) }
     {

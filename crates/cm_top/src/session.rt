@@ -4,14 +4,16 @@ ghost use Rattle.std.specs.Prelude.{◌≡◌, ◌+◌, ◌<◌, ◌≤◌, ◌^
 ghost use Rattle.cm_model.specs.Machine.{step};
 ghost use Rattle.cm_model.specs.Scheduled.{advance, settle, settle_from, start, scheduled, ticket_in};
 ghost use Rattle.cm_top.specs.Room.{lines_left, serials_of};
-ghost use Rattle.cm_top.specs.Session.{at, Advances, Asks};
+ghost use Rattle.std.specs.List.{All};
+ghost use Rattle.cm_top.specs.Session.{at, Advances, Asks, NeedsNoBox, NeedNoBoxes};
 
 use crate::desk::Desk;
 use cm_model::{Blanks, Call, Checked, Entry, KeptCall, Memory, Reply, Script, SessionText};
 use std::alloc::Global;
 use std::marker::Model;
 
-/// Where a session stands: the lines that it has left, and the ticket that it has still to be told of.
+/// Where a session stands: the lines that it has left, none of which reaches a controller's box, and the ticket that it has
+/// still to be told of.
 #[derive(Debug, Drop)]
 pub struct Session<'a> {
     lines: &'a [Call],
@@ -23,7 +25,11 @@ impl<'a> Model for Session<'a> {
 
     ghost Value = { WrittenSession };
 
+    ghost use Rattle.cm_top.specs.Session.{NeedNoBoxes};
+
     ghost view = { λ s. record { lines = s.lines.now; ticket = s.ticket } };
+
+    ghost invariant = { λ s. NeedNoBoxes s.lines.now };
 }
 
 /// What came of a call that may not be enabled.
@@ -72,6 +78,7 @@ impl<'a> Job<'a> {
     ) -> Result<Job<'a>, Memory>
         requires few { length script.now.sessions < 2 ^ 32 }
         requires room { lines_left (map (λ s. record { lines = s.lines; ticket = None }) script.now.sessions) < 2 ^ 32 }
+        requires boxless { All (λ s. NeedNoBoxes s.lines) script.now.sessions }
         ensures { IfOk result (λ job. job ≡ start (record { description = checked.now; script = script.now }) blanks) }
     {
         let texts = script.sessions.as_slice();
@@ -151,6 +158,7 @@ pub fn history(
 ) -> Result<Vec<Entry>, Memory>
     requires few { length script.now.sessions < 2 ^ 32 }
     requires room { lines_left (map (λ s. record { lines = s.lines; ticket = None }) script.now.sessions) < 2 ^ 32 }
+    requires boxless { All (λ s. NeedNoBoxes s.lines) script.now.sessions }
     ensures { IfOk result
         (λ made. made.items ≡ scheduled (record { description = checked.now; script = script.now }) blanks) }
 {
@@ -162,6 +170,7 @@ pub fn history(
 
 /// The sessions of a script, each before its lines.
 fn waiting<'a>(alloc: Global, texts: &'a [SessionText]) -> Result<Vec<Session<'a>>, Memory>
+    requires { All (λ s. NeedNoBoxes s.lines) texts.now }
     ensures { IfOk result
         (λ sessions. sessions.items ≡ map (λ s. record { lines = s.lines; ticket = None }) texts.now) }
 {
@@ -254,6 +263,7 @@ fn ask(
     made: &mut Vec<Entry>,
 ) -> Result<Asked, Memory>
     requires room { desk.old.loads + serials_of call.now < 2 ^ 32 }
+    requires boxless { NeedsNoBox call.now }
     ensures made { IfOk result
         (Asks (step desk.old who call.now) who call.now desk.old desk.new made.old.items made.new.items) }
     ensures room { desk.new.loads ≤ desk.old.loads + serials_of call.now }

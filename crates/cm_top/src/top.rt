@@ -6,7 +6,8 @@ ghost use Rattle.outside_io.specs.Bytes.{AllFlushed};
 ghost use Rattle.outside_io.specs.Faults.{Rose};
 ghost use Rattle.cm_model.specs.Words.{is_asked};
 ghost use Rattle.cm_document.specs.declared.limits.TheConstants.{LONGEST_DOCUMENT};
-ghost use Rattle.cm_document.specs.ScriptLaws.{MeetsRules};
+ghost use Rattle.cm_document.specs.Built.{built};
+ghost use Rattle.cm_document.specs.ScriptLaws.{MeetsRules, UsesGrammar};
 ghost use Rattle.cm_model.specs.Scheduled.{scheduled};
 ghost use Rattle.cm_model.specs.Trace.{output};
 ghost use Rattle.cm_top.specs.Status.{Wrote, ComesBeforeWriting};
@@ -111,7 +112,8 @@ fn run_bytes<K: Sink>(alloc: Global, bytes: &[u8], sink: &mut K, stock: Blanks) 
 /// Runs an accepted document and writes its trace.
 #[tactic(auto, unfolding(cm_model::specs::Trace::output))]
 fn run_document<K: Sink>(alloc: Global, document: &Document, sink: &mut K, stock: Blanks) -> Status
-    requires { MeetsRules document.now.script }
+    requires rules { MeetsRules document.now.script }
+    requires grammar { UsesGrammar built document.now.script }
     ensures wrote { Wrote (output document.now (scheduled document.now stock)) (K.taken sink.old) (K.taken sink.new)
         (K.flushed sink.new) result }
     ensures write_fault { result ≡ Status.WriteFault → Rose (K.faults sink.old) (K.faults sink.new) }

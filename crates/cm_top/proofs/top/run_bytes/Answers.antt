@@ -2,7 +2,7 @@ use Rattle.cm_top.proofs.TopLemmas.{document-Rules, Wrote-EndedWith, Wrote-OfByt
 use Rattle.cm_top.proofs.top.run_bytes.Goals as goal
 
 pub run_document-requires : goal.run_document-requires
-run_document-requires g c = (document-Rules _ _ c.in-Ok.ensures.reads).0
+run_document-requires g c = let rules = document-Rules _ _ c.in-Ok.ensures.reads in record { rules = rules.0; grammar = rules.1 }
 
 pub returns-in-Ok-clause-runs : goal.returns-in-Ok-clause-runs
 returns-in-Ok-clause-runs g c =

@@ -1,10 +1,11 @@
 use Rattle.cm_model.specs.Trace.{output}
-use Rattle.cm_top.proofs.TopLemmas.{rules_room, rules_few, flush-Wrote}
+use Rattle.cm_top.proofs.TopLemmas.{rules_room, rules_few, built_boxless, flush-Wrote}
 use Rattle.cm_top.proofs.top.run_document.Goals as goal
 
--- a script that meets the rules leaves room for each of its loads, and for the numbers of its sessions
+-- A script that meets the rules leaves room for each of its loads, and for the numbers of its sessions; with built lines alone it
+-- reaches no box.
 pub history-requires : goal.history-requires
-history-requires g c = record { few = rules_few _ c.requires; room = rules_room _ c.requires }
+history-requires g c = record { few = rules_few _ c.requires.rules; room = rules_room _ c.requires.rules; boxless = built_boxless _ c.requires.grammar }
 
 -- the trace of the scheduled history was taken, and then flushed
 pub returns-in-Ok-write_trace-clause-wrote : goal.returns-in-Ok-write_trace-clause-wrote
