@@ -13,5 +13,12 @@ mod ComponentRows
 mod SwitchRows
 mod CycleRows
 mod UpdateRows
+pub mod LoadedLemmas
+pub mod CommitLemmas
+pub mod MoveLemmas
+pub mod SteadyLemmas
+mod Worked
+mod BoundaryRows
+mod SoundRows
 mod ConsoleRows
 pub mod RangedLemmas

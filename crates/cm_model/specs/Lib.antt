@@ -20,7 +20,11 @@ pub mod Claims
 pub mod Commit
 -- cycles and histories
 pub mod Cycle
+pub mod Boundary
 pub mod Machine
+pub mod CauseIsTrue
+pub mod Sound
+pub mod Steady
 pub mod Scheduled
 pub mod Sessions
 pub mod Causes

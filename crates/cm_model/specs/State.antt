@@ -16,7 +16,9 @@ use Rattle.cm_document.specs.declared.life.Life.{Life}
 use Rattle.cm_document.specs.declared.life.Life.TheVariants.{Unconfigured, Inactive, Active}
 use Rattle.cm_model.specs.Components.{bodies_at_start}
 use Rattle.cm_model.specs.Values.{InterfaceValue, unset, running, after_reads}
+use Rattle.cm_model.specs.declared.cause.Outcome.{Outcome}
 use Rattle.cm_model.specs.declared.data.CtlData.{CtlData}
+use Rattle.cm_model.specs.declared.request.Request.{Request}
 use Rattle.cm_model.specs.declared.lines.CompLine.{CompLine}
 use Rattle.cm_model.specs.declared.lines.CtlLine.{CtlLine}
 use Rattle.cm_model.specs.declared.lines.IfaceLine.{IfaceLine}
@@ -39,8 +41,9 @@ pub record MailAloft : Type 0 where
 
 -- The state: the description, which nothing changes; the number of sessions, which is also the loop's number as a caller; the
 -- blanks that are left; how many loads were given a serial; the loaded controllers, by serial; the lifecycle states of the
--- components, the bodies of the joints, and the interfaces with what they hold, each by place; how many cycles have ended; whether
--- one has begun that has not ended, and the mails that went aloft with it; whether the loop is closed.
+-- components, the bodies of the joints, and the interfaces with what they hold, each by place; all requests by ticket, and the
+-- outcomes of the first of them, for the others wait; how many cycles have ended; whether one has begun that has not ended, and the
+-- mails that went aloft with it; whether the loop is closed.
 pub record State : Type 0 where
   pub description : Description
   pub sessions : ℕ
@@ -50,6 +53,8 @@ pub record State : Type 0 where
   pub lives : List Life
   pub bodies : List BodyState
   pub values : List InterfaceValue
+  pub requests : List Request
+  pub outcomes : List Outcome
   pub ended : ℕ
   pub aloft : Bool
   pub mails : List MailAloft
@@ -66,7 +71,7 @@ all_bodies_at_start d = flat_map bodies_at_start d.components
 abbrev pub values_at_start : Description → List InterfaceValue
 values_at_start d = after_reads (running (lives_at_start d)) (all_bodies_at_start d) (map unset (interfaces_of d))
 
--- At boot nothing is loaded, aloft or ended, the loop is open, and the hardware is as at start.
+-- At boot nothing is loaded, asked, aloft or ended, the loop is open, and the hardware is as at start.
 abbrev pub boot : Description → Blanks → ℕ → State
 boot description blanks sessions = record {
   description = description;
@@ -77,6 +82,8 @@ boot description blanks sessions = record {
   lives = lives_at_start description;
   bodies = all_bodies_at_start description;
   values = values_at_start description;
+  requests = [];
+  outcomes = [];
   ended = 0;
   aloft = false;
   mails = [];

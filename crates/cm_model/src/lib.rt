@@ -24,6 +24,7 @@ pub use ran_room::RanRoom;
 pub use record::{CycleParts, CycleRecord, FailedPart};
 pub use record_room::{RecordRoom, RecordSize};
 pub use reply::{Reply, Why};
+pub use request::Request;
 pub use seen::Seen;
 pub use sequence::{Boxed, ListRoom, Rare};
 pub use shape::Shape;
@@ -46,9 +47,14 @@ mod ran_room;
 mod record;
 mod record_room;
 mod reply;
+mod request;
 mod seen;
 mod shape;
+pub mod steady;
 mod tick;
+
+/// How many requests wait at most.
+pub const MOST_WAITING: usize = 4;
 
 /// A second, in microseconds.
 pub const SECOND_US: u32 = 1_000_000;

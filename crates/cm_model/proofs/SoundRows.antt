@@ -1,0 +1,195 @@
+-- Worked rows of soundness: for each of its parts a small history that meets it, and what it refuses.
+use Rattle.std.proofs.Common.{◌≡◌, ℕ, Bool, true, false, [], ◌∷◌, ◌++◌, length, Option, Some, refl, sym, ap, true≢false, arith}
+use Rattle.std.specs.Prelude.{codes, ◌==◌, ◌||◌, ◌&&◌}
+use Rattle.std.specs.List.{list_any, IsDistinct}
+use Rattle.cm_document.specs.declared.call.Call.TheVariants.{Load, Unload, Hardware, Told, ListControllers, Begin, End}
+use Rattle.cm_document.specs.declared.call.SwitchRequest.{SwitchRequest}
+use Rattle.cm_document.specs.declared.life.Life.TheVariants.{Unconfigured, Active}
+use Rattle.cm_model.proofs.LoadedLemmas.{and_true}
+use Rattle.cm_model.proofs.Worked.{j1_position, j1_velocity, pid_reference, robot, stock, made, moments_of, runs, rests, with_running}
+use Rattle.cm_model.specs.Boundary.{all_concluded}
+use Rattle.cm_model.specs.Cycle.{cycle}
+use Rattle.cm_model.specs.Order.{rank_within}
+use Rattle.cm_model.specs.Sound.{Moment, LoansHold, EachRunsOnce, OneConfigurationEach, TicketsFrom, WholeOrNothing, UnloadsLeaveNothing}
+use Rattle.cm_model.specs.State.{State, boot, is_active, controller_lines}
+use Rattle.cm_model.specs.declared.cause.Cause.TheVariants as cause
+use Rattle.cm_model.specs.declared.cause.Outcome.TheVariants as outcome
+use Rattle.cm_model.specs.declared.reply.Reply.{Reply}
+use Rattle.cm_model.specs.declared.reply.Reply.TheVariants as reply
+use Rattle.cm_model.specs.declared.request.Request.TheVariants as request
+
+never : {A : Type 0} → false ≡ true → A
+never e = absurd (true≢false (sym e))
+
+-- ---- Loans
+
+-- at boot no controller is active
+at_boot : LoansHold (with_running [])
+at_boot = record {
+  together = record {
+    exclusive = λ p q i a b c d. never a;
+    one_mode = λ p q i j a b c d. never a;
+    available = λ p i a n. never a;
+    followed = λ p i a c. never a;
+  };
+  present = λ p i a r. never a;
+  marked = tt;
+}
+
+-- two claim one interface
+two_owners : LoansHold (with_running (runs 0 0 false ∷ runs 1 3 false ∷ [])) → ⊥
+two_owners h = let same : ◌≡◌ {A = ℕ} 0 3 = h.together.exclusive 0 3 j1_position refl refl refl refl in omega (arith, same)
+
+-- two kinds of command on one joint
+two_modes : LoansHold (with_running (runs 0 0 false ∷ runs 1 1 false ∷ [])) → ⊥
+two_modes h = true≢false (h.together.one_mode 0 1 j1_position j1_velocity refl refl refl refl)
+
+-- a component that is not there
+not_there : LoansHold (record (with_running (runs 0 0 false ∷ [])) { lives = Unconfigured ∷ [] }) → ⊥
+not_there h = true≢false (sym (h.together.available 0 j1_position refl refl))
+
+-- a trajectory above a pid that is not active
+no_follower : LoansHold (with_running (runs 0 2 false ∷ [])) → ⊥
+no_follower h = true≢false (h.together.followed 2 pid_reference refl refl)
+
+-- a state that is read and holds nothing
+nothing_held : LoansHold (record (with_running (runs 0 4 false ∷ [])) { values = [] }) → ⊥
+nothing_held h = true≢false (sym (h.present 4 j1_position refl refl))
+
+-- a pid beneath an active trajectory that takes mail
+wrong_mark : LoansHold (with_running (runs 0 1 false ∷ runs 1 2 false ∷ [])) → ⊥
+wrong_mark h = true≢false (sym h.marked.0)
+
+-- ---- Updates
+
+-- the one that is active and due ran once
+ran_once : EachRunsOnce (with_running (runs 0 0 false ∷ [])) (0 ∷ [])
+unfolding IsDistinct
+ran_once = record { exactly = λ n. ap (λ b. b || false) (sym (and_true (0 == n))); once = (tt, tt); predecessors_first = (tt, tt) }
+
+-- it did not run, or ran twice
+did_not_run : EachRunsOnce (with_running (runs 0 0 false ∷ [])) [] → ⊥
+did_not_run h = true≢false (sym (h.exactly 0))
+
+ran_twice : EachRunsOnce (with_running (runs 0 0 false ∷ [])) (0 ∷ 0 ∷ []) → ⊥
+unfolding IsDistinct
+ran_twice h = true≢false h.once.0.0
+
+-- the pid before the trajectory that commands it
+wrong_order : EachRunsOnce (with_running (runs 0 1 true ∷ runs 1 2 false ∷ [])) (0 ∷ 1 ∷ []) → ⊥
+wrong_order h = true≢false h.predecessors_first.0.0
+
+-- ---- States
+
+-- the forward is configured and does not run
+abbrev at_rest : State
+at_rest = with_running (rests 0 0 ∷ [])
+
+-- it runs
+abbrev at_work : State
+at_work = with_running (runs 0 0 false ∷ [])
+
+-- it runs, and a cycle has begun
+abbrev in_cycle : State
+in_cycle = (made at_work (Begin 0)).0
+
+-- a component that is not described is to be active
+abbrev asked : State
+asked = record (boot robot stock 1) { requests = request.Hardware (codes "nosuch") Active ∷ [] }
+
+-- that was decided
+abbrev decided_state : State
+decided_state = (made asked (Begin 0)).0
+
+-- ---- Configurations
+
+-- a list that is asked for before the end leaves the configuration, and the end tells of the cycle of that state
+a_cycle : OneConfigurationEach (moments_of at_work (Begin 0 ∷ ListControllers ∷ End 0 ∷ []))
+unfolding all_concluded
+a_cycle = (tt, (refl, (refl, tt)))
+
+-- a moment at which a list is asked for, after which this state stands
+abbrev comes_to : State → Moment
+comes_to s = record { before = in_cycle; call = ListControllers; reply = reply.Controllers []; after = s }
+
+-- a controller that leaves within the cycle
+leaves_within : OneConfigurationEach (moments_of at_work (Begin 0 ∷ []) ++ comes_to at_rest ∷ []) → ⊥
+unfolding rank_within all_concluded
+leaves_within h = let fewer : ◌≡◌ {A = ℕ} 0 1 = ap (λ c. length c.running) h.1.0 in omega (arith, fewer)
+
+-- an end that tells of no update
+abbrev empty_end : Moment
+empty_end = record { before = in_cycle; call = End 0; reply = reply.Cycle (record ((cycle in_cycle).happened) { ran = [] }); after = in_cycle }
+
+abbrev updates_told : Reply → ℕ
+updates_told (reply.Cycle h) = length h.ran
+updates_told _ = 0
+
+told_wrongly : OneConfigurationEach (moments_of at_work (Begin 0 ∷ []) ++ empty_end ∷ []) → ⊥
+unfolding rank_within all_concluded cycle
+told_wrongly h = let fewer : ◌≡◌ {A = ℕ} 0 1 = ap updates_told h.1.0 in omega (arith, fewer)
+
+-- ---- Tickets
+
+-- a request waits, is decided, and is told of
+told_once : TicketsFrom [] (moments_of (boot robot stock 1) (Hardware (codes "nosuch") Active ∷ Begin 0 ∷ Told 0 ∷ []))
+unfolding all_concluded
+told_once =
+    (record { each_once = refl; told = tt },
+    (record { each_once = refl; told = tt },
+    (record { each_once = refl; told = refl }, tt)))
+
+-- it is decided twice
+decided_twice : TicketsFrom [] (moments_of asked (Begin 0 ∷ []) ++ moments_of asked (Begin 0 ∷ [])) → ⊥
+unfolding all_concluded
+decided_twice h = let more : ◌≡◌ {A = ℕ} 2 1 = ap (λ ds. length ds) h.1.0.each_once in omega (arith, more)
+
+-- it is told otherwise than decided
+abbrev says_ended : Option Reply → Bool
+says_ended (Some (reply.Outcome outcome.LoopEnded)) = true
+says_ended _ = false
+
+abbrev another_answer : Moment
+another_answer = record { before = decided_state; call = Told 0; reply = reply.Outcome outcome.LoopEnded; after = decided_state }
+
+told_otherwise : TicketsFrom [] (moments_of asked (Begin 0 ∷ []) ++ another_answer ∷ []) → ⊥
+unfolding all_concluded
+told_otherwise h = never (ap says_ended h.1.0.told)
+
+-- ---- Strict switches
+
+-- the forward is to be active
+abbrev forward_on : SwitchRequest
+forward_on = record { on = codes "fwd" ∷ []; off = []; strict = true }
+
+-- the switch is told as done, and nothing changed
+half_a_switch : WholeOrNothing at_rest forward_on at_rest (outcome.Done []) → ⊥
+half_a_switch h = never (h.1 0)
+
+-- it is told as refused, and the controller runs
+change_of_a_refused_one : WholeOrNothing at_rest forward_on at_work (outcome.Refused (codes "fwd") cause.NotReady) → ⊥
+change_of_a_refused_one h = true≢false (ap (λ ls. list_any is_active ls) h.0.loaded)
+
+-- it is refused for a cause that is not true
+untrue_cause : WholeOrNothing at_rest forward_on at_rest (outcome.Refused (codes "fwd") cause.NoSuchMove) → ⊥
+untrue_cause h = h.1
+
+-- ---- Unloads
+
+-- a controller is loaded and unloaded, and no list has it
+gone : UnloadsLeaveNothing (moments_of (boot robot stock 1) (Load (codes "fwd") ∷ Unload (codes "fwd") ∷ ListControllers ∷ []))
+gone = (tt, (record { done = refl; gone = λ done. (refl, tt) }, (tt, tt)))
+
+-- a list that has it still
+abbrev still_there : Moment
+still_there = record { before = at_rest; call = ListControllers; reply = reply.Controllers (controller_lines at_rest); after = at_rest }
+
+listed_after : UnloadsLeaveNothing (moments_of at_rest (Unload (codes "fwd") ∷ []) ++ still_there ∷ []) → ⊥
+listed_after h = true≢false (h.0.gone refl).0
+
+-- an unload of an active controller that is done
+abbrev unloaded_while_active : Moment
+unloaded_while_active = record { before = at_work; call = Unload (codes "fwd"); reply = reply.Done; after = at_work }
+
+active_unloaded : UnloadsLeaveNothing (unloaded_while_active ∷ []) → ⊥
+active_unloaded h = true≢false h.0.done

@@ -1,0 +1,147 @@
+-- A robot for worked rows, one joint and seven controllers, and what its calls come to by the definitions alone.
+use Rattle.std.proofs.Common.{ℕ, Bool, true, false, List, [], ◌∷◌, ◌++◌, pos}
+use Rattle.std.specs.Prelude.{codes, flat_map, Some, None, unwrap_or}
+use Rattle.iface_names.specs.declared.interface.IfaceName.{IfaceName}
+use Rattle.iface_names.specs.declared.interface.IfaceName.TheVariants.{Joint, Reference}
+use Rattle.iface_names.specs.declared.kind.Kind.TheVariants.{Position, Velocity}
+use Rattle.cm_document.specs.Described.{a_controller, a_description, a_joint, a_component}
+use Rattle.cm_document.specs.Params.{kind_of}
+use Rattle.cm_document.specs.declared.call.Call.{Call}
+use Rattle.cm_document.specs.declared.call.Call.TheVariants.{Load, Configure, Cleanup, Unload, Rate, Send, Switch, Hardware, Told, Await, ListControllers, ListInterfaces, ListComponents, Begin, End, Close}
+use Rattle.cm_document.specs.declared.description.CompDesc.{CompDesc}
+use Rattle.cm_document.specs.declared.description.CompKind.TheVariants.{System}
+use Rattle.cm_document.specs.declared.description.CtlDesc.{CtlDesc}
+use Rattle.cm_document.specs.declared.description.Description.{Description}
+use Rattle.cm_document.specs.declared.description.Params.TheVariants.{Forward, Passthrough, Pid, Trajectory, Broadcaster, Mock}
+use Rattle.cm_document.specs.declared.life.Life.TheVariants.{Unconfigured, Active}
+use Rattle.cm_model.specs.Boundary.{request_reply, request_effect, told_reply, begin_reply, begin_effect, close_reply, close_effect}
+use Rattle.cm_model.specs.Console.{unless_refused, place_of, configure_reply, cleanup_reply, unload_reply, rate_reply, send_reply, configure_effect, cleanup_effect, unload_effect, rate_effect, send_effect}
+use Rattle.cm_model.specs.Controllers.{started}
+use Rattle.cm_model.specs.Cycle.{cycle, after_cycle}
+use Rattle.cm_model.specs.Machine.{load_refusals, load_effect}
+use Rattle.cm_model.specs.Order.{controller_at}
+use Rattle.cm_model.specs.Sound.{Moment}
+use Rattle.cm_model.specs.State.{State, Loaded, boot, controller_lines, interface_lines, component_lines}
+use Rattle.cm_model.specs.Trace.{reply_text, names_in}
+use Rattle.cm_model.specs.declared.blanks.Blanks.{Blanks}
+use Rattle.cm_model.specs.declared.reply.Reply.{Reply}
+use Rattle.cm_model.specs.declared.reply.Reply.TheVariants as reply
+use Rattle.cm_model.specs.declared.request.Request.TheVariants as request
+
+-- ---- The description
+
+abbrev pub j1_position : IfaceName
+j1_position = Joint (codes "j1") Position
+
+abbrev pub j1_velocity : IfaceName
+j1_velocity = Joint (codes "j1") Velocity
+
+abbrev pub pid_reference : IfaceName
+pid_reference = Reference (codes "pid") (codes "j1") Position
+
+abbrev pub arm : CompDesc
+arm = a_component (codes "arm") System Active Unconfigured [] []
+    (a_joint (codes "j1") (pos 1000000) (pos 1000000) (pos 0) (pos 0) (pos 0) (Position ∷ Velocity ∷ []) (Position ∷ Velocity ∷ []) ∷ [])
+
+-- a forward, a pid, a trajectory above it, another trajectory, a broadcaster, a mock, and a passthrough above the pid
+abbrev pub controllers : List CtlDesc
+controllers =
+    a_controller (codes "fwd") 0 (j1_position ∷ []) [] (Forward 1)
+    ∷ a_controller (codes "pid") 0 (j1_velocity ∷ []) (j1_position ∷ []) (Pid (pos 2000000) (pos 0) (pos 0) (pos 0) (pos 10000000))
+    ∷ a_controller (codes "traj") 0 (pid_reference ∷ []) (j1_position ∷ []) (Trajectory 1)
+    ∷ a_controller (codes "traj2") 0 (j1_position ∷ []) (j1_position ∷ []) (Trajectory 1)
+    ∷ a_controller (codes "jsb") 0 [] (j1_position ∷ j1_velocity ∷ []) (Broadcaster 2)
+    ∷ a_controller (codes "mk") 0 [] [] (Mock 0 false (2 ∷ []) (5 ∷ []))
+    ∷ a_controller (codes "pt") 0 (pid_reference ∷ []) [] (Passthrough 1)
+    ∷ []
+
+abbrev pub robot : Description
+robot = a_description 1 100 6 (arm ∷ []) controllers
+
+abbrev pub stock : Blanks
+stock = record { forward = 2; passthrough = 2; pid = 2; trajectory = 2; broadcaster = 2; mock = 2 }
+
+-- ---- Calls
+
+-- the state after a call, with the reply
+abbrev pub done_so : (Reply → State) → Reply → State × Reply
+done_so effect r = (effect r, r)
+
+-- the answer to each call, as the manager's definitions give it
+abbrev pub made : State → Call → State × Reply
+made s (Load name) = done_so (load_effect s name) (unless_refused (load_refusals s (place_of s name)) (reply.Serial s.loads))
+made s (Configure name) = done_so (configure_effect s name) (configure_reply s name)
+made s (Cleanup name) = done_so (cleanup_effect s name) (cleanup_reply s name)
+made s (Unload name) = done_so (unload_effect s name) (unload_reply s name)
+made s (Rate name hz) = done_so (rate_effect s name hz) (rate_reply s name)
+made s (Send name mail) = done_so (send_effect s name mail) (send_reply s name mail)
+made s (Switch r) = done_so (request_effect s (request.Switch r)) (request_reply s)
+made s (Hardware component target) = done_so (request_effect s (request.Hardware component target)) (request_reply s)
+made s (Told ticket) = (s, unwrap_or (told_reply s ticket) reply.Done)
+made s (Await _) = (s, reply.Done)
+made s ListControllers = (s, reply.Controllers (controller_lines s))
+made s ListInterfaces = (s, reply.Interfaces (interface_lines s))
+made s ListComponents = (s, reply.Components (component_lines s))
+made s (Begin _) = (begin_effect s, begin_reply s)
+made s (End _) = (after_cycle s (cycle s), reply.Cycle (cycle s).happened)
+made s Close = (close_effect s, close_reply s)
+
+-- the replies to calls, one after the other, as they print with these names of controllers by serial
+abbrev pub replies : List (List ℕ) → State → List Call → List (List ℕ)
+replies names s [] = []
+replies names s (call ∷ calls) = reply_text (record (names_in robot []) { controllers = names }) (made s call).1 ∷ replies names (made s call).0 calls
+
+-- the state after calls, one after the other
+abbrev pub after : State → List Call → State
+after s [] = s
+after s (call ∷ calls) = after (made s call).0 calls
+
+-- a strict switch, and one of best effort
+abbrev pub strictly : List (List ℕ) → List (List ℕ) → Call
+strictly off on = Switch (record { on = on; off = off; strict = true })
+
+abbrev pub at_best : List (List ℕ) → List (List ℕ) → Call
+at_best off on = Switch (record { on = on; off = off; strict = false })
+
+-- a controller is loaded and configured
+abbrev pub ready : List (List ℕ) → List Call
+ready names = flat_map (λ name. Load name ∷ Configure name ∷ []) names
+
+-- the replies from boot on, once these are ready
+abbrev pub once_ready : List (List ℕ) → List Call → List (List ℕ)
+once_ready names calls = replies names (after (boot robot stock 1) (ready names)) calls
+
+-- calls as the moments of a history
+abbrev pub moments_of : State → List Call → List Moment
+moments_of s [] = []
+moments_of s (call ∷ calls) = record { before = s; call = call; reply = (made s call).1; after = (made s call).0 } ∷ moments_of (made s call).0 calls
+
+-- a loaded controller that runs, chained or not
+abbrev pub runs : ℕ → ℕ → Bool → Loaded
+runs serial place chained =
+    let params = (controller_at controllers place).params in
+    record {
+      serial = serial;
+      place = place;
+      rate = 0;
+      divisor = Some 1;
+      ctl = record { kind = kind_of params; params = Some params; run = Some (started params (pos 0 ∷ pos 0 ∷ []) chained) };
+      mail = None;
+    }
+
+-- a loaded controller that is configured and does not run
+abbrev pub rests : ℕ → ℕ → Loaded
+rests serial place =
+    let params = (controller_at controllers place).params in
+    record {
+      serial = serial;
+      place = place;
+      rate = 0;
+      divisor = Some 1;
+      ctl = record { kind = kind_of params; params = Some params; run = None };
+      mail = None;
+    }
+
+-- the robot at boot, but for these controllers
+abbrev pub with_running : List Loaded → State
+with_running loaded = record (boot robot stock 1) { loaded = loaded }
