@@ -34,7 +34,7 @@ unfolding script_with with_line script_text number_of spelled digits
 no_session = refl
 
 -- today a form that is not built is a line without a form
-not_built : script_with built 20 (codes "session a\nload fwd\nconfigure fwd\n") ≡ Err (BadLine 22)
+not_built : script_with built 20 (codes "session a\nload fwd\nswitch strict +fwd\n") ≡ Err (BadLine 22)
 unfolding script_with with_line script_text number_of spelled digits
 not_built = refl
 

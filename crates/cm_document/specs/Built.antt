@@ -1,4 +1,4 @@
--- Which lines a script may have today: the first session, loads, and the lists of controllers, interfaces and components.
+-- Which lines a script may have today: the first session, the calls on one controller, and the lists of controllers, interfaces and components.
 use Rattle.std.specs.Prelude.{true, false}
 use Rattle.cm_document.specs.declared.script.Grammar.{Grammar}
 
@@ -8,11 +8,11 @@ built = record {
   first_session = true;
   further_session = false;
   load = true;
-  configure = false;
-  cleanup = false;
-  unload = false;
-  rate = false;
-  send = false;
+  configure = true;
+  cleanup = true;
+  unload = true;
+  rate = true;
+  send = true;
   switch = false;
   hardware = false;
   await_cycles = false;
