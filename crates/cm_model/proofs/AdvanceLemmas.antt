@@ -11,63 +11,63 @@ use Rattle.cm_model.specs.declared.reply.Reply.{Reply}
 -- ---- One advance
 
 -- the call that an advance made, its reply, and what it left
-pub record Made (who : ℕ) (a b : Advanced) : Type 0 where
+pub record Made (who : ℕ) (a after : Advanced) : Type 0 where
   pub call : Call
   pub reply : Reply
   pub next : next_call a.session.ticket a.session.lines ≡ Some call
-  pub stepped : step a.state who call ≡ Some (b.state, reply)
-  pub made : b.made ≡ with_entry a.made who call reply
-  pub session : b.session ≡ after_call a.session.ticket a.session.lines reply
+  pub stepped : step a.state who call ≡ Some (after.state, reply)
+  pub made : after.made ≡ with_entry a.made who call reply
+  pub session : after.session ≡ after_call a.session.ticket a.session.lines reply
 
-stepped_on-Made : (who : ℕ) (a b : Advanced) (call : Call) (o : Option (State × Reply)) → next_call a.session.ticket a.session.lines ≡ Some call
-    → step a.state who call ≡ o → stepped_on who a call o ≡ Some b → Made who a b
-stepped_on-Made who a b call None next stepped made = cc
-stepped_on-Made who a b call (Some q) next stepped made =
+stepped_on-Made : (who : ℕ) (a after : Advanced) (call : Call) (o : Option (State × Reply)) → next_call a.session.ticket a.session.lines ≡ Some call
+    → step a.state who call ≡ o → stepped_on who a call o ≡ Some after → Made who a after
+stepped_on-Made who a after call None next stepped made = cc
+stepped_on-Made who a after call (Some reached) next stepped made =
     let same = same_Some _ _ made in
-    rw (← same) (record { call = call; reply = q.1; next = next; stepped = stepped; made = refl; session = refl })
+    rw (← same) (record { call = call; reply = reached.1; next = next; stepped = stepped; made = refl; session = refl })
 
-called_on-Made : (who : ℕ) (a b : Advanced) (o : Option Call) → next_call a.session.ticket a.session.lines ≡ o → called_on who a o ≡ Some b → Made who a b
-called_on-Made who a b None next made = cc
-called_on-Made who a b (Some call) next made = stepped_on-Made who a b call (step a.state who call) next refl made
+called_on-Made : (who : ℕ) (a after : Advanced) (o : Option Call) → next_call a.session.ticket a.session.lines ≡ o → called_on who a o ≡ Some after → Made who a after
+called_on-Made who a after None next made = cc
+called_on-Made who a after (Some call) next made = stepped_on-Made who a after call (step a.state who call) next refl made
 
-pub advance-Made : (who : ℕ) (a b : Advanced) → advance who a ≡ Some b → Made who a b
+pub advance-Made : (who : ℕ) (a after : Advanced) → advance who a ≡ Some after → Made who a after
 unfolding advance
-advance-Made who a b made = called_on-Made who a b (next_call a.session.ticket a.session.lines) refl made
+advance-Made who a after made = called_on-Made who a after (next_call a.session.ticket a.session.lines) refl made
 
 -- ---- How many advances are left
 
 -- a ticket is one Told
 abbrev pub ticket_count : Option ℕ → ℕ
 ticket_count None = 0
-ticket_count (Some t) = 1
+ticket_count (Some ticket) = 1
 
 -- each line makes two entries at most, its own and its Told
 abbrev pub entries_left : Option ℕ → List Call → ℕ
-entries_left t lines = length lines + length lines + ticket_count t
+entries_left ticket lines = length lines + length lines + ticket_count ticket
 
-few_tickets : (t : Option ℕ) → ticket_count t ≤ 1
+few_tickets : (ticket : Option ℕ) → ticket_count ticket ≤ 1
 few_tickets None = omega arith
-few_tickets (Some t) = omega arith
+few_tickets (Some ticket) = omega arith
 
 -- a session that makes a call has one entry less left
-after-less : (t : Option ℕ) (lines : List Call) (call : Call) (r : Reply) → next_call t lines ≡ Some call
-    → suc (entries_left (after_call t lines r).ticket (after_call t lines r).lines) ≤ entries_left t lines
-after-less (Some t) lines call r next = omega arith
+after-less : (ticket : Option ℕ) (lines : List Call) (call : Call) (r : Reply) → next_call ticket lines ≡ Some call
+    → suc (entries_left (after_call ticket lines r).ticket (after_call ticket lines r).lines) ≤ entries_left ticket lines
+after-less (Some ticket) lines call r next = omega arith
 after-less None [] call r next = cc
-after-less None (c ∷ lines) call r next = omega (arith, few_tickets (ticket_in r))
+after-less None (first ∷ lines) call r next = omega (arith, few_tickets (ticket_in r))
 
 -- one with no entry left makes no call
-nothing_left : (t : Option ℕ) (lines : List Call) → entries_left t lines ≤ 0 → next_call t lines ≡ None
-nothing_left (Some t) lines none = absurd (omega (arith, none))
+nothing_left : (ticket : Option ℕ) (lines : List Call) → entries_left ticket lines ≤ 0 → next_call ticket lines ≡ None
+nothing_left (Some ticket) lines none = absurd (omega (arith, none))
 nothing_left None [] none = refl
-nothing_left None (c ∷ lines) none = absurd (omega (arith, none))
+nothing_left None (first ∷ lines) none = absurd (omega (arith, none))
 
 abbrev pub left_of : Advanced → ℕ
 left_of a = entries_left a.session.ticket a.session.lines
 
-pub advance-less : (who : ℕ) (a b : Advanced) → advance who a ≡ Some b → suc (left_of b) ≤ left_of a
-advance-less who a b made =
-    let m = advance-Made who a b made in rw m.session (after-less a.session.ticket a.session.lines m.call m.reply m.next)
+pub advance-less : (who : ℕ) (a after : Advanced) → advance who a ≡ Some after → suc (left_of after) ≤ left_of a
+advance-less who a after made =
+    let one = advance-Made who a after made in rw one.session (after-less a.session.ticket a.session.lines one.call one.reply one.next)
 
 no_advance : (who : ℕ) (a : Advanced) → left_of a ≤ 0 → advance who a ≡ None
 unfolding advance
@@ -86,20 +86,20 @@ advances-enough zero j who a few enough = sym (advances-none j who a (no_advance
 advances-enough (suc k) zero who a few enough = advances-none (suc k) who a (no_advance who a enough)
 advances-enough (suc k) (suc j) who a few enough = elim (cases_Option (advance who a)) [
   | inl none ↦ advances-none (suc k) who a none ∙ sym (advances-none (suc j) who a none)
-  | inr (b, some) ↦
-      let less = advance-less who a b some in
-      rw (some, advances) (advances-enough k j who b (omega (arith, less, few)) (omega (arith, less, enough)))
+  | inr (after, some) ↦
+      let less = advance-less who a after some in
+      rw (some, advances) (advances-enough k j who after (omega (arith, less, few)) (omega (arith, less, enough)))
 ]
 
 enough_tries : (a : Advanced) → left_of a ≤ suc (length a.session.lines + length a.session.lines)
 enough_tries a = omega (arith, few_tickets a.session.ticket)
 
 -- to advance and then to settle is to settle
-pub settle-next : (who : ℕ) (a b : Advanced) → advance who a ≡ Some b → settle who b ≡ settle who a
+pub settle-next : (who : ℕ) (a after : Advanced) → advance who a ≡ Some after → settle who after ≡ settle who a
 unfolding settle
-settle-next who a b some =
-    let less = advance-less who a b some in
-    rw (some, advances) (advances-enough _ (length a.session.lines + length a.session.lines) who b (enough_tries b) (omega (arith, less, enough_tries a)))
+settle-next who a after some =
+    let less = advance-less who a after some in
+    rw (some, advances) (advances-enough _ (length a.session.lines + length a.session.lines) who after (enough_tries after) (omega (arith, less, enough_tries a)))
 
 -- a session that cannot advance is settled
 pub settle-stays : (who : ℕ) (a : Advanced) → advance who a ≡ None → settle who a ≡ a
@@ -110,7 +110,7 @@ advances-done : (k who : ℕ) (a : Advanced) → left_of a ≤ k → advance who
 advances-done zero who a few = no_advance who a few
 advances-done (suc k) who a few = elim (cases_Option (advance who a)) [
   | inl none ↦ rw (none, advances) none
-  | inr (b, some) ↦ rw (some, advances) (advances-done k who b (omega (arith, advance-less who a b some, few)))
+  | inr (after, some) ↦ rw (some, advances) (advances-done k who after (omega (arith, advance-less who a after some, few)))
 ]
 
 -- a session that settled cannot advance
@@ -121,13 +121,13 @@ settled-stands who a = advances-done (suc (length a.session.lines + length a.ses
 -- ---- What holds of all that advances
 
 -- what each advance keeps, settling keeps
-pub settle-keeps : (P : Advanced → Type 0) (who : ℕ) → ((a b : Advanced) → P a → Made who a b → P b) → (a : Advanced) → P a → P (settle who a)
+pub settle-keeps : (P : Advanced → Type 0) (who : ℕ) → ((a after : Advanced) → P a → Made who a after → P after) → (a : Advanced) → P a → P (settle who a)
 unfolding settle
-settle-keeps P who keeps a p = advances-keeps (suc (length a.session.lines + length a.session.lines)) a p
+settle-keeps P who keeps a holds = advances-keeps (suc (length a.session.lines + length a.session.lines)) a holds
   where
     advances-keeps : (k : ℕ) (a : Advanced) → P a → P (advances k who a)
-    advances-keeps zero a p = p
-    advances-keeps (suc k) a p = elim (cases_Option (advance who a)) [
-      | inl none ↦ rw (none, advances) p
-      | inr (b, some) ↦ rw (some, advances) (advances-keeps k b (keeps a b p (advance-Made who a b some)))
+    advances-keeps zero a holds = holds
+    advances-keeps (suc k) a holds = elim (cases_Option (advance who a)) [
+      | inl none ↦ rw (none, advances) holds
+      | inr (after, some) ↦ rw (some, advances) (advances-keeps k after (keeps a after holds (advance-Made who a after some)))
     ]

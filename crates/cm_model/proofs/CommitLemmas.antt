@@ -31,18 +31,18 @@ use Rattle.cm_model.specs.declared.data.RunData.{RunData}
 
 -- it runs in the scene where it is active, since it has parameters then
 life_runs : (params : Option Params) (run : Option RunData) → (is_some run ≡ true → is_some params ≡ true)
-    → is_running (elim params [ None ↦ Unconfigured | Some p ↦ elim run [ None ↦ Inactive | Some r ↦ Active ] ]) ≡ is_some run
+    → is_running (elim params [ None ↦ Unconfigured | Some given ↦ elim run [ None ↦ Inactive | Some part ↦ Active ] ]) ≡ is_some run
 life_runs None None configured = refl
-life_runs None (Some r) configured = absurd (true≢false (sym (configured refl)))
-life_runs (Some p) None configured = refl
-life_runs (Some p) (Some r) configured = refl
+life_runs None (Some part) configured = absurd (true≢false (sym (configured refl)))
+life_runs (Some given) None configured = refl
+life_runs (Some given) (Some part) configured = refl
 
 -- the active ones of the scene are the active ones
 pub scene_active : (s : State) → AllByRecursion (IsOwn s.description.controllers) s.loaded → scenes.active (scene_of s) ≡ active s
 scene_active s own = fun_ext (λ p.
-    any_map (λ l. l.place == p && is_running l.life) (seen s) s.loaded
+    any_map (λ each. each.place == p && is_running each.life) (seen s) s.loaded
     ∙ any_same (λ l. l.place == p && is_running (life_of l.ctl)) (λ l. is_active l && l.place == p) s.loaded
-        (all_so _ _ (λ l o. ap (λ b. l.place == p && b) (life_runs l.ctl.params l.ctl.run o.configured) ∙ and_swapped (l.place == p) (is_active l)) s.loaded own))
+        (all_so _ _ (λ l is_own. ap (λ b. l.place == p && b) (life_runs l.ctl.params l.ctl.run is_own.configured) ∙ and_swapped (l.place == p) (is_active l)) s.loaded own))
 
 -- ---- One controller
 
@@ -59,30 +59,30 @@ chosen P false false again come leave stay comes leaves stays out = out refl ref
 
 -- a controller that is activated, by its parameters
 abbrev activated_by : CtlData → Option Params → List ℤ → Bool → CtlData
-activated_by ctl params states chained = elim params [ None ↦ ctl | Some p ↦ record ctl { run = Some (started p states chained) } ]
+activated_by ctl params states chained = elim params [ None ↦ ctl | Some given ↦ record ctl { run = Some (started given states chained) } ]
 
 -- what is activated runs, where it has parameters
 activated_runs : (ctl : CtlData) (params : Option Params) (states : List ℤ) (chained : Bool) → is_some params ≡ true
     → is_some (activated_by ctl params states chained).run ≡ true
 activated_runs ctl None states chained some = absurd (true≢false (sym some))
-activated_runs ctl (Some p) states chained some = refl
+activated_runs ctl (Some given) states chained some = refl
 
 -- it keeps what it is in all but whether it runs
 activated_params : (ctl : CtlData) (params : Option Params) (states : List ℤ) (chained : Bool)
     → (activated_by ctl params states chained).params ≡ ctl.params
 activated_params ctl None states chained = refl
-activated_params ctl (Some p) states chained = refl
+activated_params ctl (Some given) states chained = refl
 
 -- ---- Chained marks
 
 -- nothing claims a reference of a controller that exports none
-any_never : (claims : List IfaceName) → list_any (λ i. is_among i []) claims ≡ false
+any_never : (claims : List IfaceName) → list_any (λ interface. is_among interface []) claims ≡ false
 any_never [] = refl
-any_never (i ∷ is) = any_never is
+any_never (interface ∷ others) = any_never others
 
 precedes_none : (controllers : List CtlDesc) (q p : ℕ) → refs_of (controller_at controllers p) ≡ [] → precedes_at controllers q p ≡ false
 precedes_none controllers q p none =
-    subst (λ refs. list_any (λ i. is_among i refs) (controller_at controllers q).claims ≡ false) (sym none) (any_never (controller_at controllers q).claims)
+    subst (λ refs. list_any (λ interface. is_among interface refs) (controller_at controllers q).claims ≡ false) (sym none) (any_never (controller_at controllers q).claims)
 
 chained_none : (controllers : List CtlDesc) (set : Places) (p : ℕ) → refs_of (controller_at controllers p) ≡ [] → (n : ℕ)
     → some_below (λ q. set q && precedes_at controllers q p) n ≡ false
@@ -91,7 +91,7 @@ chained_none controllers set p none (suc n) = rw (chained_none controllers set p
 
 -- a controller with such parameters exports none
 refs_by : (c : CtlDesc) (params : Params) → params ≡ c.params → map (reference_for c.name) (exported_for params c) ≡ [] → refs_of c ≡ []
-refs_by c params own none = subst (λ p. map (reference_for c.name) (exported_for p c) ≡ []) own none
+refs_by c params own none = subst (λ given. map (reference_for c.name) (exported_for given c) ≡ []) own none
 
 -- What starts with its own parameters is marked as it is started: a kind without references is never chained.
 started_marked : (controllers : List CtlDesc) (set : Places) (place : ℕ) (params : Params) → params ≡ (controller_at controllers place).params → (states : List ℤ)
@@ -109,23 +109,23 @@ started_marked controllers set place (Mock outs refuse_config not_ready fail_upd
 
 -- what comes is marked
 come_marked : (controllers : List CtlDesc) (set : Places) (place : ℕ) (ctl : CtlData) (params : Option Params) (states : List ℤ)
-    → IfSome params (λ p. p ≡ (controller_at controllers place).params) → is_some params ≡ true
+    → IfSome params (λ given. given ≡ (controller_at controllers place).params) → is_some params ≡ true
     → IfSome (activated_by ctl params states (is_chained_in controllers set place)).run
-        (λ r. runs_chained r ≡ is_chained_in controllers set place)
+        (λ part. runs_chained part ≡ is_chained_in controllers set place)
 come_marked controllers set place ctl None states own some = absurd (true≢false (sym some))
-come_marked controllers set place ctl (Some p) states own some = started_marked controllers set place p own states
+come_marked controllers set place ctl (Some given) states own some = started_marked controllers set place given own states
 
 -- what does not run has no mark
 pub none_marked : (run : Option RunData) (P : RunData → Type 0) → is_some run ≡ false → IfSome run P
 none_marked None P none = tt
-none_marked (Some r) P none = absurd (true≢false none)
+none_marked (Some part) P none = absurd (true≢false none)
 
 -- what does not restart is chained after as before
-or_second : (a b : Bool) → (a || b) ≡ false → b ≡ false
+or_second : (first b : Bool) → (first || b) ≡ false → b ≡ false
 or_second true b none = absurd (true≢false none)
 or_second false b none = none
 
-differ_same : (a b : Bool) → differ a b ≡ false → a ≡ b
+differ_same : (first b : Bool) → differ first b ≡ false → first ≡ b
 differ_same true true same = refl
 differ_same true false same = absurd (true≢false same)
 differ_same false true same = absurd (true≢false same)
@@ -152,11 +152,11 @@ module _ (s : State) (set again : Places) where
   by_choice P l = chosen P (set l.place) (scenes.active (scene_of s) l.place) (restarts (scene_of s) set again l.place) (coming s set l) (leaving l) l
 
   stays : (l : Loaded) → (changed l).place ≡ l.place
-  stays l = by_choice (λ m. m.place ≡ l.place) l (λ e. refl) (λ e. refl) (λ e f g. refl) (λ e f. refl)
+  stays l = by_choice (λ each. each.place ≡ l.place) l (λ member. refl) (λ other. refl) (λ member active same. refl) (λ other inactive. refl)
 
   -- it runs exactly where it is a member
   runs : (l : Loaded) → scenes.active (scene_of s) l.place ≡ is_active l → (set l.place ≡ true → is_some l.ctl.params ≡ true) → is_active (changed l) ≡ set l.place
-  runs l was configured = by_choice (λ m. is_active m ≡ set l.place) l
+  runs l was configured = by_choice (λ each. is_active each ≡ set l.place) l
       (λ member. activated_runs l.ctl l.ctl.params _ _ (configured member) ∙ sym member)
       (λ other. sym other)
       (λ member active same. sym was ∙ active ∙ sym member)
@@ -179,7 +179,7 @@ module _ (s : State) (set again : Places) where
   marks l own marked was configured = by_choice (IsMarked cs set) l
       (λ member. come_marked cs set l.place l.ctl l.ctl.params _ own.described (configured member))
       (λ other. tt)
-      (λ member active same. IfSome_then l.ctl.run marked (λ r mark. mark ∙ differ_same _ _ (or_second (again l.place) _ same)))
+      (λ member active same. IfSome_then l.ctl.run marked (λ part mark. mark ∙ differ_same _ _ (or_second (again l.place) _ same)))
       (λ other inactive. none_marked l.ctl.run _ (sym was ∙ inactive))
 
 -- ---- Values
@@ -225,14 +225,14 @@ module _ (s : State) (set again : Places) (kept : IsInOrder s) (loaded : AreLoad
 
   -- and of each where it comes from and to
   both : AllByRecursion (λ l. (scenes.active (scene_of s) l.place ≡ is_active l) × (set l.place ≡ true → is_some l.ctl.params ≡ true)) s.loaded
-  both = all_from _ _ _ (λ l w c. (w, c)) s.loaded was configured
+  both = all_from _ _ _ (λ l first second. (first, second)) s.loaded was configured
 
   marks_after : AllByRecursion (IsMarked s.description.controllers set) (map (changed s set again) s.loaded)
   marks_after = all_map _ (changed s set again) s.loaded
       (all_from (λ l. IsOwn s.description.controllers l × IsMarked s.description.controllers (scenes.active (scene_of s)) l)
           (λ l. (scenes.active (scene_of s) l.place ≡ is_active l) × (set l.place ≡ true → is_some l.ctl.params ≡ true))
           (λ l. IsMarked s.description.controllers set (changed s set again l))
-          (λ l k w. marks s set again l k.0 k.1 w.0 w.1) s.loaded known both)
+          (λ l first second. marks s set again l first.0 first.1 second.0 second.1) s.loaded known both)
 
   -- What is kept whichever controllers are active is kept.
   pub commit_in_order : IsInOrder (commit s set again)
@@ -244,7 +244,7 @@ module _ (s : State) (set again : Places) (kept : IsInOrder s) (loaded : AreLoad
     counted = kept.counted;
     described = interfaces_stay (freeing s set again) (λ v. freed_interface v (is_freed s (is_stopped (scene_of s) set again) v.interface)) s.values ∙ kept.described;
     embodied = all_map _ (freeing s set again) s.values (all_so (λ v. HasBody (length s.bodies) v.interface.whose) (λ v. HasBody (length s.bodies) (freeing s set again v).interface.whose)
-        (λ v has. subst (λ i. HasBody (length s.bodies) i.whose) (sym (freed_interface v (is_freed s (is_stopped (scene_of s) set again) v.interface))) has) s.values kept.embodied);
+        (λ v has. subst (λ interface. HasBody (length s.bodies) interface.whose) (sym (freed_interface v (is_freed s (is_stopped (scene_of s) set again) v.interface))) has) s.values kept.embodied);
     numbers = all_map _ (freeing s set again) s.values (all_so _ _ (λ v holds. freed_holds (running s.lives) v v.interface.called.is_command _ refl holds) s.values kept.numbers);
   }
 

@@ -24,7 +24,7 @@ arm = a_component (codes "arm") System Active Finalized (3 ∷ 0 ∷ 3 ∷ []) (
     ∷ a_joint (codes "j2") (pos 1000000) (pos 1000000) (pos 0) (pos 0) (pos 0) (Position ∷ []) (Position ∷ []) ∷ [])
 
 abbrev at : ℤ → ℤ → ℤ → BodyState
-at x v f = record { x = x; v = v; f = f }
+at position velocity effort = record { x = position; v = velocity; f = effort }
 
 abbrev at_rest : BodyState
 at_rest = at (pos 0) (pos 0) (pos 0)

@@ -73,7 +73,7 @@ text r = reply_text (names_in robot []) r
 
 -- the state after a session's call, with the text of its reply; without a step there is none
 abbrev answered : State → Call → State × List ℕ
-answered s call = elim (step s 0 call) [ None ↦ (s, []) | Some q ↦ (q.0, text q.1) ]
+answered s call = elim (step s 0 call) [ None ↦ (s, []) | Some reached ↦ (reached.0, text reached.1) ]
 
 -- the replies to calls, one after the other
 abbrev replies : State → List Call → List (List ℕ)
@@ -181,7 +181,7 @@ abbrev inactive : CtlKind → Params → CtlData
 inactive kind params = record { kind = kind; params = Some params; run = None }
 
 abbrev active : CtlKind → Params → RunData → CtlData
-active kind params r = record { kind = kind; params = Some params; run = Some r }
+active kind params part = record { kind = kind; params = Some params; run = Some part }
 
 -- the state with these loaded controllers
 abbrev with : List Loaded → State

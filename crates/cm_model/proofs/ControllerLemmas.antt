@@ -16,7 +16,7 @@ use Rattle.cm_model.specs.declared.data.RunData.{RunData}
 use Rattle.cm_model.specs.declared.data.RunData.TheVariants as run
 use Rattle.cm_model.specs.declared.tick.Tick.{Tick}
 
-pub mail_keeps_chained : (r : RunData) (mail : Mail) → runs_chained (with_mail r mail) ≡ runs_chained r
+pub mail_keeps_chained : (part : RunData) (mail : Mail) → runs_chained (with_mail part mail) ≡ runs_chained part
 mail_keeps_chained (run.Set chained set) (Values values) = refl
 mail_keeps_chained (run.Set chained set) (Points points) = refl
 mail_keeps_chained (run.Pid chained set integral last) (Values []) = refl
@@ -39,12 +39,12 @@ trajectory_keeps_chained : (time_us : ℕ) (states hold : List ℤ) (fresh : Boo
 trajectory_keeps_chained time_us states hold true start_us from points = refl
 trajectory_keeps_chained time_us states hold false start_us from points = refl
 
-either_keeps : (b : Bool) (r : RunData) (set : List Value) → runs_chained (if b then fails r else gives r set).run ≡ runs_chained r
-either_keeps true r set = refl
-either_keeps false r set = refl
+either_keeps : (b : Bool) (part : RunData) (set : List Value) → runs_chained (if b then fails part else gives part set).run ≡ runs_chained part
+either_keeps true part set = refl
+either_keeps false part set = refl
 
-pub update_keeps_chained : (params : Params) (r : RunData) (tick : Tick) (states : List ℤ) (refs : List Value)
-    → runs_chained (updated params r tick states refs).run ≡ runs_chained r
+pub update_keeps_chained : (params : Params) (part : RunData) (tick : Tick) (states : List ℤ) (refs : List Value)
+    → runs_chained (updated params part tick states refs).run ≡ runs_chained part
 update_keeps_chained (Forward outs) (run.Set chained set) tick states refs = refl
 update_keeps_chained (Forward outs) (run.Pid chained set integral last) tick states refs = refl
 update_keeps_chained (Forward outs) (run.Trajectory hold fresh start_us from points) tick states refs = refl
@@ -73,15 +73,15 @@ update_keeps_chained (Mock outs refuse_config not_ready fail_update) (run.Pid ch
 update_keeps_chained (Mock outs refuse_config not_ready fail_update) (run.Trajectory hold fresh start_us from points) tick states refs = refl
 update_keeps_chained (Mock outs refuse_config not_ready fail_update) (run.Broadcaster last) tick states refs = refl
 
-step_keeps_chained : (ctl : CtlData) (params : Option Params) (r : Option RunData) (tick : Tick) (states : List ℤ) (refs : List Value)
-    → ctl.run ≡ r → option_map runs_chained (step_with ctl params r tick states refs).after.run ≡ option_map runs_chained ctl.run
-step_keeps_chained ctl (Some params) (Some r) tick states refs is = rw is (ap Some (update_keeps_chained params r tick states refs))
-step_keeps_chained ctl None r tick states refs is = refl
+step_keeps_chained : (ctl : CtlData) (params : Option Params) (part : Option RunData) (tick : Tick) (states : List ℤ) (refs : List Value)
+    → ctl.run ≡ part → option_map runs_chained (step_with ctl params part tick states refs).after.run ≡ option_map runs_chained ctl.run
+step_keeps_chained ctl (Some params) (Some part) tick states refs is = rw is (ap Some (update_keeps_chained params part tick states refs))
+step_keeps_chained ctl None part tick states refs is = refl
 step_keeps_chained ctl (Some params) None tick states refs is = refl
 
-mailed_keeps_chained : (ctl : CtlData) (r : Option RunData) (mail : Mail) → ctl.run ≡ r → option_map runs_chained (mailed ctl mail).run ≡ option_map runs_chained ctl.run
+mailed_keeps_chained : (ctl : CtlData) (part : Option RunData) (mail : Mail) → ctl.run ≡ part → option_map runs_chained (mailed ctl mail).run ≡ option_map runs_chained ctl.run
 mailed_keeps_chained ctl None mail is = rw is refl
-mailed_keeps_chained ctl (Some r) mail is = rw is (ap Some (mail_keeps_chained r mail))
+mailed_keeps_chained ctl (Some part) mail is = rw is (ap Some (mail_keeps_chained part mail))
 
 pub ctl_step_keeps_chained : (ctl : CtlData) (tick : Tick) (states : List ℤ) (refs : List Value) (mail : Option Mail)
     → option_map runs_chained (ctl_step ctl tick states refs mail).after.run ≡ option_map runs_chained ctl.run

@@ -37,7 +37,7 @@ abbrev lines_of_cycles : ℕ → List ℕ → List (List ℕ)
 lines_of_cycles n bytes =
     elim (description_in (tree_of bytes)) [
       | Ok d ↦ (let s = boot d nothing 0 in lists (names_in d []) s ++ cycles n (names_in d []) s)
-      | Err e ↦ []
+      | Err fault ↦ []
     ]
 
 -- one joint: nobody commands it, so it stands still

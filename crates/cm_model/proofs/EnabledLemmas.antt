@@ -12,12 +12,12 @@ use Rattle.cm_model.specs.Sessions.{IsConsole}
 loop_only : (s : State) (who : ℕ) (b : Bool) → who < s.sessions → (is_loop s who && b) ≡ true → ⊥
 loop_only s who b less enabled =
     let no : (who == s.sessions) ≡ false = grind (arith, nat_tests) in
-    let e : false ≡ true = rw no at enabled in
+    let wrong : false ≡ true = rw no at enabled in
     cc
 
 -- what a session can make is a console call
 pub enabled-IsConsole : (s : State) (who : ℕ) (call : Call) → who < s.sessions → is_enabled s who call ≡ true → IsConsole call
-enabled-IsConsole s who (Begin n) less enabled = loop_only s who (can_begin s n) less enabled
-enabled-IsConsole s who (End n) less enabled = loop_only s who (can_end s n) less enabled
+enabled-IsConsole s who (Begin cycle) less enabled = loop_only s who (can_begin s cycle) less enabled
+enabled-IsConsole s who (End cycle) less enabled = loop_only s who (can_end s cycle) less enabled
 enabled-IsConsole s who Close less enabled = loop_only s who (can_close s) less enabled
 enabled-IsConsole s who _ less enabled = tt

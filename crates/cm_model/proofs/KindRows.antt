@@ -21,7 +21,7 @@ use Rattle.cm_model.specs.declared.tick.Tick.{Tick}
 
 -- an active controller
 abbrev active : CtlKind → Params → RunData → CtlData
-active kind params r = record { kind = kind; params = Some params; run = Some r }
+active kind params part = record { kind = kind; params = Some params; run = Some part }
 
 -- the tick of a cycle, with a time between updates
 abbrev tick : ℕ → ℕ → ℕ → Tick
@@ -29,7 +29,7 @@ tick cycle time_us dt_us = record { cycle = cycle; time_us = time_us; dt_us = dt
 
 -- what a step of an active controller gives that goes well
 abbrev well : CtlKind → Params → RunData → List Value → List ℤ → Stepped
-well kind params r outs published = record { after = active kind params r; outs = outs; published = published; done = done.Ok }
+well kind params part outs published = record { after = active kind params part; outs = outs; published = published; done = done.Ok }
 
 -- ---- Forward
 

@@ -14,10 +14,10 @@ use Rattle.cm_document.specs.declared.document.Document.{Document}
 use Rattle.cm_model.specs.declared.blanks.Blanks.{Blanks}
 
 -- what a legal entry says of its step
-pub step_of : (o : Option (State × Reply)) (r : Reply) (P : State → Type 0) → IsSomeAnd o (λ m. (m.1 ≡ r) × P m.0)
+pub step_of : (o : Option (State × Reply)) (r : Reply) (P : State → Type 0) → IsSomeAnd o (λ made. (made.1 ≡ r) × P made.0)
     → (s : State) × (o ≡ Some (s, r)) × P s
-step_of None r P h = absurd h
-step_of (Some m) r P h = (m.0, rw h.0 refl, h.1)
+step_of None r P holds = absurd holds
+step_of (Some made) r P holds = (made.0, rw holds.0 refl, holds.1)
 
 -- a legal history that leads from one state to another
 pub record Leads (from : State) (made : List Entry) (to : State) : Type 0 where
@@ -37,7 +37,7 @@ pub Leads-step : (made : List Entry) (from s : State) (who : ℕ) (call : Call) 
     → Leads from made s → step s who call ≡ Some (next, r) → Leads from (with_entry made who call r) next
 Leads-step [] from s who call next r leads stepped = Leads-cons from next next (record { who = who; call = call; reply = r }) [] (rw leads.ends stepped) (Leads-nil next)
 Leads-step (e ∷ made) from s who call next r leads stepped =
-    let first = step_of (step from e.who e.call) e.reply (λ m. LegalFrom m made) leads.legal in
+    let first = step_of (step from e.who e.call) e.reply (λ each. LegalFrom each made) leads.legal in
     let rest : Leads first.0 made s = record { legal = first.2; ends = rw (first.1, state_after) at leads.ends } in
     Leads-cons from first.0 next e (with_entry made who call r) first.1 (Leads-step made first.0 s who call next r rest stepped)
 
@@ -45,44 +45,44 @@ Leads-step (e ∷ made) from s who call next r leads stepped =
 
 -- a progress whose history leads from boot to its state
 abbrev LeadsOn : State → Progress → Type 0
-LeadsOn from p = Leads from p.made p.state
+LeadsOn from progress = Leads from progress.made progress.state
 
 settle-Leads : (who : ℕ) (from : State) (a : Advanced) → Leads from a.made a.state → Leads from (settle who a).made (settle who a).state
 settle-Leads who from a leads =
-    settle-keeps (λ (b : Advanced). Leads from b.made b.state) who (λ b c p m. rw m.made (Leads-step b.made from b.state who m.call c.state m.reply p m.stepped)) a leads
+    settle-keeps (λ (each : Advanced). Leads from each.made each.state) who (λ earlier after holds one. rw one.made (Leads-step earlier.made from earlier.state who one.call after.state one.reply holds one.stepped)) a leads
 
 settle_from-Leads : (who : ℕ) (sessions : List Session) (from s : State) (made : List Entry) (settled : List Session) → Leads from made s
     → LeadsOn from (settle_from who sessions s made settled)
 settle_from-Leads who [] from s made settled leads = leads
-settle_from-Leads who (x ∷ xs) from s made settled leads =
-    let a = settle who (record { state = s; made = made; session = x }) in
-    settle_from-Leads (who + 1) xs from a.state a.made (settled ++ a.session ∷ []) (settle-Leads who from (record { state = s; made = made; session = x }) leads)
+settle_from-Leads who (session ∷ later) from s made settled leads =
+    let a = settle who (record { state = s; made = made; session = session }) in
+    settle_from-Leads (who + 1) later from a.state a.made (settled ++ a.session ∷ []) (settle-Leads who from (record { state = s; made = made; session = session }) leads)
 
-settle_all-Leads : (from : State) (p : Progress) → LeadsOn from p → LeadsOn from (settle_all p)
+settle_all-Leads : (from : State) (progress : Progress) → LeadsOn from progress → LeadsOn from (settle_all progress)
 unfolding settle_all
-settle_all-Leads from p leads = settle_from-Leads 0 p.sessions from p.state p.made [] leads
+settle_all-Leads from progress leads = settle_from-Leads 0 progress.sessions from progress.state progress.made [] leads
 
-looped-Leads : (call : Call) (from : State) (p : Progress) → LeadsOn from p → LeadsOn from (looped call p)
+looped-Leads : (call : Call) (from : State) (progress : Progress) → LeadsOn from progress → LeadsOn from (looped call progress)
 unfolding looped
-looped-Leads call from p leads =
-    elim (cases_Option (step p.state p.state.sessions call)) [
+looped-Leads call from progress leads =
+    elim (cases_Option (step progress.state progress.state.sessions call)) [
       | inl none ↦ rw (none, looped) leads
-      | inr (q, some) ↦ rw (some, looped) (Leads-step p.made from p.state p.state.sessions call q.0 q.1 leads some)
+      | inr (reached, some) ↦ rw (some, looped) (Leads-step progress.made from progress.state progress.state.sessions call reached.0 reached.1 leads some)
     ]
 
-with_cycle-Leads : (n : ℕ) (from : State) (p : Progress) → LeadsOn from p → LeadsOn from (with_cycle n p)
+with_cycle-Leads : (n : ℕ) (from : State) (progress : Progress) → LeadsOn from progress → LeadsOn from (with_cycle n progress)
 unfolding with_cycle
-with_cycle-Leads n from p leads = looped-Leads (End n) from _ (looped-Leads (Begin n) from _ (settle_all-Leads from p leads))
+with_cycle-Leads n from progress leads = looped-Leads (End n) from _ (looped-Leads (Begin n) from _ (settle_all-Leads from progress leads))
 
-cycles-Leads : (n : ℕ) (from : State) (p : Progress) → LeadsOn from p → LeadsOn from (cycles n p)
-cycles-Leads zero from p leads = leads
-cycles-Leads (suc n) from p leads = with_cycle-Leads n from (cycles n p) (cycles-Leads n from p leads)
+cycles-Leads : (n : ℕ) (from : State) (progress : Progress) → LeadsOn from progress → LeadsOn from (cycles n progress)
+cycles-Leads zero from progress leads = leads
+cycles-Leads (suc n) from progress leads = with_cycle-Leads n from (cycles n progress) (cycles-Leads n from progress leads)
 
-finish-Leads : (from : State) (p : Progress) → LeadsOn from p → LeadsOn from (finish p)
+finish-Leads : (from : State) (progress : Progress) → LeadsOn from progress → LeadsOn from (finish progress)
 unfolding finish
-finish-Leads from p leads = settle_all-Leads from _ (looped-Leads Close from _ (settle_all-Leads from p leads))
+finish-Leads from progress leads = settle_all-Leads from _ (looped-Leads Close from _ (settle_all-Leads from progress leads))
 
 -- a scheduled history is legal
-pub scheduled-IsLegal : (d : Document) (blanks : Blanks) → IsLegal d.description blanks (length d.script.sessions) (scheduled d blanks)
+pub scheduled-IsLegal : (document : Document) (blanks : Blanks) → IsLegal document.description blanks (length document.script.sessions) (scheduled document blanks)
 unfolding scheduled start
-scheduled-IsLegal d blanks = (finish-Leads _ _ (cycles-Leads d.description.cycles _ _ (Leads-nil (boot d.description blanks (length d.script.sessions))))).legal
+scheduled-IsLegal document blanks = (finish-Leads _ _ (cycles-Leads document.description.cycles _ _ (Leads-nil (boot document.description blanks (length document.script.sessions))))).legal

@@ -31,7 +31,7 @@ pub and_true : (b : Bool) → (b && true) ≡ b
 and_true true = refl
 and_true false = refl
 
-pub and_swapped : (a b : Bool) → (a && b) ≡ (b && a)
+pub and_swapped : (first b : Bool) → (first && b) ≡ (b && first)
 and_swapped true b = sym (and_true b)
 and_swapped false b = sym (and_false b)
 
@@ -40,11 +40,11 @@ or_false true = refl
 or_false false = refl
 
 -- two numbers, in whatever order they are compared
-same_at : (b c : Bool) (p q : ℕ) → (p == q) ≡ b → (q == p) ≡ c → b ≡ c
-same_at true true p q e f = refl
-same_at true false p q e f = sym (eq-eqb q p (sym (eqb-true p q e))) ∙ f
-same_at false true p q e f = sym e ∙ eq-eqb p q (sym (eqb-true q p f))
-same_at false false p q e f = refl
+same_at : (b other : Bool) (p q : ℕ) → (p == q) ≡ b → (q == p) ≡ other → b ≡ other
+same_at true true p q same swapped = refl
+same_at true false p q same swapped = sym (eq-eqb q p (sym (eqb-true p q same))) ∙ swapped
+same_at false true p q same swapped = sym same ∙ eq-eqb p q (sym (eqb-true q p swapped))
+same_at false false p q same swapped = refl
 
 pub eqb-sym : (p q : ℕ) → (p == q) ≡ (q == p)
 eqb-sym p q = same_at (p == q) (q == p) p q refl refl
@@ -57,13 +57,13 @@ has_loaded-none test [] p other = refl
 has_loaded-none test (l ∷ ls) p other = rw (eqb-sym l.place p, other.0, and_false (test l), has_loaded-none test ls p other.1) refl
 
 -- at its own place a controller alone decides, where each place is loaded once
-at_head : (test : Loaded → Bool) (l : Loaded) (ls : List Loaded) → AllByRecursion (λ q. (l.place == q) ≡ false) (map (λ m. m.place) ls) → has_loaded test (l ∷ ls) l.place ≡ test l
+at_head : (test : Loaded → Bool) (l : Loaded) (ls : List Loaded) → AllByRecursion (λ q. (l.place == q) ≡ false) (map (λ each. each.place) ls) → has_loaded test (l ∷ ls) l.place ≡ test l
 at_head test l ls other = rw (eq-eqb l.place l.place refl, and_true (test l), has_loaded-none test ls l.place other) (or_false (test l))
 
-behind : (test : Loaded → Bool) (l : Loaded) (ls ms : List Loaded) → AllByRecursion (λ q. (l.place == q) ≡ false) (map (λ m. m.place) ms)
-    → AllByRecursion (λ m. has_loaded test ls m.place ≡ test m) ms → AllByRecursion (λ m. has_loaded test (l ∷ ls) m.place ≡ test m) ms
+behind : (test : Loaded → Bool) (l : Loaded) (ls others : List Loaded) → AllByRecursion (λ q. (l.place == q) ≡ false) (map (λ each. each.place) others)
+    → AllByRecursion (λ each. has_loaded test ls each.place ≡ test each) others → AllByRecursion (λ each. has_loaded test (l ∷ ls) each.place ≡ test each) others
 behind test l ls [] other all = tt
-behind test l ls (m ∷ ms) other all = (rw (other.0, and_false (test l)) all.0, behind test l ls ms other.1 all.1)
+behind test l ls (each ∷ others) other all = (rw (other.0, and_false (test l)) all.0, behind test l ls others other.1 all.1)
 
 pub has_loaded-own : (test : Loaded → Bool) (ls : List Loaded) → IsDistinct (λ p q. p == q) (map (λ l. l.place) ls) → AllByRecursion (λ l. has_loaded test ls l.place ≡ test l) ls
 unfolding IsDistinct
@@ -74,8 +74,8 @@ has_loaded-own test (l ∷ ls) once = (at_head test l ls once.0, behind test l l
 
 -- of what stands at a place its own place tells
 at_place : (set : Places) (q p : ℕ) (b : Bool) → (q == p) ≡ b → (set q && b) ≡ (set p && b)
-at_place set q p true e = rw (eqb-true q p e) refl
-at_place set q p false e = and_false (set q) ∙ sym (and_false (set p))
+at_place set q p true same = rw (eqb-true q p same) refl
+at_place set q p false same = and_false (set q) ∙ sym (and_false (set p))
 
 any_and : {A : Type 0} (b : Bool) (f : A → Bool) (xs : List A) → list_any (λ x. b && f x) xs ≡ (b && list_any f xs)
 any_and true f xs = refl

@@ -21,9 +21,9 @@ use Rattle.cm_model.specs.Values.{InterfaceValue, unset, running, belongs_to, is
 -- ---- One interface
 
 -- what a read of a body gives that is there
-measured_number : (o : Option BodyState) (kind : Kind) → is_some o ≡ true → is_number (option_map_or (λ b. Num (measured kind b)) o Unset) ≡ true
+measured_number : (o : Option BodyState) (kind : Kind) → is_some o ≡ true → is_number (option_map_or (λ body. Num (measured kind body)) o Unset) ≡ true
 measured_number None kind some = absurd (true≢false (sym some))
-measured_number (Some b) kind some = refl
+measured_number (Some body) kind some = refl
 
 -- the interface itself stays
 cleared_interface : (gone : ℕ → Bool) (v : InterfaceValue) → (cleared_of gone v).interface ≡ v.interface
@@ -69,18 +69,18 @@ some_at (x ∷ xs) (suc i) within = some_at xs i (omega (arith, within))
 
 -- An interface after components moved: where it is a state interface and its component is there, it holds a number.
 moved_holds : (before after : ℕ → Bool) (bodies : List BodyState) (v : InterfaceValue) (command : Bool) (whose : Whose) → v.interface.called.is_command ≡ command → v.interface.whose ≡ whose
-    → HasBody (length bodies) whose → HoldsNumber before v → HoldsNumber after (read_of (λ c. after c && not (before c)) bodies (cleared_of (λ c. not (after c)) v))
+    → HasBody (length bodies) whose → HoldsNumber before v → HoldsNumber after (read_of (λ each. after each && not (before each)) bodies (cleared_of (λ each. not (after each)) v))
 moved_holds before after bodies v true whose is_command is_whose body holds = λ state.
-    absurd (no_command after v is_command (subst (λ i. is_state_of after i ≡ true) (moved_interface (λ c. after c && not (before c)) (λ c. not (after c)) bodies v) state))
+    absurd (no_command after v is_command (subst (λ interface. is_state_of after interface ≡ true) (moved_interface (λ each. after each && not (before each)) (λ each. not (after each)) bodies v) state))
 moved_holds before after bodies v false (of_controller place) is_command is_whose body holds = λ state.
-    absurd (no_reference after v place is_whose (subst (λ i. is_state_of after i ≡ true) (moved_interface (λ c. after c && not (before c)) (λ c. not (after c)) bodies v) state))
+    absurd (no_reference after v place is_whose (subst (λ interface. is_state_of after interface ≡ true) (moved_interface (λ each. after each && not (before each)) (λ each. not (after each)) bodies v) state))
 moved_holds before after bodies v false (of_joint component joint) is_command is_whose body holds = λ state.
     let there : after component ≡ true =
-        rw (is_command, is_whose) at (subst (λ i. is_state_of after i ≡ true) (moved_interface (λ c. after c && not (before c)) (λ c. not (after c)) bodies v) state) in
-    let held : before component ≡ true → is_number v.value ≡ true = λ b. holds (rw (is_command, is_whose) b) in
-    rw (moved_value (is_state_of (λ c. after c && not (before c)) (cleared_of (λ c. not (after c)) v).interface) (belongs_to (λ c. not (after c)) v.interface.whose) v
-            (shown bodies (cleared_of (λ c. not (after c)) v).interface.called.name (cleared_of (λ c. not (after c)) v).interface.whose),
-        cleared_interface (λ c. not (after c)) v, is_command, is_whose)
+        rw (is_command, is_whose) at (subst (λ interface. is_state_of after interface ≡ true) (moved_interface (λ each. after each && not (before each)) (λ each. not (after each)) bodies v) state) in
+    let held : before component ≡ true → is_number v.value ≡ true = λ was. holds (rw (is_command, is_whose) was) in
+    rw (moved_value (is_state_of (λ each. after each && not (before each)) (cleared_of (λ each. not (after each)) v).interface) (belongs_to (λ each. not (after each)) v.interface.whose) v
+            (shown bodies (cleared_of (λ each. not (after each)) v).interface.called.name (cleared_of (λ each. not (after each)) v).interface.whose),
+        cleared_interface (λ each. not (after each)) v, is_command, is_whose)
     (there_number (after component) (before component) v.value (measured_at bodies (record { joint = joint; kind = kind_in v.interface.called.name })) there held
         (measured_number (slice_get bodies joint) (kind_in v.interface.called.name) (some_at bodies joint body)))
 
@@ -95,14 +95,14 @@ module _ (s : State) (lives : List Life) (kept : IsInOrder s) where
     marked = kept.marked;
     counted = as_many ∙ kept.counted;
     described =
-        interfaces_stay (read_of (λ c. running lives c && not (running s.lives c)) s.bodies) (λ v. read_interface _ v _) (cleared (λ c. not (running lives c)) s.values)
-        ∙ interfaces_stay (cleared_of (λ c. not (running lives c))) (cleared_interface (λ c. not (running lives c))) s.values ∙ kept.described;
-    embodied = all_map _ _ (cleared (λ c. not (running lives c)) s.values) (all_map _ _ s.values
+        interfaces_stay (read_of (λ component. running lives component && not (running s.lives component)) s.bodies) (λ v. read_interface _ v _) (cleared (λ component. not (running lives component)) s.values)
+        ∙ interfaces_stay (cleared_of (λ component. not (running lives component))) (cleared_interface (λ component. not (running lives component))) s.values ∙ kept.described;
+    embodied = all_map _ _ (cleared (λ component. not (running lives component)) s.values) (all_map _ _ s.values
         (all_so (λ v. HasBody (length s.bodies) v.interface.whose)
-            (λ v. HasBody (length s.bodies) (read_of (λ c. running lives c && not (running s.lives c)) s.bodies (cleared_of (λ c. not (running lives c)) v)).interface.whose)
-            (λ v has. subst (λ i. HasBody (length s.bodies) i.whose) (sym (moved_interface (λ c. running lives c && not (running s.lives c)) (λ c. not (running lives c)) s.bodies v)) has)
+            (λ v. HasBody (length s.bodies) (read_of (λ component. running lives component && not (running s.lives component)) s.bodies (cleared_of (λ component. not (running lives component)) v)).interface.whose)
+            (λ v has. subst (λ interface. HasBody (length s.bodies) interface.whose) (sym (moved_interface (λ component. running lives component && not (running s.lives component)) (λ component. not (running lives component)) s.bodies v)) has)
             s.values kept.embodied));
-    numbers = all_map _ _ (cleared (λ c. not (running lives c)) s.values) (all_map _ _ s.values
+    numbers = all_map _ _ (cleared (λ component. not (running lives component)) s.values) (all_map _ _ s.values
         (all_from _ _ _ (λ v body holds. moved_holds (running s.lives) (running lives) s.bodies v v.interface.called.is_command v.interface.whose refl refl body holds)
             s.values kept.embodied kept.numbers));
   }

@@ -19,20 +19,20 @@ abbrev pub ran_with : RanHead → List Value → List ℤ → Ran
 ran_with h ws ms = record { serial = h.serial; done = h.done; outs = ws; published = ms }
 
 -- the first head's values and numbers are there
-first_within : (x : RanHead) (hs : List RanHead) (vs : List Value) (ns : List ℤ) → IsWhole (x ∷ hs) vs ns → (x.outs ≤ length vs) × (x.published ≤ length ns)
-first_within x hs vs ns whole =
-    let outs : x.outs + sum_by (λ (h : RanHead). h.outs) hs ≡ length vs = sym (sum_by-cons (λ (h : RanHead). h.outs) x hs) ∙ whole.outs in
-    let published : x.published + sum_by (λ (h : RanHead). h.published) hs ≡ length ns = sym (sum_by-cons (λ (h : RanHead). h.published) x hs) ∙ whole.published in
+first_within : (head : RanHead) (hs : List RanHead) (vs : List Value) (ns : List ℤ) → IsWhole (head ∷ hs) vs ns → (head.outs ≤ length vs) × (head.published ≤ length ns)
+first_within head hs vs ns whole =
+    let outs : head.outs + sum_by (λ (h : RanHead). h.outs) hs ≡ length vs = sym (sum_by-cons (λ (h : RanHead). h.outs) head hs) ∙ whole.outs in
+    let published : head.published + sum_by (λ (h : RanHead). h.published) hs ≡ length ns = sym (sum_by-cons (λ (h : RanHead). h.published) head hs) ∙ whole.published in
     (omega (arith, outs), omega (arith, published))
 
 -- the heads after the first count what is left
-rest_whole : (x : RanHead) (hs : List RanHead) (vs : List Value) (ns : List ℤ) → IsWhole (x ∷ hs) vs ns → IsWhole hs (drop x.outs vs) (drop x.published ns)
-rest_whole x hs vs ns whole =
-    let outs : x.outs + sum_by (λ (h : RanHead). h.outs) hs ≡ length vs = sym (sum_by-cons (λ (h : RanHead). h.outs) x hs) ∙ whole.outs in
-    let published : x.published + sum_by (λ (h : RanHead). h.published) hs ≡ length ns = sym (sum_by-cons (λ (h : RanHead). h.published) x hs) ∙ whole.published in
+rest_whole : (head : RanHead) (hs : List RanHead) (vs : List Value) (ns : List ℤ) → IsWhole (head ∷ hs) vs ns → IsWhole hs (drop head.outs vs) (drop head.published ns)
+rest_whole head hs vs ns whole =
+    let outs : head.outs + sum_by (λ (h : RanHead). h.outs) hs ≡ length vs = sym (sum_by-cons (λ (h : RanHead). h.outs) head hs) ∙ whole.outs in
+    let published : head.published + sum_by (λ (h : RanHead). h.published) hs ≡ length ns = sym (sum_by-cons (λ (h : RanHead). h.published) head hs) ∙ whole.published in
     record {
-      outs = omega (arith, outs, length-drop {A = Value} x.outs vs);
-      published = omega (arith, published, length-drop {A = ℤ} x.published ns);
+      outs = omega (arith, outs, length-drop {A = Value} head.outs vs);
+      published = omega (arith, published, length-drop {A = ℤ} head.published ns);
     }
 
 nothing_left : {A : Type 0} (xs : List A) → 0 ≡ length xs → xs ≡ []
@@ -44,18 +44,18 @@ pub one_ran_more : (hs : List RanHead) (h : RanHead) (vs ws : List Value) (ns ms
 one_ran_more [] h vs ws ns ms whole outs published =
     rw (nothing_left vs whole.outs, nothing_left ns whole.published, outs, published)
     (rw (take_all (length ws) ws (omega arith), take_all (length ms) ms (omega arith)) refl)
-one_ran_more (x ∷ hs) h vs ws ns ms whole outs published =
-    let within = first_within x hs vs ns whole in
-    rw (take-append-le x.outs vs ws within.0, take-append-le x.published ns ms within.1, drop-append-le x.outs vs ws within.0, drop-append-le x.published ns ms within.1)
-    (ap (λ l. record { serial = x.serial; done = x.done; outs = take x.outs vs; published = take x.published ns } ∷ l)
-    (one_ran_more hs h (drop x.outs vs) ws (drop x.published ns) ms (rest_whole x hs vs ns whole) outs published))
+one_ran_more (head ∷ hs) h vs ws ns ms whole outs published =
+    let within = first_within head hs vs ns whole in
+    rw (take-append-le head.outs vs ws within.0, take-append-le head.published ns ms within.1, drop-append-le head.outs vs ws within.0, drop-append-le head.published ns ms within.1)
+    (ap (λ later. record { serial = head.serial; done = head.done; outs = take head.outs vs; published = take head.published ns } ∷ later)
+    (one_ran_more hs h (drop head.outs vs) ws (drop head.published ns) ms (rest_whole head hs vs ns whole) outs published))
 
 -- all heads count all again
 pub one_head_more : (hs : List RanHead) (h : RanHead) (vs ws : List Value) (ns ms : List ℤ) → IsWhole hs vs ns → h.outs ≡ length ws → h.published ≡ length ms
     → IsWhole (hs ++ h ∷ []) (vs ++ ws) (ns ++ ms)
 one_head_more hs h vs ws ns ms whole outs published = record {
-  outs = omega (arith, whole.outs, outs, sum_by-append (λ (x : RanHead). x.outs) hs (h ∷ []), sum_by-cons (λ (x : RanHead). x.outs) h [], length-append vs ws);
-  published = omega (arith, whole.published, published, sum_by-append (λ (x : RanHead). x.published) hs (h ∷ []), sum_by-cons (λ (x : RanHead). x.published) h [], length-append ns ms);
+  outs = omega (arith, whole.outs, outs, sum_by-append (λ (head : RanHead). head.outs) hs (h ∷ []), sum_by-cons (λ (head : RanHead). head.outs) h [], length-append vs ws);
+  published = omega (arith, whole.published, published, sum_by-append (λ (head : RanHead). head.published) hs (h ∷ []), sum_by-cons (λ (head : RanHead). head.published) h [], length-append ns ms);
 }
 
 pub ruleset one_more = (one_ran_more, one_head_more)
@@ -76,10 +76,10 @@ quiet_is : (n : ℕ) (failed : List FailedPart) (ran : List Ran) (bodies : List 
 quiet_is n failed ran bodies stops no_failure none_ran no_body none_stopped = rw (no_failure, none_ran, no_body, none_stopped) refl
 
 -- parts that tell nothing are those of a cycle of which there is nothing to tell
-pub nothing_happened : (p : CycleParts) → tells_nothing (happened_in_parts p) ≡ true → nothing_in p.cycle ≡ happened_in_parts p
-nothing_happened p none =
-    let h = happened_in_parts p in
-    let others = and_parts ((length h.failed == 0 && length h.ran == 0) && length h.bodies == 0) (length h.stops == 0) none in
-    let parts = and_parts (length h.failed == 0 && length h.ran == 0) (length h.bodies == 0) others.0 in
-    let first = and_parts (length h.failed == 0) (length h.ran == 0) parts.0 in
-    quiet_is h.cycle h.failed h.ran h.bodies h.stops (no_item h.failed first.0) (no_item h.ran first.1) (no_item h.bodies parts.1) (no_item h.stops others.1)
+pub nothing_happened : (told : CycleParts) → tells_nothing (happened_in_parts told) ≡ true → nothing_in told.cycle ≡ happened_in_parts told
+nothing_happened told none =
+    let happened = happened_in_parts told in
+    let others = and_parts ((length happened.failed == 0 && length happened.ran == 0) && length happened.bodies == 0) (length happened.stops == 0) none in
+    let parts = and_parts (length happened.failed == 0 && length happened.ran == 0) (length happened.bodies == 0) others.0 in
+    let first = and_parts (length happened.failed == 0) (length happened.ran == 0) parts.0 in
+    quiet_is happened.cycle happened.failed happened.ran happened.bodies happened.stops (no_item happened.failed first.0) (no_item happened.ran first.1) (no_item happened.bodies parts.1) (no_item happened.stops others.1)

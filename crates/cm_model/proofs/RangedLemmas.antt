@@ -76,9 +76,9 @@ table_gives states kind.Broadcaster = broadcaster_gives states
 table_gives states kind.Mock = mock_gives
 
 -- of what is read, nothing need be known
-anything : {A E : Type 0} (r : Result A E) → IfOk r (λ _. Unit {0})
+anything : {A E : Type 0} (read : Result A E) → IfOk read (λ _. Unit {0})
 anything (Ok x) = tt
-anything (Err e) = tt
+anything (Err fault) = tt
 
 controller_gives : (states : List IfaceName) → Gives (controller_form states).read Counts
 controller_gives states = record {
@@ -100,15 +100,15 @@ top_gives states =
 
 IsDescribed-AllCount : (d : Description) → IsDescribed d → AllCount d
 unfolding description_form
-IsDescribed-AllCount d (ms, e) =
-    subst (λ r. IfOk r AllCount) e ((walk_gives (top_table (described_states ms)) AllCount (top_gives (described_states ms))).given [] ms)
+IsDescribed-AllCount d (ms, same) =
+    subst (λ read. IfOk read AllCount) same ((walk_gives (top_table (described_states ms)) AllCount (top_gives (described_states ms))).given [] ms)
 
 -- ---- Ranges
 
 -- what was found within its range is so
-pub ranged_so : (fits : Bool) (path : List ℕ) (u : Unit {0}) → ranged fits path ≡ Ok u → fits ≡ true
-ranged_so true path u e = refl
-ranged_so false path u e = cc
+pub ranged_so : (fits : Bool) (path : List ℕ) (unit : Unit {0}) → ranged fits path ≡ Ok unit → fits ≡ true
+ranged_so true path unit passes = refl
+ranged_so false path unit passes = cc
 
 -- at most 32 claims are counted
 few : (n : ℕ) → n ≤ 32 → min n (2 ^ 32 - 1) ≡ n
@@ -116,48 +116,48 @@ few n le = omega (arith, le)
 
 -- from one to 32 of them
 some_few : (outs n : ℕ) → outs ≡ min n (2 ^ 32 - 1) → (nat_le 1 n && nat_le n 32) ≡ true → ((nat_le 1 outs && nat_le outs 32) && true) ≡ true
-some_few outs n e fits =
+some_few outs n counted fits =
     let both = and_parts (nat_le 1 n) (nat_le n 32) fits in
-    let same : outs ≡ n = e ∙ few n (leb-true n 32 both.1) in
+    let same : outs ≡ n = counted ∙ few n (leb-true n 32 both.1) in
     rw (same, both.0, both.1) refl
 
 -- none, or up to 32
 not_many : (outs n : ℕ) → outs ≡ min n (2 ^ 32 - 1) → nat_le n 32 ≡ true → (nat_le outs 32 && true) ≡ true
-not_many outs n e fits =
-    let same : outs ≡ n = e ∙ few n (leb-true n 32 fits) in
+not_many outs n counted fits =
+    let same : outs ≡ n = counted ∙ few n (leb-true n 32 fits) in
     rw (same, fits) refl
 
-both_true : (a b : Bool) → a ≡ true → b ≡ true → (a && b) ≡ true
-both_true a b p q = rw (p, q) refl
+both_true : (first b : Bool) → first ≡ true → b ≡ true → (first && b) ≡ true
+both_true first b one other = rw (one, other) refl
 
-params_so : (path : List ℕ) (p : Params) (n : ℕ) (u : Unit {0}) → IsCountOf p (min n (2 ^ 32 - 1)) → claims_fit p n ≡ true → limits_ranged path p ≡ Ok u → are_ranged p ≡ true
-params_so path (Forward outs) n u counted fits limits = some_few outs n counted fits
-params_so path (Passthrough outs) n u counted fits limits = some_few outs n counted fits
-params_so path (Trajectory outs) n u counted fits limits = some_few outs n counted fits
-params_so path (Mock outs refuse_config not_ready fail_update) n u counted fits limits = not_many outs n counted fits
-params_so path (Broadcaster ins) n u counted fits limits = refl
-params_so path (Pid kp ki kd imax omax) n u counted fits limits =
-    let integral = bind_Ok (ranged (not_negative imax) _) _ u limits in
-    both_true (not_negative imax) (not_negative omax) (ranged_so _ _ integral.0 integral.1) (ranged_so _ _ u integral.2)
+params_so : (path : List ℕ) (params : Params) (n : ℕ) (unit : Unit {0}) → IsCountOf params (min n (2 ^ 32 - 1)) → claims_fit params n ≡ true → limits_ranged path params ≡ Ok unit → are_ranged params ≡ true
+params_so path (Forward outs) n unit counted fits limits = some_few outs n counted fits
+params_so path (Passthrough outs) n unit counted fits limits = some_few outs n counted fits
+params_so path (Trajectory outs) n unit counted fits limits = some_few outs n counted fits
+params_so path (Mock outs refuse_config not_ready fail_update) n unit counted fits limits = not_many outs n counted fits
+params_so path (Broadcaster ins) n unit counted fits limits = refl
+params_so path (Pid kp ki kd imax omax) n unit counted fits limits =
+    let integral = bind_Ok (ranged (not_negative imax) _) _ unit limits in
+    both_true (not_negative imax) (not_negative omax) (ranged_so _ _ integral.0 integral.1) (ranged_so _ _ unit integral.2)
 
-controller_so : (path : List ℕ) (c : CtlDesc) (u : Unit {0}) → Counts c → controller_ranged path c ≡ Ok u → are_ranged c.params ≡ true
-controller_so path c u counted e =
-    let rate = bind_Ok (ranged (nat_le c.rate HIGHEST_RATE) _) _ u e in
-    let claims = bind_Ok (ranged (claims_fit c.params (length c.claims)) _) _ u rate.2 in
-    let reads = bind_Ok (ranged (reads_fit c.params (length c.claims) (length c.reads)) _) _ u claims.2 in
-    params_so _ c.params (length c.claims) u counted (ranged_so _ _ claims.0 claims.1) reads.2
+controller_so : (path : List ℕ) (c : CtlDesc) (unit : Unit {0}) → Counts c → controller_ranged path c ≡ Ok unit → are_ranged c.params ≡ true
+controller_so path c unit counted passes =
+    let rate = bind_Ok (ranged (nat_le c.rate HIGHEST_RATE) _) _ unit passes in
+    let claims = bind_Ok (ranged (claims_fit c.params (length c.claims)) _) _ unit rate.2 in
+    let reads = bind_Ok (ranged (reads_fit c.params (length c.claims) (length c.reads)) _) _ unit claims.2 in
+    params_so _ c.params (length c.claims) unit counted (ranged_so _ _ claims.0 claims.1) reads.2
 
 -- each controller of a list whose items are within their ranges
-controllers_so : (key : List ℕ) (k : ℕ) (cs : List CtlDesc) (u : Unit {0}) → AllByRecursion Counts cs → each_ranged controller_ranged key k cs ≡ Ok u
+controllers_so : (key : List ℕ) (k : ℕ) (cs : List CtlDesc) (unit : Unit {0}) → AllByRecursion Counts cs → each_ranged controller_ranged key k cs ≡ Ok unit
     → (place : ℕ) (c : CtlDesc) → slice_get cs place ≡ Some c → are_ranged c.params ≡ true
-controllers_so key k [] u counted e place c at = cc
-controllers_so key k (x ∷ xs) u counted e zero c at =
-    let here = bind_Ok (controller_ranged (inside (item_path key k)) x) _ u e in
-    let ranged = controller_so _ x here.0 counted.0 here.1 in
+controllers_so key k [] unit counted passes place c at = cc
+controllers_so key k (first ∷ later) unit counted passes zero c at =
+    let here = bind_Ok (controller_ranged (inside (item_path key k)) first) _ unit passes in
+    let ranged = controller_so _ first here.0 counted.0 here.1 in
     cc
-controllers_so key k (x ∷ xs) u counted e (suc place) c at =
-    let here = bind_Ok (controller_ranged (inside (item_path key k)) x) _ u e in
-    controllers_so key (k + 1) xs u counted.1 here.2 place c at
+controllers_so key k (first ∷ later) unit counted passes (suc place) c at =
+    let here = bind_Ok (controller_ranged (inside (item_path key k)) first) _ unit passes in
+    controllers_so key (k + 1) later unit counted.1 here.2 place c at
 
 -- The parameters of each controller of a valid description are in their ranges.
 pub described_params_are_ranged : (d : Description) → IsValid d → (place : ℕ) (c : CtlDesc) → slice_get d.controllers place ≡ Some c → are_ranged c.params ≡ true

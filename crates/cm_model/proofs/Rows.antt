@@ -27,7 +27,7 @@ stock = record { forward = 0; passthrough = 0; pid = 0; trajectory = 0; broadcas
 
 -- what `run` prints of these bytes, or the fault
 abbrev printed : List ℕ → Result (List ℕ) DocumentFault
-printed bytes = document bytes >>= λ d. Ok (output d (scheduled d stock))
+printed bytes = document bytes >>= λ read. Ok (output read (scheduled read stock))
 
 -- one controller, loaded once, listed, and refused twice
 one_mock : printed (codes "version = 1\nupdate_rate = 100\ncycles = 2\n[[controller]]\nname = \"mk\"\ntype = \"mock\"\n--- script ---\nsession a\nload mk\nlist controllers\nload nosuch\nload mk\n")

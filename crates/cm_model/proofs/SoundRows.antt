@@ -19,7 +19,7 @@ use Rattle.cm_model.specs.declared.reply.Reply.TheVariants as reply
 use Rattle.cm_model.specs.declared.request.Request.TheVariants as request
 
 never : {A : Type 0} → false ≡ true → A
-never e = absurd (true≢false (sym e))
+never wrong = absurd (true≢false (sym wrong))
 
 -- ---- Loans
 
@@ -27,38 +27,38 @@ never e = absurd (true≢false (sym e))
 at_boot : LoansHold (with_running [])
 at_boot = record {
   together = record {
-    exclusive = λ p q i a b c d. never a;
-    one_mode = λ p q i j a b c d. never a;
-    available = λ p i a n. never a;
-    followed = λ p i a c. never a;
+    exclusive = λ p q interface member other claims claimed. never member;
+    one_mode = λ p q interface beside member other claims claimed. never member;
+    available = λ p interface member named. never member;
+    followed = λ p interface member claims. never member;
   };
-  present = λ p i a r. never a;
+  present = λ p interface member reads. never member;
   marked = tt;
 }
 
 -- two claim one interface
 two_owners : LoansHold (with_running (runs 0 0 false ∷ runs 1 3 false ∷ [])) → ⊥
-two_owners h = let same : ◌≡◌ {A = ℕ} 0 3 = h.together.exclusive 0 3 j1_position refl refl refl refl in omega (arith, same)
+two_owners holds = let same : ◌≡◌ {A = ℕ} 0 3 = holds.together.exclusive 0 3 j1_position refl refl refl refl in omega (arith, same)
 
 -- two kinds of command on one joint
 two_modes : LoansHold (with_running (runs 0 0 false ∷ runs 1 1 false ∷ [])) → ⊥
-two_modes h = true≢false (h.together.one_mode 0 1 j1_position j1_velocity refl refl refl refl)
+two_modes holds = true≢false (holds.together.one_mode 0 1 j1_position j1_velocity refl refl refl refl)
 
 -- a component that is not there
 not_there : LoansHold (record (with_running (runs 0 0 false ∷ [])) { lives = Unconfigured ∷ [] }) → ⊥
-not_there h = true≢false (sym (h.together.available 0 j1_position refl refl))
+not_there holds = true≢false (sym (holds.together.available 0 j1_position refl refl))
 
 -- a trajectory above a pid that is not active
 no_follower : LoansHold (with_running (runs 0 2 false ∷ [])) → ⊥
-no_follower h = true≢false (h.together.followed 2 pid_reference refl refl)
+no_follower holds = true≢false (holds.together.followed 2 pid_reference refl refl)
 
 -- a state that is read and holds nothing
 nothing_held : LoansHold (record (with_running (runs 0 4 false ∷ [])) { values = [] }) → ⊥
-nothing_held h = true≢false (sym (h.present 4 j1_position refl refl))
+nothing_held holds = true≢false (sym (holds.present 4 j1_position refl refl))
 
 -- a pid beneath an active trajectory that takes mail
 wrong_mark : LoansHold (with_running (runs 0 1 false ∷ runs 1 2 false ∷ [])) → ⊥
-wrong_mark h = true≢false (sym h.marked.0)
+wrong_mark holds = true≢false (sym holds.marked.0)
 
 -- ---- Updates
 
@@ -69,15 +69,15 @@ ran_once = record { exactly = λ n. ap (λ b. b || false) (sym (and_true (0 == n
 
 -- it did not run, or ran twice
 did_not_run : EachRunsOnce (with_running (runs 0 0 false ∷ [])) [] → ⊥
-did_not_run h = true≢false (sym (h.exactly 0))
+did_not_run holds = true≢false (sym (holds.exactly 0))
 
 ran_twice : EachRunsOnce (with_running (runs 0 0 false ∷ [])) (0 ∷ 0 ∷ []) → ⊥
 unfolding IsDistinct
-ran_twice h = true≢false h.once.0.0
+ran_twice holds = true≢false holds.once.0.0
 
 -- the pid before the trajectory that commands it
 wrong_order : EachRunsOnce (with_running (runs 0 1 true ∷ runs 1 2 false ∷ [])) (0 ∷ 1 ∷ []) → ⊥
-wrong_order h = true≢false h.predecessors_first.0.0
+wrong_order holds = true≢false holds.predecessors_first.0.0
 
 -- ---- States
 
@@ -115,19 +115,19 @@ comes_to s = record { before = in_cycle; call = ListControllers; reply = reply.C
 -- a controller that leaves within the cycle
 leaves_within : OneConfigurationEach (moments_of at_work (Begin 0 ∷ []) ++ comes_to at_rest ∷ []) → ⊥
 unfolding rank_within all_concluded
-leaves_within h = let fewer : ◌≡◌ {A = ℕ} 0 1 = ap (λ c. length c.running) h.1.0 in omega (arith, fewer)
+leaves_within holds = let fewer : ◌≡◌ {A = ℕ} 0 1 = ap (λ each. length each.running) holds.1.0 in omega (arith, fewer)
 
 -- an end that tells of no update
 abbrev empty_end : Moment
 empty_end = record { before = in_cycle; call = End 0; reply = reply.Cycle (record ((cycle in_cycle).happened) { ran = [] }); after = in_cycle }
 
 abbrev updates_told : Reply → ℕ
-updates_told (reply.Cycle h) = length h.ran
+updates_told (reply.Cycle happened) = length happened.ran
 updates_told _ = 0
 
 told_wrongly : OneConfigurationEach (moments_of at_work (Begin 0 ∷ []) ++ empty_end ∷ []) → ⊥
 unfolding rank_within all_concluded cycle
-told_wrongly h = let fewer : ◌≡◌ {A = ℕ} 0 1 = ap updates_told h.1.0 in omega (arith, fewer)
+told_wrongly holds = let fewer : ◌≡◌ {A = ℕ} 0 1 = ap updates_told holds.1.0 in omega (arith, fewer)
 
 -- ---- Tickets
 
@@ -142,7 +142,7 @@ told_once =
 -- it is decided twice
 decided_twice : TicketsFrom [] (moments_of asked (Begin 0 ∷ []) ++ moments_of asked (Begin 0 ∷ [])) → ⊥
 unfolding all_concluded
-decided_twice h = let more : ◌≡◌ {A = ℕ} 2 1 = ap (λ ds. length ds) h.1.0.each_once in omega (arith, more)
+decided_twice holds = let more : ◌≡◌ {A = ℕ} 2 1 = ap (λ decisions. length decisions) holds.1.0.each_once in omega (arith, more)
 
 -- it is told otherwise than decided
 abbrev says_ended : Option Reply → Bool
@@ -154,7 +154,7 @@ another_answer = record { before = decided_state; call = Told 0; reply = reply.O
 
 told_otherwise : TicketsFrom [] (moments_of asked (Begin 0 ∷ []) ++ another_answer ∷ []) → ⊥
 unfolding all_concluded
-told_otherwise h = never (ap says_ended h.1.0.told)
+told_otherwise holds = never (ap says_ended holds.1.0.told)
 
 -- ---- Strict switches
 
@@ -164,15 +164,15 @@ forward_on = record { on = codes "fwd" ∷ []; off = []; strict = true }
 
 -- the switch is told as done, and nothing changed
 half_a_switch : WholeOrNothing at_rest forward_on at_rest (outcome.Done []) → ⊥
-half_a_switch h = never (h.1 0)
+half_a_switch holds = never (holds.1 0)
 
 -- it is told as refused, and the controller runs
 change_of_a_refused_one : WholeOrNothing at_rest forward_on at_work (outcome.Refused (codes "fwd") cause.NotReady) → ⊥
-change_of_a_refused_one h = true≢false (ap (λ ls. list_any is_active ls) h.0.loaded)
+change_of_a_refused_one holds = true≢false (ap (λ ls. list_any is_active ls) holds.0.loaded)
 
 -- it is refused for a cause that is not true
 untrue_cause : WholeOrNothing at_rest forward_on at_rest (outcome.Refused (codes "fwd") cause.NoSuchMove) → ⊥
-untrue_cause h = h.1
+untrue_cause holds = holds.1
 
 -- ---- Unloads
 
@@ -185,11 +185,11 @@ abbrev still_there : Moment
 still_there = record { before = at_rest; call = ListControllers; reply = reply.Controllers (controller_lines at_rest); after = at_rest }
 
 listed_after : UnloadsLeaveNothing (moments_of at_rest (Unload (codes "fwd") ∷ []) ++ still_there ∷ []) → ⊥
-listed_after h = true≢false (h.0.gone refl).0
+listed_after holds = true≢false (holds.0.gone refl).0
 
 -- an unload of an active controller that is done
 abbrev unloaded_while_active : Moment
 unloaded_while_active = record { before = at_work; call = Unload (codes "fwd"); reply = reply.Done; after = at_work }
 
 active_unloaded : UnloadsLeaveNothing (unloaded_while_active ∷ []) → ⊥
-active_unloaded h = true≢false h.0.done
+active_unloaded holds = true≢false holds.0.done

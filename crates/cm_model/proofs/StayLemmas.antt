@@ -17,26 +17,26 @@ use Rattle.cm_model.specs.declared.reply.Reply.TheVariants as reply
 -- ---- Console calls
 
 -- the loop's part of the two states is the same
-pub record SameLoop (s t : State) : Type 0 where
-  pub sessions : t.sessions ≡ s.sessions
-  pub description : t.description ≡ s.description
-  pub ended : t.ended ≡ s.ended
-  pub aloft : t.aloft ≡ s.aloft
-  pub closed : t.closed ≡ s.closed
+pub record SameLoop (s after : State) : Type 0 where
+  pub sessions : after.sessions ≡ s.sessions
+  pub description : after.description ≡ s.description
+  pub ended : after.ended ≡ s.ended
+  pub aloft : after.aloft ≡ s.aloft
+  pub closed : after.closed ≡ s.closed
 
 pub same : (s : State) → SameLoop s s
 same s = record { sessions = refl; description = refl; ended = refl; aloft = refl; closed = refl }
 
-pub same-trans : (s t u : State) → SameLoop s t → SameLoop t u → SameLoop s u
-same-trans s t u p q = record {
-  sessions = q.sessions ∙ p.sessions;
-  description = q.description ∙ p.description;
-  ended = q.ended ∙ p.ended;
-  aloft = q.aloft ∙ p.aloft;
-  closed = q.closed ∙ p.closed;
+pub same-trans : (s after last : State) → SameLoop s after → SameLoop after last → SameLoop s last
+same-trans s after last first second = record {
+  sessions = second.sessions ∙ first.sessions;
+  description = second.description ∙ first.description;
+  ended = second.ended ∙ first.ended;
+  aloft = second.aloft ∙ first.aloft;
+  closed = second.closed ∙ first.closed;
 }
 
-with_controller-SameLoop : (s : State) (place : ℕ) (c : Option CtlDesc) → SameLoop s (with_controller s place c)
+with_controller-SameLoop : (s : State) (place : ℕ) (o : Option CtlDesc) → SameLoop s (with_controller s place o)
 with_controller-SameLoop s place None = same s
 with_controller-SameLoop s place (Some c) = record { sessions = refl; description = refl; ended = refl; aloft = refl; closed = refl }
 
@@ -50,7 +50,7 @@ load_effect-SameLoop s name (reply.Serial _) = with_loaded-SameLoop s (place_of 
 load_effect-SameLoop s name _ = same s
 
 -- a call on one loaded controller leaves the loop as it is
-with_slot-SameLoop : (s : State) (i : ℕ) (l : Option Loaded) → SameLoop s (with_slot s i l)
+with_slot-SameLoop : (s : State) (i : ℕ) (o : Option Loaded) → SameLoop s (with_slot s i o)
 with_slot-SameLoop s i None = same s
 with_slot-SameLoop s i (Some l) = record { sessions = refl; description = refl; ended = refl; aloft = refl; closed = refl }
 
@@ -82,12 +82,12 @@ effect-SameLoop s _ r console = same s
 -- ---- Steps
 
 -- what no step changes
-pub record Stands (s t : State) : Type 0 where
-  pub sessions : t.sessions ≡ s.sessions
-  pub description : t.description ≡ s.description
+pub record Stands (s after : State) : Type 0 where
+  pub sessions : after.sessions ≡ s.sessions
+  pub description : after.description ≡ s.description
 
-stands : (s t : State) → SameLoop s t → Stands s t
-stands s t loop = record { sessions = loop.sessions; description = loop.description }
+stands : (s after : State) → SameLoop s after → Stands s after
+stands s after loop = record { sessions = loop.sessions; description = loop.description }
 
 pub effect-Stands : (s : State) (call : Call) (r : Reply) → Stands s (effect s call r)
 unfolding after_cycle commit
@@ -103,22 +103,22 @@ effect-Stands s (Send name mail) r = stands s _ (effect-SameLoop s (Send name ma
 effect-Stands s _ r = record { sessions = refl; description = refl }
 
 -- what a step is made of: the reply is that of the call, and the state what the reply leaves
-pub record IsStep (s : State) (call : Call) (q : State × Reply) : Type 0 where
-  pub replied : reply_of s call ≡ Some q.1
-  pub next : q.0 ≡ effect s call q.1
+pub record IsStep (s : State) (call : Call) (reached : State × Reply) : Type 0 where
+  pub replied : reply_of s call ≡ Some reached.1
+  pub next : reached.0 ≡ effect s call reached.1
 
-answered-IsStep : (s : State) (call : Call) (o : Option Reply) (q : State × Reply) → reply_of s call ≡ o → option_map (answered s call) o ≡ Some q → IsStep s call q
-answered-IsStep s call None q replied stepped = cc
-answered-IsStep s call (Some r) q replied stepped = let same = same_Some _ _ stepped in rw (← same) (record { replied = replied; next = refl })
+answered-IsStep : (s : State) (call : Call) (o : Option Reply) (reached : State × Reply) → reply_of s call ≡ o → option_map (answered s call) o ≡ Some reached → IsStep s call reached
+answered-IsStep s call None reached replied stepped = cc
+answered-IsStep s call (Some r) reached replied stepped = let same = same_Some _ _ stepped in rw (← same) (record { replied = replied; next = refl })
 
-pub step-IsStep : (s : State) (who : ℕ) (call : Call) (q : State × Reply) → step s who call ≡ Some q → IsStep s call q
+pub step-IsStep : (s : State) (who : ℕ) (call : Call) (reached : State × Reply) → step s who call ≡ Some reached → IsStep s call reached
 unfolding step
-step-IsStep s who call q stepped = tested (is_enabled s who call) stepped
+step-IsStep s who call reached stepped = tested (is_enabled s who call) stepped
   where
-    tested : (b : Bool) → (if b then option_map (answered s call) (reply_of s call) else None) ≡ Some q → IsStep s call q
-    tested true made = answered-IsStep s call (reply_of s call) q refl made
+    tested : (b : Bool) → (if b then option_map (answered s call) (reply_of s call) else None) ≡ Some reached → IsStep s call reached
+    tested true made = answered-IsStep s call (reply_of s call) reached refl made
     tested false made = cc
 
 -- no step changes the description or the number of sessions
-pub step-Stands : (s : State) (who : ℕ) (call : Call) (q : State × Reply) → step s who call ≡ Some q → Stands s q.0
-step-Stands s who call q stepped = let is = step-IsStep s who call q stepped in rw is.next (effect-Stands s call q.1)
+pub step-Stands : (s : State) (who : ℕ) (call : Call) (reached : State × Reply) → step s who call ≡ Some reached → Stands s reached.0
+step-Stands s who call reached stepped = let is = step-IsStep s who call reached stepped in rw is.next (effect-Stands s call reached.1)

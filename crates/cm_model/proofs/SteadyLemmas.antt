@@ -32,17 +32,17 @@ use Rattle.cm_model.specs.declared.request.Request.{Request}
 -- ---- Calls that leave the controllers, the components and the interfaces as they are
 
 -- a request, in whatever way it was answered
-pub request_steady : (s : State) (r : Request) (answer : Reply) → IsSteady s → IsSteady (request_effect s r answer)
-request_steady s r (reply.Queued ticket) steady = record { in_order = steady.in_order; together = steady.together }
-request_steady s r reply.Done steady = steady
-request_steady s r (reply.Serial _) steady = steady
-request_steady s r (reply.Not why) steady = steady
-request_steady s r (reply.Outcome o) steady = steady
-request_steady s r (reply.Controllers lines) steady = steady
-request_steady s r (reply.Interfaces lines) steady = steady
-request_steady s r (reply.Components lines) steady = steady
-request_steady s r (reply.Decisions ds) steady = steady
-request_steady s r (reply.Cycle h) steady = steady
+pub request_steady : (s : State) (asked : Request) (answer : Reply) → IsSteady s → IsSteady (request_effect s asked answer)
+request_steady s asked (reply.Queued ticket) steady = record { in_order = steady.in_order; together = steady.together }
+request_steady s asked reply.Done steady = steady
+request_steady s asked (reply.Serial _) steady = steady
+request_steady s asked (reply.Not why) steady = steady
+request_steady s asked (reply.Outcome became) steady = steady
+request_steady s asked (reply.Controllers lines) steady = steady
+request_steady s asked (reply.Interfaces lines) steady = steady
+request_steady s asked (reply.Components lines) steady = steady
+request_steady s asked (reply.Decisions decisions) steady = steady
+request_steady s asked (reply.Cycle happened) steady = steady
 
 -- the close
 pub close_steady : (s : State) → IsSteady s → IsSteady (close_effect s)
@@ -86,10 +86,10 @@ pub slot_steady : (s : State) (i : ℕ) (l new : Loaded) → slice_get s.loaded 
 slot_steady s i l new at keeps steady =
     let kept = steady.in_order in
     let alike : has_loaded is_active (slice_set s.loaded i new) ≡ has_loaded is_active s.loaded =
-        fun_ext (λ p. any_set (λ m. is_active m && m.place == p) s.loaded i l new at (rw (keeps.active, keeps.place) refl)) in
+        fun_ext (λ p. any_set (λ each. is_active each && each.place == p) s.loaded i l new at (rw (keeps.active, keeps.place) refl)) in
     record {
       in_order = record {
-        once = rw (map_set (λ m. m.place) s.loaded i l new at keeps.place) kept.once;
+        once = rw (map_set (λ each. each.place) s.loaded i l new at keeps.place) kept.once;
         own = all_set _ s.loaded i new kept.own (keeps.own (all_at _ s.loaded i l at kept.own));
         marked = rw alike (all_set _ s.loaded i new kept.marked (keeps.marked _ (all_at _ s.loaded i l at kept.marked)));
         counted = kept.counted;
@@ -112,7 +112,7 @@ configured_keeps : (s : State) (l : Loaded) (c : CtlDesc) → slice_get s.descri
 configured_keeps s l c at idle = record {
   place = refl;
   active = sym idle;
-  own = λ own. record { described = ap (λ d. d.params) (sym (get_or_from_slice_get s.description.controllers l.place c nobody at)); configured = λ runs. refl };
+  own = λ own. record { described = ap (λ each. each.params) (sym (get_or_from_slice_get s.description.controllers l.place c nobody at)); configured = λ runs. refl };
   marked = λ set mark. tt;
 }
 
@@ -147,12 +147,12 @@ done_only P reply.Done after before done other = done refl
 done_only P (reply.Serial _) after before done other = other
 done_only P (reply.Queued ticket) after before done other = other
 done_only P (reply.Not why) after before done other = other
-done_only P (reply.Outcome o) after before done other = other
+done_only P (reply.Outcome became) after before done other = other
 done_only P (reply.Controllers lines) after before done other = other
 done_only P (reply.Interfaces lines) after before done other = other
 done_only P (reply.Components lines) after before done other = other
-done_only P (reply.Decisions ds) after before done other = other
-done_only P (reply.Cycle h) after before done other = other
+done_only P (reply.Decisions decisions) after before done other = other
+done_only P (reply.Cycle happened) after before done other = other
 
 -- a rate and a send keep a steady state steady, whatever was answered
 pub rate_steady : (s : State) (name : List ℕ) (hz : ℕ) (r : Reply) → IsSteady s → IsSteady (rate_effect s name hz r)
@@ -170,9 +170,9 @@ not_first false reason others done = refl
 
 -- a controller on which such a call was done
 idle_where_done : (others : Loaded → List (Bool × Why)) (o : Option Loaded) (l : Loaded) → o ≡ Some l
-    → reply_on (λ m. (is_active m, why.Active) ∷ others m) o ≡ reply.Done → is_active l ≡ false
+    → reply_on (λ other. (is_active other, why.Active) ∷ others other) o ≡ reply.Done → is_active l ≡ false
 idle_where_done others None l at done = absurd (none-some l at)
-idle_where_done others (Some m) l at done = not_first (is_active l) why.Active (others l) (subst (λ k. reply_on (λ m. (is_active m, why.Active) ∷ others m) (Some k) ≡ reply.Done) (same_Some m l at) done)
+idle_where_done others (Some other) l at done = not_first (is_active l) why.Active (others l) (subst (λ each. reply_on (λ other. (is_active other, why.Active) ∷ others other) (Some each) ≡ reply.Done) (same_Some other l at) done)
 
 -- what a configure makes of it, where it is described or not
 configure_keeps : (s : State) (l : Loaded) (o : Option CtlDesc) → slice_get s.description.controllers l.place ≡ o → is_active l ≡ false
@@ -185,7 +185,7 @@ configure_steady s name steady =
     done_only IsSteady (configure_reply s name) _ s
         (λ done. changed_steady (after_configure s) s (slot_of s name)
             (λ l at. configure_keeps s l (description_of s l) refl
-                (idle_where_done (λ m. (option_map_or (λ c. is_refused c.params) (description_of s m) false, why.Refused) ∷ []) (controller_of s name) l at done)) steady)
+                (idle_where_done (λ other. (option_map_or (λ c. is_refused c.params) (description_of s other) false, why.Refused) ∷ []) (controller_of s name) l at done)) steady)
         steady
 
 -- a cleanup is done of an inactive one
@@ -196,8 +196,8 @@ idle_inactive false run inactive = absurd (true≢false inactive)
 
 cleaned_idle : (o : Option Loaded) (l : Loaded) → o ≡ Some l → reply_on cleanup_refusals o ≡ reply.Done → is_active l ≡ false
 cleaned_idle None l at done = absurd (none-some l at)
-cleaned_idle (Some m) l at done = idle_inactive (is_some l.ctl.params) (is_active l)
-    (not_first (not (is_inactive l)) why.NotInactive [] (subst (λ k. reply_on cleanup_refusals (Some k) ≡ reply.Done) (same_Some m l at) done))
+cleaned_idle (Some other) l at done = idle_inactive (is_some l.ctl.params) (is_active l)
+    (not_first (not (is_inactive l)) why.NotInactive [] (subst (λ each. reply_on cleanup_refusals (Some each) ≡ reply.Done) (same_Some other l at) done))
 
 pub cleanup_steady : (s : State) (name : List ℕ) → IsSteady s → IsSteady (cleanup_effect s name (cleanup_reply s name))
 cleanup_steady s name steady =
@@ -236,10 +236,10 @@ removed_steady : (s : State) (i : ℕ) (l : Loaded) → slice_get s.loaded i ≡
 removed_steady s i l at idle steady =
     let kept = steady.in_order in
     let alike : has_loaded is_active (remove s.loaded i) ≡ has_loaded is_active s.loaded =
-        fun_ext (λ p. any_remove (λ m. is_active m && m.place == p) s.loaded i l at (rw idle refl)) in
+        fun_ext (λ p. any_remove (λ each. is_active each && each.place == p) s.loaded i l at (rw idle refl)) in
     record {
       in_order = record {
-        once = rw (map_remove (λ m. m.place) s.loaded i) (distinct_remove (map (λ m. m.place) s.loaded) i kept.once);
+        once = rw (map_remove (λ each. each.place) s.loaded i) (distinct_remove (map (λ each. each.place) s.loaded) i kept.once);
         own = all_remove _ s.loaded i kept.own;
         marked = rw alike (all_remove _ s.loaded i kept.marked);
         counted = kept.counted;
@@ -261,30 +261,30 @@ unload_steady s name steady =
 
 -- ---- One controller more
 
-or_parts : (a b : Bool) → (a || b) ≡ false → (a ≡ false) × (b ≡ false)
+or_parts : (first b : Bool) → (first || b) ≡ false → (first ≡ false) × (b ≡ false)
 or_parts true b none = absurd (true≢false none)
 or_parts false b none = (refl, none)
 
-distinct_push : (ls : List Loaded) (l : Loaded) → list_any (λ m. m.place == l.place) ls ≡ false → IsDistinct (λ p q. p == q) (map (λ m. m.place) ls)
-    → IsDistinct (λ p q. p == q) (map (λ m. m.place) (ls ++ l ∷ []))
+distinct_push : (ls : List Loaded) (l : Loaded) → list_any (λ other. other.place == l.place) ls ≡ false → IsDistinct (λ p q. p == q) (map (λ other. other.place) ls)
+    → IsDistinct (λ p q. p == q) (map (λ other. other.place) (ls ++ l ∷ []))
 unfolding IsDistinct
 distinct_push [] l new once = (tt, tt)
-distinct_push (m ∷ ms) l new once =
-    let parts = or_parts (m.place == l.place) (list_any (λ k. k.place == l.place) ms) new in
-    (rw (map-append (λ k. k.place) ms (l ∷ [])) (all_push _ (map (λ k. k.place) ms) l.place once.0 parts.0), distinct_push ms l parts.1 once.1)
+distinct_push (other ∷ others) l new once =
+    let parts = or_parts (other.place == l.place) (list_any (λ each. each.place == l.place) others) new in
+    (rw (map-append (λ each. each.place) others (l ∷ [])) (all_push _ (map (λ each. each.place) others) l.place once.0 parts.0), distinct_push others l parts.1 once.1)
 
 any_push : {A : Type 0} (test : A → Bool) (xs : List A) (x : A) → test x ≡ false → list_any test (xs ++ x ∷ []) ≡ list_any test xs
 any_push test [] x fails = rw fails refl
 any_push test (y ∷ ys) x fails = ap (λ b. test y || b) (any_push test ys x fails)
 
 -- a controller is loaded where none of its place is
-pub pushed_steady : (s : State) (blanks : Blanks) (place : ℕ) (c : CtlDesc) → list_any (λ m. m.place == place) s.loaded ≡ false → IsSteady s
+pub pushed_steady : (s : State) (blanks : Blanks) (place : ℕ) (c : CtlDesc) → list_any (λ each. each.place == place) s.loaded ≡ false → IsSteady s
     → IsSteady (record s { blanks = blanks; loads = s.loads + 1; loaded = s.loaded ++ newly_loaded s.loads place c ∷ [] })
 pushed_steady s blanks place c new steady =
     let kept = steady.in_order in
     let l : Loaded = newly_loaded s.loads place c in
     let alike : has_loaded is_active (s.loaded ++ newly_loaded s.loads place c ∷ []) ≡ has_loaded is_active s.loaded =
-        fun_ext (λ p. any_push (λ m. is_active m && m.place == p) s.loaded (newly_loaded s.loads place c) refl) in
+        fun_ext (λ p. any_push (λ each. is_active each && each.place == p) s.loaded (newly_loaded s.loads place c) refl) in
     record {
       in_order = record {
         once = distinct_push s.loaded (newly_loaded s.loads place c) new kept.once;
@@ -298,7 +298,7 @@ pushed_steady s blanks place c new steady =
       together = rw alike steady.together;
     }
 
-load_at : (s : State) (place : ℕ) (o : Option CtlDesc) → list_any (λ m. m.place == place) s.loaded ≡ false → IsSteady s → IsSteady (with_controller s place o)
+load_at : (s : State) (place : ℕ) (o : Option CtlDesc) → list_any (λ each. each.place == place) s.loaded ≡ false → IsSteady s → IsSteady (with_controller s place o)
 load_at s place None new steady = steady
 load_at s place (Some c) new steady = pushed_steady s (with_one_less s.blanks (kind_of c.params)) place c new steady
 
@@ -329,8 +329,8 @@ map_keeps : (s : State) (change : Loaded → Loaded) → ((l : Loaded) → Keeps
 map_keeps s change keeps aloft mails steady =
     let kept = steady.in_order in
     let alike : has_loaded is_active (map change s.loaded) ≡ has_loaded is_active s.loaded =
-        fun_ext (λ p. any_map (λ m. is_active m && m.place == p) change s.loaded
-            ∙ any_same (λ m. is_active (change m) && (change m).place == p) (λ m. is_active m && m.place == p) s.loaded
+        fun_ext (λ p. any_map (λ each. is_active each && each.place == p) change s.loaded
+            ∙ any_same (λ each. is_active (change each) && (change each).place == p) (λ each. is_active each && each.place == p) s.loaded
                 (all_of (λ l. (is_active (change l) && (change l).place == p) ≡ (is_active l && l.place == p)) (λ l. rw ((keeps l).active, (keeps l).place) refl) s.loaded)) in
     record {
       in_order = record {

@@ -46,16 +46,16 @@ map_same {A = A} f same (x ∷ xs) = ap₂ (λ (y : A) (ys : List A). y ∷ ys) 
 -- ---- As a switch would see them
 
 not_running : (params : Option Params) (run : Option RunData) → is_some run ≡ false
-    → is_running (elim params [ None ↦ Unconfigured | Some p ↦ elim run [ None ↦ Inactive | Some r ↦ Active ] ]) ≡ false
+    → is_running (elim params [ None ↦ Unconfigured | Some given ↦ elim run [ None ↦ Inactive | Some part ↦ Active ] ]) ≡ false
 not_running None run idle = refl
-not_running (Some p) None idle = refl
-not_running (Some p) (Some r) idle = cc
+not_running (Some given) None idle = refl
+not_running (Some given) (Some part) idle = cc
 
 nobody_runs : (s : State) (ls : List Loaded) (p : ℕ) → AllByRecursion (λ (l : Loaded). is_active l ≡ false) ls
-    → has_seen (λ l. is_running l.life) (map (seen s) ls) p ≡ false
+    → has_seen (λ each. is_running each.life) (map (seen s) ls) p ≡ false
 nobody_runs s [] p still = refl
 nobody_runs s (l ∷ ls) p still =
-    no_more (l.place == p) (is_running (life_of l.ctl)) (has_seen (λ m. is_running m.life) (map (seen s) ls) p) (not_running l.ctl.params l.ctl.run still.0) (nobody_runs s ls p still.1)
+    no_more (l.place == p) (is_running (life_of l.ctl)) (has_seen (λ each. is_running each.life) (map (seen s) ls) p) (not_running l.ctl.params l.ctl.run still.0) (nobody_runs s ls p still.1)
   where
     no_more : (here runs others : Bool) → runs ≡ false → others ≡ false → ((here && runs) || others) ≡ false
     no_more true runs others first rest = rw (first, rest) refl
@@ -67,10 +67,10 @@ module _ (s : State) (set stopped started : Places) (none_stopped : (p : ℕ) �
   controller_stays : (l : Loaded) → committed s set stopped started l ≡ l
   controller_stays l = rw (none_started l.place, none_stopped l.place) refl
 
-  none_claims : (i : IfaceName) → is_claimed_by s.description.controllers stopped i ≡ false
-  none_claims i =
-      none_below (λ q. stopped q && claims_at s.description.controllers q i) (length s.description.controllers)
-      (λ q. ap (λ (b : Bool). b && claims_at s.description.controllers q i) (none_stopped q))
+  none_claims : (interface : IfaceName) → is_claimed_by s.description.controllers stopped interface ≡ false
+  none_claims interface =
+      none_below (λ q. stopped q && claims_at s.description.controllers q interface) (length s.description.controllers)
+      (λ q. ap (λ (b : Bool). b && claims_at s.description.controllers q interface) (none_stopped q))
 
   none_exports : (whose : Whose) → is_exported_by stopped whose ≡ false
   none_exports (of_joint component joint) = refl
@@ -83,7 +83,7 @@ module _ (s : State) (set stopped started : Places) (none_stopped : (p : ℕ) �
   value_stays : (v : InterfaceValue) → freed_of s stopped v ≡ v
   value_stays v =
       let free : is_freed s stopped v.interface ≡ false =
-      ap₂ (λ (a b : Bool). v.interface.called.is_command && (a || b)) (none_claims v.interface.called.name) (none_exports v.interface.whose)
+      ap₂ (λ (first b : Bool). v.interface.called.is_command && (first || b)) (none_claims v.interface.called.name) (none_exports v.interface.whose)
       ∙ none_both v.interface.called.is_command in
       ap (λ (b : Bool). if b then unset v.interface else v) free
 
@@ -155,8 +155,8 @@ module _ (s : State) (still : IsStill s) where
 
   pub cycle_is_idle : IsIdle s (cycle s)
   cycle_is_idle = record {
-    none_ran = ap (λ (c : CycleResult). c.happened.ran) idle_cycle;
-    none_stopped = ap (λ (c : CycleResult). c.happened.stops) idle_cycle;
-    loaded = ap (λ (c : CycleResult). c.loaded) idle_cycle;
+    none_ran = ap (λ (cycled : CycleResult). cycled.happened.ran) idle_cycle;
+    none_stopped = ap (λ (cycled : CycleResult). cycled.happened.stops) idle_cycle;
+    loaded = ap (λ (cycled : CycleResult). cycled.loaded) idle_cycle;
     ended = idle_ended ∙ ap (landed s) (sym idle_cycle);
   }

@@ -102,10 +102,10 @@ at_best off on = record { on = on; off = off; strict = false }
 
 -- a plan as text: the outcome, the serials to deactivate, and those to activate
 abbrev plan_text : Planned → List ℕ
-plan_text p = outcome_text p.outcome ++ codes ";" ++ flat_map (λ n. codes " -" ++ decimal n) p.off ++ codes ";" ++ flat_map (λ n. codes " +" ++ decimal n) p.on
+plan_text plan = outcome_text plan.outcome ++ codes ";" ++ flat_map (λ n. codes " -" ++ decimal n) plan.off ++ codes ";" ++ flat_map (λ n. codes " +" ++ decimal n) plan.on
 
 abbrev planned_text : List Seen → SwitchRequest → List ℕ
-planned_text loaded r = plan_text (plan_of (over_arm loaded) r)
+planned_text loaded request = plan_text (plan_of (over_arm loaded) request)
 
 -- ---- Order and rates
 
@@ -115,7 +115,7 @@ unfolding rank_within
 heights_of_seven = refl
 
 -- what precedes comes first, though it was loaded later
-trajectory_before_pid : map (λ l. l.serial) (order (over_arm (running 0 pid ∷ running 1 traj ∷ [])) (active (over_arm (running 0 pid ∷ running 1 traj ∷ [])))) ≡ 1 ∷ 0 ∷ []
+trajectory_before_pid : map (λ m. m.serial) (order (over_arm (running 0 pid ∷ running 1 traj ∷ [])) (active (over_arm (running 0 pid ∷ running 1 traj ∷ [])))) ≡ 1 ∷ 0 ∷ []
 unfolding rank_within
 trajectory_before_pid = refl
 

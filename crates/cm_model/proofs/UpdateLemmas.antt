@@ -64,7 +64,7 @@ step_keeps_active s values serial p l =
     let l' = stepped_at s values serial l in
     let runs : is_active l' ≡ is_active l =
     sym (some_as_mapped runs_chained l'.ctl.run) ∙ ap (λ (o : Option Bool). is_some o) (step_keeps_mark s values serial l) ∙ some_as_mapped runs_chained l.ctl.run in
-    ap₂ (λ (a : Bool) (place : ℕ). a && place == p) runs (step_keeps_place s values serial l)
+    ap₂ (λ (b : Bool) (place : ℕ). b && place == p) runs (step_keeps_place s values serial l)
 
 -- Updates leave active who was.
 pub updates_leave_active : (s : State) (values : List InterfaceValue) (p : ℕ) → active (record s { loaded = (updates s values).loaded }) p ≡ active s p
@@ -102,14 +102,14 @@ updates_keep_interfaces s u (l ∷ ls) =
 
 -- of each that is updated, in order
 pub updates_tell : (s : State) (u : Updates) (ls : List Loaded)
-    → map (λ (r : Ran). r.serial) (with_updates s u ls).ran ≡ map (λ (r : Ran). r.serial) u.ran ++ map (λ (l : Loaded). l.serial) ls
-updates_tell s u [] = sym (append-nil (map (λ (r : Ran). r.serial) u.ran))
+    → map (λ (ran : Ran). ran.serial) (with_updates s u ls).ran ≡ map (λ (ran : Ran). ran.serial) u.ran ++ map (λ (l : Loaded). l.serial) ls
+updates_tell s u [] = sym (append-nil (map (λ (ran : Ran). ran.serial) u.ran))
 updates_tell s u (l ∷ ls) =
     let step = step_of s u.values l in
     updates_tell s (with_step s l step u) ls
-    ∙ ap (λ (front : List ℕ). front ++ map (λ (m : Loaded). m.serial) ls) (map-append (λ (r : Ran). r.serial) u.ran (ran_by l step ∷ []))
-    ∙ append_assoc (map (λ (r : Ran). r.serial) u.ran) (l.serial ∷ []) (map (λ (m : Loaded). m.serial) ls)
+    ∙ ap (λ (front : List ℕ). front ++ map (λ (each : Loaded). each.serial) ls) (map-append (λ (ran : Ran). ran.serial) u.ran (ran_by l step ∷ []))
+    ∙ append_assoc (map (λ (ran : Ran). ran.serial) u.ran) (l.serial ∷ []) (map (λ (each : Loaded). each.serial) ls)
 
-pub cycle_tells : (s : State) → map (λ (r : Ran). r.serial) (cycle s).happened.ran ≡ map (λ (l : Loaded). l.serial) (updated_in s)
+pub cycle_tells : (s : State) → map (λ (ran : Ran). ran.serial) (cycle s).happened.ran ≡ map (λ (l : Loaded). l.serial) (updated_in s)
 unfolding cycle
 cycle_tells s = updates_tell s (record { loaded = s.loaded; values = after_reads (component_is read_succeeds s) s.bodies s.values; ran = [] }) (updated_in s)

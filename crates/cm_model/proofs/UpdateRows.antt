@@ -69,7 +69,7 @@ mk = a_controller (codes "mk") 0 [] [] (Mock 0 false [] (1 ∷ []))
 
 -- a robot of this component and these controllers, at 100 hertz
 abbrev robot : CompDesc → List CtlDesc → Description
-robot c controllers = a_description 1 100 7 (c ∷ []) controllers
+robot component controllers = a_description 1 100 7 (component ∷ []) controllers
 
 -- ---- States
 

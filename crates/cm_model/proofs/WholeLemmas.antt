@@ -34,20 +34,20 @@ use Rattle.cm_model.specs.declared.blanks.Blanks.{Blanks}
 -- a call on one loaded controller gives no ticket
 none_refused : (refusals : List (Bool × Why)) → ticket_in (unless_refused refusals reply.Done) ≡ None
 none_refused [] = refl
-none_refused (r ∷ refusals) = chosen (λ (answer : Reply). ticket_in answer ≡ None) r.0 (reply.Not r.1) (unless_refused refusals reply.Done) refl (none_refused refusals)
+none_refused (refusal ∷ refusals) = chosen (λ (answer : Reply). ticket_in answer ≡ None) refusal.0 (reply.Not refusal.1) (unless_refused refusals reply.Done) refl (none_refused refusals)
 
-none_on : (refusals : Loaded → List (Bool × Why)) (l : Option Loaded) → ticket_in (reply_on refusals l) ≡ None
+none_on : (refusals : Loaded → List (Bool × Why)) (o : Option Loaded) → ticket_in (reply_on refusals o) ≡ None
 none_on refusals None = refl
 none_on refusals (Some l) = none_refused (refusals l)
 
 -- a load gives no ticket
 no_ticket : (refusals : List (Bool × Why)) (n : ℕ) → ticket_in (unless_refused refusals (reply.Serial n)) ≡ None
 no_ticket [] n = refl
-no_ticket (r ∷ refusals) n = chosen (λ (answer : Reply). ticket_in answer ≡ None) r.0 (reply.Not r.1) (unless_refused refusals (reply.Serial n)) refl (no_ticket refusals n)
+no_ticket (refusal ∷ refusals) n = chosen (λ (answer : Reply). ticket_in answer ≡ None) refusal.0 (reply.Not refusal.1) (unless_refused refusals (reply.Serial n)) refl (no_ticket refusals n)
 
 -- the form of this call is built
 abbrev IsBuilt : Call → Type 0
-IsBuilt c = IsTrue (allows built c)
+IsBuilt call = IsTrue (allows built call)
 
 -- What a call of a session whose form is built makes: it is enabled, leaves the loop as it is, is no Told, and gets no ticket.
 record Makes (s : State) (who : ℕ) (call : Call) : Type 0 where
@@ -91,7 +91,7 @@ callers history = map (λ e. (e.who, e.call)) history
 
 -- these calls by one caller
 abbrev by : ℕ → List Call → List (ℕ × Call)
-by who calls = map (λ c. (who, c)) calls
+by who calls = map (λ call. (who, call)) calls
 
 -- the lines of the sessions from this number on, session by session
 abbrev by_sessions : ℕ → List (List Call) → List (ℕ × Call)
@@ -104,7 +104,7 @@ waiting lines = record { lines = lines; ticket = None }
 
 -- each session has no line left
 abbrev AllMade : List Session → Type 0
-AllMade sessions = AllByRecursion (λ x. x ≡ waiting []) sessions
+AllMade sessions = AllByRecursion (λ session. session ≡ waiting []) sessions
 
 -- no entry is a Told or gives a ticket
 abbrev IsPlain : Entry → Type 0
@@ -133,10 +133,10 @@ callers-with_entry made who call r = map-append (λ (e : Entry). (e.who, e.call)
 abbrev before : State → List Entry → List Call → Advanced
 before s made lines = record { state = s; made = made; session = waiting lines }
 
-advance-line : (who : ℕ) (s : State) (made : List Entry) (call : Call) (lines : List Call) (m : Makes s who call)
-    → advance who (before s made (call ∷ lines)) ≡ Some (before m.next (with_entry made who call m.answer) lines)
+advance-line : (who : ℕ) (s : State) (made : List Entry) (call : Call) (lines : List Call) (one : Makes s who call)
+    → advance who (before s made (call ∷ lines)) ≡ Some (before one.next (with_entry made who call one.answer) lines)
 unfolding advance
-advance-line who s made call lines m = rw (m.stepped) (rw (m.unqueued) refl)
+advance-line who s made call lines one = rw (one.stepped) (rw (one.unqueued) refl)
 
 advance-nothing : (who : ℕ) (s : State) (made : List Entry) → advance who (before s made []) ≡ None
 unfolding advance
@@ -149,14 +149,14 @@ advances-Settles (suc k) who [] s made built known plain few =
     rw (advance-nothing who s made, advances) (record { session = refl; calls = sym (append-nil (callers made)); plain = plain; loop = same s })
 advances-Settles zero who (call ∷ lines) s made built known plain few = absurd (omega (arith, few))
 advances-Settles (suc k) who (call ∷ lines) s made built known plain few =
-    let m = built-step s who call built.0 known in
-    let still : nat_lt who m.next.sessions ≡ true = rw m.loop.sessions known in
-    let others = advances-Settles k who lines m.next (with_entry made who call m.answer) built.1 still (plain_one_more made who call m.answer plain m.no_told m.unqueued) (omega (arith, few)) in
-    rw (advance-line who s made call lines m, advances) (record {
+    let one = built-step s who call built.0 known in
+    let still : nat_lt who one.next.sessions ≡ true = rw one.loop.sessions known in
+    let others = advances-Settles k who lines one.next (with_entry made who call one.answer) built.1 still (plain_one_more made who call one.answer plain one.no_told one.unqueued) (omega (arith, few)) in
+    rw (advance-line who s made call lines one, advances) (record {
       session = others.session;
-      calls = others.calls ∙ ap (λ l. l ++ by who lines) (callers-with_entry made who call m.answer) ∙ append_assoc (callers made) ((who, call) ∷ []) (by who lines);
+      calls = others.calls ∙ ap (λ front. front ++ by who lines) (callers-with_entry made who call one.answer) ∙ append_assoc (callers made) ((who, call) ∷ []) (by who lines);
       plain = others.plain;
-      loop = same-trans s m.next _ m.loop others.loop;
+      loop = same-trans s one.next _ one.loop others.loop;
     })
 
 settle-Settles : (who : ℕ) (lines : List Call) (s : State) (made : List Entry) → AllByRecursion IsBuilt lines → nat_lt who s.sessions ≡ true
@@ -165,15 +165,15 @@ unfolding settle
 settle-Settles who lines s made built known plain = advances-Settles (suc (length lines + length lines)) who lines s made built known plain (omega arith)
 
 -- what settling the sessions from this number on did
-record SettlesFrom (who : ℕ) (sessions : List (List Call)) (s : State) (made : List Entry) (p : Progress) : Type 0 where
-  sessions_made : AllMade p.sessions
-  calls : callers p.made ≡ callers made ++ by_sessions who sessions
-  plain : AllPlain p.made
-  loop : SameLoop s p.state
+record SettlesFrom (who : ℕ) (sessions : List (List Call)) (s : State) (made : List Entry) (progress : Progress) : Type 0 where
+  sessions_made : AllMade progress.sessions
+  calls : callers progress.made ≡ callers made ++ by_sessions who sessions
+  plain : AllPlain progress.made
+  loop : SameLoop s progress.state
 
-AllMade-push : (settled : List Session) (x : Session) → AllMade settled → x ≡ waiting [] → AllMade (settled ++ x ∷ [])
-AllMade-push [] x made none = (none, tt)
-AllMade-push (y ∷ settled) x made none = (made.0, AllMade-push settled x made.1 none)
+AllMade-push : (settled : List Session) (session : Session) → AllMade settled → session ≡ waiting [] → AllMade (settled ++ session ∷ [])
+AllMade-push [] session made none = (none, tt)
+AllMade-push (first ∷ settled) session made none = (made.0, AllMade-push settled session made.1 none)
 
 settle_from-Settles : (who : ℕ) (sessions : List (List Call)) (s : State) (made : List Entry) (settled : List Session)
     → AllByRecursion (λ lines. AllByRecursion IsBuilt lines) sessions → who + length sessions ≤ s.sessions → AllPlain made → AllMade settled
@@ -187,7 +187,7 @@ settle_from-Settles who (lines ∷ others) s made settled built fits plain done 
     let rest = settle_from-Settles (who + 1) others one.state one.made (settled ++ one.session ∷ []) built.1 fits' first.plain (AllMade-push settled one.session done first.session) in
     record {
       sessions_made = rest.sessions_made;
-      calls = rest.calls ∙ ap (λ l. l ++ by_sessions (who + 1) others) first.calls ∙ append_assoc (callers made) (by who lines) (by_sessions (who + 1) others);
+      calls = rest.calls ∙ ap (λ front. front ++ by_sessions (who + 1) others) first.calls ∙ append_assoc (callers made) (by who lines) (by_sessions (who + 1) others);
       plain = rest.plain;
       loop = same-trans s one.state _ first.loop rest.loop;
     }
@@ -195,27 +195,27 @@ settle_from-Settles who (lines ∷ others) s made settled built fits plain done 
 -- ---- The loop
 
 -- a settled progress after n cycles of a document
-record Cycled (n total who : ℕ) (sessions : List (List Call)) (p : Progress) : Type 0 where
-  settled : AllMade p.sessions
-  calls : callers p.made ≡ by_sessions 0 sessions ++ by who (cycle_calls n)
-  plain : AllPlain p.made
-  known : p.state.sessions ≡ who
-  total_is : p.state.description.cycles ≡ total
-  ended : p.state.ended ≡ n
-  aloft : p.state.aloft ≡ false
-  closed : p.state.closed ≡ false
+record Cycled (n total who : ℕ) (sessions : List (List Call)) (progress : Progress) : Type 0 where
+  settled : AllMade progress.sessions
+  calls : callers progress.made ≡ by_sessions 0 sessions ++ by who (cycle_calls n)
+  plain : AllPlain progress.made
+  known : progress.state.sessions ≡ who
+  total_is : progress.state.description.cycles ≡ total
+  ended : progress.state.ended ≡ n
+  aloft : progress.state.aloft ≡ false
+  closed : progress.state.closed ≡ false
 
 -- what the loop makes where its call is enabled
-looped-calls : (call : Call) (p : Progress) (q : State × Reply) → step p.state p.state.sessions call ≡ Some q
-    → looped call p ≡ record p { state = q.0; made = with_entry p.made p.state.sessions call q.1 }
+looped-calls : (call : Call) (progress : Progress) (reached : State × Reply) → step progress.state progress.state.sessions call ≡ Some reached
+    → looped call progress ≡ record progress { state = reached.0; made = with_entry progress.made progress.state.sessions call reached.1 }
 unfolding looped
-looped-calls call p q enabled = rw (enabled, looped) refl
+looped-calls call progress reached enabled = rw (enabled, looped) refl
 
 -- sessions that have no line left settle at once
-record Stays (s : State) (made : List Entry) (p : Progress) : Type 0 where
-  state_is : p.state ≡ s
-  made_is : p.made ≡ made
-  settled : AllMade p.sessions
+record Stays (s : State) (made : List Entry) (progress : Progress) : Type 0 where
+  state_is : progress.state ≡ s
+  made_is : progress.made ≡ made
+  settled : AllMade progress.sessions
 
 settle-Stays : (who : ℕ) (s : State) (made : List Entry) → settle who (before s made []) ≡ before s made []
 settle-Stays who s made = settle-stays who (before s made []) (advance-nothing who s made)
@@ -223,12 +223,12 @@ settle-Stays who s made = settle-stays who (before s made []) (advance-nothing w
 settle_from-Stays : (who : ℕ) (sessions : List Session) (s : State) (made : List Entry) (settled : List Session) → AllMade sessions → AllMade settled
     → Stays s made (settle_from who sessions s made settled)
 settle_from-Stays who [] s made settled none done = record { state_is = refl; made_is = refl; settled = done }
-settle_from-Stays who (x ∷ others) s made settled none done =
+settle_from-Stays who (first ∷ others) s made settled none done =
     rw (none.0, settle-Stays who s made) (settle_from-Stays (who + 1) others s made (settled ++ waiting [] ∷ []) none.1 (AllMade-push settled (waiting []) done refl))
 
-settle_all-Stays : (p : Progress) → AllMade p.sessions → Stays p.state p.made (settle_all p)
+settle_all-Stays : (progress : Progress) → AllMade progress.sessions → Stays progress.state progress.made (settle_all progress)
 unfolding settle_all
-settle_all-Stays p done = settle_from-Stays 0 p.sessions p.state p.made [] done tt
+settle_all-Stays progress done = settle_from-Stays 0 progress.sessions progress.state progress.made [] done tt
 
 -- when the loop's calls are enabled
 begin-enabled : (s : State) (n : ℕ) → s.aloft ≡ false → s.closed ≡ false → s.ended ≡ n → n < s.description.cycles → (s.sessions == s.sessions && can_begin s n) ≡ true
@@ -241,171 +241,171 @@ close-enabled : (s : State) → s.aloft ≡ false → s.closed ≡ false → (s.
 close-enabled s aloft closed = rw (aloft, closed) (grind (arith, nat_tests))
 
 -- the end of a cycle leaves sessions, description and what is closed as they are
-record EndsCycle (s t : State) : Type 0 where
-  sessions : t.sessions ≡ s.sessions
-  description : t.description ≡ s.description
-  ended : t.ended ≡ s.ended + 1
-  aloft : t.aloft ≡ false
-  closed : t.closed ≡ s.closed
+record EndsCycle (s after : State) : Type 0 where
+  sessions : after.sessions ≡ s.sessions
+  description : after.description ≡ s.description
+  ended : after.ended ≡ s.ended + 1
+  aloft : after.aloft ≡ false
+  closed : after.closed ≡ s.closed
 
-after_cycle-Ends : (s : State) (c : CycleResult) → EndsCycle s (after_cycle s c)
+after_cycle-Ends : (s : State) (cycled : CycleResult) → EndsCycle s (after_cycle s cycled)
 unfolding after_cycle commit
-after_cycle-Ends s c = record { sessions = refl; description = refl; ended = refl; aloft = refl; closed = refl }
+after_cycle-Ends s cycled = record { sessions = refl; description = refl; ended = refl; aloft = refl; closed = refl }
 
 -- the progress after each call of the loop
 abbrev begun : ℕ → Progress → Progress
-begun n p = record p { state = record p.state { aloft = true }; made = with_entry p.made p.state.sessions (Begin n) (reply.Decisions []) }
+begun n progress = record progress { state = record progress.state { aloft = true }; made = with_entry progress.made progress.state.sessions (Begin n) (reply.Decisions []) }
 
 abbrev ended_at : ℕ → Progress → Progress
-ended_at n p = record p { state = after_cycle p.state (cycle p.state); made = with_entry p.made p.state.sessions (End n) (reply.Cycle (cycle p.state).happened) }
+ended_at n progress = record progress { state = after_cycle progress.state (cycle progress.state); made = with_entry progress.made progress.state.sessions (End n) (reply.Cycle (cycle progress.state).happened) }
 
 abbrev closed_at : Progress → Progress
-closed_at p = record p { state = record p.state { closed = true }; made = with_entry p.made p.state.sessions Close (reply.Decisions []) }
+closed_at progress = record progress { state = record progress.state { closed = true }; made = with_entry progress.made progress.state.sessions Close (reply.Decisions []) }
 
-looped-begun : (n : ℕ) (p : Progress) → p.state.aloft ≡ false → p.state.closed ≡ false → p.state.ended ≡ n → n < p.state.description.cycles → looped (Begin n) p ≡ begun n p
+looped-begun : (n : ℕ) (progress : Progress) → progress.state.aloft ≡ false → progress.state.closed ≡ false → progress.state.ended ≡ n → n < progress.state.description.cycles → looped (Begin n) progress ≡ begun n progress
 unfolding step
-looped-begun n p aloft closed ended more =
-    looped-calls (Begin n) p (record p.state { aloft = true }, reply.Decisions []) (rw (begin-enabled p.state n aloft closed ended more) refl)
+looped-begun n progress aloft closed ended more =
+    looped-calls (Begin n) progress (record progress.state { aloft = true }, reply.Decisions []) (rw (begin-enabled progress.state n aloft closed ended more) refl)
 
-looped-ended : (n : ℕ) (p : Progress) → p.state.aloft ≡ true → p.state.ended ≡ n → looped (End n) p ≡ ended_at n p
+looped-ended : (n : ℕ) (progress : Progress) → progress.state.aloft ≡ true → progress.state.ended ≡ n → looped (End n) progress ≡ ended_at n progress
 unfolding step
-looped-ended n p aloft ended =
-    looped-calls (End n) p (after_cycle p.state (cycle p.state), reply.Cycle (cycle p.state).happened) (rw (end-enabled p.state n aloft ended) refl)
+looped-ended n progress aloft ended =
+    looped-calls (End n) progress (after_cycle progress.state (cycle progress.state), reply.Cycle (cycle progress.state).happened) (rw (end-enabled progress.state n aloft ended) refl)
 
-looped-closed : (p : Progress) → p.state.aloft ≡ false → p.state.closed ≡ false → looped Close p ≡ closed_at p
+looped-closed : (progress : Progress) → progress.state.aloft ≡ false → progress.state.closed ≡ false → looped Close progress ≡ closed_at progress
 unfolding step
-looped-closed p aloft closed =
-    looped-calls Close p (record p.state { closed = true }, reply.Decisions []) (rw (close-enabled p.state aloft closed) refl)
+looped-closed progress aloft closed =
+    looped-calls Close progress (record progress.state { closed = true }, reply.Decisions []) (rw (close-enabled progress.state aloft closed) refl)
 
 -- one call more by the loop
-one_call : (made : List Entry) (who by_whom : ℕ) (c : Call) (r : Reply) (front : List (ℕ × Call)) (calls : List Call)
-    → by_whom ≡ who → callers made ≡ front ++ by who calls → callers (with_entry made by_whom c r) ≡ front ++ by who (calls ++ c ∷ [])
-one_call made who by_whom c r front calls known so_far =
-    callers-with_entry made by_whom c r ∙ rw (known, so_far) (append_assoc front (by who calls) ((who, c) ∷ []) ∙ ap (λ l. front ++ l) (sym (map-append (λ (x : Call). (who, x)) calls (c ∷ []))))
+one_call : (made : List Entry) (who by_whom : ℕ) (call : Call) (r : Reply) (front : List (ℕ × Call)) (calls : List Call)
+    → by_whom ≡ who → callers made ≡ front ++ by who calls → callers (with_entry made by_whom call r) ≡ front ++ by who (calls ++ call ∷ [])
+one_call made who by_whom call r front calls known so_far =
+    callers-with_entry made by_whom call r ∙ rw (known, so_far) (append_assoc front (by who calls) ((who, call) ∷ []) ∙ ap (λ later. front ++ later) (sym (map-append (λ (other : Call). (who, other)) calls (call ∷ []))))
 
 -- two calls more
-two_calls : (made : List Entry) (who by_whom : ℕ) (c d : Call) (r q : Reply) (front : List (ℕ × Call)) (calls : List Call)
+two_calls : (made : List Entry) (who by_whom : ℕ) (call next : Call) (r answer : Reply) (front : List (ℕ × Call)) (calls : List Call)
     → by_whom ≡ who → callers made ≡ front ++ by who calls
-    → callers (with_entry (with_entry made by_whom c r) by_whom d q) ≡ front ++ by who (calls ++ c ∷ d ∷ [])
-two_calls made who by_whom c d r q front calls known so_far =
-    one_call (with_entry made by_whom c r) who by_whom d q front (calls ++ c ∷ []) known (one_call made who by_whom c r front calls known so_far)
-    ∙ ap (λ l. front ++ by who l) (append_assoc calls (c ∷ []) (d ∷ []))
+    → callers (with_entry (with_entry made by_whom call r) by_whom next answer) ≡ front ++ by who (calls ++ call ∷ next ∷ [])
+two_calls made who by_whom call next r answer front calls known so_far =
+    one_call (with_entry made by_whom call r) who by_whom next answer front (calls ++ call ∷ []) known (one_call made who by_whom call r front calls known so_far)
+    ∙ ap (λ later. front ++ by who later) (append_assoc calls (call ∷ []) (next ∷ []))
 
 -- one cycle more
-cycle-Cycled : (n total who : ℕ) (sessions : List (List Call)) (p : Progress) → Cycled n total who sessions p → n < total
-    → Cycled (suc n) total who sessions (settle_all (looped (End n) (looped (Begin n) p)))
-cycle-Cycled n total who sessions p ran more =
-    let more' : n < p.state.description.cycles = rw ran.total_is more in
-    let first = looped-begun n p ran.aloft ran.closed ran.ended more' in
-    let second = looped-ended n (begun n p) refl ran.ended in
-    let aloft = (begun n p).state in
+cycle-Cycled : (n total who : ℕ) (sessions : List (List Call)) (progress : Progress) → Cycled n total who sessions progress → n < total
+    → Cycled (suc n) total who sessions (settle_all (looped (End n) (looped (Begin n) progress)))
+cycle-Cycled n total who sessions progress ran more =
+    let more' : n < progress.state.description.cycles = rw ran.total_is more in
+    let first = looped-begun n progress ran.aloft ran.closed ran.ended more' in
+    let second = looped-ended n (begun n progress) refl ran.ended in
+    let aloft = (begun n progress).state in
     let after = after_cycle-Ends aloft (cycle aloft) in
-    let last = settle_all-Stays (ended_at n (begun n p)) ran.settled in
+    let last = settle_all-Stays (ended_at n (begun n progress)) ran.settled in
     rw (first, second) (record {
       settled = last.settled;
-      calls = ap callers last.made_is ∙ two_calls p.made who p.state.sessions (Begin n) (End n) _ _ (by_sessions 0 sessions) (cycle_calls n) ran.known ran.calls;
-      plain = rw last.made_is (plain_one_more _ p.state.sessions (End n) (reply.Cycle (cycle aloft).happened) (plain_one_more p.made p.state.sessions (Begin n) (reply.Decisions []) ran.plain refl refl) refl refl);
+      calls = ap callers last.made_is ∙ two_calls progress.made who progress.state.sessions (Begin n) (End n) _ _ (by_sessions 0 sessions) (cycle_calls n) ran.known ran.calls;
+      plain = rw last.made_is (plain_one_more _ progress.state.sessions (End n) (reply.Cycle (cycle aloft).happened) (plain_one_more progress.made progress.state.sessions (Begin n) (reply.Decisions []) ran.plain refl refl) refl refl);
       known = ap (λ (s : State). s.sessions) last.state_is ∙ after.sessions ∙ ran.known;
-      total_is = ap (λ (s : State). s.description.cycles) last.state_is ∙ ap (λ (t : Description). t.cycles) after.description ∙ ran.total_is;
+      total_is = ap (λ (s : State). s.description.cycles) last.state_is ∙ ap (λ (d : Description). d.cycles) after.description ∙ ran.total_is;
       ended = ap (λ (s : State). s.ended) last.state_is ∙ after.ended ∙ rw ran.ended (omega arith);
       aloft = ap (λ (s : State). s.aloft) last.state_is ∙ after.aloft;
       closed = ap (λ (s : State). s.closed) last.state_is ∙ after.closed ∙ ran.closed;
     })
 
 -- the first n cycles
-cycles-Cycled : (n total who : ℕ) (sessions : List (List Call)) (p : Progress) → Cycled 0 total who sessions (settle_all p) → n ≤ total
-    → Cycled n total who sessions (settle_all (cycles n p))
+cycles-Cycled : (n total who : ℕ) (sessions : List (List Call)) (progress : Progress) → Cycled 0 total who sessions (settle_all progress) → n ≤ total
+    → Cycled n total who sessions (settle_all (cycles n progress))
 unfolding with_cycle
-cycles-Cycled zero total who sessions p ran fits = ran
-cycles-Cycled (suc n) total who sessions p ran fits =
-    cycle-Cycled n total who sessions (settle_all (cycles n p)) (cycles-Cycled n total who sessions p ran (omega arith)) (omega arith)
+cycles-Cycled zero total who sessions progress ran fits = ran
+cycles-Cycled (suc n) total who sessions progress ran fits =
+    cycle-Cycled n total who sessions (settle_all (cycles n progress)) (cycles-Cycled n total who sessions progress ran (omega arith)) (omega arith)
 
 -- what a whole run made: every session's lines, then the loop's calls, and no ticket
 record Finished (total who : ℕ) (sessions : List (List Call)) (history : List Entry) : Type 0 where
   calls : callers history ≡ by_sessions 0 sessions ++ by who (loop_calls total)
   plain : AllPlain history
 
-finish-Finished : (total who : ℕ) (sessions : List (List Call)) (p : Progress) → Cycled total total who sessions (settle_all p)
-    → Finished total who sessions (finish p).made
+finish-Finished : (total who : ℕ) (sessions : List (List Call)) (progress : Progress) → Cycled total total who sessions (settle_all progress)
+    → Finished total who sessions (finish progress).made
 unfolding finish
-finish-Finished total who sessions p ran =
-    let q = settle_all p in
-    let closing = looped-closed q ran.aloft ran.closed in
-    let last = settle_all-Stays (closed_at q) ran.settled in
+finish-Finished total who sessions progress ran =
+    let settled = settle_all progress in
+    let closing = looped-closed settled ran.aloft ran.closed in
+    let last = settle_all-Stays (closed_at settled) ran.settled in
     rw closing (record {
-      calls = ap callers last.made_is ∙ one_call q.made who q.state.sessions Close (reply.Decisions []) (by_sessions 0 sessions) (cycle_calls total) ran.known ran.calls;
-      plain = rw last.made_is (plain_one_more q.made q.state.sessions Close (reply.Decisions []) ran.plain refl refl);
+      calls = ap callers last.made_is ∙ one_call settled.made who settled.state.sessions Close (reply.Decisions []) (by_sessions 0 sessions) (cycle_calls total) ran.known ran.calls;
+      plain = rw last.made_is (plain_one_more settled.made settled.state.sessions Close (reply.Decisions []) ran.plain refl refl);
     })
 
 abbrev lines_of : List SessionText → List (List Call)
-lines_of sessions = map (λ s. s.lines) sessions
+lines_of sessions = map (λ session. session.lines) sessions
 
 -- the sessions of a document before their lines
-waiting_lines : (sessions : List SessionText) → map (λ (t : SessionText). waiting t.lines) sessions ≡ map waiting (lines_of sessions)
+waiting_lines : (sessions : List SessionText) → map (λ (session : SessionText). waiting session.lines) sessions ≡ map waiting (lines_of sessions)
 waiting_lines [] = refl
-waiting_lines (t ∷ sessions) = ap (λ l. waiting t.lines ∷ l) (waiting_lines sessions)
+waiting_lines (session ∷ sessions) = ap (λ later. waiting session.lines ∷ later) (waiting_lines sessions)
 
 -- each line of each session has a form that is built
 abbrev pub AllBuilt : List SessionText → Type 0
-AllBuilt sessions = AllByRecursion (λ s. AllByRecursion (λ c. IsTrue (allows built c)) s.lines) sessions
+AllBuilt sessions = AllByRecursion (λ session. AllByRecursion (λ call. IsTrue (allows built call)) session.lines) sessions
 
 built_lines : (sessions : List SessionText) → AllBuilt sessions → AllByRecursion (λ lines. AllByRecursion IsBuilt lines) (lines_of sessions)
 built_lines [] grammar = tt
-built_lines (s ∷ sessions) grammar = (grammar.0, built_lines sessions grammar.1)
+built_lines (session ∷ sessions) grammar = (grammar.0, built_lines sessions grammar.1)
 
-start-Cycled : (d : Document) (blanks : Blanks) → AllBuilt d.script.sessions
-    → Cycled 0 d.description.cycles (length d.script.sessions) (lines_of d.script.sessions) (settle_all (start d blanks))
+start-Cycled : (document : Document) (blanks : Blanks) → AllBuilt document.script.sessions
+    → Cycled 0 document.description.cycles (length document.script.sessions) (lines_of document.script.sessions) (settle_all (start document blanks))
 unfolding start settle_all
-start-Cycled d blanks built =
-    let lines = lines_of d.script.sessions in
-    let s = boot d.description blanks (length d.script.sessions) in
-    let fits : 0 + length lines ≤ length d.script.sessions = omega (arith, length-map d.script.sessions (λ (t : SessionText). t.lines)) in
-    let settled = settle_from-Settles 0 lines s [] [] (built_lines d.script.sessions built) fits tt tt in
-    rw (waiting_lines d.script.sessions) (record {
+start-Cycled document blanks built =
+    let lines = lines_of document.script.sessions in
+    let s = boot document.description blanks (length document.script.sessions) in
+    let fits : 0 + length lines ≤ length document.script.sessions = omega (arith, length-map document.script.sessions (λ (session : SessionText). session.lines)) in
+    let settled = settle_from-Settles 0 lines s [] [] (built_lines document.script.sessions built) fits tt tt in
+    rw (waiting_lines document.script.sessions) (record {
       settled = settled.sessions_made;
       calls = settled.calls ∙ sym (append-nil (by_sessions 0 lines));
       plain = settled.plain;
       known = settled.loop.sessions;
-      total_is = ap (λ (t : Description). t.cycles) settled.loop.description;
+      total_is = ap (λ (d : Description). d.cycles) settled.loop.description;
       ended = settled.loop.ended;
       aloft = settled.loop.aloft;
       closed = settled.loop.closed;
     })
 
 -- who called what in a scheduled history
-scheduled-Finished : (d : Document) (blanks : Blanks) → AllBuilt d.script.sessions
-    → Finished d.description.cycles (length d.script.sessions) (lines_of d.script.sessions) (scheduled d blanks)
+scheduled-Finished : (document : Document) (blanks : Blanks) → AllBuilt document.script.sessions
+    → Finished document.description.cycles (length document.script.sessions) (lines_of document.script.sessions) (scheduled document blanks)
 unfolding scheduled
-scheduled-Finished d blanks built =
-    finish-Finished d.description.cycles _ _ _ (cycles-Cycled d.description.cycles d.description.cycles _ _ (start d blanks) (start-Cycled d blanks built) (omega arith))
+scheduled-Finished document blanks built =
+    finish-Finished document.description.cycles _ _ _ (cycles-Cycled document.description.cycles document.description.cycles _ _ (start document blanks) (start-Cycled document blanks built) (omega arith))
 
 -- ---- One caller's calls
 
 -- the calls of one caller
 abbrev picked : ℕ → List (ℕ × Call) → List Call
-picked who calls = map (λ (p : ℕ × Call). p.1) (filter (λ (p : ℕ × Call). p.0 == who) calls)
+picked who calls = map (λ (made : ℕ × Call). made.1) (filter (λ (made : ℕ × Call). made.0 == who) calls)
 
-picked-test : (b : Bool) (e : Entry) (es : List Entry) (ps : List (ℕ × Call)) → calls_of es ≡ map (λ (p : ℕ × Call). p.1) ps
-    → calls_of (cond b (e ∷ es) es) ≡ map (λ (p : ℕ × Call). p.1) (cond b ((e.who, e.call) ∷ ps) ps)
-picked-test true e es ps h = ap (λ l. e.call ∷ l) h
-picked-test false e es ps h = h
+picked-test : (b : Bool) (e : Entry) (es : List Entry) (ps : List (ℕ × Call)) → calls_of es ≡ map (λ (made : ℕ × Call). made.1) ps
+    → calls_of (cond b (e ∷ es) es) ≡ map (λ (made : ℕ × Call). made.1) (cond b ((e.who, e.call) ∷ ps) ps)
+picked-test true e es ps same = ap (λ later. e.call ∷ later) same
+picked-test false e es ps same = same
 
 picked-callers : (who : ℕ) (history : List Entry) → calls_of (entries_by who history) ≡ picked who (callers history)
 picked-callers who [] = refl
 picked-callers who (e ∷ history) = picked-test (e.who == who) e (entries_by who history) _ (picked-callers who history)
 
 picked-append : (who : ℕ) (xs ys : List (ℕ × Call)) → picked who (xs ++ ys) ≡ picked who xs ++ picked who ys
-picked-append who xs ys = ap (λ l. map (λ (p : ℕ × Call). p.1) l) (filter-append (λ (p : ℕ × Call). p.0 == who) xs ys) ∙ map-append (λ (p : ℕ × Call). p.1) (filter (λ (p : ℕ × Call). p.0 == who) xs) _
+picked-append who xs ys = ap (λ later. map (λ (made : ℕ × Call). made.1) later) (filter-append (λ (made : ℕ × Call). made.0 == who) xs ys) ∙ map-append (λ (made : ℕ × Call). made.1) (filter (λ (made : ℕ × Call). made.0 == who) xs) _
 
 -- a caller's own calls
 picked-same : (who : ℕ) (calls : List Call) → picked who (by who calls) ≡ calls
 picked-same who [] = refl
-picked-same who (c ∷ calls) = let yes : (who == who) ≡ true = grind (arith, nat_tests) in rw yes (ap (λ l. c ∷ l) (picked-same who calls))
+picked-same who (call ∷ calls) = let yes : (who == who) ≡ true = grind (arith, nat_tests) in rw yes (ap (λ later. call ∷ later) (picked-same who calls))
 
 -- another caller's calls
 picked-other : (who other : ℕ) (calls : List Call) → (other == who) ≡ false → picked who (by other calls) ≡ []
 picked-other who other [] differs = refl
-picked-other who other (c ∷ calls) differs = rw differs (picked-other who other calls differs)
+picked-other who other (call ∷ calls) differs = rw differs (picked-other who other calls differs)
 
 -- sessions after this one, and the sessions before this number, have none
 picked-after : (who first : ℕ) (sessions : List (List Call)) → who < first → picked who (by_sessions first sessions) ≡ []
@@ -423,28 +423,28 @@ picked-beyond who first (lines ∷ others) more =
 -- the k-th of the sessions has its lines
 picked-at : (k first : ℕ) (sessions : List (List Call)) (lines : List Call) → slice_get sessions k ≡ Some lines → picked (first + k) (by_sessions first sessions) ≡ lines
 picked-at k first [] lines found = cc
-picked-at zero first (x ∷ others) lines found =
+picked-at zero first (these ∷ others) lines found =
     let none = picked-after (first + 0) (first + 1) others (omega arith) in
     let here : first + 0 ≡ first = omega arith in
-    picked-append (first + 0) (by first x) (by_sessions (first + 1) others) ∙ rw (none, here) (append-nil _ ∙ picked-same first x ∙ same_Some x lines found)
-picked-at (suc k) first (x ∷ others) lines found =
+    picked-append (first + 0) (by first these) (by_sessions (first + 1) others) ∙ rw (none, here) (append-nil _ ∙ picked-same first these ∙ same_Some these lines found)
+picked-at (suc k) first (these ∷ others) lines found =
     let differs : (first == first + suc k) ≡ false = grind (arith, nat_tests) in
     let next : first + suc k ≡ (first + 1) + k = omega arith in
-    picked-append (first + suc k) (by first x) (by_sessions (first + 1) others) ∙ rw (picked-other (first + suc k) first x differs, next) (picked-at k (first + 1) others lines found)
+    picked-append (first + suc k) (by first these) (by_sessions (first + 1) others) ∙ rw (picked-other (first + suc k) first these differs, next) (picked-at k (first + 1) others lines found)
 
 -- ---- Whole
 
 -- nobody beyond this number calls
 abbrev Within : ℕ → List (ℕ × Call) → Type 0
-Within most calls = AllByRecursion (λ (p : ℕ × Call). p.0 ≤ most) calls
+Within most calls = AllByRecursion (λ (made : ℕ × Call). made.0 ≤ most) calls
 
 Within-append : (most : ℕ) (xs ys : List (ℕ × Call)) → Within most xs → Within most ys → Within most (xs ++ ys)
-Within-append most [] ys p q = q
-Within-append most (x ∷ xs) ys p q = (p.0, Within-append most xs ys p.1 q)
+Within-append most [] ys one other = other
+Within-append most (made ∷ xs) ys one other = (one.0, Within-append most xs ys one.1 other)
 
 Within-by : (most who : ℕ) (calls : List Call) → who ≤ most → Within most (by who calls)
 Within-by most who [] less = tt
-Within-by most who (c ∷ calls) less = (less, Within-by most who calls less)
+Within-by most who (call ∷ calls) less = (less, Within-by most who calls less)
 
 Within-by_sessions : (most first : ℕ) (sessions : List (List Call)) → first + length sessions ≤ most → Within most (by_sessions first sessions)
 Within-by_sessions most first [] less = tt
@@ -452,8 +452,8 @@ Within-by_sessions most first (lines ∷ others) less =
     Within-append most (by first lines) _ (Within-by most first lines (omega arith)) (Within-by_sessions most (first + 1) others (omega arith))
 
 Within-callers : (most : ℕ) (history : List Entry) → Within most (callers history) → AllByRecursion (λ e. e.who ≤ most) history
-Within-callers most [] p = tt
-Within-callers most (e ∷ history) p = (p.0, Within-callers most history p.1)
+Within-callers most [] holds = tt
+Within-callers most (e ∷ history) holds = (holds.0, Within-callers most history holds.1)
 
 -- ---- Entries without a Told
 
@@ -466,12 +466,12 @@ plain_by who (e ∷ history) plain =
 -- none of them is a Told
 asked-plain : (es : List Entry) → AllPlain es → asked es ≡ es
 asked-plain [] plain = refl
-asked-plain (e ∷ es) plain = rw (plain.0.0) (ap (λ l. e ∷ l) (asked-plain es plain.1))
+asked-plain (e ∷ es) plain = rw (plain.0.0) (ap (λ later. e ∷ later) (asked-plain es plain.1))
 
 -- none has a Told after it
 told-plain : (es : List Entry) → AllPlain es → calls_of es ≡ flat_map with_its_told es
 told-plain [] plain = refl
-told-plain (e ∷ es) plain = rw (plain.0.1) (ap (λ l. e.call ∷ l) (told-plain es plain.1))
+told-plain (e ∷ es) plain = rw (plain.0.1) (ap (λ later. e.call ∷ later) (told-plain es plain.1))
 
 -- entries that are plain follow their own calls
 plain-Follows : (lines : List Call) (es : List Entry) → AllPlain es → calls_of es ≡ lines → Follows lines es
@@ -481,31 +481,31 @@ plain-Follows lines es plain calls = record {
 }
 
 -- the k-th session's entries are its lines
-session_follows : (sessions : List SessionText) (history : List Entry) (loop : List Call) (k : ℕ) (s : SessionText)
-    → callers history ≡ by_sessions 0 (lines_of sessions) ++ by (length sessions) loop → slice_get sessions k ≡ Some s → calls_of (entries_by k history) ≡ s.lines
-session_follows sessions history loop k s who_called found =
-    let inside = slice_get_within sessions k s found in
-    let lines : slice_get (lines_of sessions) k ≡ Some s.lines = slice_get-map (λ (t : SessionText). t.lines) sessions k ∙ rw found refl in
+session_follows : (sessions : List SessionText) (history : List Entry) (loop : List Call) (k : ℕ) (session : SessionText)
+    → callers history ≡ by_sessions 0 (lines_of sessions) ++ by (length sessions) loop → slice_get sessions k ≡ Some session → calls_of (entries_by k history) ≡ session.lines
+session_follows sessions history loop k session who_called found =
+    let inside = slice_get_within sessions k session found in
+    let lines : slice_get (lines_of sessions) k ≡ Some session.lines = slice_get-map (λ (each : SessionText). each.lines) sessions k ∙ rw found refl in
     let from_zero : 0 + k ≡ k = omega arith in
-    let own : picked k (by_sessions 0 (lines_of sessions)) ≡ s.lines = rw from_zero at (picked-at k 0 (lines_of sessions) s.lines lines) in
+    let own : picked k (by_sessions 0 (lines_of sessions)) ≡ session.lines = rw from_zero at (picked-at k 0 (lines_of sessions) session.lines lines) in
     let differs : (length sessions == k) ≡ false = grind (arith, nat_tests) in
     picked-callers k history ∙ rw who_called (picked-append k (by_sessions 0 (lines_of sessions)) (by (length sessions) loop)
-    ∙ rw (own, picked-other k (length sessions) loop differs) (append-nil s.lines))
+    ∙ rw (own, picked-other k (length sessions) loop differs) (append-nil session.lines))
 
 -- a history that is scheduled for lines whose forms are built is whole
-pub scheduled-IsWhole : (d : Document) (blanks : Blanks) → AllBuilt d.script.sessions → IsWhole d (scheduled d blanks)
-scheduled-IsWhole d blanks built =
-    let sessions = d.script.sessions in
+pub scheduled-IsWhole : (document : Document) (blanks : Blanks) → AllBuilt document.script.sessions → IsWhole document (scheduled document blanks)
+scheduled-IsWhole document blanks built =
+    let sessions = document.script.sessions in
     let lines = lines_of sessions in
     let count = length sessions in
-    let history = scheduled d blanks in
-    let ran : Finished d.description.cycles count lines history = scheduled-Finished d blanks built in
-    let fits : 0 + length lines ≤ count = omega (arith, length-map sessions (λ (t : SessionText). t.lines)) in
+    let history = scheduled document blanks in
+    let ran : Finished document.description.cycles count lines history = scheduled-Finished document blanks built in
+    let fits : 0 + length lines ≤ count = omega (arith, length-map sessions (λ (each : SessionText). each.lines)) in
     record {
       sessions = λ k. elim (cases_Option (slice_get sessions k)) [
         | inl none ↦ rw none tt
-        | inr (s, found) ↦ rw found (plain-Follows s.lines (entries_by k history) (plain_by k history ran.plain) (session_follows sessions history (loop_calls d.description.cycles) k s ran.calls found))
+        | inr (session, found) ↦ rw found (plain-Follows session.lines (entries_by k history) (plain_by k history ran.plain) (session_follows sessions history (loop_calls document.description.cycles) k session ran.calls found))
       ];
-      cycles = picked-callers count history ∙ rw ran.calls (picked-append count (by_sessions 0 lines) _ ∙ rw (picked-beyond count 0 lines fits) (picked-same count (loop_calls d.description.cycles)));
+      cycles = picked-callers count history ∙ rw ran.calls (picked-append count (by_sessions 0 lines) _ ∙ rw (picked-beyond count 0 lines fits) (picked-same count (loop_calls document.description.cycles)));
       nobody_else = Within-callers count history (rw ran.calls (Within-append count (by_sessions 0 lines) _ (Within-by_sessions count 0 lines fits) (Within-by count count _ (omega arith))));
     }

@@ -21,7 +21,7 @@ use Rattle.cm_model.specs.declared.seen.Seen.{Seen}
 abbrev pub faulty : (List (List ℕ) → List ℕ → Option Cause) → List (List ℕ) → List (List ℕ) → List Dropped
 faulty fault before [] = []
 faulty fault before (name ∷ names) = elim (fault before name) [
-  | Some c ↦ with_name name c ∷ faulty fault (before ++ name ∷ []) names
+  | Some reason ↦ with_name name reason ∷ faulty fault (before ++ name ∷ []) names
   | None ↦ faulty fault (before ++ name ∷ []) names
 ]
 
@@ -29,7 +29,7 @@ faulty fault before (name ∷ names) = elim (fault before name) [
 abbrev pub faultless : (List (List ℕ) → List ℕ → Option Cause) → List (List ℕ) → List (List ℕ) → List (List ℕ)
 faultless fault before [] = []
 faultless fault before (name ∷ names) = elim (fault before name) [
-  | Some c ↦ faultless fault (before ++ name ∷ []) names
+  | Some reason ↦ faultless fault (before ++ name ∷ []) names
   | None ↦ name ∷ faultless fault (before ++ name ∷ []) names
 ]
 
@@ -60,7 +60,7 @@ needed_reference scene staying p = find (is_claimed_by (controllers_in scene) st
 -- a controller that was asked to leave and stays is dropped, because it would be missing
 abbrev pub kept_drop : Scene → Places → Member → Option Dropped
 kept_drop scene staying m =
-    if staying m.place then option_map (λ i. with_name (described scene m.place).name (cause.MissingFollower i)) (needed_reference scene staying m.place) else None
+    if staying m.place then option_map (λ interface. with_name (described scene m.place).name (cause.MissingFollower interface)) (needed_reference scene staying m.place) else None
 
 -- ---- What can join
 
@@ -72,7 +72,7 @@ pub record Joined : Type 0 where
 -- it joins where it would have no fault, else it is dropped with that
 abbrev pub joined_with : ℕ → List ℕ → Joined → Option Cause → Joined
 joined_with p name joined None = record { set = with_one p joined.set; dropped = joined.dropped }
-joined_with p name joined (Some c) = record { set = joined.set; dropped = joined.dropped ++ with_name name c ∷ [] }
+joined_with p name joined (Some reason) = record { set = joined.set; dropped = joined.dropped ++ with_name name reason ∷ [] }
 
 abbrev pub join : Scene → Places → Joined → Member → Joined
 join scene on joined m = joined_with m.place (described scene m.place).name joined (fault scene (with_one m.place joined.set) on m.place)
@@ -116,8 +116,8 @@ best scene off on = best_asked scene (loaded_all scene (faultless (off_fault sce
 
 -- what becomes of a request
 abbrev pub decided : Scene → SwitchRequest → Decided
-decided scene r = if r.strict then strict scene r.off r.on else best scene r.off r.on
+decided scene request = if request.strict then strict scene request.off request.on else best scene request.off request.on
 
 -- the plan of a request
 abbrev pub plan_of : Scene → SwitchRequest → Planned
-plan_of scene r = planned scene (decided scene r)
+plan_of scene request = planned scene (decided scene request)

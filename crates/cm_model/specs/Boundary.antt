@@ -47,8 +47,8 @@ request_reply s = unless_refused (request_refusals s) (reply.Queued (length s.re
 
 -- what a request that was answered so leaves
 abbrev pub request_effect : State → Request → Reply → State
-request_effect s r (reply.Queued ticket) = record s { requests = s.requests ++ r ∷ [] }
-request_effect s r _ = s
+request_effect s asked (reply.Queued ticket) = record s { requests = s.requests ++ asked ∷ [] }
+request_effect s asked _ = s
 
 -- a request is decided where it has an outcome
 abbrev pub is_decided : State → ℕ → Bool
@@ -56,7 +56,7 @@ is_decided s ticket = nat_lt ticket (length s.outcomes)
 
 -- the answer of who asks what became of a request
 abbrev pub told_reply : State → ℕ → Option Reply
-told_reply s ticket = option_map (λ o. reply.Outcome o) (slice_get s.outcomes ticket)
+told_reply s ticket = option_map (λ became. reply.Outcome became) (slice_get s.outcomes ticket)
 
 -- ---- A request, decided in the state that the one before it left
 
@@ -67,17 +67,17 @@ pub record Concluded : Type 0 where
 
 -- a refused switch changes nothing; one that is done makes its set the active one
 abbrev pub with_switch : State → Decided → Concluded
-with_switch s (refused d) = record { state = s; outcome = outcome.Refused d.name d.cause }
+with_switch s (refused because) = record { state = s; outcome = outcome.Refused because.name because.cause }
 with_switch s (done dropped set again) = record { state = commit s set again; outcome = outcome.Done dropped }
 
 -- the place of the component of this name
 abbrev pub component_place : Description → List ℕ → Option ℕ
-component_place d name = position (λ c. same_name c.name name) d.components
+component_place d name = position (λ component. same_name component.name name) d.components
 
 -- the first active controller by order that uses the component, by its name
 abbrev pub user_of : State → ℕ → Option (List ℕ)
 user_of s component =
-    option_map (λ l. (described_of s l).name) (find (λ l. uses s.description.components (λ k. k == component) (described_of s l)) (active_order s))
+    option_map (λ l. (described_of s l).name) (find (λ l. uses s.description.components (λ place. place == component) (described_of s l)) (active_order s))
 
 -- the lifecycle state of the component at this place
 abbrev pub life_at : State → ℕ → Life
@@ -92,7 +92,7 @@ move_fault s component target =
 
 -- the component comes to its target, where nothing speaks against it
 abbrev pub with_move_unless : State → List ℕ → ℕ → Life → Option Cause → Concluded
-with_move_unless s name component target (Some c) = record { state = s; outcome = outcome.Refused name c }
+with_move_unless s name component target (Some reason) = record { state = s; outcome = outcome.Refused name reason }
 with_move_unless s name component target None = record { state = moved s (slice_set s.lives component target); outcome = outcome.Done [] }
 
 -- a request of a component that is described, or of one that is not
@@ -102,19 +102,19 @@ with_move s name target (Some component) = with_move_unless s name component tar
 
 -- What becomes of a request in a state.
 abbrev pub concluded : State → Request → Concluded
-concluded s (request.Switch r) = with_switch s (decided (scene_of s) r)
+concluded s (request.Switch switch) = with_switch s (decided (scene_of s) switch)
 concluded s (request.Hardware component target) = with_move s component target (component_place s.description component)
 
 -- ---- All that wait
 
 -- with its outcome behind those before it
 abbrev pub with_outcome : Concluded → State
-with_outcome d = record d.state { outcomes = d.state.outcomes ++ d.outcome ∷ [] }
+with_outcome conclusion = record conclusion.state { outcomes = conclusion.state.outcomes ++ conclusion.outcome ∷ [] }
 
 -- these are decided one after the other, each in the state that the one before it left
 unfoldable pub all_concluded : State → List Request → State
 all_concluded s [] = s
-all_concluded s (r ∷ rs) = all_concluded (with_outcome (concluded s r)) rs
+all_concluded s (asked ∷ later) = all_concluded (with_outcome (concluded s asked)) later
 
 -- The state after all requests that waited are decided, in the order of their tickets.
 abbrev pub boundary : State → State
@@ -123,7 +123,7 @@ boundary s = all_concluded s (waiting s)
 -- outcomes by ticket, the first of which has this one
 abbrev pub decisions_from : ℕ → List Outcome → List Decision
 decisions_from ticket [] = []
-decisions_from ticket (o ∷ os) = record { ticket = ticket; outcome = o } ∷ decisions_from (ticket + 1) os
+decisions_from ticket (became ∷ later) = record { ticket = ticket; outcome = became } ∷ decisions_from (ticket + 1) later
 
 -- what was decided on the way from one state to another, by ticket
 abbrev pub decisions_between : State → State → List Decision
@@ -143,7 +143,7 @@ begin_reply s = reply.Decisions (decisions_between s (boundary s))
 
 -- each request that waits is ended with the loop
 abbrev pub close_effect : State → State
-close_effect s = record s { outcomes = s.outcomes ++ map (λ r. outcome.LoopEnded) (waiting s); closed = true }
+close_effect s = record s { outcomes = s.outcomes ++ map (λ asked. outcome.LoopEnded) (waiting s); closed = true }
 
 -- the answer to the close: that of each
 abbrev pub close_reply : State → Reply

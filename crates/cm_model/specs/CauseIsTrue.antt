@@ -29,53 +29,53 @@ abbrev pub strict_set : Scene → List (List ℕ) → List (List ℕ) → Places
 strict_set scene off on = switched scene (named scene off) (named scene on)
 
 -- a loaded controller has this name
-pub record IsCalled (scene : Scene) (name : List ℕ) (l : Seen) : Type 0 where
-  pub loaded : Contains scene.loaded l
-  pub name_is : (described scene l.place).name ≡ name
+pub record IsCalled (scene : Scene) (name : List ℕ) (seen : Seen) : Type 0 where
+  pub loaded : Contains scene.loaded seen
+  pub name_is : (described scene seen.place).name ≡ name
 
 -- one that is loaded has this name, and this is so of it
 abbrev pub OfLoaded : Scene → List ℕ → (Seen → Type 0) → Type 0
-OfLoaded scene name P = (l : Seen) × IsCalled scene name l × P l
+OfLoaded scene name P = (seen : Seen) × IsCalled scene name seen × P seen
 
 -- a name stands at two places of a list
 abbrev pub StandsTwice : List (List ℕ) → List ℕ → Type 0
 StandsTwice names name = (i : ℕ) × (j : ℕ) × (i < j) × (j < length names) × (slice_index_or names i [] ≡ name) × (slice_index_or names j [] ≡ name)
 
 -- the controller at a place is a member of the set and claims the interface
-pub record IsClaimant (scene : Scene) (set : Places) (i : IfaceName) (p : ℕ) : Type 0 where
+pub record IsClaimant (scene : Scene) (set : Places) (interface : IfaceName) (p : ℕ) : Type 0 where
   pub member : set p ≡ true
-  pub claims : Contains (described scene p).claims i
+  pub claims : Contains (described scene p).claims interface
 
 -- the interface is a component's that is neither inactive nor active
 abbrev pub IsDown : Scene → IfaceName → Type 0
-IsDown scene i = (k : ℕ) × (component_with scene.description.components i ≡ Some k) × (is_available (slice_index_or scene.components k Unconfigured) ≡ false)
+IsDown scene interface = (place : ℕ) × (component_with scene.description.components interface ≡ Some place) × (is_available (slice_index_or scene.components place Unconfigured) ≡ false)
 
 -- A cause is true of a name, where a strict switch leads to a set:
 abbrev pub IsTrueOf : Scene → List (List ℕ) → List (List ℕ) → List ℕ → Cause → Type 0
 -- no controller of this name is loaded;
-IsTrueOf scene off on name cause.Unknown = (l : Seen) → ¬ IsCalled scene name l
+IsTrueOf scene off on name cause.Unknown = (seen : Seen) → ¬ IsCalled scene name seen
 -- it stands twice in one list;
 IsTrueOf scene off on name cause.Twice = StandsTwice off name ⊎ StandsTwice on name
 -- it is on the list to deactivate, and not active;
-IsTrueOf scene off on name cause.NotActive = Contains off name × OfLoaded scene name (λ l. is_running l.life ≡ false)
+IsTrueOf scene off on name cause.NotActive = Contains off name × OfLoaded scene name (λ seen. is_running seen.life ≡ false)
 -- it is on the list to activate, and unconfigured;
-IsTrueOf scene off on name cause.NotConfigured = Contains on name × OfLoaded scene name (λ l. is_configured l.life ≡ false)
+IsTrueOf scene off on name cause.NotConfigured = Contains on name × OfLoaded scene name (λ seen. is_configured seen.life ≡ false)
 -- it is on the list to activate and not on the other, and is active;
-IsTrueOf scene off on name cause.AlreadyActive = Contains on name × (¬ Contains off name) × OfLoaded scene name (λ l. is_running l.life ≡ true)
+IsTrueOf scene off on name cause.AlreadyActive = Contains on name × (¬ Contains off name) × OfLoaded scene name (λ seen. is_running seen.life ≡ true)
 -- it is a member that claims the reference, and the exporter is none;
-IsTrueOf scene off on name (cause.MissingFollower i) = OfLoaded scene name (λ l. IsClaimant scene (strict_set scene off on) i l.place
-    × ((q : ℕ) × (exporter (controllers_in scene) i ≡ Some q) × (strict_set scene off on q ≡ false)))
+IsTrueOf scene off on name (cause.MissingFollower interface) = OfLoaded scene name (λ seen. IsClaimant scene (strict_set scene off on) interface seen.place
+    × ((q : ℕ) × (exporter (controllers_in scene) interface ≡ Some q) × (strict_set scene off on q ≡ false)))
 -- it is on the list to activate, and claims or reads the interface, which is not available;
-IsTrueOf scene off on name (cause.Unavailable i) = Contains on name
-    × OfLoaded scene name (λ l. (Contains (described scene l.place).claims i ⊎ Contains (described scene l.place).reads i) × IsDown scene i)
+IsTrueOf scene off on name (cause.Unavailable interface) = Contains on name
+    × OfLoaded scene name (λ seen. (Contains (described scene seen.place).claims interface ⊎ Contains (described scene seen.place).reads interface) × IsDown scene interface)
 -- it and the owner are two members that claim the interface;
-IsTrueOf scene off on name (cause.Conflict i owner) = OfLoaded scene name (λ l. OfLoaded scene owner (λ m. (l.place ≢ m.place)
-    × IsClaimant scene (strict_set scene off on) i l.place × IsClaimant scene (strict_set scene off on) i m.place))
+IsTrueOf scene off on name (cause.Conflict interface owner) = OfLoaded scene name (λ seen. OfLoaded scene owner (λ rival. (seen.place ≢ rival.place)
+    × IsClaimant scene (strict_set scene off on) interface seen.place × IsClaimant scene (strict_set scene off on) interface rival.place))
 -- it is a member that claims an interface of the joint, and a member claims another one of it;
-IsTrueOf scene off on name (cause.ModeRefused joint) = OfLoaded scene name (λ l. (m : Seen) × (kind : Kind) × (other : Kind) × (kind ≢ other)
-    × IsClaimant scene (strict_set scene off on) (Joint joint kind) l.place × IsClaimant scene (strict_set scene off on) (Joint joint other) m.place)
+IsTrueOf scene off on name (cause.ModeRefused joint) = OfLoaded scene name (λ seen. (rival : Seen) × (kind : Kind) × (other : Kind) × (kind ≢ other)
+    × IsClaimant scene (strict_set scene off on) (Joint joint kind) seen.place × IsClaimant scene (strict_set scene off on) (Joint joint other) rival.place)
 -- it is on the list to activate, and not ready.
-IsTrueOf scene off on name cause.NotReady = Contains on name × OfLoaded scene name (λ l. l.ready ≡ false)
+IsTrueOf scene off on name cause.NotReady = Contains on name × OfLoaded scene name (λ seen. seen.ready ≡ false)
 -- The other causes are of requests to components.
 IsTrueOf scene off on name cause.NoSuchMove = ⊥
 IsTrueOf scene off on name (cause.InUse owner) = ⊥
@@ -85,16 +85,16 @@ IsTrueOf scene off on name (cause.InUse owner) = ⊥
 -- an active controller of this name uses the component
 abbrev pub is_used_by : State → ℕ → List ℕ → Bool
 is_used_by s component name =
-    list_any (λ l. (is_active l && same_name (described_of s l).name name) && uses s.description.components (λ k. k == component) (described_of s l)) s.loaded
+    list_any (λ l. (is_active l && same_name (described_of s l).name name) && uses s.description.components (λ place. place == component) (described_of s l)) s.loaded
 
 -- The cause is true of a component that is to come to a state:
 abbrev pub is_true_of_move : State → List ℕ → Life → Cause → Bool
 -- no such component is described;
 is_true_of_move s name target cause.Unknown = not (is_some (component_place s.description name))
 -- it has no such move;
-is_true_of_move s name target cause.NoSuchMove = option_map_or (λ k. not (has_move (life_at s k) target)) (component_place s.description name) false
+is_true_of_move s name target cause.NoSuchMove = option_map_or (λ place. not (has_move (life_at s place) target)) (component_place s.description name) false
 -- its interfaces would not be available, and this active controller uses it.
 is_true_of_move s name target (cause.InUse controller) =
-    option_map_or (λ k. not (is_available target) && is_used_by s k controller) (component_place s.description name) false
+    option_map_or (λ place. not (is_available target) && is_used_by s place controller) (component_place s.description name) false
 -- The others are said of controllers.
 is_true_of_move s name target _ = false

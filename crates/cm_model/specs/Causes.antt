@@ -15,9 +15,9 @@ cause_text cause.Twice = codes "twice"
 cause_text cause.NotActive = codes "not_active"
 cause_text cause.NotConfigured = codes "not_configured"
 cause_text cause.AlreadyActive = codes "already_active"
-cause_text (cause.MissingFollower i) = codes "missing_follower " ++ interface_text i
-cause_text (cause.Unavailable i) = codes "unavailable " ++ interface_text i
-cause_text (cause.Conflict i owner) = codes "conflict " ++ interface_text i ++ codes " " ++ owner
+cause_text (cause.MissingFollower interface) = codes "missing_follower " ++ interface_text interface
+cause_text (cause.Unavailable interface) = codes "unavailable " ++ interface_text interface
+cause_text (cause.Conflict interface owner) = codes "conflict " ++ interface_text interface ++ codes " " ++ owner
 cause_text (cause.ModeRefused joint) = codes "mode_refused " ++ joint
 cause_text cause.NotReady = codes "not_ready"
 cause_text cause.NoSuchMove = codes "no_such_move"
@@ -25,12 +25,12 @@ cause_text (cause.InUse controller) = codes "in_use " ++ controller
 
 -- a dropped name, as `fwd twice`
 abbrev pub dropped_text : Dropped → List ℕ
-dropped_text d = d.name ++ codes " " ++ cause_text d.cause
+dropped_text dropped = dropped.name ++ codes " " ++ cause_text dropped.cause
 
 -- what was dropped, where anything was: each name with its cause, joined by `, `
 abbrev pub drops_text : List Dropped → List ℕ
 drops_text [] = []
-drops_text (d ∷ ds) = codes " dropped " ++ dropped_text d ++ flat_map (λ e. codes ", " ++ dropped_text e) ds
+drops_text (dropped ∷ others) = codes " dropped " ++ dropped_text dropped ++ flat_map (λ other. codes ", " ++ dropped_text other) others
 
 -- what became of a request
 abbrev pub outcome_text : Outcome → List ℕ
@@ -40,4 +40,4 @@ outcome_text outcome.LoopEnded = codes "loop_ended"
 
 -- a decided request, as `0 done`
 abbrev pub decision_text : Decision → List ℕ
-decision_text d = decimal d.ticket ++ codes " " ++ outcome_text d.outcome
+decision_text decision = decimal decision.ticket ++ codes " " ++ outcome_text decision.outcome

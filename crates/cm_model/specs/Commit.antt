@@ -55,7 +55,7 @@ is_exported_by set (of_controller place) = set place
 
 -- one of these claims the interface, or exports it
 abbrev pub is_freed : State → Places → Interface → Bool
-is_freed s stopped i = i.called.is_command && (is_claimed_by s.description.controllers stopped i.called.name || is_exported_by stopped i.whose)
+is_freed s stopped interface = interface.called.is_command && (is_claimed_by s.description.controllers stopped interface.called.name || is_exported_by stopped interface.whose)
 
 -- one interface after these were stopped
 abbrev pub freed_of : State → Places → InterfaceValue → InterfaceValue

@@ -43,7 +43,7 @@ abbrev pub with_mail : RunData → Mail → RunData
 with_mail (run.Set chained set) (Values values) = run.Set chained (map Num values)
 with_mail (run.Pid chained set integral last) (Values (value ∷ values)) = run.Pid chained (Num value) integral last
 with_mail (run.Trajectory hold fresh start_us from points) (Points newer) = run.Trajectory hold true start_us from newer
-with_mail r mail = r
+with_mail part mail = part
 
 -- ---- An update
 
@@ -56,11 +56,11 @@ pub record Updated : Type 0 where
 
 -- it gives these outputs and publishes nothing
 abbrev pub gives : RunData → List Value → Updated
-gives r outs = record { run = r; outs = outs; published = []; done = done.Ok }
+gives part outs = record { run = part; outs = outs; published = []; done = done.Ok }
 
 -- it fails: it gives nothing, and what runs stays as it was
 abbrev pub fails : RunData → Updated
-fails r = record { run = r; outs = []; published = []; done = done.Error }
+fails part = record { run = part; outs = []; published = []; done = done.Error }
 
 -- the references, where it is chained, else the values that were set
 abbrev pub wanted : Bool → List Value → List Value → List Value
@@ -94,7 +94,7 @@ updated (Broadcaster ins) (run.Broadcaster last) tick states refs =
     record { run = run.Broadcaster states; outs = []; published = states; done = done.Ok }
 updated (Mock outs refuse_config not_ready fail_update) (run.Set chained set) tick states refs =
     if fails_in (Mock outs refuse_config not_ready fail_update) tick.cycle then fails (run.Set chained set) else gives (run.Set chained set) set
-updated params r tick states refs = gives r []
+updated params part tick states refs = gives part []
 
 -- ---- The data of a controller
 
@@ -120,7 +120,7 @@ deactivated ctl = record ctl { run = None }
 
 -- where it runs it has taken the mail
 abbrev pub mailed : CtlData → Mail → CtlData
-mailed ctl mail = elim ctl.run [ None ↦ ctl | Some r ↦ record ctl { run = Some (with_mail r mail) } ]
+mailed ctl mail = elim ctl.run [ None ↦ ctl | Some part ↦ record ctl { run = Some (with_mail part mail) } ]
 
 -- it is ready to be activated before this cycle
 abbrev pub is_ready : CtlData → ℕ → Bool
@@ -135,7 +135,7 @@ pub record Stepped : Type 0 where
 
 -- the data with the running part that an update left
 abbrev pub stepped_to : CtlData → Updated → Stepped
-stepped_to ctl u = record { after = record ctl { run = Some u.run }; outs = u.outs; published = u.published; done = u.done }
+stepped_to ctl given = record { after = record ctl { run = Some given.run }; outs = given.outs; published = given.published; done = given.done }
 
 -- it does not run: nothing is done
 abbrev pub not_stepped : CtlData → Stepped
@@ -143,7 +143,7 @@ not_stepped ctl = record { after = ctl; outs = []; published = []; done = done.O
 
 -- by its parameters and its running part, where it has both
 abbrev pub step_with : CtlData → Option Params → Option RunData → Tick → List ℤ → List Value → Stepped
-step_with ctl (Some params) (Some r) tick states refs = stepped_to ctl (updated params r tick states refs)
+step_with ctl (Some params) (Some part) tick states refs = stepped_to ctl (updated params part tick states refs)
 step_with ctl _ _ tick states refs = not_stepped ctl
 
 -- the update of a controller at a tick
@@ -181,7 +181,7 @@ IsIdle ctl = IsInactiveWith ctl (λ params. Unit {0})
 
 -- it is active
 abbrev pub IsRunning : CtlData → Type 0
-IsRunning ctl = IsActiveWith ctl (λ params. Unit {0}) (λ r. Unit {0})
+IsRunning ctl = IsActiveWith ctl (λ params. Unit {0}) (λ part. Unit {0})
 
 -- it may be configured so: it does not run, and the parameters are of its kind and in their ranges
 pub record CanBeConfigured (ctl : CtlData) (params : Params) : Type 0 where
@@ -195,7 +195,7 @@ CanBeActivated ctl states = IsInactiveWith ctl (λ params. AreItsReads (shape_of
 
 -- it may be sent the mail: it runs unchained, and the mail fits
 abbrev pub CanBeMailed : CtlData → Mail → Type 0
-CanBeMailed ctl mail = IsActiveWith ctl (λ params. takes params mail ≡ true) (λ r. runs_chained r ≡ false)
+CanBeMailed ctl mail = IsActiveWith ctl (λ params. takes params mail ≡ true) (λ part. runs_chained part ≡ false)
 
 -- so many states, references and claims are as many as a controller with these parameters has
 pub record AreItsCounts (params : Params) (states refs outs : ℕ) : Type 0 where
@@ -205,6 +205,6 @@ pub record AreItsCounts (params : Params) (states refs outs : ℕ) : Type 0 wher
 
 -- it may be updated at the tick with so many states, references and claims
 pub record CanBeUpdated (ctl : CtlData) (tick : Tick) (states refs outs : ℕ) : Type 0 where
-  pub counts : IsActiveWith ctl (λ params. AreItsCounts params states refs outs) (λ r. Unit {0})
+  pub counts : IsActiveWith ctl (λ params. AreItsCounts params states refs outs) (λ part. Unit {0})
   pub some_time : 1 ≤ tick.dt_us
   pub no_longer : tick.dt_us ≤ LONGEST_PERIOD

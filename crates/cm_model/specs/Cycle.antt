@@ -29,7 +29,7 @@ period d = SECOND_US / d.update_rate
 
 -- In the cycle that is aloft this holds of the component at a place, by its description and its lifecycle state.
 abbrev pub component_is : (CompDesc → Life → ℕ → Bool) → State → ℕ → Bool
-component_is test s place = option_map_or (λ p. test p.0 p.1 s.ended) (slice_get (zip s.description.components s.lives) place) false
+component_is test s place = option_map_or (λ each. test each.0 each.1 s.ended) (slice_get (zip s.description.components s.lives) place) false
 
 -- the places of the components of which this holds, in order
 abbrev pub components_where : (ℕ → Bool) → State → List ℕ
@@ -66,7 +66,7 @@ tick_of s l = record { cycle = s.ended; time_us = s.ended * period s.description
 
 -- the mail that went aloft for the controller of this serial, where there is some
 abbrev pub mail_for : State → ℕ → Option Mail
-mail_for s serial = option_map (λ m. m.mail) (find (λ m. m.serial == serial) s.mails)
+mail_for s serial = option_map (λ aloft. aloft.mail) (find (λ aloft. aloft.serial == serial) s.mails)
 
 -- the step of a controller in the cycle, while the interfaces hold these values
 abbrev pub step_of : State → List InterfaceValue → Loaded → Stepped
@@ -109,7 +109,7 @@ updates s values = with_updates s (record { loaded = s.loaded; values = values; 
 
 -- the update of this controller failed
 abbrev pub has_erred : List Ran → ℕ → Bool
-has_erred ran serial = list_any (λ r. r.serial == serial && elim r.done [ done.Ok ↦ false | done.Error ↦ true ]) ran
+has_erred ran serial = list_any (λ each. each.serial == serial && elim each.done [ done.Ok ↦ false | done.Error ↦ true ]) ran
 
 -- it uses a component whose read or write failed, or its update failed
 abbrev pub is_struck : State → List Ran → Loaded → Bool
@@ -143,7 +143,7 @@ stops s ran = map (λ l. l.serial) (filter (λ l. must_stop s ran l.place) (acti
 
 -- the command interfaces of the component at this place, in order
 abbrev pub commands_at : ℕ → List InterfaceValue → List InterfaceValue
-commands_at component values = filter (λ v. v.interface.called.is_command && belongs_to (λ c. c == component) v.interface.whose) values
+commands_at component values = filter (λ v. v.interface.called.is_command && belongs_to (λ place. place == component) v.interface.whose) values
 
 -- the command interface of this number is claimed
 abbrev pub is_claimed : State → List InterfaceValue → ℕ → Bool
@@ -155,15 +155,15 @@ claims_in s commands = filter (is_claimed s commands) (range_with_len 0 (length 
 
 -- the bodies of a component, the one at this place, after its step
 abbrev pub component_stepped : State → ℕ → CompDesc → List InterfaceValue → List BodyState → List BodyState
-component_stepped s component c commands bodies =
-    bodies_after_step c (component_is is_written s component) (claimed_by c (claims_in s commands)) (map (λ v. v.value) commands) (period s.description) bodies
+component_stepped s component described commands bodies =
+    bodies_after_step described (component_is is_written s component) (claimed_by described (claims_in s commands)) (map (λ v. v.value) commands) (period s.description) bodies
 
 -- the bodies of components, the first of which stands at this place, each component having as many as joints
 abbrev pub components_stepped : State → List InterfaceValue → ℕ → List CompDesc → List BodyState → List BodyState
 components_stepped s values component [] bodies = []
-components_stepped s values component (c ∷ cs) bodies =
-    component_stepped s component c (commands_at component values) (take (length c.joints) bodies)
-    ++ components_stepped s values (component + 1) cs (drop (length c.joints) bodies)
+components_stepped s values component (described ∷ others) bodies =
+    component_stepped s component described (commands_at component values) (take (length described.joints) bodies)
+    ++ components_stepped s values (component + 1) others (drop (length described.joints) bodies)
 
 -- ---- A cycle
 
@@ -198,18 +198,18 @@ moved s lives = record s { lives = lives; values = after_moves s.lives lives s.b
 
 -- the lifecycle states after the cycle that is aloft: a component that failed goes to the one that is described for it
 abbrev pub lives_after : State → List Life
-lives_after s = map (λ p. life_after p.0 p.1 s.ended) (zip s.description.components s.lives)
+lives_after s = map (λ each. life_after each.0 each.1 s.ended) (zip s.description.components s.lives)
 
 -- The controllers, values and bodies are those after the cycle, the components that failed have moved, one cycle more has ended, and
 -- nothing is aloft.
 abbrev pub landed : State → CycleResult → State
-landed s c =
-    moved (record s { loaded = c.loaded; values = c.values; bodies = c.bodies; ended = s.ended + 1; aloft = false; mails = [] }) (lives_after s)
+landed s cycled =
+    moved (record s { loaded = cycled.loaded; values = cycled.values; bodies = cycled.bodies; ended = s.ended + 1; aloft = false; mails = [] }) (lives_after s)
 
 -- At the end of a cycle that has landed the controllers are stopped that failed, that use a component that failed, or that precede
 -- such a one. Those that stay and whose chained mode changes restart.
 unfoldable pub after_cycle : State → CycleResult → State
-after_cycle s c = commit (landed s c) (stays_active s c.happened.ran) (λ p. false)
+after_cycle s cycled = commit (landed s cycled) (stays_active s cycled.happened.ran) (λ p. false)
 
 -- ---- Its begin
 
@@ -228,8 +228,8 @@ begun s = record s { loaded = map (without_mail_off s) s.loaded; aloft = true; m
 -- ---- While no controller is active
 
 -- No controller was updated or stopped, and at the end nothing changes but what the components make of it.
-pub record IsIdle (s : State) (c : CycleResult) : Type 0 where
-  pub none_ran : c.happened.ran ≡ []
-  pub none_stopped : c.happened.stops ≡ []
-  pub loaded : c.loaded ≡ s.loaded
-  pub ended : after_cycle s c ≡ landed s c
+pub record IsIdle (s : State) (cycled : CycleResult) : Type 0 where
+  pub none_ran : cycled.happened.ran ≡ []
+  pub none_stopped : cycled.happened.stops ≡ []
+  pub loaded : cycled.loaded ≡ s.loaded
+  pub ended : after_cycle s cycled ≡ landed s cycled

@@ -29,7 +29,7 @@ nth_name names place = unwrap_or (slice_get names place) []
 
 -- the name of the component at this place
 abbrev pub component_name : Names → ℕ → List ℕ
-component_name names place = unwrap_or (option_map (λ c. c.name) (slice_get names.components place)) []
+component_name names place = unwrap_or (option_map (λ component. component.name) (slice_get names.components place)) []
 
 -- what an interface holds
 abbrev pub value_text : Value → List ℕ
@@ -50,18 +50,18 @@ chained_text false = []
 
 -- a controller, as `mk mock unconfigured 0` or `fwd forward active 1 every 3 chained`
 abbrev pub controller_head : CtlLine → List ℕ
-controller_head c = c.name ++ codes " " ++ controller_word c.kind ++ codes " " ++ life_word c.life
+controller_head line = line.name ++ codes " " ++ controller_word line.kind ++ codes " " ++ life_word line.life
 
 abbrev pub controller_text : CtlLine → List ℕ
-controller_text c = controller_head c ++ codes " " ++ decimal c.serial ++ divisor_text c.divisor ++ chained_text c.chained
+controller_text line = controller_head line ++ codes " " ++ decimal line.serial ++ divisor_text line.divisor ++ chained_text line.chained
 
 -- a component, as `arm system active`
 abbrev pub described_component : Option CompDesc → List ℕ
 described_component None = []
-described_component (Some c) = c.name ++ codes " " ++ component_word c.kind
+described_component (Some component) = component.name ++ codes " " ++ component_word component.kind
 
 abbrev pub component_text : Names → CompLine → List ℕ
-component_text names l = described_component (slice_get names.components l.place) ++ codes " " ++ life_word l.life
+component_text names line = described_component (slice_get names.components line.place) ++ codes " " ++ life_word line.life
 
 -- the controller that claims a command interface, or `free`
 abbrev pub owner_text : Names → Option ℕ → List ℕ
@@ -70,44 +70,44 @@ owner_text names (Some serial) = nth_name names.controllers serial
 
 -- an interface, as `state j1/position 0.000000` or `command j1/velocity unset free`
 abbrev pub held_text : Names → IfaceLine → List ℕ
-held_text names l =
-    if l.available then value_text l.value ++ (if l.command then codes " " ++ owner_text names l.owner else [])
+held_text names line =
+    if line.available then value_text line.value ++ (if line.command then codes " " ++ owner_text names line.owner else [])
     else codes "unavailable"
 
 abbrev pub iface_text : Names → IfaceLine → List ℕ
-iface_text names l =
-    (if l.command then codes "command " else codes "state ") ++ nth_name names.interfaces l.place ++ codes " " ++ held_text names l
+iface_text names line =
+    (if line.command then codes "command " else codes "state ") ++ nth_name names.interfaces line.place ++ codes " " ++ held_text names line
 
 -- ---- Items of a cycle's record
 
 -- a failed component, as `fail arm read`
 abbrev pub failed_text : Names → FailedPart → List ℕ
-failed_text names p = codes "fail " ++ component_name names p.place ++ (if p.reading then codes " read" else codes " write")
+failed_text names failed = codes "fail " ++ component_name names failed.place ++ (if failed.reading then codes " read" else codes " write")
 
 -- values, each after a space
 abbrev pub outs_text : List Value → List ℕ
-outs_text values = flat_map (λ v. codes " " ++ value_text v) values
+outs_text values = flat_map (λ value. codes " " ++ value_text value) values
 
 abbrev pub numbers_text : List ℤ → List ℕ
 numbers_text numbers = flat_map (λ number. codes " " ++ spelled number) numbers
 
 -- what an update gave out and published, or `error`
 abbrev pub done_text : Ran → Done → List ℕ
-done_text r done.Ok = codes " ok" ++ outs_text r.outs ++ numbers_text r.published
-done_text r done.Error = codes " error"
+done_text ran done.Ok = codes " ok" ++ outs_text ran.outs ++ numbers_text ran.published
+done_text ran done.Error = codes " error"
 
 -- an updated controller, as `run fwd ok 0.500000`
 abbrev pub ran_text : Names → Ran → List ℕ
-ran_text names r = codes "run " ++ nth_name names.controllers r.serial ++ done_text r r.done
+ran_text names ran = codes "run " ++ nth_name names.controllers ran.serial ++ done_text ran ran.done
 
 -- the body of a joint, as `joint j1 0.000000 0.000000 0.000000`
 abbrev pub body_text : List ℕ → BodyState → List ℕ
-body_text joint b = codes "joint " ++ joint ++ codes " " ++ spelled b.x ++ codes " " ++ spelled b.v ++ codes " " ++ spelled b.f
+body_text joint body = codes "joint " ++ joint ++ codes " " ++ spelled body.x ++ codes " " ++ spelled body.v ++ codes " " ++ spelled body.f
 
 -- the bodies of the joints from this place on
 abbrev pub body_texts : Names → ℕ → List BodyState → List (List ℕ)
 body_texts names place [] = []
-body_texts names place (b ∷ bs) = body_text (nth_name names.joints place) b ∷ body_texts names (suc place) bs
+body_texts names place (body ∷ bodies) = body_text (nth_name names.joints place) body ∷ body_texts names (suc place) bodies
 
 -- a stopped controller
 abbrev pub stop_text : Names → ℕ → List ℕ
@@ -115,4 +115,4 @@ stop_text names serial = codes "stop " ++ nth_name names.controllers serial
 
 -- all items of a record: what failed, what was updated, the bodies, what was stopped
 abbrev pub record_items : Names → Happened → List (List ℕ)
-record_items names h = map (failed_text names) h.failed ++ map (ran_text names) h.ran ++ body_texts names 0 h.bodies ++ map (stop_text names) h.stops
+record_items names happened = map (failed_text names) happened.failed ++ map (ran_text names) happened.ran ++ body_texts names 0 happened.bodies ++ map (stop_text names) happened.stops

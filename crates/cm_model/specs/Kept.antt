@@ -14,4 +14,4 @@ kept_call short.ListComponents = call.ListComponents
 kept_call (short.Begin cycle) = call.Begin cycle
 kept_call (short.End cycle) = call.End cycle
 kept_call short.Close = call.Close
-kept_call (short.Long c) = c
+kept_call (short.Long kept) = kept

@@ -68,7 +68,7 @@ is_for_claims params values = length values == (shape_of params).claims
 
 -- Mail fits where it has a value for each claim: a trajectory takes points in time, of which each has them, every other kind a plain list.
 abbrev pub takes : Params → Mail → Bool
-takes (Trajectory outs) (Points points) = list_all (λ p. is_for_claims (Trajectory outs) p.values) points
+takes (Trajectory outs) (Points points) = list_all (λ point. is_for_claims (Trajectory outs) point.values) points
 takes (Trajectory outs) (Values values) = false
 takes params (Points points) = false
 takes params (Values values) = not (takes_none params) && is_for_claims params values

@@ -19,4 +19,4 @@ pub record IsWhole (heads : List RanHead) (values : List Value) (numbers : List 
 
 -- one of these, as it is handed out
 abbrev pub ran_of : RanRef → Ran
-ran_of r = record { serial = r.serial; done = r.done; outs = r.outs.now; published = r.published.now }
+ran_of ran = record { serial = ran.serial; done = ran.done; outs = ran.outs.now; published = ran.published.now }

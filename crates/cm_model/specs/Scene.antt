@@ -44,27 +44,27 @@ described scene p = controller_at (controllers_in scene) p
 
 -- a loaded controller at this place passes the test
 abbrev pub has_seen : (Seen → Bool) → List Seen → ℕ → Bool
-has_seen test loaded p = list_any (λ l. l.place == p && test l) loaded
+has_seen test loaded p = list_any (λ seen. seen.place == p && test seen) loaded
 
 -- the active controllers
 abbrev pub active : Scene → Places
-active scene = has_seen (λ l. is_running l.life) scene.loaded
+active scene = has_seen (λ seen. is_running seen.life) scene.loaded
 
 -- the controllers that are ready to be activated in the cycle to come
 abbrev pub is_ready : Scene → Places
-is_ready scene = has_seen (λ l. l.ready) scene.loaded
+is_ready scene = has_seen (λ seen. seen.ready) scene.loaded
 
 -- the loaded controller of this name
 abbrev pub loaded_of : Scene → List ℕ → Option Seen
-loaded_of scene name = find (λ l. same_name (described scene l.place).name name) scene.loaded
+loaded_of scene name = find (λ seen. same_name (described scene seen.place).name name) scene.loaded
 
 -- the controller at a place claims the interface
 abbrev pub claims_at : List CtlDesc → ℕ → IfaceName → Bool
-claims_at controllers p i = list_any (λ claim. same_interface claim i) (controller_at controllers p).claims
+claims_at controllers p interface = list_any (λ claim. same_interface claim interface) (controller_at controllers p).claims
 
 -- a member of the set claims the interface
 abbrev pub is_claimed_by : List CtlDesc → Places → IfaceName → Bool
-is_claimed_by controllers set i = some_below (λ q. set q && claims_at controllers q i) (length controllers)
+is_claimed_by controllers set interface = some_below (λ q. set q && claims_at controllers q interface) (length controllers)
 
 -- a controller is chained in a set where a member claims one of its references
 abbrev pub is_chained_in : List CtlDesc → Places → ℕ → Bool
@@ -72,7 +72,7 @@ is_chained_in controllers set p = some_below (λ q. set q && precedes_at control
 
 -- a loaded controller by its serial and place
 abbrev pub member : Seen → Member
-member l = record { serial = l.serial; place = l.place }
+member seen = record { serial = seen.serial; place = seen.place }
 
 -- the loaded controllers of these names, where there are such
 abbrev pub loaded_all : Scene → List (List ℕ) → List Member
@@ -84,7 +84,7 @@ named scene names = places_of (loaded_all scene names)
 
 -- the members of a set, by serial
 abbrev pub members : Scene → Places → List Member
-members scene set = map member (filter (λ l. set l.place) scene.loaded)
+members scene set = map member (filter (λ seen. set seen.place) scene.loaded)
 
 -- the members of a set in the order of their updates
 abbrev pub order : Scene → Places → List Member

@@ -46,7 +46,7 @@ after_call None lines r = record { lines = drop 1 lines; ticket = ticket_in r }
 -- after a call that made this step
 abbrev pub stepped_on : ℕ → Advanced → Call → Option (State × Reply) → Option Advanced
 stepped_on who a call None = None
-stepped_on who a call (Some q) = Some (record { state = q.0; made = with_entry a.made who call q.1; session = after_call a.session.ticket a.session.lines q.1 })
+stepped_on who a call (Some made) = Some (record { state = made.0; made = with_entry a.made who call made.1; session = after_call a.session.ticket a.session.lines made.1 })
 
 -- this call, where it is enabled
 abbrev pub called_on : ℕ → Advanced → Option Call → Option Advanced
@@ -60,11 +60,11 @@ advance who a = called_on who a (next_call a.session.ticket a.session.lines)
 -- at most so many advances, until there is none
 abbrev pub advances : ℕ → ℕ → Advanced → Advanced
 advances zero who a = a
-advances (suc k) who a = elim (advance who a) [ None ↦ a | Some b ↦ advances k who b ]
+advances (suc k) who a = elim (advance who a) [ None ↦ a | Some next ↦ advances k who next ]
 
 -- how many entries a session can make at most: for each line its own and a Told, and one for its ticket
 abbrev pub most_entries : Session → ℕ
-most_entries x = suc (length x.lines + length x.lines)
+most_entries session = suc (length session.lines + length session.lines)
 
 -- A session settles: it advances until it cannot.
 unfoldable pub settle : ℕ → Advanced → Advanced
@@ -81,44 +81,44 @@ pub record Progress : Type 0 where
 -- the sessions from this number on settle in order; `settled` are those before
 abbrev pub settle_from : ℕ → List Session → State → List Entry → List Session → Progress
 settle_from who [] s made settled = record { state = s; made = made; sessions = settled }
-settle_from who (x ∷ xs) s made settled =
-    let a = settle who (record { state = s; made = made; session = x }) in settle_from (who + 1) xs a.state a.made (settled ++ a.session ∷ [])
+settle_from who (session ∷ later) s made settled =
+    let a = settle who (record { state = s; made = made; session = session }) in settle_from (who + 1) later a.state a.made (settled ++ a.session ∷ [])
 
 -- all sessions settle in order
 unfoldable pub settle_all : Progress → Progress
-settle_all p = settle_from 0 p.sessions p.state p.made []
+settle_all progress = settle_from 0 progress.sessions progress.state progress.made []
 
 -- ---- The loop
 
 -- the loop makes a call, where it is enabled
 unfoldable pub looped : Call → Progress → Progress
-looped call p =
-    elim (step p.state p.state.sessions call) [
-      | None ↦ p
-      | Some q ↦ record p { state = q.0; made = with_entry p.made p.state.sessions call q.1 }
+looped call progress =
+    elim (step progress.state progress.state.sessions call) [
+      | None ↦ progress
+      | Some made ↦ record progress { state = made.0; made = with_entry progress.made progress.state.sessions call made.1 }
     ]
 
 -- the sessions settle, and the n-th cycle begins and ends
 unfoldable pub with_cycle : ℕ → Progress → Progress
-with_cycle cycle p = looped (End cycle) (looped (Begin cycle) (settle_all p))
+with_cycle cycle progress = looped (End cycle) (looped (Begin cycle) (settle_all progress))
 
 -- the first n cycles
 abbrev pub cycles : ℕ → Progress → Progress
-cycles zero p = p
-cycles (suc n) p = with_cycle n (cycles n p)
+cycles zero progress = progress
+cycles (suc n) progress = with_cycle n (cycles n progress)
 
 -- after the last cycle the sessions settle, the loop closes, and they settle once more
 unfoldable pub finish : Progress → Progress
-finish p = settle_all (looped Close (settle_all p))
+finish progress = settle_all (looped Close (settle_all progress))
 
 -- at first no session has made a line
 unfoldable pub start : Document → Blanks → Progress
-start d blanks = record {
-  state = boot d.description blanks (length d.script.sessions);
+start document blanks = record {
+  state = boot document.description blanks (length document.script.sessions);
   made = [];
-  sessions = map (λ s. record { lines = s.lines; ticket = None }) d.script.sessions;
+  sessions = map (λ session. record { lines = session.lines; ticket = None }) document.script.sessions;
 }
 
 -- the history of the job `run`
 unfoldable pub scheduled : Document → Blanks → List Entry
-scheduled d blanks = (finish (cycles d.description.cycles (start d blanks))).made
+scheduled document blanks = (finish (cycles document.description.cycles (start document blanks))).made

@@ -66,7 +66,7 @@ loop_calls n = cycle_calls n ++ Close ∷ []
 
 -- A history is whole for a document where it has each session's lines, each once and in order, the begin and the end of
 -- each cycle and then the close, and nobody else's calls.
-pub record IsWhole (d : Document) (history : List Entry) : Type 0 where
-  pub sessions : (k : ℕ) → IfSome (slice_get d.script.sessions k) (λ s. Follows s.lines (entries_by k history))
-  pub cycles : calls_of (entries_by (length d.script.sessions) history) ≡ loop_calls d.description.cycles
-  pub nobody_else : AllByRecursion (λ e. e.who ≤ length d.script.sessions) history
+pub record IsWhole (document : Document) (history : List Entry) : Type 0 where
+  pub sessions : (k : ℕ) → IfSome (slice_get document.script.sessions k) (λ session. Follows session.lines (entries_by k history))
+  pub cycles : calls_of (entries_by (length document.script.sessions) history) ≡ loop_calls document.description.cycles
+  pub nobody_else : AllByRecursion (λ e. e.who ≤ length document.script.sessions) history

@@ -62,7 +62,7 @@ pub record State : Type 0 where
 
 -- At start each component is in the described lifecycle state, and each body where it is described to be.
 abbrev pub lives_at_start : Description → List Life
-lives_at_start d = map (λ c. c.initial) d.components
+lives_at_start d = map (λ component. component.initial) d.components
 
 abbrev pub all_bodies_at_start : Description → List BodyState
 all_bodies_at_start d = flat_map bodies_at_start d.components
@@ -94,21 +94,21 @@ boot description blanks sessions = record {
 
 -- how many blanks of a kind are left
 abbrev pub blanks_of : Blanks → CtlKind → ℕ
-blanks_of b Forward = b.forward
-blanks_of b Passthrough = b.passthrough
-blanks_of b Pid = b.pid
-blanks_of b Trajectory = b.trajectory
-blanks_of b Broadcaster = b.broadcaster
-blanks_of b Mock = b.mock
+blanks_of blanks Forward = blanks.forward
+blanks_of blanks Passthrough = blanks.passthrough
+blanks_of blanks Pid = blanks.pid
+blanks_of blanks Trajectory = blanks.trajectory
+blanks_of blanks Broadcaster = blanks.broadcaster
+blanks_of blanks Mock = blanks.mock
 
 -- the blanks after one of this kind was taken
 abbrev pub with_one_less : Blanks → CtlKind → Blanks
-with_one_less b Forward = record b { forward = b.forward - 1 }
-with_one_less b Passthrough = record b { passthrough = b.passthrough - 1 }
-with_one_less b Pid = record b { pid = b.pid - 1 }
-with_one_less b Trajectory = record b { trajectory = b.trajectory - 1 }
-with_one_less b Broadcaster = record b { broadcaster = b.broadcaster - 1 }
-with_one_less b Mock = record b { mock = b.mock - 1 }
+with_one_less blanks Forward = record blanks { forward = blanks.forward - 1 }
+with_one_less blanks Passthrough = record blanks { passthrough = blanks.passthrough - 1 }
+with_one_less blanks Pid = record blanks { pid = blanks.pid - 1 }
+with_one_less blanks Trajectory = record blanks { trajectory = blanks.trajectory - 1 }
+with_one_less blanks Broadcaster = record blanks { broadcaster = blanks.broadcaster - 1 }
+with_one_less blanks Mock = record blanks { mock = blanks.mock - 1 }
 
 -- ---- Controllers
 
@@ -122,7 +122,7 @@ newly_loaded serial place c = record { serial = serial; place = place; rate = c.
 
 -- It is unconfigured without parameters, inactive with parameters and without a running part, active with both.
 abbrev pub life_of : CtlData → Life
-life_of ctl = elim ctl.params [ None ↦ Unconfigured | Some p ↦ elim ctl.run [ None ↦ Inactive | Some r ↦ Active ] ]
+life_of ctl = elim ctl.params [ None ↦ Unconfigured | Some params ↦ elim ctl.run [ None ↦ Inactive | Some part ↦ Active ] ]
 
 -- it runs
 abbrev pub is_active : Loaded → Bool
@@ -134,7 +134,7 @@ IsStill s = AllByRecursion (λ l. is_active l ≡ false) s.loaded
 
 -- the loaded controller precedes this described one: it claims one of its references
 abbrev pub precedes_described : List CtlDesc → CtlDesc → Loaded → Bool
-precedes_described described c l = option_map_or (λ d. precedes d c) (slice_get described l.place) false
+precedes_described described c l = option_map_or (λ other. precedes other c) (slice_get described l.place) false
 
 -- A controller is chained where an active one claims one of its references.
 abbrev pub is_chained : State → CtlDesc → Bool
@@ -154,7 +154,7 @@ available_in lives controllers (of_controller place) = controllers place
 
 -- the interface is available
 abbrev pub available : State → Interface → Bool
-available s i = available_in s.lives (active s) i.whose
+available s interface = available_in s.lives (active s) interface.whose
 
 -- the loaded controller claims what has this name
 abbrev pub claims_name : List CtlDesc → IfaceName → Loaded → Bool
@@ -162,8 +162,8 @@ claims_name described name l = option_map_or (λ c. is_among name c.claims) (sli
 
 -- The owner of a command interface or a reference is the active controller that claims it. A state interface has none.
 abbrev pub owner : State → Interface → Option ℕ
-owner s i =
-    if i.called.is_command then option_map (λ l. l.serial) (find (λ l. is_active l && claims_name s.description.controllers i.called.name l) s.loaded)
+owner s interface =
+    if interface.called.is_command then option_map (λ l. l.serial) (find (λ l. is_active l && claims_name s.description.controllers interface.called.name l) s.loaded)
     else None
 
 -- ---- Lists

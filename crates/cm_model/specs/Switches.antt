@@ -21,12 +21,12 @@ use Rattle.cm_model.specs.declared.seen.Seen.{Seen}
 
 -- a name with its cause
 abbrev pub with_name : List ℕ → Cause → Dropped
-with_name name c = record { name = name; cause = c }
+with_name name reason = record { name = name; cause = reason }
 
 -- Why a loaded controller cannot be deactivated, where its name did or did not stand earlier in the list
 abbrev pub off_cause : Bool → Seen → Option Cause
-off_cause true l = Some cause.Twice
-off_cause false l = if is_running l.life then None else Some cause.NotActive
+off_cause true seen = Some cause.Twice
+off_cause false seen = if is_running seen.life then None else Some cause.NotActive
 
 -- What speaks against a name on the list to deactivate, behind those that stand before it: that no such controller is loaded, that
 -- it stands there twice, that it is not active.
@@ -35,9 +35,9 @@ off_fault scene before name = option_map_or (off_cause (list_any (same_name name
 
 -- why a loaded controller cannot be activated, where these leave
 abbrev pub on_cause : Places → Bool → Seen → Option Cause
-on_cause leaving true l = Some cause.Twice
-on_cause leaving false l =
-    if is_configured l.life then (if is_running l.life && not (leaving l.place) then Some cause.AlreadyActive else None)
+on_cause leaving true seen = Some cause.Twice
+on_cause leaving false seen =
+    if is_configured seen.life then (if is_running seen.life && not (leaving seen.place) then Some cause.AlreadyActive else None)
     else Some cause.NotConfigured
 
 -- What speaks against a name on the list to activate: that no such controller is loaded, that it stands there twice, that it is
@@ -128,5 +128,5 @@ on_list scene set again = reverse (map (λ m. m.serial) (filter (λ m. is_starte
 
 -- the plan of a decision
 abbrev pub planned : Scene → Decided → Planned
-planned scene (refused d) = record { outcome = outcome.Refused d.name d.cause; off = []; on = [] }
+planned scene (refused because) = record { outcome = outcome.Refused because.name because.cause; off = []; on = [] }
 planned scene (done dropped set again) = record { outcome = outcome.Done dropped; off = off_list scene set again; on = on_list scene set again }

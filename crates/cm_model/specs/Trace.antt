@@ -38,8 +38,8 @@ abbrev pub names_in : Description → List Entry → Names
 names_in d history = record {
   controllers = names_of history;
   components = d.components;
-  joints = map (λ j. j.name) (joints_of d.components);
-  interfaces = map (λ i. interface_text i.called.name) (interfaces_of d);
+  joints = map (λ joint. joint.name) (joints_of d.components);
+  interfaces = map (λ interface. interface_text interface.called.name) (interfaces_of d);
 }
 
 -- ---- Replies
@@ -63,7 +63,7 @@ why_word why.QueueFull = codes "queue_full"
 -- items joined by `; `, or `none` where there is none
 abbrev pub joined : List (List ℕ) → List ℕ
 joined [] = codes "none"
-joined (x ∷ xs) = x ++ flat_map (λ y. codes "; " ++ y) xs
+joined (item ∷ items) = item ++ flat_map (λ other. codes "; " ++ other) items
 
 -- the reply
 abbrev pub reply_text : Names → Reply → List ℕ
@@ -82,7 +82,7 @@ reply_text names (reply.Cycle happened) = joined (record_items names happened)
 
 -- a session's name, or `loop` for the number after the sessions
 abbrev pub caller_text : List SessionText → ℕ → List ℕ
-caller_text sessions who = unwrap_or (option_map (λ s. s.name) (slice_get sessions who)) (codes "loop")
+caller_text sessions who = unwrap_or (option_map (λ session. session.name) (slice_get sessions who)) (codes "loop")
 
 -- caller, call and reply: `a load mk: ok 0`
 abbrev pub line_text : List SessionText → Names → Entry → List ℕ
@@ -94,4 +94,4 @@ trace d sessions history = flat_map (line_text sessions (names_in d history)) hi
 
 -- what is printed of the run of a document with this history
 unfoldable pub output : Document → List Entry → List ℕ
-output d history = trace d.description d.script.sessions history
+output document history = trace document.description document.script.sessions history

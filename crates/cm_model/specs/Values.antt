@@ -18,7 +18,7 @@ pub record InterfaceValue : Type 0 where
 
 -- nobody has set it
 abbrev pub unset : Interface → InterfaceValue
-unset i = record { interface = i; value = Unset }
+unset interface = record { interface = interface; value = Unset }
 
 -- ---- Of which components. A set of components is a test of their places.
 
@@ -33,7 +33,7 @@ belongs_to components (of_controller place) = false
 
 -- a state interface of one of these components
 abbrev pub is_state_of : (ℕ → Bool) → Interface → Bool
-is_state_of components i = not i.called.is_command && belongs_to components i.whose
+is_state_of components interface = not interface.called.is_command && belongs_to components interface.whose
 
 -- ---- Reads
 
@@ -70,4 +70,4 @@ cleared components values = map (cleared_of components) values
 -- interfaces of those that were not available, and are then, hold the numbers of the bodies.
 abbrev pub after_moves : List Life → List Life → List BodyState → List InterfaceValue → List InterfaceValue
 after_moves before after bodies values =
-    after_reads (λ c. running after c && not (running before c)) bodies (cleared (λ c. not (running after c)) values)
+    after_reads (λ component. running after component && not (running before component)) bodies (cleared (λ component. not (running after component)) values)

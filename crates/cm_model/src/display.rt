@@ -119,7 +119,7 @@ fn write_drops<W: Write>(dropped: &[Dropped], f: &mut Formatter<W>) -> fmt::Resu
 /// The names after the first, each after a comma.
 fn write_others<W: Write>(others: &[Dropped], f: &mut Formatter<W>) -> fmt::Result
     ensures { DisplaysOnOk W.write_str_gives f.old result
-        (Some (flat_map (λ d. codes ", " ++ dropped_text d) others.now)) f.new }
+        (Some (flat_map (λ other. codes ", " ++ dropped_text other) others.now)) f.new }
 {
     for dropped in others {
         write!(f, ", {dropped}")?;

@@ -54,7 +54,7 @@ impl Model for KeptCall {
 
     ghost use Rattle.cm_model.specs.Kept.{kept_call};
 
-    ghost view = { λ s. kept_call s.kept };
+    ghost view = { λ call. kept_call call.kept };
 }
 
 impl KeptCall {

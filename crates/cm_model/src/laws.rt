@@ -20,14 +20,15 @@ ghost use Rattle.cm_model.specs.Sessions.{IsConsole, IsWhole};
 
 /// Each scheduled history is legal: from boot each of its entries is a step of the written manager.
 pub fn scheduled_histories_are_legal()
-    ensures { (d : Document) (blanks : Blanks)
-        → IsLegal d.description blanks (length d.script.sessions) (scheduled d blanks) }
+    ensures { (document : Document) (blanks : Blanks)
+        → IsLegal document.description blanks (length document.script.sessions) (scheduled document blanks) }
 {}
 
 /// Each history that is scheduled for a document whose lines have forms that are built is whole for it: it has every session's
 /// lines, each once and in order, the begin and the end of each cycle, the close, and nothing else.
 pub fn scheduled_histories_are_whole()
-    ensures { (d : Document) (blanks : Blanks) → UsesGrammar built d.script → IsWhole d (scheduled d blanks) }
+    ensures { (document : Document) (blanks : Blanks)
+        → UsesGrammar built document.script → IsWhole document (scheduled document blanks) }
 {}
 
 /// A session that settled cannot advance: it has nothing left to do, or its next call is not enabled.
@@ -54,7 +55,7 @@ pub fn updates_leave_active_who_was()
 
 /// A cycle tells of the controllers that it updates, in order, and of no other.
 pub fn cycles_tell_of_whom_they_update()
-    ensures { (s : State) → map (λ r. r.serial) (cycle s).happened.ran ≡ map (λ l. l.serial) (updated_in s) }
+    ensures { (s : State) → map (λ ran. ran.serial) (cycle s).happened.ran ≡ map (λ l. l.serial) (updated_in s) }
 {}
 
 /// While no controller is active a cycle updates none and stops none, and its end changes no more than the components make of it.

@@ -43,9 +43,9 @@ impl Model for RanList {
 
     ghost use Rattle.cm_model.specs.Rans.{rans, IsWhole};
 
-    ghost view = { λ s. rans s.heads.items s.values.items s.numbers.items };
+    ghost view = { λ list. rans list.heads.items list.values.items list.numbers.items };
 
-    ghost invariant = { λ s. IsWhole s.heads.items s.values.items s.numbers.items };
+    ghost invariant = { λ list. IsWhole list.heads.items list.values.items list.numbers.items };
 }
 
 /// One updated controller.
@@ -111,9 +111,9 @@ impl<'a> Model for Rans<'a> {
 
     ghost use Rattle.cm_model.specs.Rans.{rans, IsWhole};
 
-    ghost view = { λ s. rans s.heads.now s.values.now s.numbers.now };
+    ghost view = { λ list. rans list.heads.now list.values.now list.numbers.now };
 
-    ghost invariant = { λ s. IsWhole s.heads.now s.values.now s.numbers.now };
+    ghost invariant = { λ list. IsWhole list.heads.now list.values.now list.numbers.now };
 }
 
 impl<'a> Iterator for Rans<'a> {
@@ -122,9 +122,9 @@ impl<'a> Iterator for Rans<'a> {
 
     type Item = RanRef<'a>;
 
-    ghost next_gives = { YieldsFirstBy ran_of (λ s. s) };
+    ghost next_gives = { YieldsFirstBy ran_of (λ list. list) };
 
-    ghost remaining = { item_count (λ s. s) };
+    ghost remaining = { item_count (λ list. list) };
 
     fn next(&mut self) -> Option<RanRef<'a>> {
         let (head, heads) = self.heads.split_first()?;

@@ -23,14 +23,14 @@ impl Model for RanRoom {
     ghost use Rattle.std.specs.Prelude.{◌-◌, vec_len, vec_capacity};
     ghost use Rattle.cm_model.specs.Rans.{rans, IsWhole};
 
-    ghost view = { λ s. record {
-      rans = rans s.heads.items s.values.items s.numbers.items;
-      heads = vec_capacity s.heads - vec_len s.heads;
-      values = vec_capacity s.values - vec_len s.values;
-      numbers = vec_capacity s.numbers - vec_len s.numbers;
+    ghost view = { λ list. record {
+      rans = rans list.heads.items list.values.items list.numbers.items;
+      heads = vec_capacity list.heads - vec_len list.heads;
+      values = vec_capacity list.values - vec_len list.values;
+      numbers = vec_capacity list.numbers - vec_len list.numbers;
     } };
 
-    ghost invariant = { λ s. IsWhole s.heads.items s.values.items s.numbers.items };
+    ghost invariant = { λ list. IsWhole list.heads.items list.values.items list.numbers.items };
 }
 
 impl RanRoom {

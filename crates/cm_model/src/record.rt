@@ -71,7 +71,7 @@ impl Model for CycleRecord {
 
     ghost use Rattle.cm_model.specs.Held.{happened};
 
-    ghost view = { λ s. happened s.held };
+    ghost view = { λ kept. happened kept.held };
 }
 
 impl CycleRecord {

@@ -54,7 +54,8 @@ pub fn console_calls_keep_a_state_steady()
 
 /// So do a request that comes to wait, the close, and the mail that goes aloft at a begin.
 pub fn requests_and_the_close_keep_a_state_steady()
-    ensures request { (s : State) (r : Request) (answer : Reply) → IsSteady s → IsSteady (request_effect s r answer) }
+    ensures request { (s : State) (asked : Request) (answer : Reply) → IsSteady s
+        → IsSteady (request_effect s asked answer) }
     ensures close { (s : State) → IsSteady s → IsSteady (close_effect s) }
     ensures begin { (s : State) → IsSteady s → IsSteady (begun s) }
 {}
