@@ -8,7 +8,6 @@ use Rattle.std.proofs.lemmas.List.Elements.{recursion_from_All}
 use Rattle.std.proofs.lemmas.Simd.{map-map}
 use mathlib.Core.Path.{fun_ext}
 use Rattle.fixed_num.specs.declared.value.BodyState.{BodyState}
-use Rattle.fixed_num.specs.declared.value.Value.{Value}
 use Rattle.fixed_num.specs.declared.value.Value.TheVariants.{Unset}
 use Rattle.iface_names.specs.declared.interface.IfaceName.{IfaceName}
 use Rattle.iface_names.specs.declared.interface.IfaceName.TheVariants.{Joint}
@@ -22,7 +21,7 @@ use Rattle.cm_document.specs.declared.description.JointDesc.{JointDesc}
 use Rattle.cm_document.specs.declared.life.Life.{Life}
 use Rattle.cm_model.specs.Components.{is_available, read_succeeds, body_at_start, bodies_at_start, measured_states, interfaces_from, claimed_by}
 use Rattle.cm_model.specs.State.{State, boot, lives_at_start, all_bodies_at_start, values_at_start, owner, available, active}
-use Rattle.cm_model.specs.Values.{InterfaceValue, unset, running, is_state_of, shown, read_of, after_reads}
+use Rattle.cm_model.specs.Values.{InterfaceValue, unset, running, read_of, after_reads}
 use Rattle.cm_model.specs.declared.blanks.Blanks.{Blanks}
 use Rattle.hw_component.specs.Hardware.{CanBeMade}
 use Rattle.loan_board.specs.Loans.{idle_of, made_available}

@@ -42,7 +42,7 @@ pub scene_active : (s : State) → AllByRecursion (IsOwn s.description.controlle
 scene_active s own = fun_ext (λ p.
     any_map (λ each. each.place == p && is_running each.life) (seen s) s.loaded
     ∙ any_same (λ l. l.place == p && is_running (life_of l.ctl)) (λ l. is_active l && l.place == p) s.loaded
-        (all_so _ _ (λ l is_own. ap (λ b. l.place == p && b) (life_runs l.ctl.params l.ctl.run is_own.configured) ∙ and_swapped (l.place == p) (is_active l)) s.loaded own))
+    (all_so _ _ (λ l is_own. ap (λ b. l.place == p && b) (life_runs l.ctl.params l.ctl.run is_own.configured) ∙ and_swapped (l.place == p) (is_active l)) s.loaded own))
 
 -- ---- One controller
 
@@ -111,7 +111,7 @@ started_marked controllers set place (Mock outs refuse_config not_ready fail_upd
 come_marked : (controllers : List CtlDesc) (set : Places) (place : ℕ) (ctl : CtlData) (params : Option Params) (states : List ℤ)
     → IfSome params (λ given. given ≡ (controller_at controllers place).params) → is_some params ≡ true
     → IfSome (activated_by ctl params states (is_chained_in controllers set place)).run
-        (λ part. runs_chained part ≡ is_chained_in controllers set place)
+    (λ part. runs_chained part ≡ is_chained_in controllers set place)
 come_marked controllers set place ctl None states own some = absurd (true≢false (sym some))
 come_marked controllers set place ctl (Some given) states own some = started_marked controllers set place given own states
 
@@ -230,9 +230,9 @@ module _ (s : State) (set again : Places) (kept : IsInOrder s) (loaded : AreLoad
   marks_after : AllByRecursion (IsMarked s.description.controllers set) (map (changed s set again) s.loaded)
   marks_after = all_map _ (changed s set again) s.loaded
       (all_from (λ l. IsOwn s.description.controllers l × IsMarked s.description.controllers (scenes.active (scene_of s)) l)
-          (λ l. (scenes.active (scene_of s) l.place ≡ is_active l) × (set l.place ≡ true → is_some l.ctl.params ≡ true))
-          (λ l. IsMarked s.description.controllers set (changed s set again l))
-          (λ l first second. marks s set again l first.0 first.1 second.0 second.1) s.loaded known both)
+      (λ l. (scenes.active (scene_of s) l.place ≡ is_active l) × (set l.place ≡ true → is_some l.ctl.params ≡ true))
+      (λ l. IsMarked s.description.controllers set (changed s set again l))
+      (λ l first second. marks s set again l first.0 first.1 second.0 second.1) s.loaded known both)
 
   -- What is kept whichever controllers are active is kept.
   pub commit_in_order : IsInOrder (commit s set again)

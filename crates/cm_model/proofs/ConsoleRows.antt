@@ -20,6 +20,7 @@ use Rattle.cm_document.specs.declared.description.Description.{Description}
 use Rattle.cm_document.specs.declared.document.Document.{Document}
 use Rattle.cm_document.specs.declared.description.Params.{Params}
 use Rattle.cm_document.specs.declared.description.Params.TheVariants.{Forward, Pid, Trajectory, Broadcaster, Mock}
+use Rattle.cm_model.specs.Boundary.{all_concluded}
 use Rattle.cm_model.specs.Console.{unload_reply, moves_out}
 use Rattle.cm_model.specs.Cycle.{cycle, after_cycle}
 use Rattle.cm_model.specs.Machine.{step}
@@ -120,7 +121,7 @@ a_run : printed (
     Load (codes "fwd") ∷ Configure (codes "fwd") ∷ Rate (codes "fwd") 25 ∷ Configure (codes "fwd") ∷ ListControllers
     ∷ Cleanup (codes "fwd") ∷ ListControllers ∷ Send (codes "fwd") (Values (pos 1000000 ∷ [])) ∷ Unload (codes "fwd") ∷ Unload (codes "fwd") ∷ [])
     ≡ codes "a load fwd: ok 0\na configure fwd: ok\na rate fwd 25: ok\na configure fwd: ok\na list controllers: fwd forward inactive 0 every 4\na cleanup fwd: ok\na list controllers: fwd forward unconfigured 0\na send fwd 1.000000: not_active\na unload fwd: ok\na unload fwd: not_loaded\nloop close: none\n"
-unfolding digits spelled step cycle after_cycle advance settle settle_all looped with_cycle finish start scheduled output
+unfolding digits spelled step cycle after_cycle advance settle settle_all looped with_cycle finish start scheduled output all_concluded
 a_run = refl
 
 -- the rate counts from the next configure on, and outlives a cleanup

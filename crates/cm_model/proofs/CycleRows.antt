@@ -8,7 +8,6 @@ use Rattle.fixed_num.specs.Bodies.{stepped}
 use Rattle.fixed_num.specs.Text.{number_of, spelled}
 use Rattle.iface_names.specs.Interfaces.{interface_of}
 use Rattle.cm_document.specs.Described.{tree_of, description_in, joint_table, component_table, controller_table, top_table, described_states, description_form}
-use Rattle.cm_document.specs.declared.description.Description.{Description}
 use Rattle.cm_model.specs.State.{State, boot, component_lines, interface_lines}
 use Rattle.cm_model.specs.Commit.{commit}
 use Rattle.cm_model.specs.Cycle.{cycle, after_cycle}

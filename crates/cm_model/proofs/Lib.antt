@@ -7,6 +7,7 @@ pub mod EnabledLemmas
 mod Rows
 pub mod ControllerLemmas
 pub mod StillLemmas
+pub mod QuietLemmas
 pub mod UpdateLemmas
 mod KindRows
 mod ComponentRows

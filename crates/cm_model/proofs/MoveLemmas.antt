@@ -76,13 +76,17 @@ moved_holds before after bodies v false (of_controller place) is_command is_whos
     absurd (no_reference after v place is_whose (subst (λ interface. is_state_of after interface ≡ true) (moved_interface (λ each. after each && not (before each)) (λ each. not (after each)) bodies v) state))
 moved_holds before after bodies v false (of_joint component joint) is_command is_whose body holds = λ state.
     let there : after component ≡ true =
-        rw (is_command, is_whose) at (subst (λ interface. is_state_of after interface ≡ true) (moved_interface (λ each. after each && not (before each)) (λ each. not (after each)) bodies v) state) in
+    rw (is_command, is_whose) at (subst (λ interface. is_state_of after interface ≡ true) (moved_interface (λ each. after each && not (before each)) (λ each. not (after each)) bodies v) state) in
     let held : before component ≡ true → is_number v.value ≡ true = λ was. holds (rw (is_command, is_whose) was) in
-    rw (moved_value (is_state_of (λ each. after each && not (before each)) (cleared_of (λ each. not (after each)) v).interface) (belongs_to (λ each. not (after each)) v.interface.whose) v
-            (shown bodies (cleared_of (λ each. not (after each)) v).interface.called.name (cleared_of (λ each. not (after each)) v).interface.whose),
-        cleared_interface (λ each. not (after each)) v, is_command, is_whose)
+    rw (
+      moved_value (is_state_of (λ each. after each && not (before each)) (cleared_of (λ each. not (after each)) v).interface) (belongs_to (λ each. not (after each)) v.interface.whose) v
+          (shown bodies (cleared_of (λ each. not (after each)) v).interface.called.name (cleared_of (λ each. not (after each)) v).interface.whose),
+      cleared_interface (λ each. not (after each)) v,
+      is_command,
+      is_whose,
+    )
     (there_number (after component) (before component) v.value (measured_at bodies (record { joint = joint; kind = kind_in v.interface.called.name })) there held
-        (measured_number (slice_get bodies joint) (kind_in v.interface.called.name) (some_at bodies joint body)))
+    (measured_number (slice_get bodies joint) (kind_in v.interface.called.name) (some_at bodies joint body)))
 
 -- ---- All
 
@@ -99,12 +103,12 @@ module _ (s : State) (lives : List Life) (kept : IsInOrder s) where
         ∙ interfaces_stay (cleared_of (λ component. not (running lives component))) (cleared_interface (λ component. not (running lives component))) s.values ∙ kept.described;
     embodied = all_map _ _ (cleared (λ component. not (running lives component)) s.values) (all_map _ _ s.values
         (all_so (λ v. HasBody (length s.bodies) v.interface.whose)
-            (λ v. HasBody (length s.bodies) (read_of (λ component. running lives component && not (running s.lives component)) s.bodies (cleared_of (λ component. not (running lives component)) v)).interface.whose)
-            (λ v has. subst (λ interface. HasBody (length s.bodies) interface.whose) (sym (moved_interface (λ component. running lives component && not (running s.lives component)) (λ component. not (running lives component)) s.bodies v)) has)
-            s.values kept.embodied));
+        (λ v. HasBody (length s.bodies) (read_of (λ component. running lives component && not (running s.lives component)) s.bodies (cleared_of (λ component. not (running lives component)) v)).interface.whose)
+        (λ v has. subst (λ interface. HasBody (length s.bodies) interface.whose) (sym (moved_interface (λ component. running lives component && not (running s.lives component)) (λ component. not (running lives component)) s.bodies v)) has)
+        s.values kept.embodied));
     numbers = all_map _ _ (cleared (λ component. not (running lives component)) s.values) (all_map _ _ s.values
         (all_from _ _ _ (λ v body holds. moved_holds (running s.lives) (running lives) s.bodies v v.interface.called.is_command v.interface.whose refl refl body holds)
-            s.values kept.embodied kept.numbers));
+        s.values kept.embodied kept.numbers));
   }
 
   -- A steady state stays steady where the components of the active controllers stay available.

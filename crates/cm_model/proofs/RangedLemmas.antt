@@ -1,11 +1,10 @@
 -- A controller of a valid description has parameters with which it can be configured.
-use Rattle.std.proofs.Common.{◌≡◌, ℕ, zero, suc, ◌+◌, ◌≤◌, ◌^◌, ◌-◌, ℤ, Bool, true, false, List, [], ◌∷◌, ◌++◌, length, min, Option, Some, None, Result, Ok, Err, refl, sym, subst, ap, ap₂, ◌∙◌, arith}
+use Rattle.std.proofs.Common.{◌≡◌, ℕ, zero, suc, ◌+◌, ◌≤◌, ◌^◌, ◌-◌, ℤ, Bool, true, false, List, [], ◌∷◌, length, min, Some, Result, Ok, Err, refl, subst, ◌∙◌, arith}
 use Rattle.std.specs.Prelude.{IfOk, codes, nat_le, ◌==◌, ◌&&◌, slice_get}
 use Rattle.std.specs.List.{AllByRecursion}
 use Rattle.std.proofs.lemmas.Bool.{leb-true, and_parts}
 use Rattle.iface_names.specs.declared.interface.IfaceName.{IfaceName}
 use Rattle.cm_document.specs.Forms.{item_path, inside, tables_of}
-use Rattle.cm_document.specs.Tables.{walk}
 use Rattle.cm_document.specs.Described.{count, a_description, claiming_table, pid_table, trajectory_table, broadcaster_table, mock_table, controller_table, controller_form, type_of, top_table, described_states, description_form}
 use Rattle.cm_document.specs.Valid.{few_enough, named_apart, not_negative, ranged, each_ranged, component_ranged, controller_ranged, claims_fit, reads_fit, limits_ranged, in_range, valid, IsDescribed, IsValid}
 use Rattle.cm_document.specs.declared.description.CompDesc.{CompDesc}

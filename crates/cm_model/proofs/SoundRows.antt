@@ -1,6 +1,6 @@
 -- Worked rows of soundness: for each of its parts a small history that meets it, and what it refuses.
 use Rattle.std.proofs.Common.{◌≡◌, ℕ, Bool, true, false, [], ◌∷◌, ◌++◌, length, Option, Some, refl, sym, ap, true≢false, arith}
-use Rattle.std.specs.Prelude.{codes, ◌==◌, ◌||◌, ◌&&◌}
+use Rattle.std.specs.Prelude.{codes, ◌==◌, ◌||◌}
 use Rattle.std.specs.List.{list_any, IsDistinct}
 use Rattle.cm_document.specs.declared.call.Call.TheVariants.{Load, Unload, Hardware, Told, ListControllers, Begin, End}
 use Rattle.cm_document.specs.declared.call.SwitchRequest.{SwitchRequest}
@@ -134,10 +134,13 @@ told_wrongly holds = let fewer : ◌≡◌ {A = ℕ} 0 1 = ap updates_told holds
 -- a request waits, is decided, and is told of
 told_once : TicketsFrom [] (moments_of (boot robot stock 1) (Hardware (codes "nosuch") Active ∷ Begin 0 ∷ Told 0 ∷ []))
 unfolding all_concluded
-told_once =
-    (record { each_once = refl; told = tt },
-    (record { each_once = refl; told = tt },
-    (record { each_once = refl; told = refl }, tt)))
+told_once = (
+  record { each_once = refl; told = tt },
+  (
+    record { each_once = refl; told = tt },
+    (record { each_once = refl; told = refl }, tt),
+  ),
+)
 
 -- it is decided twice
 decided_twice : TicketsFrom [] (moments_of asked (Begin 0 ∷ []) ++ moments_of asked (Begin 0 ∷ [])) → ⊥

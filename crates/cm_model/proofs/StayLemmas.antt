@@ -1,16 +1,24 @@
 -- What a step leaves as it is.
-use Rattle.std.proofs.Common.{◌≡◌, ℕ, List, Option, Some, None, Bool, true, false, refl, ◌∙◌}
+use Rattle.std.proofs.Common.{◌≡◌, ℕ, List, [], ◌∷◌, Option, Some, None, Bool, true, false, refl, ◌∙◌}
 use Rattle.std.specs.Prelude.{if◌then◌else◌, option_map, slice_get}
 use Rattle.std.proofs.lemmas.Option.{same_Some}
 use Rattle.cm_document.specs.declared.call.Call.{Call}
-use Rattle.cm_document.specs.declared.call.Call.TheVariants.{Load, Configure, Cleanup, Unload, Rate, Send, Begin, End, Close}
+use Rattle.cm_document.specs.declared.call.Call.TheVariants.{Load, Configure, Cleanup, Unload, Rate, Send, Switch, Hardware, Begin, End, Close}
 use Rattle.cm_document.specs.declared.description.CtlDesc.{CtlDesc}
-use Rattle.cm_model.specs.Commit.{commit}
+use Rattle.cm_model.specs.Boundary.{waiting, request_effect, Concluded, with_switch, component_place, move_fault, with_move_unless, with_move, concluded, with_outcome, all_concluded, boundary}
+use Rattle.cm_model.specs.BestEffort.{decided}
+use Rattle.cm_model.specs.Commit.{scene_of, commit}
 use Rattle.cm_model.specs.Console.{place_of, slot_of, where_done, with_slot, with_changed, without_slot, after_configure, after_cleanup, after_rate, after_send}
 use Rattle.cm_model.specs.Cycle.{after_cycle}
 use Rattle.cm_model.specs.Machine.{is_enabled, reply_of, with_controller, with_loaded, load_effect, effect, answered, step}
 use Rattle.cm_model.specs.Sessions.{IsConsole}
 use Rattle.cm_model.specs.State.{State, Loaded}
+use Rattle.cm_model.specs.Order.{Places}
+use Rattle.cm_model.specs.Switches.{Decided, refused, done}
+use Rattle.cm_document.specs.declared.life.Life.{Life}
+use Rattle.cm_model.specs.declared.cause.Cause.{Cause}
+use Rattle.cm_model.specs.declared.request.Request.{Request}
+use Rattle.cm_model.specs.declared.request.Request.TheVariants as request
 use Rattle.cm_model.specs.declared.reply.Reply.{Reply}
 use Rattle.cm_model.specs.declared.reply.Reply.TheVariants as reply
 
@@ -66,6 +74,11 @@ where_done-SameLoop : (s after : State) (r : Reply) → SameLoop s after → Sam
 where_done-SameLoop s after reply.Done stays = stays
 where_done-SameLoop s after _ stays = same s
 
+-- a request that waits leaves the loop as it is
+request_effect-SameLoop : (s : State) (asked : Request) (r : Reply) → SameLoop s (request_effect s asked r)
+request_effect-SameLoop s asked (reply.Queued _) = record { sessions = refl; description = refl; ended = refl; aloft = refl; closed = refl }
+request_effect-SameLoop s asked _ = same s
+
 -- no console call changes the loop
 pub effect-SameLoop : (s : State) (call : Call) (r : Reply) → IsConsole call → SameLoop s (effect s call r)
 effect-SameLoop s (Load name) r console = load_effect-SameLoop s name r
@@ -74,10 +87,49 @@ effect-SameLoop s (Cleanup name) r console = where_done-SameLoop s _ r (with_cha
 effect-SameLoop s (Unload name) r console = where_done-SameLoop s _ r (without_slot-SameLoop s (slot_of s name))
 effect-SameLoop s (Rate name hz) r console = where_done-SameLoop s _ r (with_changed-SameLoop (after_rate hz) s (slot_of s name))
 effect-SameLoop s (Send name mail) r console = where_done-SameLoop s _ r (with_changed-SameLoop (after_send mail) s (slot_of s name))
+effect-SameLoop s (Switch asked) r console = request_effect-SameLoop s (request.Switch asked) r
+effect-SameLoop s (Hardware component target) r console = request_effect-SameLoop s (request.Hardware component target) r
 effect-SameLoop s (Begin _) r console = absurd console
 effect-SameLoop s (End _) r console = absurd console
 effect-SameLoop s Close r console = absurd console
 effect-SameLoop s _ r console = same s
+
+-- ---- Requests that are decided
+
+commit-SameLoop : (s : State) (set again : Places) → SameLoop s (commit s set again)
+unfolding commit
+commit-SameLoop s set again = record { sessions = refl; description = refl; ended = refl; aloft = refl; closed = refl }
+
+with_switch-SameLoop : (s : State) (d : Decided) → SameLoop s (with_switch s d).state
+with_switch-SameLoop s (refused because) = same s
+with_switch-SameLoop s (done dropped set again) = commit-SameLoop s set again
+
+with_move_unless-SameLoop : (s : State) (name : List ℕ) (component : ℕ) (target : Life) (fault : Option Cause)
+    → SameLoop s (with_move_unless s name component target fault).state
+with_move_unless-SameLoop s name component target (Some fault) = same s
+with_move_unless-SameLoop s name component target None = record { sessions = refl; description = refl; ended = refl; aloft = refl; closed = refl }
+
+with_move-SameLoop : (s : State) (name : List ℕ) (target : Life) (place : Option ℕ) → SameLoop s (with_move s name target place).state
+with_move-SameLoop s name target None = same s
+with_move-SameLoop s name target (Some component) = with_move_unless-SameLoop s name component target (move_fault s component target)
+
+concluded-SameLoop : (s : State) (asked : Request) → SameLoop s (concluded s asked).state
+concluded-SameLoop s (request.Switch asked) = with_switch-SameLoop s (decided (scene_of s) asked)
+concluded-SameLoop s (request.Hardware component target) = with_move-SameLoop s component target (component_place s.description component)
+
+outcome-SameLoop : (s : State) (d : Concluded) → SameLoop s d.state → SameLoop s (with_outcome d)
+outcome-SameLoop s d loop = record { sessions = loop.sessions; description = loop.description; ended = loop.ended; aloft = loop.aloft; closed = loop.closed }
+
+all_concluded-SameLoop : (s : State) (requests : List Request) → SameLoop s (all_concluded s requests)
+unfolding all_concluded
+all_concluded-SameLoop s [] = same s
+all_concluded-SameLoop s (asked ∷ requests) =
+    let next = with_outcome (concluded s asked) in
+    same-trans s next _ (outcome-SameLoop s (concluded s asked) (concluded-SameLoop s asked)) (all_concluded-SameLoop next requests)
+
+-- what is decided between two cycles leaves the loop as it is
+pub boundary-SameLoop : (s : State) → SameLoop s (boundary s)
+boundary-SameLoop s = all_concluded-SameLoop s (waiting s)
 
 -- ---- Steps
 
@@ -91,9 +143,11 @@ stands s after loop = record { sessions = loop.sessions; description = loop.desc
 
 pub effect-Stands : (s : State) (call : Call) (r : Reply) → Stands s (effect s call r)
 unfolding after_cycle commit
-effect-Stands s (Begin _) r = record { sessions = refl; description = refl }
+effect-Stands s (Begin _) r = let stays = boundary-SameLoop s in record { sessions = stays.sessions; description = stays.description }
 effect-Stands s (End _) r = record { sessions = refl; description = refl }
 effect-Stands s Close r = record { sessions = refl; description = refl }
+effect-Stands s (Switch asked) r = stands s _ (request_effect-SameLoop s (request.Switch asked) r)
+effect-Stands s (Hardware component target) r = stands s _ (request_effect-SameLoop s (request.Hardware component target) r)
 effect-Stands s (Load name) r = stands s _ (load_effect-SameLoop s name r)
 effect-Stands s (Configure name) r = stands s _ (effect-SameLoop s (Configure name) r tt)
 effect-Stands s (Cleanup name) r = stands s _ (effect-SameLoop s (Cleanup name) r tt)

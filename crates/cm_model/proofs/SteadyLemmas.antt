@@ -1,5 +1,5 @@
 -- What the calls keep that change at most one loaded controller, and no running part: a steady state stays steady.
-use Rattle.std.proofs.Common.{◌≡◌, ℕ, zero, suc, ◌+◌, ◌<◌, Bool, true, false, List, [], ◌∷◌, ◌++◌, map, slice_set, Option, Some, None, option_map, refl, sym, subst, ap, ◌∙◌, true≢false}
+use Rattle.std.proofs.Common.{◌≡◌, ℕ, zero, suc, ◌+◌, Bool, true, false, List, [], ◌∷◌, ◌++◌, map, slice_set, Option, Some, None, option_map, refl, sym, subst, ap, ◌∙◌, true≢false}
 use Rattle.std.specs.Prelude.{◌==◌, ◌&&◌, ◌||◌, not, if◌then◌else◌, slice_get, filter_map, remove, is_some}
 use Rattle.std.specs.List.{list_any, AllByRecursion, IsDistinct}
 use Rattle.std.specs.Option.{option_map_or}
@@ -86,7 +86,7 @@ pub slot_steady : (s : State) (i : ℕ) (l new : Loaded) → slice_get s.loaded 
 slot_steady s i l new at keeps steady =
     let kept = steady.in_order in
     let alike : has_loaded is_active (slice_set s.loaded i new) ≡ has_loaded is_active s.loaded =
-        fun_ext (λ p. any_set (λ each. is_active each && each.place == p) s.loaded i l new at (rw (keeps.active, keeps.place) refl)) in
+    fun_ext (λ p. any_set (λ each. is_active each && each.place == p) s.loaded i l new at (rw (keeps.active, keeps.place) refl)) in
     record {
       in_order = record {
         once = rw (map_set (λ each. each.place) s.loaded i l new at keeps.place) kept.once;
@@ -183,10 +183,10 @@ configure_keeps s l (Some c) at idle = configured_keeps s l c at idle
 pub configure_steady : (s : State) (name : List ℕ) → IsSteady s → IsSteady (configure_effect s name (configure_reply s name))
 configure_steady s name steady =
     done_only IsSteady (configure_reply s name) _ s
-        (λ done. changed_steady (after_configure s) s (slot_of s name)
-            (λ l at. configure_keeps s l (description_of s l) refl
-                (idle_where_done (λ other. (option_map_or (λ c. is_refused c.params) (description_of s other) false, why.Refused) ∷ []) (controller_of s name) l at done)) steady)
-        steady
+    (λ done. changed_steady (after_configure s) s (slot_of s name)
+    (λ l at. configure_keeps s l (description_of s l) refl
+    (idle_where_done (λ other. (option_map_or (λ c. is_refused c.params) (description_of s other) false, why.Refused) ∷ []) (controller_of s name) l at done)) steady)
+    steady
 
 -- a cleanup is done of an inactive one
 idle_inactive : (params run : Bool) → not (params && not run) ≡ false → run ≡ false
@@ -202,8 +202,8 @@ cleaned_idle (Some other) l at done = idle_inactive (is_some l.ctl.params) (is_a
 pub cleanup_steady : (s : State) (name : List ℕ) → IsSteady s → IsSteady (cleanup_effect s name (cleanup_reply s name))
 cleanup_steady s name steady =
     done_only IsSteady (cleanup_reply s name) _ s
-        (λ done. changed_steady after_cleanup s (slot_of s name) (λ l at. cleaned_keeps s.description.controllers l (cleaned_idle (controller_of s name) l at done)) steady)
-        steady
+    (λ done. changed_steady after_cleanup s (slot_of s name) (λ l at. cleaned_keeps s.description.controllers l (cleaned_idle (controller_of s name) l at done)) steady)
+    steady
 
 -- ---- One controller less
 
@@ -236,7 +236,7 @@ removed_steady : (s : State) (i : ℕ) (l : Loaded) → slice_get s.loaded i ≡
 removed_steady s i l at idle steady =
     let kept = steady.in_order in
     let alike : has_loaded is_active (remove s.loaded i) ≡ has_loaded is_active s.loaded =
-        fun_ext (λ p. any_remove (λ each. is_active each && each.place == p) s.loaded i l at (rw idle refl)) in
+    fun_ext (λ p. any_remove (λ each. is_active each && each.place == p) s.loaded i l at (rw idle refl)) in
     record {
       in_order = record {
         once = rw (map_remove (λ each. each.place) s.loaded i) (distinct_remove (map (λ each. each.place) s.loaded) i kept.once);
@@ -284,7 +284,7 @@ pushed_steady s blanks place c new steady =
     let kept = steady.in_order in
     let l : Loaded = newly_loaded s.loads place c in
     let alike : has_loaded is_active (s.loaded ++ newly_loaded s.loads place c ∷ []) ≡ has_loaded is_active s.loaded =
-        fun_ext (λ p. any_push (λ each. is_active each && each.place == p) s.loaded (newly_loaded s.loads place c) refl) in
+    fun_ext (λ p. any_push (λ each. is_active each && each.place == p) s.loaded (newly_loaded s.loads place c) refl) in
     record {
       in_order = record {
         once = distinct_push s.loaded (newly_loaded s.loads place c) new kept.once;
@@ -319,7 +319,7 @@ pub load_steady : (s : State) (name : List ℕ) → IsSteady s
     → IsSteady (load_effect s name (unless_refused (load_refusals s (place_of s name)) (reply.Serial s.loads)))
 load_steady s name steady =
     load_unless s name (not (is_some (place_of s name))) (option_map_or (is_loaded_at s) (place_of s name) false) (option_map_or (is_sold_out_at s) (place_of s name) false)
-        (λ new. load_of s (place_of s name) new steady) steady
+    (λ new. load_of s (place_of s name) new steady) steady
 
 -- ---- The begin's mail
 
@@ -329,9 +329,9 @@ map_keeps : (s : State) (change : Loaded → Loaded) → ((l : Loaded) → Keeps
 map_keeps s change keeps aloft mails steady =
     let kept = steady.in_order in
     let alike : has_loaded is_active (map change s.loaded) ≡ has_loaded is_active s.loaded =
-        fun_ext (λ p. any_map (λ each. is_active each && each.place == p) change s.loaded
-            ∙ any_same (λ each. is_active (change each) && (change each).place == p) (λ each. is_active each && each.place == p) s.loaded
-                (all_of (λ l. (is_active (change l) && (change l).place == p) ≡ (is_active l && l.place == p)) (λ l. rw ((keeps l).active, (keeps l).place) refl) s.loaded)) in
+    fun_ext (λ p. any_map (λ each. is_active each && each.place == p) change s.loaded
+    ∙ any_same (λ each. is_active (change each) && (change each).place == p) (λ each. is_active each && each.place == p) s.loaded
+    (all_of (λ l. (is_active (change l) && (change l).place == p) ≡ (is_active l && l.place == p)) (λ l. rw ((keeps l).active, (keeps l).place) refl) s.loaded)) in
     record {
       in_order = record {
         once = rw (places_stay change (λ l. (keeps l).place) s.loaded) kept.once;

@@ -1,5 +1,5 @@
 -- Order and switches on a description of seven controllers over one joint, written down by hand: computed from the definitions.
-use Rattle.std.proofs.Common.{◌≡◌, ℕ, Bool, true, false, List, [], ◌∷◌, ◌++◌, map, pos, refl}
+use Rattle.std.proofs.Common.{◌≡◌, ℕ, true, false, List, [], ◌∷◌, ◌++◌, map, pos, refl}
 use Rattle.std.specs.Prelude.{codes, decimal, flat_map}
 use Rattle.std.specs.Fmt.{digits}
 use Rattle.iface_names.specs.declared.interface.IfaceName.{IfaceName}
@@ -12,7 +12,6 @@ use Rattle.cm_document.specs.declared.description.CompKind.TheVariants.{System}
 use Rattle.cm_document.specs.declared.description.CtlDesc.{CtlDesc}
 use Rattle.cm_document.specs.declared.description.Description.{Description}
 use Rattle.cm_document.specs.declared.description.Params.TheVariants.{Forward, Passthrough, Pid, Trajectory, Broadcaster, Mock}
-use Rattle.cm_document.specs.declared.life.Life.{Life}
 use Rattle.cm_document.specs.declared.life.Life.TheVariants.{Unconfigured, Inactive, Active}
 use Rattle.cm_model.specs.declared.planned.Planned.{Planned}
 use Rattle.cm_model.specs.declared.seen.Seen.{Seen}

@@ -7,6 +7,7 @@ use Rattle.std.proofs.lemmas.List.Elements.{filter-append}
 use Rattle.std.proofs.lemmas.Bool.Decides.{nat_tests}
 use Rattle.std.proofs.lemmas.Option.{same_Some, slice_get-map, slice_get_within}
 use Rattle.cm_document.proofs.ReadingLemmas.{cases_Option, chosen}
+use Rattle.cm_model.specs.Boundary.{begin_reply, begin_effect, close_reply, close_effect}
 use Rattle.cm_model.specs.Commit.{commit}
 use Rattle.cm_model.specs.Console.{controller_of, reply_on, configure_refusals, configure_reply, cleanup_refusals, cleanup_reply, unload_refusals, unload_reply, rate_refusals, rate_reply, send_refusals, send_reply}
 use Rattle.cm_model.specs.Cycle.{CycleResult, cycle, after_cycle}
@@ -17,7 +18,7 @@ use Rattle.cm_document.specs.Built.{built}
 use Rattle.cm_document.specs.ScriptLaws.{allows}
 use Rattle.cm_model.specs.Sessions.{IsConsole, entries_by, calls_of, is_told, with_its_told, asked, Follows, cycle_calls, loop_calls, IsWhole}
 use Rattle.cm_model.proofs.AdvanceLemmas.{settle-stays}
-use Rattle.cm_model.proofs.StayLemmas.{SameLoop, same, same-trans, effect-SameLoop}
+use Rattle.cm_model.proofs.StayLemmas.{SameLoop, same, same-trans, effect-SameLoop, boundary-SameLoop}
 use Rattle.cm_document.specs.declared.call.Call.{Call}
 use Rattle.cm_document.specs.declared.call.Call.TheVariants.{Load, Configure, Cleanup, Unload, Rate, Send, ListControllers, ListInterfaces, ListComponents, Begin, End, Close}
 use Rattle.cm_model.specs.declared.entry.Entry.{Entry}
@@ -254,18 +255,18 @@ after_cycle-Ends s cycled = record { sessions = refl; description = refl; ended 
 
 -- the progress after each call of the loop
 abbrev begun : ℕ → Progress → Progress
-begun n progress = record progress { state = record progress.state { aloft = true }; made = with_entry progress.made progress.state.sessions (Begin n) (reply.Decisions []) }
+begun n progress = record progress { state = begin_effect progress.state; made = with_entry progress.made progress.state.sessions (Begin n) (begin_reply progress.state) }
 
 abbrev ended_at : ℕ → Progress → Progress
 ended_at n progress = record progress { state = after_cycle progress.state (cycle progress.state); made = with_entry progress.made progress.state.sessions (End n) (reply.Cycle (cycle progress.state).happened) }
 
 abbrev closed_at : Progress → Progress
-closed_at progress = record progress { state = record progress.state { closed = true }; made = with_entry progress.made progress.state.sessions Close (reply.Decisions []) }
+closed_at progress = record progress { state = close_effect progress.state; made = with_entry progress.made progress.state.sessions Close (close_reply progress.state) }
 
 looped-begun : (n : ℕ) (progress : Progress) → progress.state.aloft ≡ false → progress.state.closed ≡ false → progress.state.ended ≡ n → n < progress.state.description.cycles → looped (Begin n) progress ≡ begun n progress
 unfolding step
 looped-begun n progress aloft closed ended more =
-    looped-calls (Begin n) progress (record progress.state { aloft = true }, reply.Decisions []) (rw (begin-enabled progress.state n aloft closed ended more) refl)
+    looped-calls (Begin n) progress (begin_effect progress.state, begin_reply progress.state) (rw (begin-enabled progress.state n aloft closed ended more) refl)
 
 looped-ended : (n : ℕ) (progress : Progress) → progress.state.aloft ≡ true → progress.state.ended ≡ n → looped (End n) progress ≡ ended_at n progress
 unfolding step
@@ -275,7 +276,7 @@ looped-ended n progress aloft ended =
 looped-closed : (progress : Progress) → progress.state.aloft ≡ false → progress.state.closed ≡ false → looped Close progress ≡ closed_at progress
 unfolding step
 looped-closed progress aloft closed =
-    looped-calls Close progress (record progress.state { closed = true }, reply.Decisions []) (rw (close-enabled progress.state aloft closed) refl)
+    looped-calls Close progress (close_effect progress.state, close_reply progress.state) (rw (close-enabled progress.state aloft closed) refl)
 
 -- one call more by the loop
 one_call : (made : List Entry) (who by_whom : ℕ) (call : Call) (r : Reply) (front : List (ℕ × Call)) (calls : List Call)
@@ -284,11 +285,11 @@ one_call made who by_whom call r front calls known so_far =
     callers-with_entry made by_whom call r ∙ rw (known, so_far) (append_assoc front (by who calls) ((who, call) ∷ []) ∙ ap (λ later. front ++ later) (sym (map-append (λ (other : Call). (who, other)) calls (call ∷ []))))
 
 -- two calls more
-two_calls : (made : List Entry) (who by_whom : ℕ) (call next : Call) (r answer : Reply) (front : List (ℕ × Call)) (calls : List Call)
-    → by_whom ≡ who → callers made ≡ front ++ by who calls
-    → callers (with_entry (with_entry made by_whom call r) by_whom next answer) ≡ front ++ by who (calls ++ call ∷ next ∷ [])
-two_calls made who by_whom call next r answer front calls known so_far =
-    one_call (with_entry made by_whom call r) who by_whom next answer front (calls ++ call ∷ []) known (one_call made who by_whom call r front calls known so_far)
+two_calls : (made : List Entry) (who by_whom by_then : ℕ) (call next : Call) (r answer : Reply) (front : List (ℕ × Call)) (calls : List Call)
+    → by_whom ≡ who → by_then ≡ who → callers made ≡ front ++ by who calls
+    → callers (with_entry (with_entry made by_whom call r) by_then next answer) ≡ front ++ by who (calls ++ call ∷ next ∷ [])
+two_calls made who by_whom by_then call next r answer front calls known known_then so_far =
+    one_call (with_entry made by_whom call r) who by_then next answer front (calls ++ call ∷ []) known_then (one_call made who by_whom call r front calls known so_far)
     ∙ ap (λ later. front ++ by who later) (append_assoc calls (call ∷ []) (next ∷ []))
 
 -- one cycle more
@@ -297,19 +298,20 @@ cycle-Cycled : (n total who : ℕ) (sessions : List (List Call)) (progress : Pro
 cycle-Cycled n total who sessions progress ran more =
     let more' : n < progress.state.description.cycles = rw ran.total_is more in
     let first = looped-begun n progress ran.aloft ran.closed ran.ended more' in
-    let second = looped-ended n (begun n progress) refl ran.ended in
-    let aloft = (begun n progress).state in
+    let stays = boundary-SameLoop progress.state in
+    let second = looped-ended n (begun n progress) refl (stays.ended ∙ ran.ended) in
+    let aloft = begin_effect progress.state in
     let after = after_cycle-Ends aloft (cycle aloft) in
     let last = settle_all-Stays (ended_at n (begun n progress)) ran.settled in
     rw (first, second) (record {
       settled = last.settled;
-      calls = ap callers last.made_is ∙ two_calls progress.made who progress.state.sessions (Begin n) (End n) _ _ (by_sessions 0 sessions) (cycle_calls n) ran.known ran.calls;
-      plain = rw last.made_is (plain_one_more _ progress.state.sessions (End n) (reply.Cycle (cycle aloft).happened) (plain_one_more progress.made progress.state.sessions (Begin n) (reply.Decisions []) ran.plain refl refl) refl refl);
-      known = ap (λ (s : State). s.sessions) last.state_is ∙ after.sessions ∙ ran.known;
-      total_is = ap (λ (s : State). s.description.cycles) last.state_is ∙ ap (λ (d : Description). d.cycles) after.description ∙ ran.total_is;
-      ended = ap (λ (s : State). s.ended) last.state_is ∙ after.ended ∙ rw ran.ended (omega arith);
+      calls = ap callers last.made_is ∙ two_calls progress.made who progress.state.sessions aloft.sessions (Begin n) (End n) _ _ (by_sessions 0 sessions) (cycle_calls n) ran.known (stays.sessions ∙ ran.known) ran.calls;
+      plain = rw last.made_is (plain_one_more _ aloft.sessions (End n) (reply.Cycle (cycle aloft).happened) (plain_one_more progress.made progress.state.sessions (Begin n) (begin_reply progress.state) ran.plain refl refl) refl refl);
+      known = ap (λ (s : State). s.sessions) last.state_is ∙ after.sessions ∙ stays.sessions ∙ ran.known;
+      total_is = ap (λ (s : State). s.description.cycles) last.state_is ∙ ap (λ (d : Description). d.cycles) (after.description ∙ stays.description) ∙ ran.total_is;
+      ended = ap (λ (s : State). s.ended) last.state_is ∙ after.ended ∙ rw (stays.ended, ran.ended) (omega arith);
       aloft = ap (λ (s : State). s.aloft) last.state_is ∙ after.aloft;
-      closed = ap (λ (s : State). s.closed) last.state_is ∙ after.closed ∙ ran.closed;
+      closed = ap (λ (s : State). s.closed) last.state_is ∙ after.closed ∙ stays.closed ∙ ran.closed;
     })
 
 -- the first n cycles
@@ -333,8 +335,8 @@ finish-Finished total who sessions progress ran =
     let closing = looped-closed settled ran.aloft ran.closed in
     let last = settle_all-Stays (closed_at settled) ran.settled in
     rw closing (record {
-      calls = ap callers last.made_is ∙ one_call settled.made who settled.state.sessions Close (reply.Decisions []) (by_sessions 0 sessions) (cycle_calls total) ran.known ran.calls;
-      plain = rw last.made_is (plain_one_more settled.made settled.state.sessions Close (reply.Decisions []) ran.plain refl refl);
+      calls = ap callers last.made_is ∙ one_call settled.made who settled.state.sessions Close (close_reply settled.state) (by_sessions 0 sessions) (cycle_calls total) ran.known ran.calls;
+      plain = rw last.made_is (plain_one_more settled.made settled.state.sessions Close (close_reply settled.state) ran.plain refl refl);
     })
 
 abbrev lines_of : List SessionText → List (List Call)

@@ -1,5 +1,5 @@
 -- A robot for worked rows, one joint and seven controllers, and what its calls come to by the definitions alone.
-use Rattle.std.proofs.Common.{ℕ, Bool, true, false, List, [], ◌∷◌, ◌++◌, pos}
+use Rattle.std.proofs.Common.{ℕ, Bool, true, false, List, [], ◌∷◌, pos}
 use Rattle.std.specs.Prelude.{codes, flat_map, Some, None, unwrap_or}
 use Rattle.iface_names.specs.declared.interface.IfaceName.{IfaceName}
 use Rattle.iface_names.specs.declared.interface.IfaceName.TheVariants.{Joint, Reference}
@@ -7,26 +7,22 @@ use Rattle.iface_names.specs.declared.kind.Kind.TheVariants.{Position, Velocity}
 use Rattle.cm_document.specs.Described.{a_controller, a_description, a_joint, a_component}
 use Rattle.cm_document.specs.Params.{kind_of}
 use Rattle.cm_document.specs.declared.call.Call.{Call}
-use Rattle.cm_document.specs.declared.call.Call.TheVariants.{Load, Configure, Cleanup, Unload, Rate, Send, Switch, Hardware, Told, Await, ListControllers, ListInterfaces, ListComponents, Begin, End, Close}
+use Rattle.cm_document.specs.declared.call.Call.TheVariants.{Load, Configure, Switch}
 use Rattle.cm_document.specs.declared.description.CompDesc.{CompDesc}
 use Rattle.cm_document.specs.declared.description.CompKind.TheVariants.{System}
 use Rattle.cm_document.specs.declared.description.CtlDesc.{CtlDesc}
 use Rattle.cm_document.specs.declared.description.Description.{Description}
 use Rattle.cm_document.specs.declared.description.Params.TheVariants.{Forward, Passthrough, Pid, Trajectory, Broadcaster, Mock}
 use Rattle.cm_document.specs.declared.life.Life.TheVariants.{Unconfigured, Active}
-use Rattle.cm_model.specs.Boundary.{request_reply, request_effect, told_reply, begin_reply, begin_effect, close_reply, close_effect}
-use Rattle.cm_model.specs.Console.{unless_refused, place_of, configure_reply, cleanup_reply, unload_reply, rate_reply, send_reply, configure_effect, cleanup_effect, unload_effect, rate_effect, send_effect}
 use Rattle.cm_model.specs.Controllers.{started}
-use Rattle.cm_model.specs.Cycle.{cycle, after_cycle}
-use Rattle.cm_model.specs.Machine.{load_refusals, load_effect}
+use Rattle.cm_model.specs.Machine.{reply_of, answered}
 use Rattle.cm_model.specs.Order.{controller_at}
 use Rattle.cm_model.specs.Sound.{Moment}
-use Rattle.cm_model.specs.State.{State, Loaded, boot, controller_lines, interface_lines, component_lines}
+use Rattle.cm_model.specs.State.{State, Loaded, boot}
 use Rattle.cm_model.specs.Trace.{reply_text, names_in}
 use Rattle.cm_model.specs.declared.blanks.Blanks.{Blanks}
 use Rattle.cm_model.specs.declared.reply.Reply.{Reply}
 use Rattle.cm_model.specs.declared.reply.Reply.TheVariants as reply
-use Rattle.cm_model.specs.declared.request.Request.TheVariants as request
 
 -- ---- The description
 
@@ -67,24 +63,9 @@ stock = record { forward = 2; passthrough = 2; pid = 2; trajectory = 2; broadcas
 abbrev pub done_so : (Reply → State) → Reply → State × Reply
 done_so effect r = (effect r, r)
 
--- the answer to each call, as the manager's definitions give it
+-- the state after a call that is enabled, with the reply
 abbrev pub made : State → Call → State × Reply
-made s (Load name) = done_so (load_effect s name) (unless_refused (load_refusals s (place_of s name)) (reply.Serial s.loads))
-made s (Configure name) = done_so (configure_effect s name) (configure_reply s name)
-made s (Cleanup name) = done_so (cleanup_effect s name) (cleanup_reply s name)
-made s (Unload name) = done_so (unload_effect s name) (unload_reply s name)
-made s (Rate name hz) = done_so (rate_effect s name hz) (rate_reply s name)
-made s (Send name mail) = done_so (send_effect s name mail) (send_reply s name mail)
-made s (Switch switch) = done_so (request_effect s (request.Switch switch)) (request_reply s)
-made s (Hardware component target) = done_so (request_effect s (request.Hardware component target)) (request_reply s)
-made s (Told ticket) = (s, unwrap_or (told_reply s ticket) reply.Done)
-made s (Await _) = (s, reply.Done)
-made s ListControllers = (s, reply.Controllers (controller_lines s))
-made s ListInterfaces = (s, reply.Interfaces (interface_lines s))
-made s ListComponents = (s, reply.Components (component_lines s))
-made s (Begin _) = (begin_effect s, begin_reply s)
-made s (End _) = (after_cycle s (cycle s), reply.Cycle (cycle s).happened)
-made s Close = (close_effect s, close_reply s)
+made s call = answered s call (unwrap_or (reply_of s call) reply.Done)
 
 -- the replies to calls, one after the other, as they print with these names of controllers by serial
 abbrev pub replies : List (List ℕ) → State → List Call → List (List ℕ)

@@ -1,9 +1,8 @@
 -- How a switch is decided of which is done what can be done.
-use Rattle.std.specs.Prelude.{ℕ, zero, suc, Bool, not, ◌&&◌, ◌||◌, ◌==◌, if◌then◌else◌, List, [], ◌∷◌, ◌++◌, length, map, filter_map, find, Option, Some, None, option_map, option_and_then}
+use Rattle.std.specs.Prelude.{ℕ, zero, suc, not, ◌&&◌, ◌||◌, if◌then◌else◌, List, [], ◌∷◌, ◌++◌, length, filter_map, find, Option, Some, None, option_map}
 use Rattle.iface_names.specs.declared.interface.IfaceName.{IfaceName}
 use Rattle.cm_document.specs.Links.{refs_of}
 use Rattle.cm_document.specs.declared.call.SwitchRequest.{SwitchRequest}
-use Rattle.cm_document.specs.declared.description.CtlDesc.{CtlDesc}
 use Rattle.cm_model.specs.Order.{Places, places_of, with_one, height, by_rank}
 use Rattle.cm_model.specs.Scene.{Scene, controllers_in, described, active, loaded_all, is_chained_in, is_claimed_by}
 use Rattle.cm_model.specs.Faults.{fault}
@@ -13,7 +12,6 @@ use Rattle.cm_model.specs.declared.cause.Cause.TheVariants as cause
 use Rattle.cm_model.specs.declared.cause.Dropped.{Dropped}
 use Rattle.cm_model.specs.declared.member.Member.{Member}
 use Rattle.cm_model.specs.declared.planned.Planned.{Planned}
-use Rattle.cm_model.specs.declared.seen.Seen.{Seen}
 
 -- ---- Lists without their faults
 

@@ -1,5 +1,5 @@
 -- The written manager as a machine: one call, one step. A history is legal where each of its entries is such a step.
-use Rattle.std.specs.Prelude.{◌≡◌, ℕ, ◌+◌, ◌==◌, nat_lt, Bool, true, false, not, ◌&&◌, ◌||◌, if◌then◌else◌, List, [], ◌∷◌, ◌++◌, slice_get, Option, Some, None, is_some, option_map, IsSomeAnd}
+use Rattle.std.specs.Prelude.{◌≡◌, ℕ, ◌+◌, ◌==◌, nat_lt, Bool, false, not, ◌&&◌, ◌||◌, if◌then◌else◌, List, [], ◌∷◌, ◌++◌, slice_get, Option, Some, None, is_some, option_map, IsSomeAnd}
 use Rattle.std.specs.List.{list_any}
 use Rattle.std.specs.Option.{option_map_or}
 use Rattle.cm_document.specs.Params.{kind_of}
@@ -7,6 +7,8 @@ use Rattle.cm_document.specs.declared.call.Call.{Call}
 use Rattle.cm_document.specs.declared.call.Call.TheVariants.{Load, Configure, Cleanup, Unload, Rate, Send, Switch, Hardware, Told, Await, ListControllers, ListInterfaces, ListComponents, Begin, End, Close}
 use Rattle.cm_document.specs.declared.description.CtlDesc.{CtlDesc}
 use Rattle.cm_document.specs.declared.description.Description.{Description}
+pub use Rattle.cm_model.specs.Boundary.{is_decided}
+use Rattle.cm_model.specs.Boundary.{request_reply, request_effect, told_reply, begin_reply, begin_effect, close_reply, close_effect}
 pub use Rattle.cm_model.specs.Console.{unless_refused, place_of}
 use Rattle.cm_model.specs.Console.{configure_reply, configure_effect, cleanup_reply, cleanup_effect, unload_reply, unload_effect, rate_reply, rate_effect, send_reply, send_effect}
 use Rattle.cm_model.specs.Cycle.{cycle, after_cycle}
@@ -17,6 +19,7 @@ use Rattle.cm_model.specs.declared.reply.Reply.TheVariants as reply
 use Rattle.cm_model.specs.declared.reply.Why.{Why}
 use Rattle.cm_model.specs.declared.reply.Why.TheVariants as why
 use Rattle.cm_model.specs.declared.blanks.Blanks.{Blanks}
+use Rattle.cm_model.specs.declared.request.Request.TheVariants as request
 
 -- ---- Who may call what, and when
 
@@ -26,10 +29,6 @@ is_session s who = nat_lt who s.sessions
 
 abbrev pub is_loop : State → ℕ → Bool
 is_loop s who = who == s.sessions
-
--- A request is decided where it has an outcome: no request can be made yet.
-abbrev pub is_decided : State → ℕ → Bool
-is_decided s ticket = false
 
 -- So many cycles have ended, or the loop is closed.
 abbrev pub is_reached : State → ℕ → Bool
@@ -74,7 +73,7 @@ load_refusals s place =
     ∷ (option_map_or (is_sold_out_at s) place false, why.StockEmpty)
     ∷ []
 
--- The reply to each call, where it is enabled; to one that is not built yet there is none.
+-- The reply to each call, where it is enabled.
 abbrev pub reply_of : State → Call → Option Reply
 reply_of s (Load name) = Some (unless_refused (load_refusals s (place_of s name)) (reply.Serial s.loads))
 reply_of s (Configure name) = Some (configure_reply s name)
@@ -82,22 +81,16 @@ reply_of s (Cleanup name) = Some (cleanup_reply s name)
 reply_of s (Unload name) = Some (unload_reply s name)
 reply_of s (Rate name hz) = Some (rate_reply s name)
 reply_of s (Send name mail) = Some (send_reply s name mail)
--- not built yet
-reply_of s (Switch request) = None
--- not built yet
-reply_of s (Hardware component target) = None
--- not built yet
-reply_of s (Told ticket) = None
--- not built yet
-reply_of s (Await _) = None
+reply_of s (Switch _) = Some (request_reply s)
+reply_of s (Hardware _ _) = Some (request_reply s)
+reply_of s (Told ticket) = told_reply s ticket
+reply_of s (Await _) = Some reply.Done
 reply_of s ListControllers = Some (reply.Controllers (controller_lines s))
 reply_of s ListInterfaces = Some (reply.Interfaces (interface_lines s))
 reply_of s ListComponents = Some (reply.Components (component_lines s))
--- no request can wait yet
-reply_of s (Begin _) = Some (reply.Decisions [])
+reply_of s (Begin _) = Some (begin_reply s)
 reply_of s (End _) = Some (reply.Cycle (cycle s).happened)
--- no request can wait yet
-reply_of s Close = Some (reply.Decisions [])
+reply_of s Close = Some (close_reply s)
 
 -- ---- Effects
 
@@ -128,9 +121,11 @@ effect s (Cleanup name) r = cleanup_effect s name r
 effect s (Unload name) r = unload_effect s name r
 effect s (Rate name hz) r = rate_effect s name hz r
 effect s (Send name mail) r = send_effect s name mail r
-effect s (Begin _) r = record s { aloft = true }
+effect s (Switch asked) r = request_effect s (request.Switch asked) r
+effect s (Hardware component target) r = request_effect s (request.Hardware component target) r
+effect s (Begin _) r = begin_effect s
 effect s (End _) r = after_cycle s (cycle s)
-effect s Close r = record s { closed = true }
+effect s Close r = close_effect s
 effect s _ r = s
 
 -- ---- A step
@@ -139,7 +134,7 @@ effect s _ r = s
 abbrev pub answered : State → Call → Reply → State × Reply
 answered s call r = (effect s call r, r)
 
--- The state after a call and the reply, where the call is enabled and built.
+-- The state after a call and the reply, where the call is enabled.
 unfoldable pub step : State → ℕ → Call → Option (State × Reply)
 step s who call = if is_enabled s who call then option_map (answered s call) (reply_of s call) else None
 

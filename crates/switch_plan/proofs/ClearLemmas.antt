@@ -1,5 +1,5 @@
 -- Where the relations shows at once that nothing counts, nothing does.
-use Rattle.std.proofs.Common.{◌≡◌, ℕ, ◌<◌, Bool, true, false, List, [], ◌∷◌, ◌++◌, length, Option, Some, None, inl, inr, refl, sym, ◌∙◌, ap, subst, arith}
+use Rattle.std.proofs.Common.{◌≡◌, ℕ, ◌<◌, Bool, true, false, List, [], ◌∷◌, ◌++◌, length, Option, Some, None, refl, sym, ◌∙◌, ap, subst}
 use Rattle.std.specs.Prelude.{◌&&◌, ◌||◌, not, ◌==◌, if◌then◌else◌, option_map, filter_map}
 use Rattle.std.specs.List.{All, Contains, list_any, cons_option}
 use Rattle.std.specs.Option.{option_map_or}
@@ -10,14 +10,12 @@ use Rattle.std.proofs.lemmas.List.Quantifiers.{position-Some}
 use Rattle.iface_names.specs.declared.interface.IfaceName.{IfaceName}
 use Rattle.cm_document.specs.Links.{is_among, refs_of, exporter}
 use Rattle.cm_document.specs.declared.description.CtlDesc.{CtlDesc}
-use Rattle.cm_document.specs.declared.description.Description.{Description}
 use Rattle.cm_model.specs.Order.{Places, nobody, controller_at, precedes_at}
-use Rattle.cm_model.specs.Scene.{Scene, controllers_in, described, claims_at, is_ready, member, order}
-use Rattle.cm_model.specs.Faults.{first_of, cause_if, is_missing, component_with, is_unavailable, rival, conflict_over, is_beside, is_mode_taken, joint_name, fault_of_kind}
-use Rattle.cm_model.specs.Switches.{with_name, counts_for_all, counted, counted_of, first_member_fault}
+use Rattle.cm_model.specs.Scene.{Scene, controllers_in, described, claims_at, is_ready, order}
+use Rattle.cm_model.specs.Faults.{first_of, cause_if, is_missing, component_with, is_unavailable, conflict_over, is_beside, is_mode_taken, joint_name, fault_of_kind}
+use Rattle.cm_model.specs.Switches.{with_name, counted, counted_of, first_member_fault}
 use Rattle.cm_model.specs.declared.cause.Cause.{Cause}
 use Rattle.cm_model.specs.declared.cause.Cause.TheVariants as cause
-use Rattle.cm_model.specs.declared.cause.Dropped.{Dropped}
 use Rattle.cm_model.specs.declared.fault_kind.FaultKind.{FaultKind}
 use Rattle.cm_model.specs.declared.fault_kind.FaultKind.TheVariants as fault_kind
 use Rattle.cm_model.specs.declared.fault_kind.TheConstants.{FAULT_KINDS}

@@ -1,4 +1,4 @@
-use Rattle.std.proofs.Common.{◌≡◌, ℕ, Bool, List, true, ◌∙◌, ap, sym, map}
+use Rattle.std.proofs.Common.{ℕ, Bool, List, ◌∙◌, ap, sym, map}
 use Rattle.std.specs.Prelude.{filter, ◌||◌, not}
 use Rattle.std.proofs.lemmas.Bool.{and_parts}
 use mathlib.Core.Path.{fun_ext}

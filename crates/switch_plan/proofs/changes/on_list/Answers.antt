@@ -1,8 +1,8 @@
-use Rattle.std.proofs.Common.{◌≡◌, ℕ, Bool, List, true, ◌∙◌, ap, sym, map}
-use Rattle.std.specs.Prelude.{filter, reverse, ◌||◌, not}
+use Rattle.std.proofs.Common.{ℕ, Bool, List, ◌∙◌, ap, sym, map}
+use Rattle.std.specs.Prelude.{reverse, ◌||◌, not}
 use Rattle.std.proofs.lemmas.Bool.{and_parts}
-use Rattle.cm_model.specs.Order.{set_of, in_order}
-use Rattle.cm_model.specs.Scene.{Scene, controllers_in, active, member}
+use Rattle.cm_model.specs.Order.{in_order}
+use Rattle.cm_model.specs.Scene.{Scene, controllers_in, active}
 use Rattle.cm_model.specs.Switches.{restarts, is_started}
 use Rattle.cm_model.specs.declared.member.Member.{Member}
 use Rattle.switch_plan.specs.Changes.{change_scene, after, again}

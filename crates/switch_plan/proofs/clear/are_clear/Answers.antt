@@ -1,10 +1,10 @@
-use Rattle.std.proofs.Common.{◌≡◌, Bool, true, false, sym, ◌∙◌, subst}
+use Rattle.std.proofs.Common.{◌≡◌, Bool, false, sym, ◌∙◌, subst}
 use Rattle.std.specs.Prelude.{not}
 use Rattle.std.specs.List.{list_any}
 use Rattle.std.proofs.lemmas.Bool.{not-true}
 use Rattle.cm_model.specs.Order.{set_of}
 use Rattle.switch_plan.specs.View.{scene_of}
-use Rattle.switch_plan.specs.Relations.{Related, relations_of, is_clear}
+use Rattle.switch_plan.specs.Relations.{Related, is_clear}
 use Rattle.switch_plan.proofs.ClearLemmas.{none_counts}
 use Rattle.switch_plan.proofs.clear.are_clear.Goals as goal
 

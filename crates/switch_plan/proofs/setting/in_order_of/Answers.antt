@@ -1,6 +1,5 @@
-use Rattle.std.proofs.Common.{◌<◌, ◌∙◌, ap, sym, length, arith}
+use Rattle.std.proofs.Common.{◌<◌, ◌∙◌, sym, length, arith}
 use Rattle.std.proofs.lemmas.List.Elements.{All-weaker}
-use Rattle.cm_model.specs.Order.{set_of, in_order}
 use Rattle.cm_model.specs.Scene.{controllers_in}
 use Rattle.switch_plan.specs.View.{scene_of}
 use Rattle.switch_plan.proofs.setting.in_order_of.Goals as goal
