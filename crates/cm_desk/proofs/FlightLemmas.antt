@@ -21,7 +21,7 @@ use Rattle.cm_hardware.proofs.ListLemmas.{state_is}
 use Rattle.cm_hardware.proofs.SameLemmas.{still_hardware}
 use Rattle.ctl_rack.specs.Stocks.{no_blanks}
 use Rattle.cm_desk.specs.Flight.{Flown, HasRoom, IsAtStart, HasLanded}
-use Rattle.cm_desk.specs.Works.{state_with, at_rest, IsFlownFor, IsKept}
+use Rattle.cm_desk.specs.Works.{state_with, at_rest, IsFlownFor, IsKept, IsQuiet}
 
 -- ---- Whatever is loaded
 
@@ -100,6 +100,16 @@ lands s f r w n failed bodies told room ran still now same = record {
       (ran.bodies ∙ ap (λ l. l ++ (cycle s).bodies) room.no_body) room.none_stopped;
   timed = refl;
   down = refl;
+}
+
+-- nothing waits and nothing runs
+pub quiet_kept : (d : Description) (names : List (List ℕ)) (blanks : Blanks) (sessions loads : ℕ) (loaded : List Loaded) (f : Flown) (ended : ℕ) (closed : Bool)
+    → IsKept d names blanks loads loaded f ended → IsQuiet (state_with d blanks sessions loads loaded f ended closed)
+quiet_kept d names blanks sessions loads loaded f ended closed kept = record {
+  unasked = refl;
+  undecided = refl;
+  no_mail = refl;
+  still = recursion_from_All (λ (l : Loaded). is_active l ≡ false) loaded kept.still;
 }
 
 -- what is kept when the cycle that was aloft has ended

@@ -1,3 +1,6 @@
 pub mod LifeLemmas
 pub mod FlightLemmas
 pub mod WorksLemmas
+pub mod AnswerLemmas
+pub mod RecordLemmas
+mod DeskRows

@@ -2,3 +2,4 @@
 pub mod Lives
 pub mod Flight
 pub mod Works
+pub mod Desk

@@ -6,7 +6,7 @@ use Rattle.cm_document.specs.declared.description.Description.{Description}
 use Rattle.cm_model.specs.Console.{unless_refused, place_of, reply_on, with_changed, configure_refusals, after_configure}
 use Rattle.cm_model.specs.Cycle.{period}
 use Rattle.cm_model.specs.Machine.{load_refusals}
-use Rattle.cm_model.specs.State.{State, Loaded, boot, is_active}
+use Rattle.cm_model.specs.State.{State, Loaded, boot, is_active, IsStill}
 use Rattle.cm_model.specs.declared.blanks.Blanks.{Blanks}
 use Rattle.cm_model.specs.declared.reply.Reply.{Reply}
 use Rattle.cm_model.specs.declared.reply.Reply.TheVariants as reply
@@ -61,6 +61,14 @@ pub record IsKept (d : Description) (names : List (List ℕ)) (blanks : Blanks) 
   pub still : All (λ l. is_active l ≡ false) loaded
   pub counted : loads + total blanks < 2 ^ 32
   pub flown : IsFlownFor d flight ended
+
+-- Nothing waits and nothing runs: nobody has asked for a switch or a move, nothing was decided, no mail is aloft, and no controller is
+-- active.
+pub record IsQuiet (s : State) : Type 0 where
+  pub unasked : s.requests ≡ []
+  pub undecided : s.outcomes ≡ []
+  pub no_mail : s.mails ≡ []
+  pub still : IsStill s
 
 -- a call got this reply, and left what it leaves with it
 abbrev pub IsAnswered : Reply → (Reply → State) → State → Reply → Type 0

@@ -4,6 +4,7 @@ ghost use Rattle.std.specs.Prelude.{◌≡◌, ◌+◌, ◌<◌, true, IfOk, OnO
 ghost use Rattle.cm_model.specs.Cycle.{cycle, after_cycle};
 ghost use Rattle.cm_model.specs.Machine.{can_begin, can_close};
 ghost use Rattle.cm_model.specs.State.{interface_lines, component_lines};
+ghost use Rattle.cm_desk.specs.Works.{IsQuiet};
 
 use crate::works::Works;
 use cm_model::{CompLine, CycleRecord, IfaceLine, Memory, Seq};
@@ -33,9 +34,10 @@ impl<C: Controller> Works<C> {
     }
 
     /// The next cycle begins, and takes all memory that it needs. Nothing can wait to be decided yet.
-    #[tactic(auto, using(crate::proofs::FlightLemmas::begins_within, crate::proofs::FlightLemmas::kept_after_begin))]
+    #[tactic(auto, using(crate::proofs::FlightLemmas::begins_within, crate::proofs::FlightLemmas::kept_after_begin, crate::proofs::FlightLemmas::quiet_kept))]
     pub fn begin(&mut self, alloc: Global) -> Result<(), Memory>
         requires { can_begin self.old self.old.ended ≡ true }
+        ensures quiet { IsQuiet self.old }
         ensures begun { OnOk result (self.new ≡ record self.old { aloft = true }) }
         ensures kept { OnErr result (self.new ≡ self.old) }
     {
@@ -55,9 +57,11 @@ impl<C: Controller> Works<C> {
     }
 
     /// The loop closes. It takes no memory.
+    #[tactic(auto, using(crate::proofs::FlightLemmas::quiet_kept))]
     pub fn close(&mut self)
         requires { can_close self.old ≡ true }
-        ensures { self.new ≡ record self.old { closed = true } }
+        ensures quiet { IsQuiet self.old }
+        ensures closed { self.new ≡ record self.old { closed = true } }
     {
         self.closed = true;
     }

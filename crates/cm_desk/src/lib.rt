@@ -1,14 +1,22 @@
 //! The desk, the one object that changes: the loaded controllers with the console's calls on them, and the hardware with its cycles.
 #![tactic(auto)]
 
-pub use cm_model::{CompLine, CtlLine, CycleRecord, IfaceLine, Mail, Memory, Name, Reply, Why};
+pub use book::Book;
+pub use cm_model::{
+    Blanks, Call, Checked, CompLine, CtlLine, CycleRecord, Entry, IfaceLine, Mail, Memory, Name,
+    Reply, Why,
+};
 pub use ctl_rack::Stock;
 pub use ctl_trait::Controller;
+pub use desk::Desk;
 pub use slot::Slot;
 pub use works::Works;
 
+mod answer;
+mod book;
 mod console;
 mod cycles;
+mod desk;
 mod flight;
 mod lines;
 mod slot;

@@ -71,6 +71,13 @@ impl<C: Controller> Works<C> {
         })
     }
 
+    /// The description.
+    pub fn checked(&self) -> &Checked
+        ensures { result.now ≡ self.now.description }
+    {
+        &self.checked
+    }
+
     /// The number of sessions, which is also that of the loop as a caller.
     pub fn sessions(&self) -> u32
         ensures { result ≡ self.now.sessions }

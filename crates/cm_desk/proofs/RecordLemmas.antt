@@ -1,0 +1,183 @@
+-- One lemma for every call: from 'what is kept at run time made the step' to what the desk's type keeps and its clauses say.
+use Rattle.std.proofs.Common.{◌≡◌, ℕ, suc, ◌+◌, ◌<◌, ◌≤◌, Bool, true, false, nat_lt, List, [], length, take, drop, length-append, length-take, length-drop, length-set, Option, Some, None, refl, sym, ap, ◌∙◌, arith}
+use Rattle.std.specs.Prelude.{not, ◌==◌, ◌&&◌, option_map, slice_get}
+use Rattle.std.proofs.lemmas.Bool.Decides.{nat_tests}
+use Rattle.std.proofs.lemmas.List.{length-map, length_push}
+use Rattle.cm_document.specs.declared.call.Call.{Call}
+use Rattle.cm_document.specs.declared.call.Call.TheVariants.{Load, Configure, Cleanup, Unload, Rate, Send, ListControllers, ListInterfaces, ListComponents, Begin, End, Close}
+use Rattle.cm_document.specs.declared.description.CtlDesc.{CtlDesc}
+use Rattle.cm_model.specs.Console.{place_of, slot_of, where_done, with_slot, with_changed, without_slot, after_configure, after_cleanup, after_rate, after_send}
+use Rattle.cm_model.specs.Commit.{commit}
+use Rattle.cm_model.specs.Components.{read_succeeds}
+use Rattle.cm_model.specs.Cycle.{CycleResult, component_is, updated_in, updates, cycle, after_cycle}
+use Rattle.cm_model.specs.Machine.{is_enabled, reply_of, effect, with_controller, with_loaded, load_effect, can_begin, can_close, step}
+use Rattle.cm_model.specs.Scheduled.{with_entry}
+use Rattle.cm_model.specs.State.{State, Loaded, boot, newly_loaded}
+use Rattle.cm_model.specs.Values.{after_reads}
+use Rattle.cm_model.specs.declared.blanks.Blanks.{Blanks}
+use Rattle.cm_model.specs.declared.entry.Entry.{Entry}
+use Rattle.cm_model.specs.declared.reply.Reply.{Reply}
+use Rattle.cm_model.specs.declared.reply.Reply.TheVariants as reply
+use Rattle.cm_model.proofs.LegalLemmas.{Leads, Leads-step}
+use Rattle.cm_model.proofs.QuietLemmas.{quiet_begin, quiet_begin_reply, quiet_close, quiet_close_reply}
+use Rattle.cm_model.proofs.StayLemmas.{step-Stands}
+use Rattle.cm_model.proofs.UpdateLemmas.{updates_keep}
+use Rattle.cm_desk.specs.Desk.{owed, flag, seen, Keeps, Grows, CanBeCalled}
+use Rattle.cm_desk.specs.Works.{IsQuiet}
+
+-- ---- One entry more
+
+-- what comes of a call that was recorded
+pub record Recorded (at_boot : Blanks) (s next : State) (made after : List Entry) (who : ℕ) (call : Call) (r : Reply) (entries boxes : ℕ) : Type 0 where
+  pub keeps : Keeps (boot next.description at_boot next.sessions) after next entries boxes
+  pub grows : Grows (seen at_boot s made) (seen at_boot next after) who call r
+
+pub recorded : (at_boot : Blanks) (s next : State) (made after : List Entry) (who : ℕ) (call : Call) (r : Reply) (entries boxes later places : ℕ)
+    → Keeps (boot s.description at_boot s.sessions) made s entries boxes → step s who call ≡ Some (next, r) → after ≡ with_entry made who call r
+    → length after + owed next ≤ later → length next.loaded ≤ places → Recorded at_boot s next made after who call r later places
+recorded at_boot s next made after who call r entries boxes later places kept stepped grown room loaded =
+    let opening = boot s.description at_boot s.sessions in
+    let before : Leads opening made s = record { legal = kept.legal; ends = kept.ends } in
+    let leads : Leads opening (with_entry made who call r) next = Leads-step made opening s who call next r before stepped in
+    let stands = step-Stands s who call (next, r) stepped in
+    let same : boot next.description at_boot next.sessions ≡ opening = rw (stands.description, stands.sessions) refl in
+    record {
+      keeps = rw (same) (record { legal = rw grown leads.legal; ends = rw grown leads.ends; room = room; places = loaded });
+      grows = record { opening = same; made = grown; stepped = rw (kept.ends, same, grown, leads.ends) stepped };
+    }
+
+-- ---- Room
+
+flag-few : (b : Bool) → flag b ≤ 1
+flag-few true = omega arith
+flag-few false = omega arith
+
+-- no more is owed than the end and the close
+pub owed-few : (s : State) → owed s ≤ 2
+owed-few s = omega (arith, flag-few s.aloft, flag-few (not s.closed))
+
+-- what is reserved before a call is room for its entry, and for what is owed after it
+pub room_after : (s : State) (made after : List Entry) (who : ℕ) (call : Call) (r : Reply) (entries : ℕ) → length made + 3 ≤ entries → after ≡ with_entry made who call r
+    → length after + owed s ≤ entries
+room_after s made after who call r entries room grown = rw grown (omega (arith, room, owed-few s, length_push made (record { who = who; call = call; reply = r })))
+
+-- an entry that was owed takes the room that was kept for it
+pub room_owed : (s next : State) (made after : List Entry) (who : ℕ) (call : Call) (r : Reply) (entries : ℕ) → length made + owed s ≤ entries → owed next + 1 ≡ owed s
+    → after ≡ with_entry made who call r → length after + owed next ≤ entries
+room_owed s next made after who call r entries room less grown = rw grown (omega (arith, room, less, length_push made (record { who = who; call = call; reply = r })))
+
+-- the end was owed
+pub owed-end : (s : State) (c : CycleResult) → s.aloft ≡ true → owed (after_cycle s c) + 1 ≡ owed s
+unfolding after_cycle commit
+owed-end s c aloft = rw aloft (omega arith)
+
+-- the close was owed
+pub owed-close : (s : State) → s.closed ≡ false → owed (record s { closed = true }) + 1 ≡ owed s
+owed-close s closed = rw closed (omega arith)
+
+-- the loop is open where it can close
+pub open_where : (s : State) → can_close s ≡ true → s.closed ≡ false
+open_where s can = both s.aloft s.closed can
+  where
+    both : (aloft closed : Bool) → not aloft && not closed ≡ true → closed ≡ false
+    both true closed can = cc
+    both false true can = cc
+    both false false can = refl
+
+-- ---- Places for boxes
+
+with_controller-few : (s : State) (place : ℕ) (c : Option CtlDesc) → length (with_controller s place c).loaded ≤ length s.loaded + 1
+with_controller-few s place None = omega arith
+with_controller-few s place (Some c) = omega (arith, length_push s.loaded (newly_loaded s.loads place c))
+
+with_loaded-few : (s : State) (place : Option ℕ) → length (with_loaded s place).loaded ≤ length s.loaded + 1
+with_loaded-few s None = omega arith
+with_loaded-few s (Some place) = with_controller-few s place (slice_get s.description.controllers place)
+
+load_effect-few : (s : State) (name : List ℕ) (r : Reply) → length (load_effect s name r).loaded ≤ length s.loaded + 1
+load_effect-few s name (reply.Serial _) = with_loaded-few s (place_of s name)
+load_effect-few s name _ = omega arith
+
+with_slot-few : (s : State) (i : ℕ) (l : Option Loaded) → length (with_slot s i l).loaded ≤ length s.loaded + 1
+with_slot-few s i None = omega arith
+with_slot-few s i (Some l) = omega (arith, length-set s.loaded i l)
+
+with_changed-few : (change : Loaded → Loaded) (s : State) (slot : Option ℕ) → length (with_changed change s slot).loaded ≤ length s.loaded + 1
+with_changed-few change s None = omega arith
+with_changed-few change s (Some i) = with_slot-few s i (option_map change (slice_get s.loaded i))
+
+without_slot-few : (s : State) (slot : Option ℕ) → length (without_slot s slot).loaded ≤ length s.loaded + 1
+without_slot-few s None = omega arith
+without_slot-few s (Some i) = omega (arith, length-append (take i s.loaded) (drop (suc i) s.loaded), length-take i s.loaded, length-drop (suc i) s.loaded)
+
+where_done-few : (r : Reply) (after s : State) → length after.loaded ≤ length s.loaded + 1 → length (where_done r after s).loaded ≤ length s.loaded + 1
+where_done-few reply.Done after s few = few
+where_done-few _ after s few = omega arith
+
+-- a call loads one controller at most
+pub effect-few : (s : State) (call : Call) (r : Reply) → CanBeCalled call → length (effect s call r).loaded ≤ length s.loaded + 1
+effect-few s (Load name) r can = load_effect-few s name r
+effect-few s (Configure name) r can = where_done-few r _ s (with_changed-few (after_configure s) s (slot_of s name))
+effect-few s (Cleanup name) r can = where_done-few r _ s (with_changed-few after_cleanup s (slot_of s name))
+effect-few s (Unload name) r can = where_done-few r _ s (without_slot-few s (slot_of s name))
+effect-few s (Rate name hz) r can = where_done-few r _ s (with_changed-few (after_rate hz) s (slot_of s name))
+effect-few s (Send name mail) r can = where_done-few r _ s (with_changed-few (after_send mail) s (slot_of s name))
+effect-few s ListControllers r can = omega arith
+effect-few s ListInterfaces r can = omega arith
+effect-few s ListComponents r can = omega arith
+effect-few s _ r can = absurd can
+
+-- a cycle loads none
+pub end-few : (s : State) → length (after_cycle s (cycle s)).loaded ≡ length s.loaded
+unfolding cycle after_cycle commit
+end-few s =
+    let values = after_reads (component_is read_succeeds s) s.bodies s.values in
+    let same = updates_keep {B = ℕ} s (λ (l : Loaded). 0) (λ vs serial l. refl) (record { loaded = s.loaded; values = values; ran = [] }) (updated_in s) in
+    length-map (updates s values).loaded _
+    ∙ sym (length-map (updates s values).loaded (λ (l : Loaded). 0)) ∙ ap length same ∙ length-map s.loaded (λ (l : Loaded). 0)
+
+-- ---- Steps
+
+-- a call of a session that is so answered is its step
+pub called_step : (s next : State) (who : ℕ) (call : Call) (r : Reply) → who < s.sessions → CanBeCalled call → reply_of s call ≡ Some r → next ≡ effect s call r
+    → step s who call ≡ Some (next, r)
+unfolding step
+called_step s next who call r less can replied effected = stepped call can replied effected
+  where
+    known : nat_lt who s.sessions ≡ true
+    known = grind (arith, nat_tests)
+
+    enabled : (call : Call) → is_enabled s who call ≡ true → reply_of s call ≡ Some r → next ≡ effect s call r → step s who call ≡ Some (next, r)
+    enabled call can replied effected = rw (can, replied, effected) refl
+
+    stepped : (call : Call) → CanBeCalled call → reply_of s call ≡ Some r → next ≡ effect s call r → step s who call ≡ Some (next, r)
+    stepped (Load name) can = enabled (Load name) known
+    stepped (Configure name) can = enabled (Configure name) known
+    stepped (Cleanup name) can = enabled (Cleanup name) known
+    stepped (Unload name) can = enabled (Unload name) known
+    stepped (Rate name hz) can = enabled (Rate name hz) known
+    stepped (Send name mail) can = enabled (Send name mail) known
+    stepped ListControllers can = enabled ListControllers known
+    stepped ListInterfaces can = enabled ListInterfaces known
+    stepped ListComponents can = enabled ListComponents known
+    stepped _ can = absurd can
+
+loop_itself : (n : ℕ) → (n == n) ≡ true
+loop_itself n = grind (arith, nat_tests)
+
+-- the loop begins a cycle where it can, and decides nothing where nothing waits
+pub begin_step : (s : State) (n : ℕ) → can_begin s n ≡ true → IsQuiet s → step s s.sessions (Begin n) ≡ Some (record s { aloft = true }, reply.Decisions [])
+unfolding step
+begin_step s n can quiet =
+    rw (loop_itself s.sessions, can, quiet_begin s quiet.unasked quiet.undecided quiet.still quiet.no_mail, quiet_begin_reply s quiet.unasked quiet.undecided) refl
+
+-- it ends the cycle that is aloft
+pub end_step : (s : State) → s.aloft ≡ true → step s s.sessions (End s.ended) ≡ Some (after_cycle s (cycle s), reply.Cycle (cycle s).happened)
+unfolding step
+end_step s aloft = rw (loop_itself s.sessions, aloft, loop_itself s.ended) refl
+
+-- it closes where it can, and decides nothing where nothing waits
+pub close_step : (s : State) → can_close s ≡ true → IsQuiet s → step s s.sessions Close ≡ Some (record s { closed = true }, reply.Decisions [])
+unfolding step
+close_step s can quiet =
+    rw (loop_itself s.sessions, can, quiet_close s quiet.unasked quiet.undecided, quiet_close_reply s quiet.unasked quiet.undecided) refl

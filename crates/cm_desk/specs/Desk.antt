@@ -1,0 +1,92 @@
+-- What contracts see of the desk, and what its type keeps.
+use Rattle.std.specs.Prelude.{◌≡◌, ℕ, ◌+◌, ◌≤◌, Bool, true, false, not, List, length, Option, Some, None}
+use Rattle.cm_document.specs.declared.call.Call.{Call}
+use Rattle.cm_document.specs.declared.call.Call.TheVariants.{Load, Configure, Cleanup, Unload, Rate, Send, ListControllers, ListInterfaces, ListComponents}
+use Rattle.cm_model.specs.Console.{moves_out}
+use Rattle.cm_model.specs.Machine.{LegalFrom, state_after, reply_of, effect, step}
+use Rattle.cm_model.specs.Scheduled.{with_entry}
+use Rattle.cm_model.specs.State.{State, boot}
+use Rattle.cm_model.specs.declared.blanks.Blanks.{Blanks}
+use Rattle.cm_model.specs.declared.data.CtlData.{CtlData}
+use Rattle.cm_model.specs.declared.entry.Entry.{Entry}
+use Rattle.cm_model.specs.declared.reply.Reply.{Reply}
+use Rattle.cm_model.specs.declared.reply.Reply.TheVariants as reply
+
+-- ---- A history
+
+-- A history with the state in which it begins.
+pub record History : Type 0 where
+  pub opening : State
+  pub made : List Entry
+
+-- the state after it
+abbrev pub now_of : History → State
+now_of h = state_after h.opening h.made
+
+-- One entry more, which is a step of the written manager.
+pub record Grows (old new : History) (who : ℕ) (call : Call) (reply : Reply) : Type 0 where
+  pub opening : new.opening ≡ old.opening
+  pub made : new.made ≡ with_entry old.made who call reply
+  pub stepped : step (now_of old) who call ≡ Some (now_of new, reply)
+
+-- ---- Calls
+
+-- A call that the desk answers for a session: one on a controller, or a list.
+abbrev pub CanBeCalled : Call → Type 0
+CanBeCalled (Load _) = Unit {0}
+CanBeCalled (Configure _) = Unit {0}
+CanBeCalled (Cleanup _) = Unit {0}
+CanBeCalled (Unload _) = Unit {0}
+CanBeCalled (Rate _ _) = Unit {0}
+CanBeCalled (Send _ _) = Unit {0}
+CanBeCalled ListControllers = Unit {0}
+CanBeCalled ListInterfaces = Unit {0}
+CanBeCalled ListComponents = Unit {0}
+CanBeCalled _ = ⊥
+
+-- it asks for a list
+abbrev pub is_list : Call → Bool
+is_list ListControllers = true
+is_list ListInterfaces = true
+is_list ListComponents = true
+is_list _ = false
+
+-- a reply that takes no memory
+abbrev pub IsShort : Reply → Type 0
+IsShort reply.Done = Unit {0}
+IsShort (reply.Serial _) = Unit {0}
+IsShort (reply.Not _) = Unit {0}
+IsShort _ = ⊥
+
+-- the data of the box that the call hands out with this reply: an unload that was done hands one out
+abbrev pub hands_out : State → Call → Reply → Option CtlData
+hands_out s (Unload name) r = moves_out s name r
+hands_out s _ r = None
+
+-- What a call came to: the reply, what it left, and the data of the box that it handed out.
+pub record IsAnswerTo (old : State) (call : Call) (new : State) (reply : Reply) (given : Option CtlData) : Type 0 where
+  pub replied : reply_of old call ≡ Some reply
+  pub next : new ≡ effect old call reply
+  pub handed : given ≡ hands_out old call reply
+
+-- ---- What the desk keeps
+
+-- one for what is so
+abbrev pub flag : Bool → ℕ
+flag true = 1
+flag false = 0
+
+-- how many entries will still be made without memory: the end of a cycle that is aloft, and the close
+abbrev pub owed : State → ℕ
+owed s = flag s.aloft + flag (not s.closed)
+
+-- The history is legal and leads to this state; there is room for the entries that are owed, and for the boxes that are loaded.
+pub record Keeps (opening : State) (made : List Entry) (now : State) (entries boxes : ℕ) : Type 0 where
+  pub legal : LegalFrom opening made
+  pub ends : state_after opening made ≡ now
+  pub room : length made + owed now ≤ entries
+  pub places : length now.loaded ≤ boxes
+
+-- what is seen of a desk that had these blanks at boot, stands in this state and has made these entries
+abbrev pub seen : Blanks → State → List Entry → History
+seen at_boot s made = record { opening = boot s.description at_boot s.sessions; made = made }

@@ -1,0 +1,204 @@
+//! The desk: the manager at work, with the history of all that it did.
+
+ghost use Rattle.std.specs.Prelude.{◌≡◌, ◌<◌, true, [], map, option_map, IfOk, OnOk, OnErr};
+ghost use Rattle.cm_document.specs.declared.call.Call.TheVariants as call;
+ghost use Rattle.cm_model.specs.Cycle.{cycle};
+ghost use Rattle.cm_model.specs.Machine.{LegalFrom, can_begin, can_close};
+ghost use Rattle.cm_model.specs.State.{boot};
+ghost use Rattle.cm_desk.specs.Desk.{now_of, Grows, CanBeCalled, hands_out};
+
+use crate::book::Book;
+use crate::works::Works;
+use cm_model::{Blanks, Call, Checked, Entry, KeptCall, Memory, Rare, Reply};
+use ctl_rack::Stock;
+use ctl_trait::Controller;
+use std::alloc::Global;
+use std::marker::Model;
+
+/// How many entries a call makes room for: its own, the end of a cycle that is aloft, and the close.
+const ENTRIES_AHEAD: usize = 3;
+
+/// The one object that changes. Contracts see its history with the state in which that began.
+#[derive(Drop)]
+pub struct Desk<C: Controller> {
+    works: Works<C>,
+    /// The blanks at boot.
+    at_boot: Blanks,
+    history: Vec<Entry>,
+    /// No box yet, and room for all that are loaded.
+    boxes: Vec<C>,
+}
+
+impl<C: Controller> Model for Desk<C> {
+    ghost use Rattle.std.specs.Prelude.{◌≡◌, [], vec_capacity};
+    ghost use Rattle.cm_model.specs.State.{boot};
+    ghost use Rattle.cm_desk.specs.Desk.{History, Keeps, seen};
+
+    ghost Value = { History };
+
+    ghost view = { λ d. seen d.at_boot d.works d.history.items };
+
+    ghost invariant = { λ d.
+        Keeps (boot d.works.description d.at_boot d.works.sessions) d.history.items d.works (vec_capacity d.history)
+        (vec_capacity d.boxes) × (d.boxes.items ≡ []) };
+}
+
+impl<C: Controller> Desk<C> {
+    /// The desk at boot: nothing is loaded, aloft or ended, and the hardware is as described.
+    pub fn boot(
+        alloc: Global,
+        checked: Checked,
+        stock: Stock<C>,
+        sessions: u32,
+    ) -> Result<Desk<C>, Memory>
+        ensures { IfOk result (λ desk. desk ≡ record { opening = boot checked stock sessions; made = [] }) }
+    {
+        let at_boot = stock.blanks();
+        let works = Works::boot(alloc, checked, stock, sessions)?;
+        Ok(Desk {
+            works,
+            at_boot,
+            history: Vec::with_capacity(alloc, ENTRIES_AHEAD)?,
+            boxes: Vec::new(alloc),
+        })
+    }
+
+    /// Answers a call of a session, with the box that an unload hands out. Want of memory changes nothing.
+    pub fn call(
+        &mut self,
+        alloc: Global,
+        who: u32,
+        call: Call,
+    ) -> Result<(Reply, Option<C>), Memory>
+        requires session { who < self.old.opening.sessions }
+        requires called { CanBeCalled call }
+        ensures made { IfOk result (λ answer. Grows self.old self.new who call answer.0) }
+        ensures given { IfOk result
+            (λ answer. option_map C.meaning answer.1 ≡ hands_out (now_of self.old) call answer.0) }
+        ensures kept { OnErr result (self.new ≡ self.old) }
+    {
+        self.history.reserve(ENTRIES_AHEAD)?;
+        self.boxes.reserve(self.works.slots().len() + 1)?;
+        let kept = KeptCall::copy_of(alloc, &call)?;
+        let answer = self.works.answer(alloc, call)?;
+        self.history.push_reserved(Entry {
+            who,
+            call: kept,
+            reply: answer.noted,
+        });
+        Ok((answer.reply, answer.given))
+    }
+
+    /// The loop begins the next cycle, and takes all memory that the cycle needs. Nothing can wait to be decided yet. Want of memory
+    /// changes nothing.
+    pub fn begin(&mut self, alloc: Global) -> Result<(), Memory>
+        requires can { can_begin (now_of self.old) (now_of self.old).ended ≡ true }
+        ensures made { OnOk result
+            (Grows self.old self.new self.old.opening.sessions (call.Begin (now_of self.old).ended)
+            (Reply.Decisions [])) }
+        ensures kept { OnErr result (self.new ≡ self.old) }
+    {
+        self.history.reserve(ENTRIES_AHEAD)?;
+        let who = self.works.sessions();
+        let cycle = self.works.ended();
+        self.works.begin(alloc)?;
+        self.history.push_reserved(Entry {
+            who,
+            call: KeptCall::begin(cycle),
+            reply: Reply::Decisions(Rare::none()),
+        });
+        Ok(())
+    }
+
+    /// The loop ends the cycle that is aloft. It takes no memory.
+    pub fn end(&mut self)
+        requires aloft { (now_of self.old).aloft ≡ true }
+        ensures made { Grows self.old self.new self.old.opening.sessions (call.End (now_of self.old).ended)
+            (Reply.Cycle (cycle (now_of self.old)).happened) }
+    {
+        let who = self.works.sessions();
+        let cycle = self.works.ended();
+        let record = self.works.end();
+        self.history.push_reserved(Entry {
+            who,
+            call: KeptCall::end(cycle),
+            reply: Reply::Cycle(record),
+        });
+    }
+
+    /// The loop closes. It takes no memory.
+    pub fn close(&mut self)
+        requires can { can_close (now_of self.old) ≡ true }
+        ensures made { Grows self.old self.new self.old.opening.sessions call.Close (Reply.Decisions []) }
+    {
+        let who = self.works.sessions();
+        self.works.close();
+        self.history.push_reserved(Entry {
+            who,
+            call: KeptCall::close(),
+            reply: Reply::Decisions(Rare::none()),
+        });
+    }
+
+    /// The number of sessions, which is also that of the loop as a caller.
+    pub fn sessions(&self) -> u32
+        ensures { result ≡ self.now.opening.sessions }
+    {
+        self.works.sessions()
+    }
+
+    /// How many cycles have ended.
+    pub fn ended(&self) -> u64
+        ensures { result ≡ (now_of self.now).ended }
+    {
+        self.works.ended()
+    }
+
+    /// Whether a cycle has begun that has not ended.
+    pub fn aloft(&self) -> bool
+        ensures { result ≡ (now_of self.now).aloft }
+    {
+        self.works.is_aloft()
+    }
+
+    /// Whether the loop is closed.
+    pub fn closed(&self) -> bool
+        ensures { result ≡ (now_of self.now).closed }
+    {
+        self.works.is_closed()
+    }
+
+    /// The description that the desk runs on.
+    pub fn checked(&self) -> &Checked
+        ensures { result.now ≡ self.now.opening.description }
+    {
+        self.works.checked()
+    }
+
+    /// The entries so far, in order.
+    pub fn history(&self) -> &[Entry]
+        ensures { result.now ≡ self.now.made }
+    {
+        self.history.as_slice()
+    }
+
+    /// The book: the history, which is legal, and the boxes of the loaded controllers, by serial, each with the data that the history
+    /// gives it. It takes no memory.
+    pub fn finish(self) -> Book<C>
+        requires closed { (now_of self).closed ≡ true }
+        ensures history { result.history.items ≡ self.made }
+        ensures legal { LegalFrom self.opening self.made }
+        ensures boxes { map C.meaning result.boxes.items ≡ map (λ l. l.ctl) (now_of self).loaded }
+    {
+        let Desk {
+            works,
+            history,
+            boxes,
+            ..
+        } = self;
+        Book {
+            history,
+            boxes: works.into_boxes(boxes),
+        }
+    }
+}
