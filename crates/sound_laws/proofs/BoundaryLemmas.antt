@@ -1,0 +1,42 @@
+-- What is decided between two cycles keeps a state steady, and so does the begin of a cycle.
+use Rattle.std.proofs.Common.{Bool, true, false, List, [], ◌∷◌}
+use Rattle.std.specs.Prelude.{if◌then◌else◌}
+use Rattle.cm_document.specs.declared.call.SwitchRequest.{SwitchRequest}
+use Rattle.cm_model.proofs.SteadyLemmas.{begun_steady}
+use Rattle.cm_model.specs.BestEffort.{best}
+use Rattle.cm_model.specs.Boundary.{waiting, component_place, with_switch, Concluded, concluded, with_outcome, all_concluded, boundary, begin_effect}
+use Rattle.cm_model.specs.Commit.{scene_of}
+use Rattle.cm_model.specs.State.{State}
+use Rattle.cm_model.specs.Steady.{IsSteady}
+use Rattle.cm_model.specs.Switches.{strict}
+use Rattle.cm_model.specs.declared.request.Request.{Request}
+use Rattle.cm_model.specs.declared.request.Request.TheVariants as request
+use Rattle.sound_laws.proofs.BestLemmas.{best_steady}
+use Rattle.sound_laws.proofs.RequestLemmas.{hardware_steady}
+use Rattle.sound_laws.proofs.StrictLemmas.{strict_steady}
+
+pub switch_steady : (s : State) (r : SwitchRequest) → IsSteady s → IsSteady (concluded s (request.Switch r)).state
+switch_steady s r steady = either r.strict
+  where
+    either : (b : Bool) → IsSteady (with_switch s (if b then strict (scene_of s) r.off r.on else best (scene_of s) r.off r.on)).state
+    either true = strict_steady s steady r.off r.on
+    either false = best_steady s steady r.off r.on
+
+pub concluded_steady : (s : State) (r : Request) → IsSteady s → IsSteady (concluded s r).state
+concluded_steady s (request.Switch r) steady = switch_steady s r steady
+concluded_steady s (request.Hardware component target) steady = hardware_steady s steady component target (component_place s.description component)
+
+pub outcome_steady : (c : Concluded) → IsSteady c.state → IsSteady (with_outcome c)
+outcome_steady c steady = record { in_order = steady.in_order; together = steady.together }
+
+all_steady : (s : State) (rs : List Request) → IsSteady s → IsSteady (all_concluded s rs)
+unfolding all_concluded
+all_steady s [] steady = steady
+all_steady s (r ∷ rs) steady = all_steady (with_outcome (concluded s r)) rs (outcome_steady (concluded s r) (concluded_steady s r steady))
+
+pub boundary_steady : (s : State) → IsSteady s → IsSteady (boundary s)
+boundary_steady s steady = all_steady s (waiting s) steady
+
+-- The begin of a cycle leaves a steady state.
+pub begin_steady : (s : State) → IsSteady s → IsSteady (begin_effect s)
+begin_steady s steady = begun_steady (boundary s) (boundary_steady s steady)

@@ -1,0 +1,165 @@
+-- When a set of controllers can run together: where those that come are without a fault beside it, and the others could run together.
+use Rattle.std.proofs.Common.{◌≡◌, ◌⊎◌, ℕ, Bool, true, false, ◌++◌, Option, Some, None, inl, inr, refl, sym, ◌∙◌, subst, ap, true≢false}
+use Rattle.std.specs.Prelude.{◌==◌, ◌&&◌, not, slice_index_or}
+use Rattle.std.specs.List.{Contains, list_any}
+use Rattle.std.specs.Option.{option_map_or}
+use Rattle.std.proofs.lemmas.Bool.{and_parts, and_from, not-false, eqb-true, false_from_ne_true}
+use Rattle.std.proofs.lemmas.Slice.Eq.{bytes_eq-Decides}
+use Rattle.iface_names.specs.Interfaces.{same_kind, same_interface}
+use Rattle.iface_names.specs.Names.{same_name}
+use Rattle.iface_names.specs.Sameness.{same_kind-Decides, same_interface-Decides}
+use Rattle.iface_names.specs.declared.interface.IfaceName.{IfaceName}
+use Rattle.iface_names.specs.declared.interface.IfaceName.TheVariants.{Joint, Reference}
+use Rattle.cm_document.specs.declared.life.Life.TheVariants.{Unconfigured}
+use Rattle.cm_model.specs.Components.{is_available}
+use Rattle.cm_model.specs.Faults.{cause_if, is_missing, component_with, is_unavailable, rival, conflict_over, is_beside, is_mode_taken, joint_name, fault_of_kind}
+use Rattle.cm_model.specs.Order.{Places}
+use Rattle.cm_model.specs.Scene.{Scene, controllers_in, described, claims_at, member, order}
+use Rattle.cm_model.specs.Sound.{names_at, is_there, CanRunTogether}
+use Rattle.cm_model.specs.declared.cause.Cause.{Cause}
+use Rattle.cm_model.specs.declared.cause.Cause.TheVariants as cause
+use Rattle.cm_model.specs.declared.fault_kind.FaultKind.TheVariants as fault_kind
+use Rattle.cm_model.specs.declared.member.Member.{Member}
+use Rattle.cm_model.specs.declared.seen.Seen.{Seen}
+use Rattle.switch_plan.proofs.CauseLemmas.{order_from}
+use Rattle.switch_plan.proofs.ElementLemmas.{map_none, some_of, each_fails, not_found, first_of-none}
+
+-- ---- Tests
+
+and_first : (a b : Bool) → (a && b) ≡ false → b ≡ true → a ≡ false
+and_first true b none holds = absurd (true≢false (sym holds ∙ none))
+and_first false b none holds = refl
+
+and_second : (a b : Bool) → (a && b) ≡ false → a ≡ true → b ≡ false
+and_second true b none holds = none
+and_second false b none holds = absurd (true≢false (sym holds))
+
+-- where a cause is not given, its test fails
+pub if_none : (b : Bool) (c : Cause) → cause_if b c ≡ None → b ≡ false
+if_none true c e = cc
+if_none false c e = refl
+
+-- what does not fail is so, or there is nothing
+unless_fails : (f : ℕ → Bool) (o : Option ℕ) → option_map_or (λ k. not (f k)) o false ≡ false → option_map_or f o true ≡ true
+unless_fails f None holds = refl
+unless_fails f (Some k) holds = not-false (f k) holds
+
+-- of two command interfaces of one joint it is told from either
+beside_turned : (i j : IfaceName) → is_beside j i ≡ false → is_beside i j ≡ false
+beside_turned (Joint joint kind) (Joint joint' kind') none =
+    false_from_ne_true (same_name joint joint' && not (same_kind kind kind')) (λ both.
+    let parts = and_parts (same_name joint joint') (not (same_kind kind kind')) both in
+    let names : same_name joint' joint ≡ true = (bytes_eq-Decides joint' joint).1 (sym ((bytes_eq-Decides joint joint').0 parts.0)) in
+    let kinds : same_kind kind' kind ≡ false = false_from_ne_true (same_kind kind' kind) (λ same.
+    let e : same_kind kind kind' ≡ true = (same_kind-Decides kind kind').1 (sym ((same_kind-Decides kind' kind).0 same)) in
+    true≢false (sym parts.1 ∙ ap not e)) in
+    true≢false (sym (and_from (same_name joint' joint) (not (same_kind kind' kind)) names (ap not kinds)) ∙ none))
+beside_turned (Joint joint kind) (Reference c j k) none = refl
+beside_turned (Reference c j k) (Joint joint kind) none = refl
+beside_turned (Reference c j k) (Reference c' j' k') none = refl
+
+-- ---- Claims
+
+-- a controller that claims an interface has it among its claims
+pub claims_inside : (scene : Scene) (p : ℕ) (i : IfaceName) → claims_at (controllers_in scene) p i ≡ true → Contains (described scene p).claims i
+claims_inside scene p i claims =
+    let r = some_of (λ claim. same_interface claim i) (described scene p).claims claims in
+    subst (Contains (described scene p).claims) ((same_interface-Decides r.0 i).0 r.2) r.1
+
+-- no follower of it is missing, where that is not found to be its fault
+pub none_missing : (scene : Scene) (set on : Places) (p : ℕ) (i : IfaceName) → fault_of_kind scene set on fault_kind.Follower p ≡ None
+    → claims_at (controllers_in scene) p i ≡ true → is_missing (controllers_in scene) set i ≡ false
+none_missing scene set on p i none claims =
+    if_none (is_missing (controllers_in scene) set i) (cause.MissingFollower i)
+    (first_of-none (λ i. cause_if (is_missing (controllers_in scene) set i) (cause.MissingFollower i)) (described scene p).claims none i (claims_inside scene p i claims))
+
+-- ---- A set
+
+-- Beside a set these faults are not found of a controller.
+pub record IsClearOf (scene : Scene) (set on : Places) (p : ℕ) : Type 0 where
+  pub availability : fault_of_kind scene set on fault_kind.Availability p ≡ None
+  pub conflict : fault_of_kind scene set on fault_kind.Conflict p ≡ None
+  pub mode : fault_of_kind scene set on fault_kind.Mode p ≡ None
+
+-- Each of a set is one of those that could run together, or was added to them without such a fault; and of none a follower is missing.
+pub record IsExtended (scene : Scene) (small set added on : Places) : Type 0 where
+  pub before : CanRunTogether scene.description scene.components small
+  pub loaded : (p : ℕ) → set p ≡ true → list_any (λ (l : Seen). l.place == p) scene.loaded ≡ true
+  pub parts : (p : ℕ) → set p ≡ true → (small p ≡ true) ⊎ (added p ≡ true)
+  pub clear : (p : ℕ) → set p ≡ true → added p ≡ true → IsClearOf scene set on p
+  pub followed : (p : ℕ) (i : IfaceName) → set p ≡ true → claims_at (controllers_in scene) p i ≡ true → is_missing (controllers_in scene) set i ≡ false
+
+module _ (scene : Scene) (small set added on : Places) (extended : IsExtended scene small set added on) where
+  -- the loaded controller of a member
+  loaded_at : (p : ℕ) → set p ≡ true → (l : Seen) × Contains scene.loaded l × (l.place ≡ p)
+  loaded_at p inside =
+      let r = some_of (λ (l : Seen). l.place == p) scene.loaded (extended.loaded p inside) in
+      (r.0, r.1, eqb-true r.0.place p r.2)
+
+  -- of one that was added no member is a rival
+  no_rival : (p q : ℕ) (i : IfaceName) → set p ≡ true → added p ≡ true → set q ≡ true → claims_at (controllers_in scene) p i ≡ true → claims_at (controllers_in scene) q i ≡ true → q ≡ p
+  no_rival p q i inside new other claims also =
+      let l = loaded_at q other in
+      let none : rival scene set p i ≡ None =
+      map_none (λ (m : Member). cause.Conflict i (described scene m.place).name) (rival scene set p i)
+      (first_of-none (conflict_over scene set p) (described scene p).claims (extended.clear p inside new).conflict i (claims_inside scene p i claims)) in
+      let each : (not (l.0.place == p) && claims_at (controllers_in scene) l.0.place i) ≡ false =
+      not_found (λ (m : Member). not (m.place == p) && claims_at (controllers_in scene) m.place i) (order scene set) none (member l.0)
+      (order_from scene set l.0 l.1 (ap set l.2 ∙ other)) in
+      let here : not (l.0.place == p) ≡ false = and_first (not (l.0.place == p)) (claims_at (controllers_in scene) l.0.place i) each (ap (λ r. claims_at (controllers_in scene) r i) l.2 ∙ also) in
+      sym l.2 ∙ eqb-true l.0.place p (not-false (l.0.place == p) here)
+
+  -- and none claims another command interface of a joint
+  no_other_mode : (p q : ℕ) (i j : IfaceName) → set p ≡ true → added p ≡ true → set q ≡ true → claims_at (controllers_in scene) p i ≡ true → claims_at (controllers_in scene) q j ≡ true
+      → is_beside i j ≡ false
+  no_other_mode p q i j inside new other claims also =
+      let l = loaded_at q other in
+      let free : is_mode_taken scene set i ≡ false =
+      if_none (is_mode_taken scene set i) (cause.ModeRefused (joint_name i))
+      (first_of-none (λ i. cause_if (is_mode_taken scene set i) (cause.ModeRefused (joint_name i))) (described scene p).claims (extended.clear p inside new).mode i (claims_inside scene p i claims)) in
+      let each : (set l.0.place && list_any (is_beside i) (described scene l.0.place).claims) ≡ false =
+      each_fails (λ (l : Seen). set l.place && list_any (is_beside i) (described scene l.place).claims) scene.loaded free l.0 l.1 in
+      let none : list_any (is_beside i) (described scene l.0.place).claims ≡ false =
+      and_second (set l.0.place) (list_any (is_beside i) (described scene l.0.place).claims) each (ap set l.2 ∙ other) in
+      each_fails (is_beside i) (described scene l.0.place).claims none j
+      (subst (λ r. Contains (described scene r).claims j) (sym l.2) (claims_inside scene q j also))
+
+  -- and what it claims or reads is available
+  is_up : (p : ℕ) (i : IfaceName) → set p ≡ true → added p ≡ true → names_at (controllers_in scene) p i ≡ true → is_there scene.description scene.components i ≡ true
+  is_up p i inside new named =
+      let names = (described scene p).claims ++ (described scene p).reads in
+      let r = some_of (same_interface i) names named in
+      let up : is_unavailable scene r.0 ≡ false =
+      if_none (is_unavailable scene r.0) (cause.Unavailable r.0)
+      (first_of-none (λ i. cause_if (is_unavailable scene i) (cause.Unavailable i)) names (extended.clear p inside new).availability r.0 r.1) in
+      subst (λ x. is_there scene.description scene.components x ≡ true) (sym ((same_interface-Decides i r.0).0 r.2))
+      (unless_fails (λ k. is_available (slice_index_or scene.components k Unconfigured)) (component_with scene.description.components r.0) up)
+
+  -- So the set can run together.
+  pub extended_together : CanRunTogether scene.description scene.components set
+  extended_together = record {
+    exclusive = λ p q i inside other claims also.
+        elim (extended.parts p inside) [
+          | inr new ↦ sym (no_rival p q i inside new other claims also)
+          | inl old ↦
+              elim (extended.parts q other) [
+                | inr new ↦ no_rival q p i other new inside also claims
+                | inl older ↦ extended.before.exclusive p q i old older claims also
+              ]
+        ];
+    one_mode = λ p q i j inside other claims also.
+        elim (extended.parts p inside) [
+          | inr new ↦ no_other_mode p q i j inside new other claims also
+          | inl old ↦
+              elim (extended.parts q other) [
+                | inr new ↦ beside_turned i j (no_other_mode q p j i other new inside also claims)
+                | inl older ↦ extended.before.one_mode p q i j old older claims also
+              ]
+        ];
+    available = λ p i inside named.
+        elim (extended.parts p inside) [
+          | inr new ↦ is_up p i inside new named
+          | inl old ↦ extended.before.available p i old named
+        ];
+    followed = extended.followed;
+  }

@@ -1,0 +1,67 @@
+-- What a read of components leaves: each interface itself, the joints that they are of, and numbers in what is a state.
+use Rattle.std.proofs.Common.{◌≡◌, ℕ, zero, suc, ◌<◌, Bool, true, false, List, [], ◌∷◌, length, map, Option, Some, None, refl, sym, true≢false, arith}
+use Rattle.std.specs.Prelude.{not, if◌then◌else◌, is_some, slice_get}
+use Rattle.std.specs.List.{AllByRecursion}
+use Rattle.std.specs.Option.{option_map_or}
+use Rattle.std.proofs.lemmas.Bool.{and_parts}
+use Rattle.fixed_num.specs.declared.value.BodyState.{BodyState}
+use Rattle.fixed_num.specs.declared.value.Value.{Value}
+use Rattle.fixed_num.specs.declared.value.Value.TheVariants.{Unset, Num}
+use Rattle.iface_names.specs.declared.interface.IfaceName.{IfaceName}
+use Rattle.iface_names.specs.declared.kind.Kind.{Kind}
+use Rattle.cm_document.proofs.DistinctLemmas.{all_map}
+use Rattle.cm_document.specs.Places.{Whose, of_joint, of_controller}
+use Rattle.cm_model.proofs.CommitLemmas.{interfaces_stay}
+use Rattle.cm_model.proofs.LoadedLemmas.{all_from}
+use Rattle.cm_model.specs.Components.{measured}
+use Rattle.cm_model.specs.Sound.{is_number}
+use Rattle.cm_model.specs.Steady.{HoldsNumber, HasBody}
+use Rattle.cm_model.specs.Values.{InterfaceValue, belongs_to, is_state_of, kind_in, shown, read_of, after_reads}
+
+-- ---- What is shown
+
+-- what a read of a body gives that is there
+measured_number : (o : Option BodyState) (kind : Kind) → is_some o ≡ true → is_number (option_map_or (λ b. Num (measured kind b)) o Unset) ≡ true
+measured_number None kind some = absurd (true≢false (sym some))
+measured_number (Some b) kind some = refl
+
+some_at : {A : Type 0} (xs : List A) (i : ℕ) → i < length xs → is_some (slice_get xs i) ≡ true
+some_at [] i below = absurd (omega (arith, below))
+some_at (x ∷ xs) zero below = refl
+some_at (x ∷ xs) (suc i) below = some_at xs i (omega (arith, below))
+
+shown_number : (components : ℕ → Bool) (bodies : List BodyState) (name : IfaceName) (whose : Whose) → HasBody (length bodies) whose → belongs_to components whose ≡ true
+    → is_number (shown bodies name whose) ≡ true
+shown_number components bodies name (of_joint component joint) body belongs = measured_number (slice_get bodies joint) (kind_in name) (some_at bodies joint body)
+shown_number components bodies name (of_controller place) body belongs = absurd (true≢false (sym belongs))
+
+-- ---- One interface
+
+same_read : (read : Bool) (v : InterfaceValue) (seen : Value) → (if read then record v { value = seen } else v).interface ≡ v.interface
+same_read true v seen = refl
+same_read false v seen = refl
+
+pub read_same : (read : ℕ → Bool) (bodies : List BodyState) (v : InterfaceValue) → (read_of read bodies v).interface ≡ v.interface
+read_same read bodies v = same_read (is_state_of read v.interface) v (shown bodies v.interface.called.name v.interface.whose)
+
+-- Where its body is there, what was read holds a number; and what was not read holds what it held.
+read_holds : (there read : ℕ → Bool) (bodies : List BodyState) (v : InterfaceValue) → HasBody (length bodies) v.interface.whose
+    → (is_state_of read v.interface ≡ false → HoldsNumber there v) → HoldsNumber there (read_of read bodies v)
+read_holds there read bodies v body held = either (is_state_of read v.interface) refl
+  where
+    either : (b : Bool) → is_state_of read v.interface ≡ b
+        → HoldsNumber there (if b then record v { value = shown bodies v.interface.called.name v.interface.whose } else v)
+    either true is = λ state.
+        shown_number there bodies v.interface.called.name v.interface.whose body (and_parts (not v.interface.called.is_command) (belongs_to there v.interface.whose) state).1
+    either false is = held is
+
+-- ---- All
+
+pub reads_same : (read : ℕ → Bool) (bodies : List BodyState) (vs : List InterfaceValue) → map (λ v. v.interface) (after_reads read bodies vs) ≡ map (λ v. v.interface) vs
+reads_same read bodies vs = interfaces_stay (read_of read bodies) (read_same read bodies) vs
+
+pub reads_hold : (there read : ℕ → Bool) (bodies : List BodyState) (vs : List InterfaceValue) → AllByRecursion (λ v. HasBody (length bodies) v.interface.whose) vs
+    → AllByRecursion (λ v. is_state_of read v.interface ≡ false → HoldsNumber there v) vs → AllByRecursion (HoldsNumber there) (after_reads read bodies vs)
+reads_hold there read bodies vs embodied held =
+    all_map (HoldsNumber there) (read_of read bodies) vs (all_from (λ v. HasBody (length bodies) v.interface.whose) _ (λ v. HoldsNumber there (read_of read bodies v))
+    (λ v body holds. read_holds there read bodies v body holds) vs embodied held)

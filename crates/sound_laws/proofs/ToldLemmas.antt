@@ -1,0 +1,156 @@
+-- Along each legal history what was told so far are, by ticket, the outcomes of all requests that have one.
+use Rattle.std.proofs.Common.{◌≡◌, ◌⊎◌, ℕ, List, [], ◌∷◌, ◌++◌, Option, Some, None, option_map, append-nil, inl, inr, refl, sym, ◌∙◌, subst, ap}
+use Rattle.std.specs.Prelude.{slice_get, IsSomeAnd}
+use Rattle.cm_document.specs.declared.call.Call.{Call}
+use Rattle.cm_document.specs.declared.call.Call.TheVariants.{Load, Configure, Cleanup, Unload, Rate, Send, Switch, Hardware, Told, Begin, End, Close}
+use Rattle.cm_document.specs.declared.description.CtlDesc.{CtlDesc}
+use Rattle.cm_model.proofs.StayLemmas.{IsStep, step-IsStep}
+use Rattle.cm_model.specs.Boundary.{request_effect, decisions_from, begin_effect, begin_reply, close_effect, close_reply}
+use Rattle.cm_model.specs.Commit.{commit}
+use Rattle.cm_model.specs.Console.{place_of, slot_of, after_configure, after_cleanup, after_rate, after_send, where_done, with_slot, with_changed, without_slot}
+use Rattle.cm_model.specs.Cycle.{after_cycle}
+use Rattle.cm_model.specs.Machine.{LegalFrom, reply_of, with_controller, with_loaded, load_effect, effect, step}
+use Rattle.cm_model.specs.Sound.{moments, decisions_in, IsToldRightly, TicketsAreRight, TicketsFrom}
+use Rattle.cm_model.specs.State.{State, Loaded}
+use Rattle.cm_model.specs.declared.cause.Decision.{Decision}
+use Rattle.cm_model.specs.declared.entry.Entry.{Entry}
+use Rattle.cm_model.specs.declared.reply.Reply.{Reply}
+use Rattle.cm_model.specs.declared.reply.Reply.TheVariants as reply
+use Rattle.cm_model.specs.declared.request.Request.{Request}
+use Rattle.cm_model.specs.declared.request.Request.TheVariants as request
+use Rattle.switch_plan.proofs.ElementLemmas.{some_is}
+use Rattle.sound_laws.proofs.ReplyLemmas.{Decides, of_reply}
+use Rattle.sound_laws.proofs.TicketLemmas.{begin_tells, close_tells, told_rightly}
+
+-- ---- Outcomes stay
+
+load_stays : (s : State) (place : ℕ) (o : Option CtlDesc) → (with_controller s place o).outcomes ≡ s.outcomes
+load_stays s place None = refl
+load_stays s place (Some c) = refl
+
+loaded_stays : (s : State) (place : Option ℕ) → (with_loaded s place).outcomes ≡ s.outcomes
+loaded_stays s None = refl
+loaded_stays s (Some place) = load_stays s place (slice_get s.description.controllers place)
+
+load_effect_stays : (s : State) (name : List ℕ) (r : Reply) → (load_effect s name r).outcomes ≡ s.outcomes
+load_effect_stays s name (reply.Serial serial) = loaded_stays s (place_of s name)
+load_effect_stays s name _ = refl
+
+slot_stays : (s : State) (i : ℕ) (o : Option Loaded) → (with_slot s i o).outcomes ≡ s.outcomes
+slot_stays s i None = refl
+slot_stays s i (Some l) = refl
+
+changed_stays : (s : State) (change : Loaded → Loaded) (slot : Option ℕ) → (with_changed change s slot).outcomes ≡ s.outcomes
+changed_stays s change None = refl
+changed_stays s change (Some i) = slot_stays s i (option_map change (slice_get s.loaded i))
+
+without_stays : (s : State) (slot : Option ℕ) → (without_slot s slot).outcomes ≡ s.outcomes
+without_stays s None = refl
+without_stays s (Some i) = refl
+
+where_done_stays : (s after : State) (r : Reply) → after.outcomes ≡ s.outcomes → (where_done r after s).outcomes ≡ s.outcomes
+where_done_stays s after reply.Done stays = stays
+where_done_stays s after _ stays = refl
+
+request_stays : (s : State) (asked : Request) (r : Reply) → (request_effect s asked r).outcomes ≡ s.outcomes
+request_stays s asked (reply.Queued ticket) = refl
+request_stays s asked _ = refl
+
+-- a call that decides nothing leaves them as they are
+effect_stays : (s : State) (call : Call) (r : Reply) → (Decides call → ⊥) → (effect s call r).outcomes ≡ s.outcomes
+unfolding after_cycle commit
+effect_stays s (Load name) r never = load_effect_stays s name r
+effect_stays s (Configure name) r never = where_done_stays s _ r (changed_stays s (after_configure s) (slot_of s name))
+effect_stays s (Cleanup name) r never = where_done_stays s _ r (changed_stays s after_cleanup (slot_of s name))
+effect_stays s (Unload name) r never = where_done_stays s _ r (without_stays s (slot_of s name))
+effect_stays s (Rate name hz) r never = where_done_stays s _ r (changed_stays s (after_rate hz) (slot_of s name))
+effect_stays s (Send name mail) r never = where_done_stays s _ r (changed_stays s (after_send mail) (slot_of s name))
+effect_stays s (Switch asked) r never = request_stays s (request.Switch asked) r
+effect_stays s (Hardware component target) r never = request_stays s (request.Hardware component target) r
+effect_stays s (Begin number) r never = absurd (never tt)
+effect_stays s (End number) r never = refl
+effect_stays s Close r never = absurd (never tt)
+effect_stays s _ r never = refl
+
+-- and tells of no decision
+none_told : (s : State) (call : Call) (r : Reply) → (Decides call → ⊥) → reply_of s call ≡ Some r → decisions_in r ≡ []
+none_told s call r never told = of_reply s (λ r. decisions_in r ≡ []) call (record {
+  refused = λ reason. refl;
+  done = refl;
+  serial = refl;
+  controllers = refl;
+  interfaces = refl;
+  components = refl;
+  decisions = λ decides decisions. absurd (never decides);
+  queued = refl;
+  became = λ became. refl;
+  cycle = refl;
+}) r told
+
+-- ---- One call
+
+module _ (s : State) (made : State × Reply) where
+  -- what was told before, with what this call tells, is told of all that have an outcome then
+  abbrev TellsRest : Type 0
+  TellsRest = decisions_from 0 s.outcomes ++ decisions_in made.1 ≡ decisions_from 0 made.0.outcomes
+
+  plain_tells : (call : Call) → IsStep s call made → (Decides call → ⊥) → TellsRest
+  plain_tells call is never =
+      ap (λ decisions. decisions_from 0 s.outcomes ++ decisions) (none_told s call made.1 never is.replied) ∙ append-nil (decisions_from 0 s.outcomes)
+      ∙ ap (decisions_from 0) (sym (ap (λ (t : State). t.outcomes) is.next ∙ effect_stays s call made.1 never))
+
+  -- with the reply that it has, and the state that it leaves
+  as_made : (r : Reply) (t : State) → r ≡ made.1 → made.0 ≡ t → decisions_from 0 s.outcomes ++ decisions_in r ≡ decisions_from 0 t.outcomes → TellsRest
+  as_made r t same next tells =
+      ap (λ answer. decisions_from 0 s.outcomes ++ decisions_in answer) (sym same) ∙ tells ∙ ap (λ (t : State). decisions_from 0 t.outcomes) (sym next)
+
+  deciding : (call : Call) → (Decides call) ⊎ (Decides call → ⊥)
+  deciding (Begin number) = inl tt
+  deciding Close = inl tt
+  deciding _ = inr (λ never. never)
+
+  decided_tells : (call : Call) → IsStep s call made → Decides call → TellsRest
+  decided_tells (Begin number) is decides = as_made (begin_reply s) (begin_effect s) (some_is (begin_reply s) made.1 is.replied) is.next (begin_tells s)
+  decided_tells Close is decides = as_made (close_reply s) (close_effect s) (some_is (close_reply s) made.1 is.replied) is.next (close_tells s)
+  decided_tells _ is decides = absurd decides
+
+  tells : (call : Call) → IsStep s call made → TellsRest
+  tells call is =
+      elim (deciding call) [
+        | inl decides ↦ decided_tells call is decides
+        | inr never ↦ plain_tells call is never
+      ]
+
+  -- and who asks is told what was told before
+  asks : (call : Call) → IsStep s call made → IsToldRightly (decisions_from 0 s.outcomes) call made.1
+  asks (Told ticket) is = told_rightly s ticket ∙ is.replied
+  asks _ is = tt
+
+  call_right : (so_far : List Decision) → so_far ≡ decisions_from 0 s.outcomes → (call : Call) → IsStep s call made
+      → TicketsAreRight so_far (record { before = s; call = call; reply = made.1; after = made.0 })
+  call_right so_far are call is =
+      subst (λ told. TicketsAreRight told (record { before = s; call = call; reply = made.1; after = made.0 })) (sym are) (record { each_once = tells call is; told = asks call is })
+
+-- ---- Histories
+
+-- of a step, and what comes after it
+tickets_step : (s : State) (so_far : List Decision) (e : Entry) (es : List Entry) → so_far ≡ decisions_from 0 s.outcomes → (o : Option (State × Reply)) → step s e.who e.call ≡ o
+    → IsSomeAnd o (λ made. (made.1 ≡ e.reply) × LegalFrom made.0 es)
+    → ((t : State) (told : List Decision) → told ≡ decisions_from 0 t.outcomes → LegalFrom t es → TicketsFrom told (moments t es))
+    → TicketsFrom so_far (elim o [
+      | None ↦ []
+      | Some made ↦ record { before = s; call = e.call; reply = e.reply; after = made.0 } ∷ moments made.0 es
+    ])
+tickets_step s so_far e es are None stepped legal rest = tt
+tickets_step s so_far e es are (Some made) stepped legal rest =
+    let is = step-IsStep s e.who e.call made stepped in
+    let all : so_far ++ decisions_in made.1 ≡ decisions_from 0 made.0.outcomes = ap (λ told. told ++ decisions_in made.1) are ∙ tells s made e.call is in
+    subst (λ r. TicketsFrom so_far (record { before = s; call = e.call; reply = r; after = made.0 } ∷ moments made.0 es)) legal.0
+    (call_right s made so_far are e.call is, rest made.0 (so_far ++ decisions_in made.1) all legal.1)
+
+-- Each ticket is decided once, and told so, along each legal history.
+pub tickets_from : (s : State) (so_far : List Decision) (history : List Entry) → so_far ≡ decisions_from 0 s.outcomes → LegalFrom s history
+    → TicketsFrom so_far (moments s history)
+tickets_from s so_far [] are legal = tt
+tickets_from s so_far (e ∷ es) are legal =
+    tickets_step s so_far e es are (step s e.who e.call) refl legal (λ t told all after. tickets_from t told es all after)
