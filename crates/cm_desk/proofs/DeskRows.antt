@@ -3,7 +3,7 @@ use Rattle.std.proofs.Common.{◌≡◌, ℕ, true, false, List, [], ◌∷◌, 
 use Rattle.std.specs.Prelude.{codes}
 use Rattle.cm_document.specs.Described.{a_controller, a_description}
 use Rattle.cm_document.specs.declared.call.Call.{Call}
-use Rattle.cm_document.specs.declared.call.Call.TheVariants.{Load, Unload, Close}
+use Rattle.cm_document.specs.declared.call.Call.TheVariants.{Load, Unload, Told, Await, Close}
 use Rattle.cm_document.specs.declared.description.CtlKind.TheVariants as kind
 use Rattle.cm_document.specs.declared.description.Params.TheVariants.{Mock}
 use Rattle.cm_model.specs.Boundary.{all_concluded}
@@ -68,6 +68,15 @@ box_of_unload = (refl, refl, refl)
 what_is_owed : (owed opening ≡ 1) × (owed (record opening { aloft = true }) ≡ 2) × (owed (after loaded_again) ≡ 0)
 unfolding step all_concluded
 what_is_owed = (refl, refl, refl)
+
+-- a session waits for a cycle that has not ended and for a request that is not decided, and goes on where it need not wait
+who_waits :
+    (step opening 0 (Await 1) ≡ None)
+    × (step opening 0 (Await 0) ≡ Some (opening, reply.Done))
+    × (step (after loaded_again) 0 (Await 1) ≡ Some (after loaded_again, reply.Done))
+    × (step opening 0 (Told 0) ≡ None)
+unfolding step all_concluded
+who_waits = (refl, refl, refl, refl)
 
 -- a desk that stands there is seen as that history
 seen_so : seen stock (after loaded) loaded ≡ record { opening = opening; made = loaded }

@@ -4,13 +4,13 @@ use Rattle.std.specs.Prelude.{not, ◌==◌, ◌&&◌, option_map, slice_get}
 use Rattle.std.proofs.lemmas.Bool.Decides.{nat_tests}
 use Rattle.std.proofs.lemmas.List.{length-map, length_push}
 use Rattle.cm_document.specs.declared.call.Call.{Call}
-use Rattle.cm_document.specs.declared.call.Call.TheVariants.{Load, Configure, Cleanup, Unload, Rate, Send, ListControllers, ListInterfaces, ListComponents, Begin, End, Close}
+use Rattle.cm_document.specs.declared.call.Call.TheVariants.{Load, Configure, Cleanup, Unload, Rate, Send, Told, Await, ListControllers, ListInterfaces, ListComponents, Begin, End, Close}
 use Rattle.cm_document.specs.declared.description.CtlDesc.{CtlDesc}
 use Rattle.cm_model.specs.Console.{place_of, slot_of, where_done, with_slot, with_changed, without_slot, after_configure, after_cleanup, after_rate, after_send}
 use Rattle.cm_model.specs.Commit.{commit}
 use Rattle.cm_model.specs.Components.{read_succeeds}
 use Rattle.cm_model.specs.Cycle.{CycleResult, component_is, updated_in, updates, cycle, after_cycle}
-use Rattle.cm_model.specs.Machine.{is_enabled, reply_of, effect, with_controller, with_loaded, load_effect, can_begin, can_close, step}
+use Rattle.cm_model.specs.Machine.{is_decided, is_reached, is_enabled, reply_of, effect, with_controller, with_loaded, load_effect, can_begin, can_close, step}
 use Rattle.cm_model.specs.Scheduled.{with_entry}
 use Rattle.cm_model.specs.State.{State, Loaded, boot, newly_loaded}
 use Rattle.cm_model.specs.Values.{after_reads}
@@ -138,6 +138,9 @@ end-few s =
 
 -- ---- Steps
 
+session_itself : (s : State) (who : ℕ) → who < s.sessions → nat_lt who s.sessions ≡ true
+session_itself s who less = grind (arith, nat_tests)
+
 -- a call of a session that is so answered is its step
 pub called_step : (s next : State) (who : ℕ) (call : Call) (r : Reply) → who < s.sessions → CanBeCalled call → reply_of s call ≡ Some r → next ≡ effect s call r
     → step s who call ≡ Some (next, r)
@@ -145,7 +148,7 @@ unfolding step
 called_step s next who call r less can replied effected = stepped call can replied effected
   where
     known : nat_lt who s.sessions ≡ true
-    known = grind (arith, nat_tests)
+    known = session_itself s who less
 
     enabled : (call : Call) → is_enabled s who call ≡ true → reply_of s call ≡ Some r → next ≡ effect s call r → step s who call ≡ Some (next, r)
     enabled call can replied effected = rw (can, replied, effected) refl
@@ -161,6 +164,24 @@ called_step s next who call r less can replied effected = stepped call can repli
     stepped ListInterfaces can = enabled ListInterfaces known
     stepped ListComponents can = enabled ListComponents known
     stepped _ can = absurd can
+
+-- a session is told nothing of a request that is not decided
+pub told_waits : (s : State) (who ticket : ℕ) → who < s.sessions → length s.outcomes ≤ ticket → step s who (Told ticket) ≡ None
+unfolding step
+told_waits s who ticket less undecided = rw (session_itself s who less, waits) refl
+  where
+    waits : is_decided s ticket ≡ false
+    waits = grind (arith, nat_tests)
+
+-- a session goes on where so many cycles have ended, or the loop is closed
+pub await_step : (s : State) (who n : ℕ) → who < s.sessions → is_reached s n ≡ true → step s who (Await n) ≡ Some (s, reply.Done)
+unfolding step
+await_step s who n less reached = rw (session_itself s who less, reached) refl
+
+-- and waits where not
+pub await_waits : (s : State) (who n : ℕ) → who < s.sessions → is_reached s n ≡ false → step s who (Await n) ≡ None
+unfolding step
+await_waits s who n less unreached = rw (session_itself s who less, unreached) refl
 
 loop_itself : (n : ℕ) → (n == n) ≡ true
 loop_itself n = grind (arith, nat_tests)

@@ -29,6 +29,15 @@ pub record Grows (old new : History) (who : ℕ) (call : Call) (reply : Reply) :
   pub made : new.made ≡ with_entry old.made who call reply
   pub stepped : step (now_of old) who call ≡ Some (now_of new, reply)
 
+-- The call cannot be made yet, and nothing changed.
+abbrev pub Waits : History → History → ℕ → Call → Type 0
+Waits old new who call = (step (now_of old) who call ≡ None) × (new ≡ old)
+
+-- One entry more where the call was made; else it waits.
+abbrev pub GrowsWhere : Bool → History → History → ℕ → Call → Reply → Type 0
+GrowsWhere true old new who call r = Grows old new who call r
+GrowsWhere false old new who call r = Waits old new who call
+
 -- ---- Calls
 
 -- A call that the desk answers for a session: one on a controller, or a list.

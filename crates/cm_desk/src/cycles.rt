@@ -1,8 +1,8 @@
 //! What the loop does, and the lists of hardware.
 
-ghost use Rattle.std.specs.Prelude.{◌≡◌, ◌+◌, ◌<◌, true, IfOk, OnOk, OnErr};
+ghost use Rattle.std.specs.Prelude.{◌≡◌, ◌+◌, ◌<◌, true, length, IfOk, OnOk, OnErr};
 ghost use Rattle.cm_model.specs.Cycle.{cycle, after_cycle};
-ghost use Rattle.cm_model.specs.Machine.{can_begin, can_close};
+ghost use Rattle.cm_model.specs.Machine.{is_reached, can_begin, can_close};
 ghost use Rattle.cm_model.specs.State.{interface_lines, component_lines};
 ghost use Rattle.cm_desk.specs.Works.{IsQuiet};
 
@@ -31,6 +31,22 @@ impl<C: Controller> Works<C> {
         ensures { result ≡ self.now.closed }
     {
         self.closed
+    }
+
+    /// Whether so many cycles have ended, or the loop is closed.
+    pub fn is_reached(&self, cycles: u64) -> bool
+        ensures { result ≡ is_reached self.now cycles }
+    {
+        self.ended >= cycles || self.closed
+    }
+
+    /// How many requests are decided: none can be made yet.
+    pub fn decided(&self) -> u32
+        ensures counted { result ≡ length self.now.outcomes }
+        ensures none { result ≡ 0 }
+    {
+        let _ = &self.ended;
+        0
     }
 
     /// The next cycle begins, and takes all memory that it needs. Nothing can wait to be decided yet.

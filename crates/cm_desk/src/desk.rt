@@ -1,15 +1,15 @@
 //! The desk: the manager at work, with the history of all that it did.
 
-ghost use Rattle.std.specs.Prelude.{◌≡◌, ◌<◌, true, [], map, option_map, IfOk, OnOk, OnErr};
+ghost use Rattle.std.specs.Prelude.{◌≡◌, ◌<◌, true, [], map, length, option_map, IfOk, OnOk, OnErr, MatchOption};
 ghost use Rattle.cm_document.specs.declared.call.Call.TheVariants as call;
 ghost use Rattle.cm_model.specs.Cycle.{cycle};
 ghost use Rattle.cm_model.specs.Machine.{LegalFrom, can_begin, can_close};
 ghost use Rattle.cm_model.specs.State.{boot};
-ghost use Rattle.cm_desk.specs.Desk.{now_of, Grows, CanBeCalled, hands_out};
+ghost use Rattle.cm_desk.specs.Desk.{now_of, Grows, Waits, GrowsWhere, CanBeCalled, hands_out};
 
 use crate::book::Book;
 use crate::works::Works;
-use cm_model::{Blanks, Call, Checked, Entry, KeptCall, Memory, Rare, Reply};
+use cm_model::{Blanks, Call, Checked, Entry, KeptCall, Memory, Outcome, Rare, Reply};
 use ctl_rack::Stock;
 use ctl_trait::Controller;
 use std::alloc::Global;
@@ -89,6 +89,44 @@ impl<C: Controller> Desk<C> {
         Ok((answer.reply, answer.given))
     }
 
+    /// What became of the request of a ticket, asked by a session. Where it is not decided, None, and nothing changes. Want of memory
+    /// changes nothing either.
+    pub fn told(&mut self, _alloc: Global, who: u32, ticket: u32) -> Result<Option<Outcome>, Memory>
+        requires session { who < self.old.opening.sessions }
+        ensures made { IfOk result
+            (λ outcome. MatchOption outcome
+            (Waits self.old self.new who (call.Told ticket))
+            (λ o. Grows self.old self.new who (call.Told ticket) (Reply.Outcome o))) }
+        ensures kept { OnErr result (self.new ≡ self.old) }
+    {
+        if ticket < self.works.decided() {
+            // No request can be made yet.
+            unreachable!();
+        }
+        Ok(None)
+    }
+
+    /// Whether so many cycles have ended or the loop is closed, asked by a session, which goes on where it is so. Where not, nothing
+    /// changes. Want of memory changes nothing either.
+    pub fn reached(&mut self, alloc: Global, who: u32, cycles: u64) -> Result<bool, Memory>
+        requires session { who < self.old.opening.sessions }
+        ensures made { IfOk result
+            (λ reached. GrowsWhere reached self.old self.new who (call.Await cycles) Reply.Done) }
+        ensures kept { OnErr result (self.new ≡ self.old) }
+    {
+        if !self.works.is_reached(cycles) {
+            return Ok(false);
+        }
+        self.history.reserve(ENTRIES_AHEAD)?;
+        let kept = KeptCall::of(alloc, Call::Await(cycles))?;
+        self.history.push_reserved(Entry {
+            who,
+            call: kept,
+            reply: Reply::Done,
+        });
+        Ok(true)
+    }
+
     /// The loop begins the next cycle, and takes all memory that the cycle needs. Nothing can wait to be decided yet. Want of memory
     /// changes nothing.
     pub fn begin(&mut self, alloc: Global) -> Result<(), Memory>
@@ -166,6 +204,13 @@ impl<C: Controller> Desk<C> {
         ensures { result ≡ (now_of self.now).closed }
     {
         self.works.is_closed()
+    }
+
+    /// How many requests are decided: those of the tickets below.
+    pub fn decided(&self) -> u32
+        ensures { result ≡ length (now_of self.now).outcomes }
+    {
+        self.works.decided()
     }
 
     /// The description that the desk runs on.

@@ -4,7 +4,7 @@
 pub use book::Book;
 pub use cm_model::{
     Blanks, Call, Checked, CompLine, CtlLine, CycleRecord, Entry, IfaceLine, Mail, Memory, Name,
-    Reply, Why,
+    Outcome, Reply, Why,
 };
 pub use ctl_rack::Stock;
 pub use ctl_trait::Controller;
