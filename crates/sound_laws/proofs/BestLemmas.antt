@@ -51,21 +51,21 @@ still_followed small large None more none = refl
 still_followed small large (Some q) more none = ap not (more q refl (not-false (small q) none))
 
 -- a controller precedes the exporter of what it claims
-pub precedes_exporter : (scene : Scene) (p : ℕ) (i : IfaceName) (q : ℕ) → claims_at (controllers_in scene) p i ≡ true → exporter (controllers_in scene) i ≡ Some q
+pub precedes_exporter : (scene : Scene) (p : ℕ) (interface : IfaceName) (q : ℕ) → claims_at (controllers_in scene) p interface ≡ true → exporter (controllers_in scene) interface ≡ Some q
     → precedes_at (controllers_in scene) p q ≡ true
-precedes_exporter scene p i q claims is =
-    any_from (λ i. is_among i (refs_of (controller_at (controllers_in scene) q))) (described scene p).claims i (claims_inside scene p i claims)
-    (position-Some (λ (c : CtlDesc). is_among i (refs_of c)) (controllers_in scene) q nobody is).1
+precedes_exporter scene p interface q claims is =
+    any_from (λ interface. is_among interface (refs_of (controller_at (controllers_in scene) q))) (described scene p).claims interface (claims_inside scene p interface claims)
+    (position-Some (λ (c : CtlDesc). is_among interface (refs_of c)) (controllers_in scene) q nobody is).1
 
 -- A part of a set that can run together can, where no follower of a member is left out.
 pub part_together : (scene : Scene) (set part : Places) → CanRunTogether scene.description scene.components set → ((p : ℕ) → part p ≡ true → set p ≡ true)
     → ((p q : ℕ) → part p ≡ true → set q ≡ true → precedes_at (controllers_in scene) p q ≡ true → part q ≡ true) → CanRunTogether scene.description scene.components part
 part_together scene set part whole inside closed = record {
-  exclusive = λ p q i a b claims also. whole.exclusive p q i (inside p a) (inside q b) claims also;
-  one_mode = λ p q i j a b claims also. whole.one_mode p q i j (inside p a) (inside q b) claims also;
-  available = λ p i a named. whole.available p i (inside p a) named;
-  followed = λ p i a claims. still_followed set part (exporter (controllers_in scene) i)
-      (λ q is was. closed p q a was (precedes_exporter scene p i q claims is)) (whole.followed p i (inside p a) claims);
+  exclusive = λ p q interface a b claims also. whole.exclusive p q interface (inside p a) (inside q b) claims also;
+  one_mode = λ p q interface j a b claims also. whole.one_mode p q interface j (inside p a) (inside q b) claims also;
+  available = λ p interface a named. whole.available p interface (inside p a) named;
+  followed = λ p interface a claims. still_followed set part (exporter (controllers_in scene) interface)
+      (λ q is was. closed p q a was (precedes_exporter scene p interface q claims is)) (whole.followed p interface (inside p a) claims);
 }
 
 -- ---- One that joins
@@ -110,11 +110,11 @@ module _ (s : State) (on : Places) where
         (or_none (fault_of_kind scene set on fault_kind.Follower p)
         (first_of (λ kind. fault_of_kind scene set on kind p) (fault_kind.Availability ∷ fault_kind.Conflict ∷ fault_kind.Mode ∷ fault_kind.Readiness ∷ [])) none).0
 
-    followed : (q : ℕ) (i : IfaceName) → set q ≡ true → claims_at (controllers_in scene) q i ≡ true → is_missing (controllers_in scene) set i ≡ false
-    followed q i inside claims =
+    followed : (q : ℕ) (interface : IfaceName) → set q ≡ true → claims_at (controllers_in scene) q interface ≡ true → is_missing (controllers_in scene) set interface ≡ false
+    followed q interface inside claims =
         elim (or_cases (p == q) (small q) inside) [
-          | inl same ↦ none_missing scene set on p i follower (ap (λ r. claims_at (controllers_in scene) r i) (eqb-true p q same) ∙ claims)
-          | inr was ↦ less_missing small set (λ r is. or_right (p == r) (small r) is) (exporter (controllers_in scene) i) (fit.together.followed q i was claims)
+          | inl same ↦ none_missing scene set on p interface follower (ap (λ r. claims_at (controllers_in scene) r interface) (eqb-true p q same) ∙ claims)
+          | inr was ↦ less_missing small set (λ r is. or_right (p == r) (small r) is) (exporter (controllers_in scene) interface) (fit.together.followed q interface was claims)
         ]
 
     with_one_fit : IsFit s set

@@ -1,19 +1,19 @@
 -- From a begin to its end one configuration holds: what the calls between change is no part of the core.
 use Rattle.std.proofs.Common.{◌≡◌, ℕ, zero, suc, Bool, true, false, List, [], ◌∷◌, ◌++◌, map, slice_set, cond, Option, Some, None, option_map, refl, sym, ◌∙◌, subst, ap, true≢false}
-use Rattle.std.specs.Prelude.{not, ◌==◌, ◌&&◌, nat_lt, if◌then◌else◌, filter, slice_get, remove, is_some, IfSome, IsSomeAnd}
+use Rattle.std.specs.Prelude.{not, ◌==◌, ◌&&◌, nat_lt, filter, slice_get, remove, is_some, IfSome}
 use Rattle.std.specs.Option.{option_map_or}
 use Rattle.std.proofs.lemmas.Option.{none-some, same_Some}
 use Rattle.cm_document.specs.declared.call.Call.{Call}
-use Rattle.cm_document.specs.declared.call.Call.TheVariants.{Load, Configure, Cleanup, Unload, Rate, Send, Switch, Hardware, Told, Await, ListControllers, ListInterfaces, ListComponents, Begin, End, Close}
+use Rattle.cm_document.specs.declared.call.Call.TheVariants.{Load, Configure, Cleanup, Unload, Rate, Send, Switch, Hardware, Begin, End, Close}
 use Rattle.cm_document.specs.declared.description.CtlDesc.{CtlDesc}
-use Rattle.cm_model.proofs.StayLemmas.{effect-SameLoop, IsStep, step-IsStep}
+use Rattle.cm_model.proofs.StayLemmas.{effect-SameLoop, IsStep}
 use Rattle.cm_model.specs.Boundary.{request_effect}
 use Rattle.cm_model.specs.Console.{unless_refused, place_of, slot_of, controller_in, controller_of, description_of, is_inactive, configure_refusals, cleanup_refusals, unload_refusals, reply_on, configure_reply, cleanup_reply, unload_reply, configured_with, after_configure, after_cleanup, after_rate, after_send, where_done, with_slot, with_changed, without_slot}
 use Rattle.cm_model.specs.Cycle.{cycle}
 use Rattle.cm_model.specs.Kinds.{is_refused}
-use Rattle.cm_model.specs.Machine.{is_loop, is_enabled, LegalFrom, reply_of, answered, with_controller, with_loaded, load_effect, effect, step}
+use Rattle.cm_model.specs.Machine.{is_loop, is_enabled, LegalFrom, reply_of, with_controller, with_loaded, load_effect, effect}
 use Rattle.cm_model.specs.Sessions.{IsConsole}
-use Rattle.cm_model.specs.Sound.{Moment, moments, configuration, is_done, IsAsBegun, aloft_after, OneConfigurationFrom}
+use Rattle.cm_model.specs.Sound.{moments, configuration, is_done, IsAsBegun, aloft_after, OneConfigurationFrom}
 use Rattle.cm_model.specs.State.{State, Loaded, is_active, newly_loaded}
 use Rattle.cm_model.specs.declared.entry.Entry.{Entry}
 use Rattle.cm_model.specs.declared.request.Request.{Request}
@@ -23,6 +23,7 @@ use Rattle.cm_model.specs.declared.reply.Reply.TheVariants as reply
 use Rattle.cm_model.specs.declared.reply.Why.{Why}
 use Rattle.cm_model.specs.declared.reply.Why.TheVariants as why
 use Rattle.switch_plan.proofs.ElementLemmas.{some_is}
+use Rattle.sound_laws.proofs.MomentLemmas.{moment_of, legal_step}
 use Rattle.sound_laws.proofs.CoreLemmas.{bare, running_ones, core, core_configuration, core_cycle}
 
 -- ---- Lists
@@ -185,15 +186,6 @@ same_configuration s b same = sym (core_configuration s) ∙ ap configuration sa
 same_cycle : (s b : State) → core s ≡ core b → (cycle s).happened ≡ (cycle b).happened
 same_cycle s b same = sym (core_cycle s) ∙ ap (λ t. (cycle t).happened) same ∙ core_cycle b
 
--- what was made was enabled
-was_enabled : (s : State) (who : ℕ) (call : Call) (made : State × Reply) → step s who call ≡ Some made → is_enabled s who call ≡ true
-unfolding step
-was_enabled s who call made stepped = of (is_enabled s who call) stepped
-  where
-    of : (b : Bool) → (if b then option_map (answered s call) (reply_of s call) else None) ≡ Some made → b ≡ true
-    of true stepped = refl
-    of false stepped = cc
-
 -- no cycle begins while one is aloft, and the loop does not close
 none_begins : (loop aloft closed ended more : Bool) → aloft ≡ true → (loop && (((not aloft && not closed) && ended) && more)) ≡ true → ⊥
 none_begins true true closed ended more aloft enabled = true≢false (sym enabled)
@@ -206,10 +198,6 @@ none_closes false true closed aloft enabled = true≢false (sym enabled)
 none_closes loop false closed aloft enabled = true≢false (sym aloft)
 
 module _ (s : State) (who : ℕ) (made : State × Reply) where
-  -- the moment of a step
-  abbrev moment : Call → Moment
-  moment call = record { before = s; call = call; reply = made.1; after = made.0 }
-
   -- a console call leaves the cycle aloft, with its core
   stays_aloft : (begun : State) → IsAloft s begun → (call : Call) → IsConsole call → IsStep s call made → IsAloft made.0 begun
   stays_aloft begun before call between is = record {
@@ -220,27 +208,15 @@ module _ (s : State) (who : ℕ) (made : State × Reply) where
   between_begun : (begun : State) → IsAloft s begun → (call : Call) → IsConsole call → IsStep s call made → configuration made.0 ≡ configuration begun
   between_begun begun before call between is = same_configuration made.0 begun (stays_aloft begun before call between is).same
 
-  as_begun : (begun : State) → IsAloft s begun → (call : Call) → IsStep s call made → is_enabled s who call ≡ true → IsAsBegun begun (moment call) call
+  as_begun : (begun : State) → IsAloft s begun → (call : Call) → IsStep s call made → is_enabled s who call ≡ true → IsAsBegun begun (moment_of s call made) call
   as_begun begun before (Begin number) is enabled = absurd (none_begins (is_loop s who) s.aloft s.closed (s.ended == number) (nat_lt number s.description.cycles) before.aloft enabled)
   as_begun begun before Close is enabled = absurd (none_closes (is_loop s who) s.aloft s.closed before.aloft enabled)
   as_begun begun before (End number) is enabled =
       sym (some_is (reply.Cycle (cycle s).happened) made.1 is.replied) ∙ ap (λ happened. reply.Cycle happened) (same_cycle s begun before.same)
-  as_begun begun before (Load name) is enabled = between_begun begun before (Load name) tt is
-  as_begun begun before (Configure name) is enabled = between_begun begun before (Configure name) tt is
-  as_begun begun before (Cleanup name) is enabled = between_begun begun before (Cleanup name) tt is
-  as_begun begun before (Unload name) is enabled = between_begun begun before (Unload name) tt is
-  as_begun begun before (Rate name hz) is enabled = between_begun begun before (Rate name hz) tt is
-  as_begun begun before (Send name mail) is enabled = between_begun begun before (Send name mail) tt is
-  as_begun begun before (Switch asked) is enabled = between_begun begun before (Switch asked) tt is
-  as_begun begun before (Hardware component target) is enabled = between_begun begun before (Hardware component target) tt is
-  as_begun begun before (Told ticket) is enabled = between_begun begun before (Told ticket) tt is
-  as_begun begun before (Await cycles) is enabled = between_begun begun before (Await cycles) tt is
-  as_begun begun before ListControllers is enabled = between_begun begun before ListControllers tt is
-  as_begun begun before ListInterfaces is enabled = between_begun begun before ListInterfaces tt is
-  as_begun begun before ListComponents is enabled = between_begun begun before ListComponents tt is
+  as_begun begun before call is enabled = between_begun begun before call tt is
 
   where_begun : (begun : Option State) → HasBegun begun s → (call : Call) → IsStep s call made → is_enabled s who call ≡ true
-      → IfSome begun (λ b. IsAsBegun b (moment call) call)
+      → IfSome begun (λ b. IsAsBegun b (moment_of s call made) call)
   where_begun None before call is enabled = tt
   where_begun (Some b) before call is enabled = as_begun b before call is enabled
 
@@ -254,42 +230,19 @@ module _ (s : State) (who : ℕ) (made : State × Reply) where
   closes None before enabled = tt
   closes (Some b) before enabled = absurd (none_closes (is_loop s who) s.aloft s.closed before.aloft enabled)
 
-  goes_on : (begun : Option State) → HasBegun begun s → (call : Call) → IsStep s call made → is_enabled s who call ≡ true → HasBegun (aloft_after begun (moment call) call) made.0
+  goes_on : (begun : Option State) → HasBegun begun s → (call : Call) → IsStep s call made → is_enabled s who call ≡ true → HasBegun (aloft_after begun (moment_of s call made) call) made.0
   goes_on begun before (Begin number) is enabled = record { aloft = ap (λ (t : State). t.aloft) is.next; same = refl }
   goes_on begun before (End number) is enabled = tt
   goes_on begun before Close is enabled = closes begun before enabled
-  goes_on begun before (Load name) is enabled = on begun before (Load name) tt is
-  goes_on begun before (Configure name) is enabled = on begun before (Configure name) tt is
-  goes_on begun before (Cleanup name) is enabled = on begun before (Cleanup name) tt is
-  goes_on begun before (Unload name) is enabled = on begun before (Unload name) tt is
-  goes_on begun before (Rate name hz) is enabled = on begun before (Rate name hz) tt is
-  goes_on begun before (Send name mail) is enabled = on begun before (Send name mail) tt is
-  goes_on begun before (Switch asked) is enabled = on begun before (Switch asked) tt is
-  goes_on begun before (Hardware component target) is enabled = on begun before (Hardware component target) tt is
-  goes_on begun before (Told ticket) is enabled = on begun before (Told ticket) tt is
-  goes_on begun before (Await cycles) is enabled = on begun before (Await cycles) tt is
-  goes_on begun before ListControllers is enabled = on begun before ListControllers tt is
-  goes_on begun before ListInterfaces is enabled = on begun before ListInterfaces tt is
-  goes_on begun before ListComponents is enabled = on begun before ListComponents tt is
-
--- of a step, and what comes after it
-configuration_step : (s : State) (begun : Option State) (e : Entry) (es : List Entry) → HasBegun begun s → (o : Option (State × Reply)) → step s e.who e.call ≡ o
-    → IsSomeAnd o (λ made. (made.1 ≡ e.reply) × LegalFrom made.0 es)
-    → ((t : State) (later : Option State) → HasBegun later t → LegalFrom t es → OneConfigurationFrom later (moments t es))
-    → OneConfigurationFrom begun (elim o [
-      | None ↦ []
-      | Some made ↦ record { before = s; call = e.call; reply = e.reply; after = made.0 } ∷ moments made.0 es
-    ])
-configuration_step s begun e es before None stepped legal rest = tt
-configuration_step s begun e es before (Some made) stepped legal rest =
-    let is = step-IsStep s e.who e.call made stepped in
-    let enabled = was_enabled s e.who e.call made stepped in
-    let after : HasBegun (aloft_after begun (moment s e.who made e.call) e.call) made.0 = goes_on s e.who made begun before e.call is enabled in
-    subst (λ r. OneConfigurationFrom begun (record { before = s; call = e.call; reply = r; after = made.0 } ∷ moments made.0 es)) legal.0
-    (where_begun s e.who made begun before e.call is enabled, rest made.0 (aloft_after begun (moment s e.who made e.call) e.call) after legal.1)
+  goes_on begun before call is enabled = on begun before call tt is
 
 -- From a begin to its end one configuration holds, along each legal history.
 pub configuration_from : (s : State) (begun : Option State) (history : List Entry) → HasBegun begun s → LegalFrom s history → OneConfigurationFrom begun (moments s history)
 configuration_from s begun [] before legal = tt
 configuration_from s begun (e ∷ es) before legal =
-    configuration_step s begun e es before (step s e.who e.call) refl legal (λ t later after more. configuration_from t later es after more)
+    let first = legal_step s e es legal in
+    let later = aloft_after begun (moment_of s e.call first.made) e.call in
+    subst (OneConfigurationFrom begun) (sym first.are) (
+      where_begun s e.who first.made begun before e.call first.is first.enabled,
+      configuration_from first.made.0 later es (goes_on s e.who first.made begun before e.call first.is first.enabled) first.later,
+    )

@@ -1,8 +1,8 @@
 -- The state at boot is steady.
-use Rattle.std.proofs.Common.{◌≡◌, ℕ, suc, ◌+◌, ◌<◌, ◌≤◌, Bool, false, List, [], ◌∷◌, ◌++◌, length, map, refl, sym, ◌∙◌, subst, ap, ap₂, true≢false, arith}
+use Rattle.std.proofs.Common.{◌≡◌, ℕ, ◌+◌, ◌<◌, ◌≤◌, Bool, false, List, [], ◌∷◌, ◌++◌, length, map, refl, sym, ◌∙◌, subst, ap, ap₂, true≢false, arith}
 use Rattle.std.specs.Prelude.{flat_map}
 use Rattle.std.specs.List.{AllByRecursion, IsDistinct}
-use Rattle.std.proofs.lemmas.List.{length-append}
+use Rattle.std.proofs.lemmas.List.{length-append, length-map}
 use Rattle.fixed_num.specs.declared.value.BodyState.{BodyState}
 use Rattle.sequence.proofs.ListLemmas.{all_append}
 use Rattle.iface_names.specs.declared.interface.IfaceName.{IfaceName}
@@ -51,14 +51,10 @@ interfaces_below d =
 
 -- ---- At start
 
-length_map : {A B : Type 0} (f : A → B) (xs : List A) → length (map f xs) ≡ length xs
-length_map f [] = refl
-length_map f (x ∷ xs) = ap suc (length_map f xs)
-
 bodies_count : (cs : List CompDesc) → length (flat_map bodies_at_start cs) ≡ length (joints_of cs)
 bodies_count [] = refl
 bodies_count (c ∷ cs) =
-    length-append (bodies_at_start c) (flat_map bodies_at_start cs) ∙ ap₂ (λ m n. m + n) (length_map body_at_start c.joints) (bodies_count cs)
+    length-append (bodies_at_start c) (flat_map bodies_at_start cs) ∙ ap₂ (λ m n. m + n) (length-map c.joints body_at_start) (bodies_count cs)
     ∙ sym (length-append c.joints (joints_of cs))
 
 unset_same : (xs : List Interface) → map (λ v. v.interface) (map unset xs) ≡ xs
@@ -86,7 +82,7 @@ module _ (d : Description) (blanks : Blanks) (sessions : ℕ) where
       once = tt;
       own = tt;
       marked = tt;
-      counted = length_map (λ (c : CompDesc). c.initial) d.components;
+      counted = length-map d.components (λ (c : CompDesc). c.initial);
       described = reads_same up bodies (map unset (interfaces_of d)) ∙ unset_same (interfaces_of d);
       embodied = all_map (λ v. HasBody (length bodies) v.interface.whose) _ (map unset (interfaces_of d)) (all_so (λ v. HasBody (length bodies) v.interface.whose) _
           (λ v has. subst (λ i. HasBody (length bodies) i.whose) (sym (read_same up bodies v)) has) (map unset (interfaces_of d)) unset_below);

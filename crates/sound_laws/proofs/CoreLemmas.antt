@@ -151,15 +151,15 @@ module _ (s : State) where
 
   -- ---- Bodies
 
-  core_owned : (i : Interface) → is_some (owner (core s) i) ≡ is_some (owner s i)
-  core_owned i = of i.called.is_command
+  core_owned : (interface : Interface) → is_some (owner (core s) interface) ≡ is_some (owner s interface)
+  core_owned interface = of interface.called.is_command
     where
       owns : Loaded → Bool
-      owns l = is_active l && claims_name s.description.controllers i.called.name l
+      owns l = is_active l && claims_name s.description.controllers interface.called.name l
 
       of : (b : Bool) → is_some (if b then option_map (λ (l : Loaded). l.serial) (find owns (running_ones s.loaded)) else None)
           ≡ is_some (if b then option_map (λ (l : Loaded). l.serial) (find owns s.loaded) else None)
-      of true = found_any owns (running_ones s.loaded) ∙ core_any (claims_name s.description.controllers i.called.name) (λ l. refl) s.loaded ∙ sym (found_any owns s.loaded)
+      of true = found_any owns (running_ones s.loaded) ∙ core_any (claims_name s.description.controllers interface.called.name) (λ l. refl) s.loaded ∙ sym (found_any owns s.loaded)
       of false = refl
 
   core_claims : (commands : List InterfaceValue) → claims_in (core s) commands ≡ claims_in s commands

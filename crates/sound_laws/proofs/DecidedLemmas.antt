@@ -1,11 +1,9 @@
 -- A request is decided rightly: done whole, or refused with a cause that is true and no change.
-use Rattle.std.proofs.Common.{◌≡◌, ℕ, suc, ◌<◌, Bool, true, false, List, [], ◌∷◌, length, get_or, Option, Some, None, inl, inr, refl, sym, ◌∙◌, subst, ap, arith}
-use Rattle.std.specs.Prelude.{◌==◌, ◌&&◌, not, if◌then◌else◌, find, filter, position, is_some, option_map, slice_index_or, slice_set}
-use Rattle.std.specs.List.{Contains}
+use Rattle.std.proofs.Common.{◌≡◌, ℕ, ◌<◌, Bool, true, false, List, [], ◌∷◌, length, Option, Some, None, inl, inr, refl, sym, ◌∙◌, subst, ap, arith}
+use Rattle.std.specs.Prelude.{◌==◌, ◌&&◌, not, if◌then◌else◌, find, position, is_some, option_map, slice_index_or, slice_set}
 use Rattle.std.specs.Option.{option_map_or}
 use Rattle.std.proofs.lemmas.Bool.{and_from}
 use Rattle.std.proofs.lemmas.List.{get_or-set_same}
-use Rattle.std.proofs.lemmas.List.Sorted.{Contains-permutation, IsPermutation-sym}
 use Rattle.std.proofs.lemmas.List.Quantifiers.{position-Some}
 use Rattle.std.proofs.lemmas.Slice.Eq.{bytes_eq-Decides}
 use Rattle.iface_names.specs.Names.{same_name}
@@ -24,21 +22,20 @@ use Rattle.cm_model.specs.Commit.{described_of, scene_of}
 use Rattle.cm_model.specs.Components.{is_available, has_move}
 use Rattle.cm_model.specs.Cycle.{active_order}
 use Rattle.cm_model.specs.Faults.{cause_if}
-use Rattle.cm_model.specs.Order.{Places, depth}
+use Rattle.cm_model.specs.Order.{Places}
 use Rattle.cm_model.specs.Scene.{named}
 use Rattle.cm_model.specs.Sound.{NothingChanges, WholeOrNothing, MovedOrNothing, IsDecidedRightly, AreDecidedRightly, DecidesRightly}
-use Rattle.cm_model.specs.State.{State, Loaded, is_active, active}
+use Rattle.cm_model.specs.State.{State, Loaded, is_active}
 use Rattle.cm_model.specs.Steady.{IsSteady}
 use Rattle.cm_model.specs.Switches.{Decided, strict}
 use Rattle.cm_model.specs.declared.cause.Cause.{Cause}
 use Rattle.cm_model.specs.declared.cause.Cause.TheVariants as cause
 use Rattle.cm_model.specs.declared.request.Request.{Request}
 use Rattle.cm_model.specs.declared.request.Request.TheVariants as request
-use Rattle.chain_order.proofs.DepthLemmas.{depth-most}
-use Rattle.chain_order.proofs.OrderLemmas.{by_rank-once}
 use Rattle.switch_plan.proofs.CauseLemmas.{counts_true}
 use Rattle.switch_plan.proofs.DecisionLemmas.{strict_done, strict_refused}
-use Rattle.switch_plan.proofs.ElementLemmas.{some_is, or_some, map_some, any_from, found, filter_back}
+use Rattle.switch_plan.proofs.ElementLemmas.{some_is, or_some, map_some, any_from, found}
+use Rattle.sound_laws.proofs.ActiveLemmas.{from_active_order}
 use Rattle.sound_laws.proofs.BoundaryLemmas.{concluded_steady, outcome_steady}
 use Rattle.sound_laws.proofs.ParamsLemmas.{params_loaded, params_configured}
 use Rattle.sound_laws.proofs.StrictLemmas.{params, strict_either}
@@ -75,15 +72,6 @@ module _ (s : State) (steady : IsSteady s) (r : SwitchRequest) where
 position_within : {A : Type 0} (test : A → Bool) (xs : List A) (k : ℕ) → position test xs ≡ Some k → k < length xs
 position_within test [] k at = cc
 position_within test (x ∷ xs) k at = (position-Some test (x ∷ xs) k x at).0
-
--- what stands in the order of updates is loaded and active
-pub from_active_order : (s : State) (l : Loaded) → Contains (active_order s) l → Contains s.loaded l × (is_active l ≡ true)
-from_active_order s l inside =
-    filter_back is_active s.loaded l
-    (Contains-permutation (active_order s) (filter is_active s.loaded) l
-    (IsPermutation-sym (filter is_active s.loaded) (active_order s)
-    (by_rank-once (λ (m : Loaded). depth s.description.controllers (active s) m.place) (suc (length s.description.controllers)) (filter is_active s.loaded)
-    (λ k d below. omega (arith, depth-most s.description.controllers (active s) (get_or (filter is_active s.loaded) k d).place)))) inside)
 
 -- who is told as the user is one
 user_uses : (s : State) (component : ℕ) (name : List ℕ) → user_of s component ≡ Some name → is_used_by s component name ≡ true

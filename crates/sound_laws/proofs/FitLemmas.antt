@@ -45,7 +45,7 @@ unless_fails f None holds = refl
 unless_fails f (Some k) holds = not-false (f k) holds
 
 -- of two command interfaces of one joint it is told from either
-beside_turned : (i j : IfaceName) → is_beside j i ≡ false → is_beside i j ≡ false
+beside_turned : (interface beside : IfaceName) → is_beside beside interface ≡ false → is_beside interface beside ≡ false
 beside_turned (Joint joint kind) (Joint joint' kind') none =
     false_from_ne_true (same_name joint joint' && not (same_kind kind kind')) (λ both.
     let parts = and_parts (same_name joint joint') (not (same_kind kind kind')) both in
@@ -54,24 +54,24 @@ beside_turned (Joint joint kind) (Joint joint' kind') none =
     let e : same_kind kind kind' ≡ true = (same_kind-Decides kind kind').1 (sym ((same_kind-Decides kind' kind).0 same)) in
     true≢false (sym parts.1 ∙ ap not e)) in
     true≢false (sym (and_from (same_name joint' joint) (not (same_kind kind' kind)) names (ap not kinds)) ∙ none))
-beside_turned (Joint joint kind) (Reference c j k) none = refl
-beside_turned (Reference c j k) (Joint joint kind) none = refl
-beside_turned (Reference c j k) (Reference c' j' k') none = refl
+beside_turned (Joint joint kind) (Reference controller joint' kind') none = refl
+beside_turned (Reference controller joint kind) (Joint joint' kind') none = refl
+beside_turned (Reference controller joint kind) (Reference controller' joint' kind') none = refl
 
 -- ---- Claims
 
 -- a controller that claims an interface has it among its claims
-pub claims_inside : (scene : Scene) (p : ℕ) (i : IfaceName) → claims_at (controllers_in scene) p i ≡ true → Contains (described scene p).claims i
-claims_inside scene p i claims =
-    let r = some_of (λ claim. same_interface claim i) (described scene p).claims claims in
-    subst (Contains (described scene p).claims) ((same_interface-Decides r.0 i).0 r.2) r.1
+pub claims_inside : (scene : Scene) (p : ℕ) (interface : IfaceName) → claims_at (controllers_in scene) p interface ≡ true → Contains (described scene p).claims interface
+claims_inside scene p interface claims =
+    let r = some_of (λ claim. same_interface claim interface) (described scene p).claims claims in
+    subst (Contains (described scene p).claims) ((same_interface-Decides r.0 interface).0 r.2) r.1
 
 -- no follower of it is missing, where that is not found to be its fault
-pub none_missing : (scene : Scene) (set on : Places) (p : ℕ) (i : IfaceName) → fault_of_kind scene set on fault_kind.Follower p ≡ None
-    → claims_at (controllers_in scene) p i ≡ true → is_missing (controllers_in scene) set i ≡ false
-none_missing scene set on p i none claims =
-    if_none (is_missing (controllers_in scene) set i) (cause.MissingFollower i)
-    (first_of-none (λ i. cause_if (is_missing (controllers_in scene) set i) (cause.MissingFollower i)) (described scene p).claims none i (claims_inside scene p i claims))
+pub none_missing : (scene : Scene) (set on : Places) (p : ℕ) (interface : IfaceName) → fault_of_kind scene set on fault_kind.Follower p ≡ None
+    → claims_at (controllers_in scene) p interface ≡ true → is_missing (controllers_in scene) set interface ≡ false
+none_missing scene set on p interface none claims =
+    if_none (is_missing (controllers_in scene) set interface) (cause.MissingFollower interface)
+    (first_of-none (λ interface. cause_if (is_missing (controllers_in scene) set interface) (cause.MissingFollower interface)) (described scene p).claims none interface (claims_inside scene p interface claims))
 
 -- ---- A set
 
@@ -87,7 +87,7 @@ pub record IsExtended (scene : Scene) (small set added on : Places) : Type 0 whe
   pub loaded : (p : ℕ) → set p ≡ true → list_any (λ (l : Seen). l.place == p) scene.loaded ≡ true
   pub parts : (p : ℕ) → set p ≡ true → (small p ≡ true) ⊎ (added p ≡ true)
   pub clear : (p : ℕ) → set p ≡ true → added p ≡ true → IsClearOf scene set on p
-  pub followed : (p : ℕ) (i : IfaceName) → set p ≡ true → claims_at (controllers_in scene) p i ≡ true → is_missing (controllers_in scene) set i ≡ false
+  pub followed : (p : ℕ) (interface : IfaceName) → set p ≡ true → claims_at (controllers_in scene) p interface ≡ true → is_missing (controllers_in scene) set interface ≡ false
 
 module _ (scene : Scene) (small set added on : Places) (extended : IsExtended scene small set added on) where
   -- the loaded controller of a member
@@ -97,69 +97,69 @@ module _ (scene : Scene) (small set added on : Places) (extended : IsExtended sc
       (r.0, r.1, eqb-true r.0.place p r.2)
 
   -- of one that was added no member is a rival
-  no_rival : (p q : ℕ) (i : IfaceName) → set p ≡ true → added p ≡ true → set q ≡ true → claims_at (controllers_in scene) p i ≡ true → claims_at (controllers_in scene) q i ≡ true → q ≡ p
-  no_rival p q i inside new other claims also =
+  no_rival : (p q : ℕ) (interface : IfaceName) → set p ≡ true → added p ≡ true → set q ≡ true → claims_at (controllers_in scene) p interface ≡ true → claims_at (controllers_in scene) q interface ≡ true → q ≡ p
+  no_rival p q interface inside new other claims also =
       let l = loaded_at q other in
-      let none : rival scene set p i ≡ None =
-      map_none (λ (m : Member). cause.Conflict i (described scene m.place).name) (rival scene set p i)
-      (first_of-none (conflict_over scene set p) (described scene p).claims (extended.clear p inside new).conflict i (claims_inside scene p i claims)) in
-      let each : (not (l.0.place == p) && claims_at (controllers_in scene) l.0.place i) ≡ false =
-      not_found (λ (m : Member). not (m.place == p) && claims_at (controllers_in scene) m.place i) (order scene set) none (member l.0)
+      let none : rival scene set p interface ≡ None =
+      map_none (λ (m : Member). cause.Conflict interface (described scene m.place).name) (rival scene set p interface)
+      (first_of-none (conflict_over scene set p) (described scene p).claims (extended.clear p inside new).conflict interface (claims_inside scene p interface claims)) in
+      let each : (not (l.0.place == p) && claims_at (controllers_in scene) l.0.place interface) ≡ false =
+      not_found (λ (m : Member). not (m.place == p) && claims_at (controllers_in scene) m.place interface) (order scene set) none (member l.0)
       (order_from scene set l.0 l.1 (ap set l.2 ∙ other)) in
-      let here : not (l.0.place == p) ≡ false = and_first (not (l.0.place == p)) (claims_at (controllers_in scene) l.0.place i) each (ap (λ r. claims_at (controllers_in scene) r i) l.2 ∙ also) in
+      let here : not (l.0.place == p) ≡ false = and_first (not (l.0.place == p)) (claims_at (controllers_in scene) l.0.place interface) each (ap (λ r. claims_at (controllers_in scene) r interface) l.2 ∙ also) in
       sym l.2 ∙ eqb-true l.0.place p (not-false (l.0.place == p) here)
 
   -- and none claims another command interface of a joint
-  no_other_mode : (p q : ℕ) (i j : IfaceName) → set p ≡ true → added p ≡ true → set q ≡ true → claims_at (controllers_in scene) p i ≡ true → claims_at (controllers_in scene) q j ≡ true
-      → is_beside i j ≡ false
-  no_other_mode p q i j inside new other claims also =
+  no_other_mode : (p q : ℕ) (interface beside : IfaceName) → set p ≡ true → added p ≡ true → set q ≡ true → claims_at (controllers_in scene) p interface ≡ true → claims_at (controllers_in scene) q beside ≡ true
+      → is_beside interface beside ≡ false
+  no_other_mode p q interface beside inside new other claims also =
       let l = loaded_at q other in
-      let free : is_mode_taken scene set i ≡ false =
-      if_none (is_mode_taken scene set i) (cause.ModeRefused (joint_name i))
-      (first_of-none (λ i. cause_if (is_mode_taken scene set i) (cause.ModeRefused (joint_name i))) (described scene p).claims (extended.clear p inside new).mode i (claims_inside scene p i claims)) in
-      let each : (set l.0.place && list_any (is_beside i) (described scene l.0.place).claims) ≡ false =
-      each_fails (λ (l : Seen). set l.place && list_any (is_beside i) (described scene l.place).claims) scene.loaded free l.0 l.1 in
-      let none : list_any (is_beside i) (described scene l.0.place).claims ≡ false =
-      and_second (set l.0.place) (list_any (is_beside i) (described scene l.0.place).claims) each (ap set l.2 ∙ other) in
-      each_fails (is_beside i) (described scene l.0.place).claims none j
-      (subst (λ r. Contains (described scene r).claims j) (sym l.2) (claims_inside scene q j also))
+      let free : is_mode_taken scene set interface ≡ false =
+      if_none (is_mode_taken scene set interface) (cause.ModeRefused (joint_name interface))
+      (first_of-none (λ interface. cause_if (is_mode_taken scene set interface) (cause.ModeRefused (joint_name interface))) (described scene p).claims (extended.clear p inside new).mode interface (claims_inside scene p interface claims)) in
+      let each : (set l.0.place && list_any (is_beside interface) (described scene l.0.place).claims) ≡ false =
+      each_fails (λ (l : Seen). set l.place && list_any (is_beside interface) (described scene l.place).claims) scene.loaded free l.0 l.1 in
+      let none : list_any (is_beside interface) (described scene l.0.place).claims ≡ false =
+      and_second (set l.0.place) (list_any (is_beside interface) (described scene l.0.place).claims) each (ap set l.2 ∙ other) in
+      each_fails (is_beside interface) (described scene l.0.place).claims none beside
+      (subst (λ r. Contains (described scene r).claims beside) (sym l.2) (claims_inside scene q beside also))
 
   -- and what it claims or reads is available
-  is_up : (p : ℕ) (i : IfaceName) → set p ≡ true → added p ≡ true → names_at (controllers_in scene) p i ≡ true → is_there scene.description scene.components i ≡ true
-  is_up p i inside new named =
+  is_up : (p : ℕ) (interface : IfaceName) → set p ≡ true → added p ≡ true → names_at (controllers_in scene) p interface ≡ true → is_there scene.description scene.components interface ≡ true
+  is_up p interface inside new named =
       let names = (described scene p).claims ++ (described scene p).reads in
-      let r = some_of (same_interface i) names named in
+      let r = some_of (same_interface interface) names named in
       let up : is_unavailable scene r.0 ≡ false =
       if_none (is_unavailable scene r.0) (cause.Unavailable r.0)
-      (first_of-none (λ i. cause_if (is_unavailable scene i) (cause.Unavailable i)) names (extended.clear p inside new).availability r.0 r.1) in
-      subst (λ x. is_there scene.description scene.components x ≡ true) (sym ((same_interface-Decides i r.0).0 r.2))
+      (first_of-none (λ interface. cause_if (is_unavailable scene interface) (cause.Unavailable interface)) names (extended.clear p inside new).availability r.0 r.1) in
+      subst (λ x. is_there scene.description scene.components x ≡ true) (sym ((same_interface-Decides interface r.0).0 r.2))
       (unless_fails (λ k. is_available (slice_index_or scene.components k Unconfigured)) (component_with scene.description.components r.0) up)
 
   -- So the set can run together.
   pub extended_together : CanRunTogether scene.description scene.components set
   extended_together = record {
-    exclusive = λ p q i inside other claims also.
+    exclusive = λ p q interface inside other claims also.
         elim (extended.parts p inside) [
-          | inr new ↦ sym (no_rival p q i inside new other claims also)
+          | inr new ↦ sym (no_rival p q interface inside new other claims also)
           | inl old ↦
               elim (extended.parts q other) [
-                | inr new ↦ no_rival q p i other new inside also claims
-                | inl older ↦ extended.before.exclusive p q i old older claims also
+                | inr new ↦ no_rival q p interface other new inside also claims
+                | inl older ↦ extended.before.exclusive p q interface old older claims also
               ]
         ];
-    one_mode = λ p q i j inside other claims also.
+    one_mode = λ p q interface beside inside other claims also.
         elim (extended.parts p inside) [
-          | inr new ↦ no_other_mode p q i j inside new other claims also
+          | inr new ↦ no_other_mode p q interface beside inside new other claims also
           | inl old ↦
               elim (extended.parts q other) [
-                | inr new ↦ beside_turned i j (no_other_mode q p j i other new inside also claims)
-                | inl older ↦ extended.before.one_mode p q i j old older claims also
+                | inr new ↦ beside_turned interface beside (no_other_mode q p beside interface other new inside also claims)
+                | inl older ↦ extended.before.one_mode p q interface beside old older claims also
               ]
         ];
-    available = λ p i inside named.
+    available = λ p interface inside named.
         elim (extended.parts p inside) [
-          | inr new ↦ is_up p i inside new named
-          | inl old ↦ extended.before.available p i old named
+          | inr new ↦ is_up p interface inside new named
+          | inl old ↦ extended.before.available p interface old named
         ];
     followed = extended.followed;
   }

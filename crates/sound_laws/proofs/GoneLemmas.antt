@@ -1,6 +1,6 @@
 -- An unload leaves nothing behind: a serial that is gone is told of no more.
 use Rattle.std.proofs.Common.{◌≡◌, ℕ, zero, suc, ◌+◌, ◌<◌, Bool, true, false, List, [], ◌∷◌, map, Option, Some, None, option_map, inl, inr, refl, sym, subst, ap, ◌∙◌, true≢false, arith}
-use Rattle.std.specs.Prelude.{◌==◌, ◌&&◌, not, if◌then◌else◌, slice_get, remove, find, filter, filter_map, IfSome, IsSomeAnd}
+use Rattle.std.specs.Prelude.{◌==◌, ◌&&◌, not, if◌then◌else◌, slice_get, remove, find, filter, filter_map, IfSome}
 use Rattle.std.specs.List.{AllByRecursion, IsDistinct, Contains, list_any, cons_option}
 use Rattle.std.specs.Option.{option_map_or}
 use Rattle.std.proofs.lemmas.Bool.{or_from, or_parts, ne_eqb, false_from_ne_true}
@@ -11,12 +11,12 @@ use Rattle.cm_document.specs.Places.{Interface}
 use Rattle.cm_document.specs.declared.call.Call.{Call}
 use Rattle.cm_document.specs.declared.call.Call.TheVariants.{Unload}
 use Rattle.cm_model.proofs.LoadedLemmas.{eqb-sym}
-use Rattle.cm_model.proofs.StayLemmas.{IsStep, step-IsStep}
+use Rattle.cm_model.proofs.StayLemmas.{IsStep}
 use Rattle.cm_model.proofs.UpdateLemmas.{cycle_tells}
 use Rattle.cm_model.specs.Components.{is_listed}
 use Rattle.cm_model.specs.Console.{slot_of, controller_in, controller_of, unload_refusals, reply_on, unload_reply, where_done, without_slot}
 use Rattle.cm_model.specs.Cycle.{active_order, is_due_now, is_held_off, updated_in, must_stop, stops, cycle}
-use Rattle.cm_model.specs.Machine.{LegalFrom, reply_of, effect, step}
+use Rattle.cm_model.specs.Machine.{LegalFrom, reply_of, effect}
 use Rattle.cm_model.specs.Ran.{Ran}
 use Rattle.cm_model.specs.Sound.{moments, mentions, IsGone, is_done, IfUnload, UnloadsLeaveNothing}
 use Rattle.cm_model.specs.State.{State, Loaded, is_active, owner, claims_name, controller_line, interface_lines_from}
@@ -28,8 +28,8 @@ use Rattle.cm_model.specs.declared.reply.Reply.{Reply}
 use Rattle.cm_model.specs.declared.reply.Reply.TheVariants as reply
 use Rattle.cm_model.specs.declared.reply.Why.TheVariants as why
 use Rattle.switch_plan.proofs.ElementLemmas.{some_is, map_some, some_of, any_from, found, filter_back}
-use Rattle.sound_laws.proofs.DecidedLemmas.{from_active_order}
-use Rattle.sound_laws.proofs.AlongLemmas.{along}
+use Rattle.sound_laws.proofs.ActiveLemmas.{from_active_order}
+use Rattle.sound_laws.proofs.MomentLemmas.{moment_of, legal_step, along}
 use Rattle.sound_laws.proofs.ReplyLemmas.{of_reply}
 use Rattle.sound_laws.proofs.SerialLemmas.{serials_of, serials_remove, IsNumbered, AreRenumbered, renumbered_numbered, effect_renumbered}
 
@@ -114,10 +114,10 @@ module _ (n : ℕ) (s : State) (gone : IsAbsent n s) where
   of_owner true (Some l) other = other l refl
   of_owner false o other = refl
 
-  no_owner : (i : Interface) → option_map_or (λ owner. owner == n) (owner s i) false ≡ false
-  no_owner i =
-      let owns : Loaded → Bool = λ (l : Loaded). is_active l && claims_name s.description.controllers i.called.name l in
-      of_owner i.called.is_command (find owns s.loaded) (λ l at. other_serial l (found owns s.loaded l at).0)
+  no_owner : (interface : Interface) → option_map_or (λ owner. owner == n) (owner s interface) false ≡ false
+  no_owner interface =
+      let owns : Loaded → Bool = λ (l : Loaded). is_active l && claims_name s.description.controllers interface.called.name l in
+      of_owner interface.called.is_command (find owns s.loaded) (λ l at. other_serial l (found owns s.loaded l at).0)
 
   no_interface : (place : ℕ) (vs : List InterfaceValue)
       → list_any (λ (line : IfaceLine). option_map_or (λ owner. owner == n) line.owner false) (interface_lines_from s place vs) ≡ false
@@ -162,7 +162,7 @@ module _ (n : ℕ) (s : State) (gone : IsAbsent n s) where
 -- one that is gone is mentioned no more
 gone_from : (n : ℕ) (s : State) (history : List Entry) → IsAbsent n s → LegalFrom s history → IsGone (moments s history) n
 gone_from n s history gone legal =
-    along (IsAbsent n) (λ m. mentions n m.reply ≡ false)
+    along (IsAbsent n) (λ moment. mentions n moment.reply ≡ false)
     (λ s call made gone is. subst (IsAbsent n) (sym is.next) (stays_absent n s (effect s call made.1) (effect_renumbered s call made.1) gone))
     (λ s call made gone is. silent n s gone call made.1 is.replied) s history gone legal
 
@@ -204,29 +204,19 @@ module _ (s : State) (numbered : IsNumbered s) (made : State × Reply) (es : Lis
       sym (is.next ∙ ap (λ r. where_done r (without_slot s (slot_of s name)) s) (done_only made.1 done)) in
       gone_from l.serial made.0 es (subst (IsAbsent l.serial) left (unloaded_gone s numbered l (slot_of s name) at)) legal
 
-  unload_right : (call : Call) → IsStep s call made → IfUnload (record { before = s; call = call; reply = made.1; after = made.0 }) call (moments made.0 es)
+  unload_right : (call : Call) → IsStep s call made → IfUnload (moment_of s call made) call (moments made.0 es)
   unload_right (Unload name) is = record {
     done = ap is_done (sym (some_is (unload_reply s name) made.1 is.replied)) ∙ unload_done (controller_of s name);
     gone = λ done. gone_after name is done (controller_of s name) refl;
   }
   unload_right _ is = tt
 
--- of a step, and what comes after it
-unloads_step : (s : State) (e : Entry) (es : List Entry) → IsNumbered s → (o : Option (State × Reply)) → step s e.who e.call ≡ o
-    → IsSomeAnd o (λ made. (made.1 ≡ e.reply) × LegalFrom made.0 es) → ((t : State) → IsNumbered t → LegalFrom t es → UnloadsLeaveNothing (moments t es))
-    → UnloadsLeaveNothing (elim o [
-      | None ↦ []
-      | Some made ↦ record { before = s; call = e.call; reply = e.reply; after = made.0 } ∷ moments made.0 es
-    ])
-unloads_step s e es numbered None stepped legal rest = tt
-unloads_step s e es numbered (Some made) stepped legal rest =
-    let is = step-IsStep s e.who e.call made stepped in
-    let after : IsNumbered made.0 = subst IsNumbered (sym is.next) (renumbered_numbered s (effect s e.call made.1) (effect_renumbered s e.call made.1) numbered) in (
-      subst (λ r. IfUnload (record { before = s; call = e.call; reply = r; after = made.0 }) e.call (moments made.0 es)) legal.0 (unload_right s numbered made es legal.1 e.call is),
-      rest made.0 after legal.1,
-    )
-
 -- An unload leaves nothing behind, along each legal history.
 pub unloads_from : (s : State) (history : List Entry) → IsNumbered s → LegalFrom s history → UnloadsLeaveNothing (moments s history)
 unloads_from s [] numbered legal = tt
-unloads_from s (e ∷ es) numbered legal = unloads_step s e es numbered (step s e.who e.call) refl legal (λ t after more. unloads_from t es after more)
+unloads_from s (e ∷ es) numbered legal =
+    let first = legal_step s e es legal in
+    let after : IsNumbered first.made.0 =
+    subst IsNumbered (sym first.is.next) (renumbered_numbered s (effect s e.call first.made.1) (effect_renumbered s e.call first.made.1) numbered) in
+    subst UnloadsLeaveNothing (sym first.are)
+    (unload_right s numbered first.made es first.later e.call first.is, unloads_from first.made.0 es after first.later)

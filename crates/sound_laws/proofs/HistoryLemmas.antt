@@ -19,7 +19,7 @@ use Rattle.cm_model.specs.declared.reply.Reply.{Reply}
 use Rattle.cm_model.specs.declared.reply.Reply.TheVariants as reply
 use Rattle.cm_model.specs.declared.request.Request.TheVariants as request
 use Rattle.switch_plan.proofs.ElementLemmas.{some_is}
-use Rattle.sound_laws.proofs.AlongLemmas.{along}
+use Rattle.sound_laws.proofs.MomentLemmas.{along}
 use Rattle.sound_laws.proofs.BetweenLemmas.{configuration_from}
 use Rattle.sound_laws.proofs.BootLemmas.{boot_steady}
 use Rattle.sound_laws.proofs.BoundaryLemmas.{begin_steady}
@@ -87,13 +87,13 @@ module _ (d : Description) (blanks : Blanks) (sessions : ℕ) (history : List En
   -- Loans are exclusive and present after each call.
   pub loans_at_all_times : LoansAlwaysHold (moments (boot d blanks sessions) history)
   loans_at_all_times =
-      along IsKept (λ m. LoansHold m.after) keeps (λ s call made kept is. let after = keeps s call made kept is in loans_hold made.0 after.valid after.steady)
+      along IsKept (λ moment. LoansHold moment.after) keeps (λ s call made kept is. let after = keeps s call made kept is in loans_hold made.0 after.valid after.steady)
       (boot d blanks sessions) history begins legal
 
   -- In each cycle each due controller runs once, predecessors first.
   pub each_due_one_runs_once : EachDueOneRunsOnce (moments (boot d blanks sessions) history)
   each_due_one_runs_once =
-      along IsKept (λ m. RecordIsRight m.before m.reply) keeps
+      along IsKept (λ moment. RecordIsRight moment.before moment.reply) keeps
       (λ s call made kept is. of_reply s (RecordIsRight s) call (record {
         refused = λ reason. tt;
         done = tt;
@@ -109,9 +109,9 @@ module _ (d : Description) (blanks : Blanks) (sessions : ℕ) (history : List En
       (boot d blanks sessions) history begins legal
 
   -- Each begin decides rightly.
-  begins_right : AllByRecursion (λ m. DecidesRightly m.before m.call) (moments (boot d blanks sessions) history)
+  begins_right : AllByRecursion (λ moment. DecidesRightly moment.before moment.call) (moments (boot d blanks sessions) history)
   begins_right =
-      along IsKept (λ m. DecidesRightly m.before m.call) keeps (λ s call made kept is. decides_rightly s call kept.steady) (boot d blanks sessions) history begins legal
+      along IsKept (λ moment. DecidesRightly moment.before moment.call) keeps (λ s call made kept is. decides_rightly s call kept.steady) (boot d blanks sessions) history begins legal
 
   -- Each request is decided once, a strict switch whole or not at all.
   pub requests_decided_once : RequestsAreDecidedOnce (moments (boot d blanks sessions) history)

@@ -3,6 +3,7 @@ pub mod InterfaceLemmas
 pub mod LoanLemmas
 pub mod ReadLemmas
 pub mod BootLemmas
+pub mod ActiveLemmas
 pub mod RequestLemmas
 pub mod FitLemmas
 pub mod ParamsLemmas
@@ -16,7 +17,7 @@ pub mod StopLemmas
 pub mod CycleLemmas
 pub mod SerialLemmas
 pub mod RunLemmas
-pub mod AlongLemmas
+pub mod MomentLemmas
 pub mod ReplyLemmas
 pub mod GoneLemmas
 pub mod ToldLemmas

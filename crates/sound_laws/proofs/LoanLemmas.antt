@@ -79,44 +79,44 @@ running_at (life ∷ lives) (suc k) = running_at lives k
 
 -- ---- Of one name
 
-same_turned : (i j : IfaceName) → same_interface i j ≡ true → same_interface j i ≡ true
-same_turned i j same = (same_interface-Decides j i).1 (sym ((same_interface-Decides i j).0 same))
+same_turned : (interface j : IfaceName) → same_interface interface j ≡ true → same_interface j interface ≡ true
+same_turned interface j same = (same_interface-Decides j interface).1 (sym ((same_interface-Decides interface j).0 same))
 
 -- the joint of a state interface
-pub record HasJoint (cs : List CompDesc) (i : IfaceName) : Type 0 where
+pub record HasJoint (cs : List CompDesc) (interface : IfaceName) : Type 0 where
   pub component : CompDesc
   pub listed : Contains cs component
   pub joint : JointDesc
   pub inside : Contains component.joints joint
   pub kind : Kind
-  pub same : i ≡ Joint joint.name kind
+  pub same : interface ≡ Joint joint.name kind
 
-joint_of_state : (cs : List CompDesc) (i : IfaceName) → is_among i (states_of cs) ≡ true → HasJoint cs i
-joint_of_state cs i among =
-    let c = some_of (λ (c : CompDesc). list_any (same_interface i) (flat_map states_of_joint c.joints)) cs
-    (sym (any_flat_map (same_interface i) (λ (c : CompDesc). flat_map states_of_joint c.joints) cs) ∙ among) in
-    let j = some_of (λ (j : JointDesc). list_any (same_interface i) (states_of_joint j)) c.0.joints
-    (sym (any_flat_map (same_interface i) states_of_joint c.0.joints) ∙ c.2) in
-    let kind = some_of (λ (kind : Kind). same_interface i (Joint j.0.name kind)) j.0.states
-    (sym (any_map (same_interface i) (Joint j.0.name) j.0.states) ∙ j.2) in
-    record { component = c.0; listed = c.1; joint = j.0; inside = j.1; kind = kind.0; same = (same_interface-Decides i (Joint j.0.name kind.0)).0 kind.2 }
+joint_of_state : (cs : List CompDesc) (interface : IfaceName) → is_among interface (states_of cs) ≡ true → HasJoint cs interface
+joint_of_state cs interface among =
+    let c = some_of (λ (c : CompDesc). list_any (same_interface interface) (flat_map states_of_joint c.joints)) cs
+    (sym (any_flat_map (same_interface interface) (λ (c : CompDesc). flat_map states_of_joint c.joints) cs) ∙ among) in
+    let j = some_of (λ (j : JointDesc). list_any (same_interface interface) (states_of_joint j)) c.0.joints
+    (sym (any_flat_map (same_interface interface) states_of_joint c.0.joints) ∙ c.2) in
+    let kind = some_of (λ (kind : Kind). same_interface interface (Joint j.0.name kind)) j.0.states
+    (sym (any_map (same_interface interface) (Joint j.0.name) j.0.states) ∙ j.2) in
+    record { component = c.0; listed = c.1; joint = j.0; inside = j.1; kind = kind.0; same = (same_interface-Decides interface (Joint j.0.name kind.0)).0 kind.2 }
 
-module _ (d : Description) (lives : List Life) (i : IfaceName) where
+module _ (d : Description) (lives : List Life) (interface : IfaceName) where
   -- where it is a state of this name, it is one of a component that runs
   abbrev Runs : Interface → Type 0
-  Runs x = is_state_named i x.called ≡ true → is_state_of (running lives) x ≡ true
+  Runs x = is_state_named interface x.called ≡ true → is_state_of (running lives) x ≡ true
 
   belongs_on : (k : ℕ) → running lives k ≡ true → (whose : Whose) → belongs_to (λ c. c == k) whose ≡ true → belongs_to (running lives) whose ≡ true
   belongs_on k runs (of_joint component joint) is = ap (running lives) (eqb-true component k is) ∙ runs
   belongs_on k runs (of_controller place) is = absurd (true≢false (sym is))
 
-  runs_on : (k : ℕ) → running lives k ≡ true → (x : Interface) → (is_state_named i x.called ≡ true → belongs_to (λ c. c == k) x.whose ≡ true) → Runs x
+  runs_on : (k : ℕ) → running lives k ≡ true → (x : Interface) → (is_state_named interface x.called ≡ true → belongs_to (λ c. c == k) x.whose ≡ true) → Runs x
   runs_on k runs x of named =
-      and_from (not x.called.is_command) (belongs_to (running lives) x.whose) (and_parts (not x.called.is_command) (same_interface x.called.name i) named).0
+      and_from (not x.called.is_command) (belongs_to (running lives) x.whose) (and_parts (not x.called.is_command) (same_interface x.called.name interface) named).0
       (belongs_on k runs x.whose (of named))
 
   all_run : (k : ℕ) → running lives k ≡ true
-      → AllByRecursion (λ x. is_state_named i x.called ≡ true → belongs_to (λ c. c == k) x.whose ≡ true) (at_components a_state (λ j. j.states) 0 0 d.components)
+      → AllByRecursion (λ x. is_state_named interface x.called ≡ true → belongs_to (λ c. c == k) x.whose ≡ true) (at_components a_state (λ j. j.states) 0 0 d.components)
       → AllByRecursion Runs (interfaces_of d)
   all_run k runs states =
       all_append Runs (at_components a_state (λ j. j.states) 0 0 d.components) (at_components a_command (λ j. j.commands) 0 0 d.components ++ at_controllers 0 d.controllers)
@@ -126,15 +126,15 @@ module _ (d : Description) (lives : List Life) (i : IfaceName) where
       (controllers_all Runs (λ p name named. absurd (true≢false (sym named))) 0 d.controllers))
 
   -- a state interface of the description stands among the listed ones
-  stands : is_among i (states_of d.components) ≡ true → list_any (is_state_named i) (called_in d) ≡ true
+  stands : is_among interface (states_of d.components) ≡ true → list_any (is_state_named interface) (called_in d) ≡ true
   stands among =
-      let r = some_of (same_interface i) (states_of d.components) among in
-      let here : list_any (λ name. same_interface name i) (states_of d.components) ≡ true =
-      any_from (λ name. same_interface name i) (states_of d.components) r.0 r.1 (same_turned i r.0 r.2) in
-      let first : list_any (is_state_named i) (map a_state (states_of d.components)) ≡ true = any_map (is_state_named i) a_state (states_of d.components) ∙ here in
-      ap (list_any (is_state_named i)) (called_by_names d)
-      ∙ list_any-append (is_state_named i) (map a_state (states_of d.components)) (map a_command (commands_of d.components ++ references_of d.controllers))
-      ∙ or_left (list_any (is_state_named i) (map a_state (states_of d.components))) (list_any (is_state_named i) (map a_command (commands_of d.components ++ references_of d.controllers))) first
+      let r = some_of (same_interface interface) (states_of d.components) among in
+      let here : list_any (λ name. same_interface name interface) (states_of d.components) ≡ true =
+      any_from (λ name. same_interface name interface) (states_of d.components) r.0 r.1 (same_turned interface r.0 r.2) in
+      let first : list_any (is_state_named interface) (map a_state (states_of d.components)) ≡ true = any_map (is_state_named interface) a_state (states_of d.components) ∙ here in
+      ap (list_any (is_state_named interface)) (called_by_names d)
+      ∙ list_any-append (is_state_named interface) (map a_state (states_of d.components)) (map a_command (commands_of d.components ++ references_of d.controllers))
+      ∙ or_left (list_any (is_state_named interface) (map a_state (states_of d.components))) (list_any (is_state_named interface) (map a_command (commands_of d.components ++ references_of d.controllers))) first
 
 -- ---- Presence
 
@@ -143,19 +143,19 @@ module _ (s : State) (checked : IsChecked s.description) (steady : IsSteady s) w
   d = s.description
 
   -- what is a state interface and available holds a number
-  module _ (i : IfaceName) (among : is_among i (states_of d.components) ≡ true) (there : is_there d s.lives i ≡ true) where
+  module _ (interface : IfaceName) (among : is_among interface (states_of d.components) ≡ true) (there : is_there d s.lives interface ≡ true) where
     number_at : (k : ℕ) → running s.lives k ≡ true
-        → AllByRecursion (λ x. is_state_named i x.called ≡ true → belongs_to (λ c. c == k) x.whose ≡ true) (at_components a_state (λ j. j.states) 0 0 d.components)
-        → is_number (value_where (is_state_named i) s.values) ≡ true
+        → AllByRecursion (λ x. is_state_named interface x.called ≡ true → belongs_to (λ c. c == k) x.whose ≡ true) (at_components a_state (λ j. j.states) 0 0 d.components)
+        → is_number (value_where (is_state_named interface) s.values) ≡ true
     number_at k runs states =
         let kept = steady.in_order in
-        let known : AllByRecursion (λ v. Runs d s.lives i v.interface) s.values =
-        all_map_back (Runs d s.lives i) (λ (v : InterfaceValue). v.interface) s.values (subst (AllByRecursion (Runs d s.lives i)) (sym kept.described) (all_run d s.lives i k runs states)) in
-        let listed : list_any (λ v. is_state_named i v.interface.called) s.values ≡ true =
-        sym (any_map (is_state_named i) (λ (x : Interface). x.called) (map (λ (v : InterfaceValue). v.interface) s.values) ∙ any_map (λ (x : Interface). is_state_named i x.called) (λ (v : InterfaceValue). v.interface) s.values)
-        ∙ ap (λ (xs : List Interface). list_any (is_state_named i) (map (λ x. x.called) xs)) kept.described ∙ stands d s.lives i among in
-        number_where (is_state_named i) s.values
-        (all_from (λ v. Runs d s.lives i v.interface) (HoldsNumber (running s.lives)) _ (λ v runs holds named. holds (runs named)) s.values known kept.numbers) listed
+        let known : AllByRecursion (λ v. Runs d s.lives interface v.interface) s.values =
+        all_map_back (Runs d s.lives interface) (λ (v : InterfaceValue). v.interface) s.values (subst (AllByRecursion (Runs d s.lives interface)) (sym kept.described) (all_run d s.lives interface k runs states)) in
+        let listed : list_any (λ v. is_state_named interface v.interface.called) s.values ≡ true =
+        sym (any_map (is_state_named interface) (λ (x : Interface). x.called) (map (λ (v : InterfaceValue). v.interface) s.values) ∙ any_map (λ (x : Interface). is_state_named interface x.called) (λ (v : InterfaceValue). v.interface) s.values)
+        ∙ ap (λ (xs : List Interface). list_any (is_state_named interface) (map (λ x. x.called) xs)) kept.described ∙ stands d s.lives interface among in
+        number_where (is_state_named interface) s.values
+        (all_from (λ v. Runs d s.lives interface v.interface) (HoldsNumber (running s.lives)) _ (λ v runs holds named. holds (runs named)) s.values known kept.numbers) listed
 
   module _ (joint : List ℕ) (kind : Kind) (other : CompDesc) (among : is_among (Joint joint kind) (states_of d.components) ≡ true)
       (there : is_there d s.lives (Joint joint kind) ≡ true) (has : list_any (has_named joint) d.components ≡ true) where
@@ -170,14 +170,14 @@ module _ (s : State) (checked : IsChecked s.description) (steady : IsSteady s) w
         (subst (λ m. AllByRecursion (IsOf joint kind m) (at_components a_state (λ j. j.states) 0 0 d.components)) first
         (states_of_component joint kind (λ j. j.states) d.components 0 0 k other checked.joints found.0 found.1))
 
-  pub read_number : (p : ℕ) (i : IfaceName) → active s p ≡ true → reads_at d.controllers p i ≡ true → is_number (value_where (is_state_named i) s.values) ≡ true
-  read_number p i runs reads =
-      let among = checked.reads p i reads in
-      let at = joint_of_state d.components i among in
+  pub read_number : (p : ℕ) (interface : IfaceName) → active s p ≡ true → reads_at d.controllers p interface ≡ true → is_number (value_where (is_state_named interface) s.values) ≡ true
+  read_number p interface runs reads =
+      let among = checked.reads p interface reads in
+      let at = joint_of_state d.components interface among in
       let c = controller_at d.controllers p in
-      let named : names_at d.controllers p i ≡ true =
-      list_any-append (same_interface i) c.claims c.reads ∙ or_right (list_any (same_interface i) c.claims) (list_any (same_interface i) c.reads) reads in
-      let there = steady.together.available p i runs named in
+      let named : names_at d.controllers p interface ≡ true =
+      list_any-append (same_interface interface) c.claims c.reads ∙ or_right (list_any (same_interface interface) c.claims) (list_any (same_interface interface) c.reads) reads in
+      let there = steady.together.available p interface runs named in
       let has : list_any (has_named at.joint.name) d.components ≡ true =
       any_from (has_named at.joint.name) d.components at.component at.listed
       (any_from (is_named at.joint.name) at.component.joints at.joint at.inside ((bytes_eq-Decides at.joint.name at.joint.name).1 refl)) in

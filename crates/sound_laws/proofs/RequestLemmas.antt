@@ -1,11 +1,9 @@
 -- What hardware requests keep: what an active controller uses stays available.
-use Rattle.std.proofs.Common.{◌≡◌, ℕ, zero, suc, Bool, true, false, List, [], ◌∷◌, ◌++◌, length, get_or, Option, Some, None, inl, inr, refl, sym, ◌∙◌, subst, ap, true≢false, arith}
-use Rattle.std.specs.Prelude.{◌==◌, ◌&&◌, not, if◌then◌else◌, filter, find, option_map, slice_index_or, slice_set}
-use Rattle.std.specs.List.{Contains}
+use Rattle.std.proofs.Common.{◌≡◌, ℕ, zero, suc, Bool, true, false, List, [], ◌∷◌, ◌++◌, Option, Some, None, inl, inr, refl, sym, ◌∙◌, subst, ap, true≢false}
+use Rattle.std.specs.Prelude.{◌==◌, ◌&&◌, not, if◌then◌else◌, find, option_map, slice_index_or, slice_set}
 use Rattle.std.specs.Option.{option_map_or}
 use Rattle.std.proofs.lemmas.Bool.{and_parts, eqb-true, eq-eqb, cases_eq, cases_Bool}
 use Rattle.std.proofs.lemmas.List.{get_or-set_other, length-set}
-use Rattle.std.proofs.lemmas.List.Sorted.{Contains-permutation}
 use Rattle.iface_names.specs.Interfaces.{same_interface}
 use Rattle.iface_names.specs.Sameness.{same_interface-Decides}
 use Rattle.iface_names.specs.declared.interface.IfaceName.{IfaceName}
@@ -20,35 +18,26 @@ use Rattle.cm_model.specs.Commit.{described_of}
 use Rattle.cm_model.specs.Components.{is_available, has_move}
 use Rattle.cm_model.specs.Cycle.{active_order}
 use Rattle.cm_model.specs.Faults.{cause_if, component_with}
-use Rattle.cm_model.specs.Order.{controller_at, depth}
+use Rattle.cm_model.specs.Order.{controller_at}
 use Rattle.cm_model.specs.Sound.{names_at, is_there}
 use Rattle.cm_model.specs.State.{State, Loaded, is_active, active}
 use Rattle.cm_model.specs.Steady.{IsSteady}
 use Rattle.cm_model.specs.declared.cause.Cause.{Cause}
 use Rattle.cm_model.specs.declared.cause.Cause.TheVariants as cause
-use Rattle.chain_order.proofs.DepthLemmas.{depth-most}
-use Rattle.chain_order.proofs.OrderLemmas.{by_rank-once}
-use Rattle.switch_plan.proofs.ElementLemmas.{or_none, map_none, some_of, any_from, not_found, filter_from}
+use Rattle.sound_laws.proofs.ActiveLemmas.{in_active_order}
+use Rattle.switch_plan.proofs.ElementLemmas.{or_none, map_none, some_of, any_from, not_found}
 
 -- ---- Who uses a component
 
 -- a controller that claims or reads an interface uses its component
-pub uses_named : (components : List CompDesc) (test : ℕ → Bool) (controllers : List CtlDesc) (p : ℕ) (i : IfaceName) (k : ℕ) → names_at controllers p i ≡ true
-    → component_with components i ≡ Some k → test k ≡ true → uses components test (controller_at controllers p) ≡ true
-uses_named components test controllers p i k named at passes =
+pub uses_named : (components : List CompDesc) (test : ℕ → Bool) (controllers : List CtlDesc) (p : ℕ) (interface : IfaceName) (k : ℕ) → names_at controllers p interface ≡ true
+    → component_with components interface ≡ Some k → test k ≡ true → uses components test (controller_at controllers p) ≡ true
+uses_named components test controllers p interface k named at passes =
     let c = controller_at controllers p in
-    let r = some_of (same_interface i) (c.claims ++ c.reads) named in
-    let same : i ≡ r.0 = (same_interface-Decides i r.0).0 r.2 in
+    let r = some_of (same_interface interface) (c.claims ++ c.reads) named in
+    let same : interface ≡ r.0 = (same_interface-Decides interface r.0).0 r.2 in
     any_from (λ name. option_map_or test (component_with components name) false) (c.claims ++ c.reads) r.0 r.1
     (ap (λ name. option_map_or test (component_with components name) false) (sym same) ∙ ap (λ o. option_map_or test o false) at ∙ passes)
-
--- an active controller stands in the order of updates
-pub in_active_order : (s : State) (l : Loaded) → Contains s.loaded l → is_active l ≡ true → Contains (active_order s) l
-in_active_order s l inside runs =
-    Contains-permutation (filter is_active s.loaded) (active_order s) l
-    (by_rank-once (λ (m : Loaded). depth s.description.controllers (active s) m.place) (suc (length s.description.controllers)) (filter is_active s.loaded)
-    (λ k d below. omega (arith, depth-most s.description.controllers (active s) (get_or (filter is_active s.loaded) k d).place)))
-    (filter_from is_active s.loaded l inside runs)
 
 -- where no user is told, no active controller uses the component
 unused : (s : State) (component : ℕ) → user_of s component ≡ None → (p : ℕ) → active s p ≡ true
@@ -80,26 +69,26 @@ module _ (s : State) (steady : IsSteady s) (component : ℕ) (target : Life) (no
       (if is_available target then None else option_map (λ name. cause.InUse name) (user_of s component)) none).1 in
       map_none (λ name. cause.InUse name) (user_of s component) (ap (λ (b : Bool). if b then None else option_map (λ name. cause.InUse name) (user_of s component)) (sym down) ∙ second)
 
-  available_at : (p : ℕ) (i : IfaceName) (k : ℕ) → active s p ≡ true → names_at s.description.controllers p i ≡ true → component_with components i ≡ Some k
+  available_at : (p : ℕ) (interface : IfaceName) (k : ℕ) → active s p ≡ true → names_at s.description.controllers p interface ≡ true → component_with components interface ≡ Some k
       → is_available (slice_index_or s.lives k Unconfigured) ≡ true → is_available (slice_index_or (slice_set s.lives component target) k Unconfigured) ≡ true
-  available_at p i k runs named at was =
+  available_at p interface k runs named at was =
       elim (cases_eq k component) [
         | inl same ↦
             elim (cases_Bool (is_available target)) [
               | inl up ↦ subst (λ c. is_available (slice_index_or (slice_set s.lives c target) k Unconfigured) ≡ true) same (set_available s.lives k target up was)
-              | inr down ↦ absurd (true≢false (sym (uses_named components (λ c. c == component) s.description.controllers p i k named at (eq-eqb k component same))
+              | inr down ↦ absurd (true≢false (sym (uses_named components (λ c. c == component) s.description.controllers p interface k named at (eq-eqb k component same))
                   ∙ unused s component (no_user down) p runs))
             ]
         | inr other ↦ ap is_available (get_or-set_other s.lives component k target Unconfigured other) ∙ was
       ]
 
-  there_after : (p : ℕ) (i : IfaceName) → active s p ≡ true → names_at s.description.controllers p i ≡ true → is_there s.description (slice_set s.lives component target) i ≡ true
-  there_after p i runs named = of (component_with components i) refl (steady.together.available p i runs named)
+  there_after : (p : ℕ) (interface : IfaceName) → active s p ≡ true → names_at s.description.controllers p interface ≡ true → is_there s.description (slice_set s.lives component target) interface ≡ true
+  there_after p interface runs named = of (component_with components interface) refl (steady.together.available p interface runs named)
     where
-      of : (o : Option ℕ) → component_with components i ≡ o → option_map_or (λ k. is_available (slice_index_or s.lives k Unconfigured)) o true ≡ true
+      of : (o : Option ℕ) → component_with components interface ≡ o → option_map_or (λ k. is_available (slice_index_or s.lives k Unconfigured)) o true ≡ true
           → option_map_or (λ k. is_available (slice_index_or (slice_set s.lives component target) k Unconfigured)) o true ≡ true
       of None at was = refl
-      of (Some k) at was = available_at p i k runs named at was
+      of (Some k) at was = available_at p interface k runs named at was
 
   move_steady : IsSteady (with_move_unless s [] component target None).state
   move_steady = moved_steady s (slice_set s.lives component target) steady.in_order (length-set s.lives component target) (record {

@@ -18,10 +18,9 @@ use Rattle.cm_model.specs.State.{State, Loaded, is_active, active}
 use Rattle.chain_order.proofs.DepthLemmas.{depth-rises}
 use Rattle.chain_order.proofs.OrderLemmas.{pairs-head, pairs-tail, ByRank, by_rank-sorted}
 use Rattle.switch_plan.proofs.ElementLemmas.{none_inside, first_or_later, some_of, any_from, filter_back, filter_from}
-use Rattle.sound_laws.proofs.DecidedLemmas.{from_active_order}
+use Rattle.sound_laws.proofs.ActiveLemmas.{in_active_order, from_active_order}
 use Rattle.sound_laws.proofs.LoanLemmas.{all_map_back}
 use Rattle.sound_laws.proofs.ParamsLemmas.{all_at}
-use Rattle.sound_laws.proofs.RequestLemmas.{in_active_order}
 use Rattle.sound_laws.proofs.SerialLemmas.{serials_of}
 
 -- ---- Lists

@@ -25,11 +25,11 @@ use Rattle.sound_laws.proofs.RequestLemmas.{uses_named}
 
 -- ---- Numbers below
 
-none_below : (test : ℕ → Bool) (n : ℕ) → ((i : ℕ) → test i ≡ false) → some_below test n ≡ false
+none_below : (test : ℕ → Bool) (n : ℕ) → ((interface : ℕ) → test interface ≡ false) → some_below test n ≡ false
 none_below test zero none = refl
 none_below test (suc n) none = or_from (some_below test n) (test n) (none_below test n none) (none n)
 
-same_below : (f g : ℕ → Bool) (n : ℕ) → ((i : ℕ) → f i ≡ g i) → some_below f n ≡ some_below g n
+same_below : (f g : ℕ → Bool) (n : ℕ) → ((interface : ℕ) → f interface ≡ g interface) → some_below f n ≡ some_below g n
 same_below f g zero same = refl
 same_below f g (suc n) same = ap₂ (λ a b. a || b) (same_below f g n same) (same n)
 
@@ -139,26 +139,26 @@ module _ (s : State) (free : first_in_loop s.description.controllers ≡ None) (
       (and_from (is_active r.0) (r.0.place == p && is_struck s ran r.0) parts.0 (and_from (r.0.place == p) (is_struck s ran r.0) parts.1 here))
 
   -- so who stays uses none that failed
-  sound_components : (p : ℕ) (i : IfaceName) (k : ℕ) → stays_active s ran p ≡ true → names_at s.description.controllers p i ≡ true → component_with s.description.components i ≡ Some k
+  sound_components : (p : ℕ) (interface : IfaceName) (k : ℕ) → stays_active s ran p ≡ true → names_at s.description.controllers p interface ≡ true → component_with s.description.components interface ≡ Some k
       → component_is has_failed s k ≡ false
-  sound_components p i k stays named at =
+  sound_components p interface k stays named at =
       elim (cases_Bool (component_is has_failed s k)) [
         | inr sound ↦ sound
         | inl failed ↦
             let parts = stays_parts p stays in
-            let used = uses_named s.description.components (component_is has_failed s) s.description.controllers p i k named at failed in
+            let used = uses_named s.description.components (component_is has_failed s) s.description.controllers p interface k named at failed in
             absurd (true≢false (sym (reaches_hit linked (struck s ran) count count p (is_hit p parts.0 used)) ∙ parts.1))
       ]
 
-  there_after : length s.lives ≡ length s.description.components → CanRunTogether s.description s.lives (active s) → (p : ℕ) (i : IfaceName) → stays_active s ran p ≡ true
-      → names_at s.description.controllers p i ≡ true → is_there s.description (lives_after s) i ≡ true
-  there_after counted together p i stays named =
-      of (component_with s.description.components i) refl (together.available p i (stays_parts p stays).0 named)
+  there_after : length s.lives ≡ length s.description.components → CanRunTogether s.description s.lives (active s) → (p : ℕ) (interface : IfaceName) → stays_active s ran p ≡ true
+      → names_at s.description.controllers p interface ≡ true → is_there s.description (lives_after s) interface ≡ true
+  there_after counted together p interface stays named =
+      of (component_with s.description.components interface) refl (together.available p interface (stays_parts p stays).0 named)
     where
-      of : (o : Option ℕ) → component_with s.description.components i ≡ o → option_map_or (λ k. is_available (slice_index_or s.lives k Unconfigured)) o true ≡ true
+      of : (o : Option ℕ) → component_with s.description.components interface ≡ o → option_map_or (λ k. is_available (slice_index_or s.lives k Unconfigured)) o true ≡ true
           → option_map_or (λ k. is_available (slice_index_or (lives_after s) k Unconfigured)) o true ≡ true
       of None at was = refl
-      of (Some k) at was = kept_life s.ended s.description.components s.lives k counted (sound_components p i k stays named at) was
+      of (Some k) at was = kept_life s.ended s.description.components s.lives k counted (sound_components p interface k stays named at) was
 
   -- Once the failed components have moved, those that stay can run together.
   pub stays_together : length s.lives ≡ length s.description.components → CanRunTogether s.description s.lives (active s) → CanRunTogether s.description (lives_after s) (stays_active s ran)

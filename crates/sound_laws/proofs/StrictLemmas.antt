@@ -106,7 +106,7 @@ module _ (s : State) (steady : IsSteady s) (off on : List (List ℕ)) (can : Can
       conflict = uncounted fault_kind.Conflict p inside new;
       mode = uncounted fault_kind.Mode p inside new;
     };
-    followed = λ p i inside claims. none_missing scene set (named scene on) p i (uncounted fault_kind.Follower p inside refl) claims;
+    followed = λ p interface inside claims. none_missing scene set (named scene on) p interface (uncounted fault_kind.Follower p inside refl) claims;
   })
 
   pub done_steady : (again : Places) → IsSteady (with_switch s (done [] set again)).state

@@ -1,15 +1,15 @@
 -- Along each legal history what was told so far are, by ticket, the outcomes of all requests that have one.
 use Rattle.std.proofs.Common.{◌≡◌, ◌⊎◌, ℕ, List, [], ◌∷◌, ◌++◌, Option, Some, None, option_map, append-nil, inl, inr, refl, sym, ◌∙◌, subst, ap}
-use Rattle.std.specs.Prelude.{slice_get, IsSomeAnd}
+use Rattle.std.specs.Prelude.{slice_get}
 use Rattle.cm_document.specs.declared.call.Call.{Call}
 use Rattle.cm_document.specs.declared.call.Call.TheVariants.{Load, Configure, Cleanup, Unload, Rate, Send, Switch, Hardware, Told, Begin, End, Close}
 use Rattle.cm_document.specs.declared.description.CtlDesc.{CtlDesc}
-use Rattle.cm_model.proofs.StayLemmas.{IsStep, step-IsStep}
+use Rattle.cm_model.proofs.StayLemmas.{IsStep}
 use Rattle.cm_model.specs.Boundary.{request_effect, decisions_from, begin_effect, begin_reply, close_effect, close_reply}
 use Rattle.cm_model.specs.Commit.{commit}
 use Rattle.cm_model.specs.Console.{place_of, slot_of, after_configure, after_cleanup, after_rate, after_send, where_done, with_slot, with_changed, without_slot}
 use Rattle.cm_model.specs.Cycle.{after_cycle}
-use Rattle.cm_model.specs.Machine.{LegalFrom, reply_of, with_controller, with_loaded, load_effect, effect, step}
+use Rattle.cm_model.specs.Machine.{LegalFrom, reply_of, with_controller, with_loaded, load_effect, effect}
 use Rattle.cm_model.specs.Sound.{moments, decisions_in, IsToldRightly, TicketsAreRight, TicketsFrom}
 use Rattle.cm_model.specs.State.{State, Loaded}
 use Rattle.cm_model.specs.declared.cause.Decision.{Decision}
@@ -19,6 +19,7 @@ use Rattle.cm_model.specs.declared.reply.Reply.TheVariants as reply
 use Rattle.cm_model.specs.declared.request.Request.{Request}
 use Rattle.cm_model.specs.declared.request.Request.TheVariants as request
 use Rattle.switch_plan.proofs.ElementLemmas.{some_is}
+use Rattle.sound_laws.proofs.MomentLemmas.{moment_of, legal_step}
 use Rattle.sound_laws.proofs.ReplyLemmas.{Decides, of_reply}
 use Rattle.sound_laws.proofs.TicketLemmas.{begin_tells, close_tells, told_rightly}
 
@@ -127,30 +128,19 @@ module _ (s : State) (made : State × Reply) where
   asks _ is = tt
 
   call_right : (so_far : List Decision) → so_far ≡ decisions_from 0 s.outcomes → (call : Call) → IsStep s call made
-      → TicketsAreRight so_far (record { before = s; call = call; reply = made.1; after = made.0 })
+      → TicketsAreRight so_far (moment_of s call made)
   call_right so_far are call is =
-      subst (λ told. TicketsAreRight told (record { before = s; call = call; reply = made.1; after = made.0 })) (sym are) (record { each_once = tells call is; told = asks call is })
+      subst (λ told. TicketsAreRight told (moment_of s call made)) (sym are) (record { each_once = tells call is; told = asks call is })
 
 -- ---- Histories
-
--- of a step, and what comes after it
-tickets_step : (s : State) (so_far : List Decision) (e : Entry) (es : List Entry) → so_far ≡ decisions_from 0 s.outcomes → (o : Option (State × Reply)) → step s e.who e.call ≡ o
-    → IsSomeAnd o (λ made. (made.1 ≡ e.reply) × LegalFrom made.0 es)
-    → ((t : State) (told : List Decision) → told ≡ decisions_from 0 t.outcomes → LegalFrom t es → TicketsFrom told (moments t es))
-    → TicketsFrom so_far (elim o [
-      | None ↦ []
-      | Some made ↦ record { before = s; call = e.call; reply = e.reply; after = made.0 } ∷ moments made.0 es
-    ])
-tickets_step s so_far e es are None stepped legal rest = tt
-tickets_step s so_far e es are (Some made) stepped legal rest =
-    let is = step-IsStep s e.who e.call made stepped in
-    let all : so_far ++ decisions_in made.1 ≡ decisions_from 0 made.0.outcomes = ap (λ told. told ++ decisions_in made.1) are ∙ tells s made e.call is in
-    subst (λ r. TicketsFrom so_far (record { before = s; call = e.call; reply = r; after = made.0 } ∷ moments made.0 es)) legal.0
-    (call_right s made so_far are e.call is, rest made.0 (so_far ++ decisions_in made.1) all legal.1)
 
 -- Each ticket is decided once, and told so, along each legal history.
 pub tickets_from : (s : State) (so_far : List Decision) (history : List Entry) → so_far ≡ decisions_from 0 s.outcomes → LegalFrom s history
     → TicketsFrom so_far (moments s history)
 tickets_from s so_far [] are legal = tt
 tickets_from s so_far (e ∷ es) are legal =
-    tickets_step s so_far e es are (step s e.who e.call) refl legal (λ t told all after. tickets_from t told es all after)
+    let first = legal_step s e es legal in
+    let all : so_far ++ decisions_in first.made.1 ≡ decisions_from 0 first.made.0.outcomes =
+    ap (λ told. told ++ decisions_in first.made.1) are ∙ tells s first.made e.call first.is in
+    subst (TicketsFrom so_far) (sym first.are)
+    (call_right s first.made so_far are e.call first.is, tickets_from first.made.0 (so_far ++ decisions_in first.made.1) es all first.later)

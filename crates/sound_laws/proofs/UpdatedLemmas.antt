@@ -3,7 +3,7 @@ use Rattle.std.proofs.Common.{◌≡◌, ℕ, suc, ◌+◌, ◌-◌, ◌<◌, �
 use Rattle.std.specs.Prelude.{◌==◌, if◌then◌else◌, option_map, is_some, IfSome, unwrap_or, min}
 use Rattle.std.specs.List.{AllByRecursion}
 use Rattle.std.proofs.lemmas.Bool.{cases_lt}
-use Rattle.std.proofs.lemmas.List.{length-append, length-take, length-drop}
+use Rattle.std.proofs.lemmas.List.{length-append, length-map, length-take, length-drop}
 use Rattle.std.proofs.lemmas.List.FromFn.{length-map-range_with_len}
 use Rattle.fixed_num.specs.declared.value.BodyState.{BodyState}
 use Rattle.fixed_num.specs.declared.value.Value.{Value}
@@ -145,10 +145,6 @@ updates_hold s there u (l ∷ ls) all =
 
 -- ---- Bodies
 
-length_map : {A B : Type 0} (f : A → B) (xs : List A) → length (map f xs) ≡ length xs
-length_map f [] = refl
-length_map f (x ∷ xs) = ap suc (length_map f xs)
-
 -- as many bodies are driven as there are
 driven_count : (commands : List JointInterface) (values : List Value) (dt_us : ℕ) (js : List JointDesc) (claims : List (Option ℕ)) (bodies : List BodyState)
     → length claims ≡ length js → length bodies ≤ length js → length (driven_bodies commands values dt_us js claims bodies) ≡ length bodies
@@ -165,7 +161,7 @@ step_count : (c : CompDesc) (commanded : Bool) (claims : List ℕ) (values : Lis
 step_count c true claims values dt_us bodies most =
     driven_count (command_interfaces c) values dt_us c.joints (claimed_by c claims) bodies
     (length-map-range_with_len (claim_on (command_interfaces c) claims) 0 (length c.joints)) most
-step_count c false claims values dt_us bodies most = length_map stopped bodies
+step_count c false claims values dt_us bodies most = length-map bodies stopped
 
 -- and each body of a joint of components steps to one
 pub stepped_below : (s : State) (values : List InterfaceValue) (component : ℕ) (cs : List CompDesc) (bodies : List BodyState) (k : ℕ) → k < length (joints_of cs)

@@ -31,7 +31,7 @@ pub record IsChecked (d : Description) : Type 0 where
   -- joints differ by name,
   pub joints : IsDistinct same_name (map (λ j. j.name) (joints_of d.components))
   -- what a controller reads is a state interface,
-  pub reads : (p : ℕ) (i : IfaceName) → is_among i (controller_at d.controllers p).reads ≡ true → is_among i (states_of d.components) ≡ true
+  pub reads : (p : ℕ) (interface : IfaceName) → is_among interface (controller_at d.controllers p).reads ≡ true → is_among interface (states_of d.components) ≡ true
   -- and no controller precedes itself at some distance.
   pub free : first_in_loop d.controllers ≡ None
 
@@ -42,24 +42,24 @@ names-IsDistinct names u e =
 
 -- all that a controller reads is there
 each_among : (there : List IfaceName) (name : List ℕ) (interfaces : List IfaceName) (u : Unit {0}) → all_among there name interfaces ≡ Ok u
-    → (i : IfaceName) → is_among i interfaces ≡ true → is_among i there ≡ true
-each_among there name interfaces u e i named =
-    let r = some_of (same_interface i) interfaces named in
+    → (interface : IfaceName) → is_among interface interfaces ≡ true → is_among interface there ≡ true
+each_among there name interfaces u e interface named =
+    let r = some_of (same_interface interface) interfaces named in
     let none = none_told (λ x. NoInterface name x) (find (λ x. not (is_among x there)) interfaces) u e in
     let known : is_among r.0 there ≡ true = not-false (is_among r.0 there) (not_found (λ x. not (is_among x there)) interfaces none r.0 r.1) in
-    subst (λ x. is_among x there ≡ true) (sym ((same_interface-Decides i r.0).0 r.2)) known
+    subst (λ x. is_among x there ≡ true) (sym ((same_interface-Decides interface r.0).0 r.2)) known
 
 reads_exist : (commands states : List IfaceName) (cs : List CtlDesc) (u : Unit {0}) → links_exist commands states cs ≡ Ok u
-    → (p : ℕ) (i : IfaceName) → is_among i (controller_at cs p).reads ≡ true → is_among i states ≡ true
-reads_exist commands states [] u e p i reads = absurd (true≢false (sym reads))
-reads_exist commands states (c ∷ cs) u e zero i reads =
+    → (p : ℕ) (interface : IfaceName) → is_among interface (controller_at cs p).reads ≡ true → is_among interface states ≡ true
+reads_exist commands states [] u e p interface reads = absurd (true≢false (sym reads))
+reads_exist commands states (c ∷ cs) u e zero interface reads =
     let claims = bind_Ok (all_among commands c.name c.claims) _ u e in
     let these = bind_Ok (all_among states c.name c.reads) _ u claims.2 in
-    each_among states c.name c.reads these.0 these.1 i reads
-reads_exist commands states (c ∷ cs) u e (suc p) i reads =
+    each_among states c.name c.reads these.0 these.1 interface reads
+reads_exist commands states (c ∷ cs) u e (suc p) interface reads =
     let claims = bind_Ok (all_among commands c.name c.claims) _ u e in
     let these = bind_Ok (all_among states c.name c.reads) _ u claims.2 in
-    reads_exist commands states cs u these.2 p i reads
+    reads_exist commands states cs u these.2 p interface reads
 
 pub valid-IsChecked : (d : Description) → valid d ≡ Ok d → IsChecked d
 unfolding valid
