@@ -22,6 +22,7 @@ use Rattle.cm_model.proofs.LegalLemmas.{Leads, Leads-step}
 use Rattle.cm_model.proofs.QuietLemmas.{quiet_begin, quiet_begin_reply, quiet_close, quiet_close_reply}
 use Rattle.cm_model.proofs.StayLemmas.{step-Stands}
 use Rattle.cm_model.proofs.UpdateLemmas.{updates_keep}
+use Rattle.sound_laws.proofs.HistoryLemmas.{legal_sound}
 use Rattle.cm_desk.specs.Desk.{owed, flag, seen, Keeps, Grows, CanBeCalled}
 use Rattle.cm_desk.specs.Works.{IsQuiet}
 
@@ -42,7 +43,14 @@ recorded at_boot s next made after who call r entries boxes later places kept st
     let stands = step-Stands s who call (next, r) stepped in
     let same : boot next.description at_boot next.sessions ≡ opening = rw (stands.description, stands.sessions) refl in
     record {
-      keeps = rw (same) (record { legal = rw grown leads.legal; ends = rw grown leads.ends; room = room; places = loaded });
+      keeps = rw (same) (record {
+        valid = kept.valid;
+        legal = rw grown leads.legal;
+        sound = rw grown (legal_sound s.description at_boot s.sessions (with_entry made who call r) kept.valid leads.legal);
+        ends = rw grown leads.ends;
+        room = room;
+        places = loaded;
+      });
       grows = record { opening = same; made = grown; stepped = rw (kept.ends, same, grown, leads.ends) stepped };
     }
 

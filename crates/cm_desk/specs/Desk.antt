@@ -1,10 +1,12 @@
 -- What contracts see of the desk, and what its type keeps.
 use Rattle.std.specs.Prelude.{◌≡◌, ℕ, ◌+◌, ◌≤◌, Bool, true, false, not, List, length, Option, Some, None}
+use Rattle.cm_document.specs.Valid.{IsValid}
 use Rattle.cm_document.specs.declared.call.Call.{Call}
 use Rattle.cm_document.specs.declared.call.Call.TheVariants.{Load, Configure, Cleanup, Unload, Rate, Send, ListControllers, ListInterfaces, ListComponents}
 use Rattle.cm_model.specs.Console.{moves_out}
 use Rattle.cm_model.specs.Machine.{LegalFrom, state_after, reply_of, effect, step}
 use Rattle.cm_model.specs.Scheduled.{with_entry}
+use Rattle.cm_model.specs.Sound.{moments, AreSound}
 use Rattle.cm_model.specs.State.{State, boot}
 use Rattle.cm_model.specs.declared.blanks.Blanks.{Blanks}
 use Rattle.cm_model.specs.declared.data.CtlData.{CtlData}
@@ -89,9 +91,11 @@ flag false = 0
 abbrev pub owed : State → ℕ
 owed s = flag s.aloft + flag (not s.closed)
 
--- The history is legal and leads to this state; there is room for the entries that are owed, and for the boxes that are loaded.
+-- The description is valid; the history is legal and sound, and leads to this state; there is room for the entries that are owed, and for the boxes that are loaded.
 pub record Keeps (opening : State) (made : List Entry) (now : State) (entries boxes : ℕ) : Type 0 where
+  pub valid : IsValid opening.description
   pub legal : LegalFrom opening made
+  pub sound : AreSound (moments opening made)
   pub ends : state_after opening made ≡ now
   pub room : length made + owed now ≤ entries
   pub places : length now.loaded ≤ boxes

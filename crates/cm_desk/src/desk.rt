@@ -4,6 +4,7 @@ ghost use Rattle.std.specs.Prelude.{◌≡◌, ◌<◌, true, [], map, length, o
 ghost use Rattle.cm_document.specs.declared.call.Call.TheVariants as call;
 ghost use Rattle.cm_model.specs.Cycle.{cycle};
 ghost use Rattle.cm_model.specs.Machine.{LegalFrom, can_begin, can_close};
+ghost use Rattle.cm_model.specs.Sound.{moments, AreSound};
 ghost use Rattle.cm_model.specs.State.{boot};
 ghost use Rattle.cm_desk.specs.Desk.{now_of, Grows, Waits, GrowsWhere, CanBeCalled, hands_out};
 
@@ -227,12 +228,13 @@ impl<C: Controller> Desk<C> {
         self.history.as_slice()
     }
 
-    /// The book: the history, which is legal, and the boxes of the loaded controllers, by serial, each with the data that the history
+    /// The book: the history, which is legal and sound, and the boxes of the loaded controllers, by serial, each with the data that the history
     /// gives it. It takes no memory.
     pub fn finish(self) -> Book<C>
         requires closed { (now_of self).closed ≡ true }
         ensures history { result.history.items ≡ self.made }
         ensures legal { LegalFrom self.opening self.made }
+        ensures sound { AreSound (moments self.opening self.made) }
         ensures boxes { map C.meaning result.boxes.items ≡ map (λ l. l.ctl) (now_of self).loaded }
     {
         let Desk {

@@ -1,6 +1,6 @@
 //! What the desk keeps, and loads.
 
-ghost use Rattle.std.specs.Prelude.{◌≡◌, ◌<◌, true, false, map, length, slice_get, Some, IfOk, IfSome, OnErr, MatchOption};
+ghost use Rattle.std.specs.Prelude.{◌≡◌, ◌<◌, true, false, map, length, slice_get, Some, IfOk, OnOk, IfSome, OnErr, MatchOption};
 ghost use Rattle.cm_document.specs.Valid.{IsValid};
 ghost use Rattle.cm_model.specs.Console.{place_of, slot_at, slot_of};
 ghost use Rattle.cm_model.specs.Machine.{is_loaded_at, is_sold_out_at, with_loaded, load_effect};
@@ -53,7 +53,8 @@ impl<C: Controller> Works<C> {
         stock: Stock<C>,
         sessions: u32,
     ) -> Result<Works<C>, Memory>
-        ensures { IfOk result (λ works. works ≡ boot checked stock sessions) }
+        ensures booted { IfOk result (λ works. works ≡ boot checked stock sessions) }
+        ensures valid { OnOk result (IsValid checked) }
     {
         let names = names_of(alloc, checked.description().controllers.as_slice())?;
         let flight = Flight::make(alloc, &checked)?;

@@ -5,13 +5,15 @@ use Rattle.cm_desk.proofs.desk.Desk.boot.Goals as goal
 pub invariant_of-result : goal.invariant_of-result
 invariant_of-result g c = (
   record {
+    valid = rw (c.in_ok-works.ensures.booted) c.in_ok-works.ensures.valid;
     legal = rw (c.in_ok-with_capacity.ensures.items) tt;
-    ends = rw (c.in_ok-with_capacity.ensures.items, c.in_ok-works.ensures, c.blanks-at_boot.ensures) refl;
-    room = rw (c.in_ok-with_capacity.ensures.items, c.in_ok-works.ensures) (omega (arith, c.in_ok-with_capacity.ensures.capacity));
-    places = rw (c.in_ok-works.ensures) (omega arith);
+    sound = rw (c.in_ok-with_capacity.ensures.items) (record { loans = tt; updates = tt; configurations = tt; requests = record { tickets = tt; whole = tt }; unloads = tt });
+    ends = rw (c.in_ok-with_capacity.ensures.items, c.in_ok-works.ensures.booted, c.blanks-at_boot.ensures) refl;
+    room = rw (c.in_ok-with_capacity.ensures.items, c.in_ok-works.ensures.booted) (omega (arith, c.in_ok-with_capacity.ensures.capacity));
+    places = rw (c.in_ok-works.ensures.booted) (omega arith);
   },
   c.new.ensures.items,
 )
 
 pub returns : goal.returns
-returns g c = rw (c.in_ok-with_capacity.ensures.items, c.in_ok-works.ensures, c.blanks-at_boot.ensures) refl
+returns g c = rw (c.in_ok-with_capacity.ensures.items, c.in_ok-works.ensures.booted, c.blanks-at_boot.ensures) refl

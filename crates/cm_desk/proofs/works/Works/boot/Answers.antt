@@ -12,6 +12,6 @@ invariant_of-result g c = record {
   flown = flown_at_boot c.args.checked c.in_ok-flight.flight c.in_ok-flight.ensures;
 }
 
-pub returns : goal.returns
-returns g c =
+pub returns-clause-booted : goal.returns-clause-booted
+returns-clause-booted g c =
     booted c.args.checked c.args.stock c.in_ok-blanks.blanks c.args.sessions c.new.result.items c.in_ok-flight.flight c.in_ok-blanks.ensures.same c.new.ensures.items c.in_ok-flight.ensures
