@@ -1,12 +1,21 @@
 //! The program `cm`: a document from standard input, its trace to standard output.
 #![tactic(auto)]
 
-ghost use Rattle.std.specs.Prelude.{◌≡◌, ◌⊎◌, IfErr};
+ghost use Rattle.std.specs.Prelude.{◌≡◌, ◌+◌, ◌<◌, ◌^◌, ◌⊎◌, length, map, IfErr, IfOk, OnOk};
+ghost use Rattle.std.specs.List.{All};
+ghost use Rattle.cm_model.specs.Controllers.{IsBlank};
+ghost use Rattle.cm_model.specs.declared.blanks.Blanks.{Blanks};
+ghost use Rattle.ctl_rack.specs.Stocks.{with_one_more};
 ghost use Rattle.cm_top.specs.Status.{code_of, ComesBeforeWriting};
+ghost use Rattle.cm_main.specs.Stock.{AreBlanks, blanks_of_each};
 
-use cm_model::Blanks;
-use cm_top::{Status, run};
+use cm_model::Memory;
+use cm_top::{Status, Stock, run};
+use ctl_forward::{Forward, Passthrough};
+use ctl_mock::Mock;
+use ctl_trait::Controller;
 use outside_io::{NoPace, OpenGate, Sink, Source, StdSink, StdSource};
+use std::alloc::Global;
 use std::io::Eprint;
 use std::process::ExitCode;
 use std::rt::Env;
@@ -17,22 +26,8 @@ use std::{env, fmt, io};
 #[cfg(test)]
 mod tests;
 
-/// How many mocks the program has in stock.
-pub const MOCKS: u32 = 32;
-
-/// The program's stock: the mocks, and no blank of another kind.
-fn stock() -> Blanks
-    ensures { result ≡ record { forward = 0; passthrough = 0; pid = 0; trajectory = 0; broadcaster = 0; mock = MOCKS } }
-{
-    Blanks {
-        forward: 0,
-        passthrough: 0,
-        pid: 0,
-        trajectory: 0,
-        broadcaster: 0,
-        mock: MOCKS,
-    }
-}
+/// How many blanks of each kind that is built the program has in stock.
+pub const BLANKS: u32 = 32;
 
 fn main(rt: HostRuntime) -> ExitCode {
     let mut source = StdSource::make(rt.reader());
@@ -57,18 +52,66 @@ where
         Ok(words) => words,
         Err(status) => return status,
     };
-    let words = words.as_slice();
+    let Ok(blanks) = blanks(rt.alloc()) else {
+        return Status::Memory;
+    };
+    run_over(rt, words.as_slice(), source, sink, blanks)
+}
+
+/// Runs the words over a stock of these blanks, and drops the book.
+fn run_over<R, S, K, C>(
+    rt: &R,
+    words: &[String],
+    source: &mut S,
+    sink: &mut K,
+    blanks: Vec<C>,
+) -> Status
+where
+    R: Threads + Wait + Sync + AllocGlobal,
+    S: Source,
+    K: Sink,
+    C: Controller,
+    requires blank { All (λ c. IsBlank (C.meaning c)) blanks.items }
+    requires few { length blanks.items < 2 ^ 32 }
+    ensures refused { result ≡ Status.BadWords → source.new ≡ source.old }
+    ensures untouched { ComesBeforeWriting result → sink.new ≡ sink.old }
+{
+    let stock = Stock::make(blanks);
     let alloc = rt.alloc();
-    run(
+    let (status, _) = run(
         rt,
         alloc,
         words,
         source,
         sink,
-        stock(),
+        stock,
         &mut NoPace,
         &OpenGate,
-    )
+    );
+    status
+}
+
+/// The program's stock: so many blanks of each kind that is built, and none of another kind.
+fn blanks(alloc: Global) -> Result<Vec<Box<dyn Controller>>, Memory>
+    ensures { IfOk result (λ blanks. AreBlanks meaning blanks.items (blanks_of_each BLANKS)) }
+{
+    let mut blanks: Vec<Box<dyn Controller>> = Vec::new(alloc);
+    for _number in 0..BLANKS {
+        add(&mut blanks, Box::new(alloc, Forward::blank())?)?;
+        add(&mut blanks, Box::new(alloc, Passthrough::blank())?)?;
+        add(&mut blanks, Box::new(alloc, Mock::blank())?)?;
+    }
+    Ok(blanks)
+}
+
+/// One blank more.
+fn add<C: Controller>(blanks: &mut Vec<C>, blank: C) -> Result<(), Memory>
+    requires { IsBlank (C.meaning blank) }
+    ensures { OnOk result ((b : Blanks) → AreBlanks C.meaning blanks.old.items b
+        → AreBlanks C.meaning blanks.new.items (with_one_more b (C.meaning blank).kind)) }
+{
+    blanks.push(blank)?;
+    Ok(())
 }
 
 /// The words after the program's name.

@@ -1,10 +1,9 @@
-pub mod ListLemmas
 pub mod PartsLemmas
-pub mod DeskLemmas
 pub mod NameLemmas
 pub mod JoinLemmas
-pub mod RoomLemmas
 pub mod SettleLemmas
+pub mod HistoryLemmas
+pub mod JobLemmas
 pub mod StreamLemmas
 pub mod PlainLemmas
 pub mod TopLemmas

@@ -1,8 +1,7 @@
 pub mod Sides
-pub mod Desk
-pub mod Room
 pub mod Session
 pub mod Joined
 pub mod Streams
+pub mod Book
 pub mod Status
 pub mod Calls

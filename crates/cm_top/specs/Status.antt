@@ -1,11 +1,9 @@
 -- The numbers of the statuses, and what each says of the run that ended so.
-use Rattle.std.specs.Prelude.{◌≡◌, ℕ, ◌<◌, ◌≤◌, List, Option, Result, Ok, Err, length, nat_lt, if◌then◌else◌, ◌⊎◌}
+use Rattle.std.specs.Prelude.{◌≡◌, ℕ, ◌<◌, List, Option, Some, None, Result, Ok, Err, length, nat_lt, if◌then◌else◌, IsSomeAnd}
 use Rattle.std.specs.Io.KnownBytes.{Keeps, Appends}
 use Rattle.outside_io.specs.Bytes.{AllFlushed, AppendsPrefix}
 use Rattle.cm_document.specs.declared.limits.TheConstants.{LONGEST_DOCUMENT}
 use Rattle.cm_document.specs.Document.{document}
-use Rattle.cm_model.specs.Machine.{IsLegal}
-use Rattle.cm_model.specs.Sessions.{IsWhole}
 use Rattle.cm_model.specs.Trace.{output}
 use Rattle.cm_document.specs.declared.document.Document.{Document}
 use Rattle.cm_document.specs.declared.faults.DescProblem.TheVariants as problem
@@ -15,7 +13,7 @@ use Rattle.cm_document.specs.declared.faults.ScriptFault.TheVariants as script_f
 use Rattle.cm_document.specs.declared.faults.DocumentFault.{DocumentFault}
 use Rattle.cm_document.specs.declared.faults.DocumentFault.TheVariants as fault
 use Rattle.cm_model.specs.declared.blanks.Blanks.{Blanks}
-use Rattle.cm_model.specs.declared.entry.Entry.{Entry}
+use Rattle.cm_top.specs.Book.{BookFacts, Histories, IsShort, IsBookOf}
 use Rattle.cm_top.specs.declared.status.Status.{Status}
 use Rattle.cm_top.specs.declared.status.Status.TheVariants as status
 
@@ -30,42 +28,45 @@ code_of status.TooLong = 6
 code_of status.Memory = 7
 code_of status.WriteFault = 8
 
--- no longer than a document may be
-abbrev pub IsShort : List ℕ → Type 0
-IsShort bytes = length bytes ≤ LONGEST_DOCUMENT
+-- What a run has before it and after it: what the sink had taken and has taken, and how much of that is flushed.
+pub record Written : Type 0 where
+  pub old : Option (List ℕ)
+  pub new : Option (List ℕ)
+  pub flushed : Option ℕ
 
--- the history that a job makes of each document
-abbrev pub Histories : Type 0
-Histories = Document → List Entry
-
--- A run that went well: the bytes are an accepted document; the sink has grown by exactly the trace of the history that the job
--- made of it, all of it flushed; and that history is legal and whole.
-pub record Printed (made : Histories) (bytes : List ℕ) (blanks : Blanks) (old new : Option (List ℕ)) (flushed : Option ℕ) : Type 0 where
+-- A run that went well: the bytes are an accepted document; the book is that of its run; and the sink has grown by exactly the trace
+-- of the book's history, all of it flushed.
+pub record Printed (made : Histories) (bytes : List ℕ) (blanks : Blanks) (w : Written) (book : BookFacts) : Type 0 where
   pub document_is : Document
   pub short : IsShort bytes
   pub accepted : document bytes ≡ Ok document_is
-  pub taken : Appends old new (output document_is (made document_is))
-  pub all_flushed : AllFlushed new flushed
-  pub legal : IsLegal document_is.description blanks (length document_is.script.sessions) (made document_is)
-  pub whole : IsWhole document_is (made document_is)
+  pub book_is : IsBookOf made blanks document_is book
+  pub taken : Appends w.old w.new (output document_is book.history)
+  pub all_flushed : AllFlushed w.new w.flushed
 
 -- A run that was cut short while it wrote: the sink has grown by a front of that trace.
-pub record Cut (made : Histories) (bytes : List ℕ) (old new : Option (List ℕ)) : Type 0 where
+pub record Cut (made : Histories) (bytes : List ℕ) (blanks : Blanks) (w : Written) (book : BookFacts) : Type 0 where
   pub document_is : Document
   pub short : IsShort bytes
   pub accepted : document bytes ≡ Ok document_is
-  pub taken : AppendsPrefix old new (output document_is (made document_is))
+  pub book_is : IsBookOf made blanks document_is book
+  pub taken : AppendsPrefix w.old w.new (output document_is book.history)
+
+-- Want of memory: without a book nothing was written, with one a front of its trace.
+abbrev pub WantsMemory : Histories → List ℕ → Blanks → Written → Option BookFacts → Type 0
+WantsMemory made bytes blanks w None = Keeps w.old w.new
+WantsMemory made bytes blanks w (Some book) = Cut made bytes blanks w book
 
 -- What a run over these bytes says by its status, where the job made this history. Each refusal names the document's first fault, exactly.
-abbrev pub EndedWith : Histories → List ℕ → Blanks → Option (List ℕ) → Option (List ℕ) → Option ℕ → Status → Type 0
-EndedWith made bytes blanks old new flushed status.Ok = Printed made bytes blanks old new flushed
-EndedWith made bytes blanks old new flushed status.BadWords = ⊥
-EndedWith made bytes blanks old new flushed (status.BadDescription p) = IsShort bytes × (document bytes ≡ Err (fault.Description p))
-EndedWith made bytes blanks old new flushed (status.BadScript f) = IsShort bytes × (document bytes ≡ Err (fault.Script f))
-EndedWith made bytes blanks old new flushed status.ReadFault = Unit {0}
-EndedWith made bytes blanks old new flushed status.TooLong = LONGEST_DOCUMENT < length bytes
-EndedWith made bytes blanks old new flushed status.Memory = Keeps old new ⊎ Cut made bytes old new
-EndedWith made bytes blanks old new flushed status.WriteFault = Cut made bytes old new
+abbrev pub EndedWith : Histories → List ℕ → Blanks → Written → Status → Option BookFacts → Type 0
+EndedWith made bytes blanks w status.Ok book = IsSomeAnd book (Printed made bytes blanks w)
+EndedWith made bytes blanks w status.BadWords book = ⊥
+EndedWith made bytes blanks w (status.BadDescription p) book = IsShort bytes × (document bytes ≡ Err (fault.Description p))
+EndedWith made bytes blanks w (status.BadScript f) book = IsShort bytes × (document bytes ≡ Err (fault.Script f))
+EndedWith made bytes blanks w status.ReadFault book = Unit {0}
+EndedWith made bytes blanks w status.TooLong book = LONGEST_DOCUMENT < length bytes
+EndedWith made bytes blanks w status.Memory book = WantsMemory made bytes blanks w book
+EndedWith made bytes blanks w status.WriteFault book = IsSomeAnd book (Cut made bytes blanks w)
 
 -- The status that a document asks for, where it can be read and written: its first fault, or all of its trace.
 abbrev pub status_of_document : Result Document DocumentFault → Status
@@ -99,11 +100,17 @@ IsPlain (status.BadScript f) = IsPlainFault (fault.Script f)
 IsPlain _ = Unit {0}
 
 -- What writing a text came to by the status: all of it taken and flushed, or a front of it.
-abbrev pub Wrote : List ℕ → Option (List ℕ) → Option (List ℕ) → Option ℕ → Status → Type 0
-Wrote text old new flushed status.Ok = Appends old new text × AllFlushed new flushed
-Wrote text old new flushed status.Memory = AppendsPrefix old new text
-Wrote text old new flushed status.WriteFault = AppendsPrefix old new text
-Wrote text old new flushed _ = ⊥
+abbrev pub Wrote : List ℕ → Written → Status → Type 0
+Wrote text w status.Ok = Appends w.old w.new text × AllFlushed w.new w.flushed
+Wrote text w status.Memory = AppendsPrefix w.old w.new text
+Wrote text w status.WriteFault = AppendsPrefix w.old w.new text
+Wrote text w _ = ⊥
+
+-- What a run of an accepted document came to: without a book memory ran out before anything was written; with one the trace of its
+-- history was written.
+abbrev pub RanDocument : Histories → Document → Blanks → Written → Status → Option BookFacts → Type 0
+RanDocument made d blanks w ended None = (ended ≡ status.Memory) × Keeps w.old w.new
+RanDocument made d blanks w ended (Some book) = IsBookOf made blanks d book × Wrote (output d book.history) w ended
 
 -- the statuses that a run can come to once its bytes are read
 abbrev pub ComesOfBytes : Status → Type 0

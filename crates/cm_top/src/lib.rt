@@ -1,10 +1,10 @@
-//! From bytes to bytes: a document is read, its run is made, and the trace is written.
+//! From bytes to bytes: a document is read, its run is made, the trace is written, and the book of the run is handed out.
 #![tactic(auto)]
 
+pub use cm_desk::{Book, Stock};
 pub use status::Status;
 pub use top::{run, run_alone};
 
-mod desk;
 mod document;
 mod interfaces;
 mod items;

@@ -1,19 +1,21 @@
 //! Sessions over the desk, and the order of the job `run`.
 
-ghost use Rattle.std.specs.Prelude.{◌≡◌, ◌+◌, ◌<◌, ◌≤◌, ◌^◌, [], None, length, map, IfOk, OnOk, OnErr};
-ghost use Rattle.cm_model.specs.Machine.{step};
-ghost use Rattle.cm_model.specs.Scheduled.{advance, settle, settle_from, start, scheduled, ticket_in};
-ghost use Rattle.cm_top.specs.Room.{lines_left, serials_of};
+ghost use Rattle.std.specs.Prelude.{◌≡◌, ◌<◌, ◌^◌, [], None, true, length, map, IfOk, OnOk};
 ghost use Rattle.std.specs.List.{All};
-ghost use Rattle.cm_top.specs.Session.{at, Advances, Asks, NeedsNoBox, NeedNoBoxes};
+ghost use Rattle.cm_document.specs.declared.document.Document.{Document};
+ghost use Rattle.cm_model.specs.Scheduled.{advance, settle, settle_from, start, cycles, finish, ticket_in};
+ghost use Rattle.cm_model.specs.Sound.{moments, AreSound};
+ghost use Rattle.cm_model.specs.State.{boot};
+ghost use Rattle.cm_desk.specs.Desk.{now_of, CanBeCalled};
+ghost use Rattle.cm_top.specs.Session.{at, Advances, IsMade, CanAllBeCalled, progress_of};
 
-use crate::desk::Desk;
-use cm_model::{Blanks, Call, Checked, Entry, KeptCall, Memory, Reply, Script, SessionText};
+use cm_desk::{Book, Desk, Stock};
+use cm_model::{Call, Checked, Entry, Memory, Reply, Script, SessionText};
+use ctl_trait::Controller;
 use std::alloc::Global;
 use std::marker::Model;
 
-/// Where a session stands: the lines that it has left, none of which reaches a controller's box, and the ticket that it has
-/// still to be told of.
+/// Where a session stands: the lines that it has left, each of which the desk answers, and the ticket that it has still to be told of.
 #[derive(Debug, Drop)]
 pub struct Session<'a> {
     lines: &'a [Call],
@@ -25,111 +27,164 @@ impl<'a> Model for Session<'a> {
 
     ghost Value = { WrittenSession };
 
-    ghost use Rattle.cm_top.specs.Session.{NeedNoBoxes};
+    ghost use Rattle.cm_top.specs.Session.{CanAllBeCalled};
 
     ghost view = { λ s. record { lines = s.lines.now; ticket = s.ticket } };
 
-    ghost invariant = { λ s. NeedNoBoxes s.lines.now };
+    ghost invariant = { λ s. CanAllBeCalled s.lines.now };
 }
 
-/// What came of a call that may not be enabled.
-#[derive(Clone, Copy, Debug)]
-pub enum Asked {
-    /// It is not enabled.
-    Waits,
-    /// It was made, and was given this ticket where it is a request that waits.
-    Made(Option<u32>),
-}
-
-/// How far a run has come: its state, its history, and where each session stands.
-#[derive(Debug, Drop)]
-pub struct Job<'a> {
-    desk: Desk<'a>,
-    made: Vec<Entry>,
+/// How far a run has come: its desk, with the history, and where each session stands.
+#[derive(Drop)]
+pub struct Job<'a, C: Controller> {
+    desk: Desk<C>,
     sessions: Vec<Session<'a>>,
 }
 
-impl<'a> Model for Job<'a> {
-    ghost use Rattle.std.specs.Prelude.{◌+◌, ◌<◌, ◌^◌, length};
-    ghost use Rattle.cm_model.specs.Scheduled.{Progress};
+impl<'a, C: Controller> Model for Job<'a, C> {
+    ghost use Rattle.std.specs.Prelude.{◌≡◌, length};
+    ghost use Rattle.cm_top.specs.Session.{Standing};
 
-    ghost Value = { Progress };
+    ghost Value = { Standing };
 
-    ghost use Rattle.cm_top.specs.Room.{lines_left};
+    ghost view = { λ j. record { desk = j.desk; sessions = j.sessions.items } };
 
-    ghost view = { λ s. record { state = s.desk; made = s.made.items; sessions = s.sessions.items } };
-
-    ghost invariant = { λ s.
-        (s.desk.loads + lines_left s.sessions.items < 2 ^ 32) × (length s.sessions.items < 2 ^ 32) };
+    ghost invariant = { λ j. length j.sessions.items ≡ j.desk.opening.sessions };
 }
 
-impl<'a> Job<'a> {
-    ghost use Rattle.cm_model.specs.Scheduled.{settle_all, looped, with_cycle, cycles, finish};
+impl<'a, C: Controller> Job<'a, C> {
+    ghost use Rattle.cm_model.specs.Machine.{can_begin, can_end, can_close};
+    ghost use Rattle.cm_model.specs.Scheduled.{settle_all, looped, with_cycle};
     ghost use Rattle.cm_document.specs.declared.call.Call.TheVariants as call;
-    ghost use Rattle.cm_top.specs.Room.{IsLoops};
+    ghost use Rattle.cm_top.specs.Session.{GoesOn};
 
     /// No session has made a line yet.
     #[tactic(auto, unfolding(cm_model::specs::Scheduled::start))]
-    pub fn start(
+    fn start(
         alloc: Global,
-        checked: &'a Checked,
+        checked: Checked,
         script: &'a Script,
-        blanks: Blanks,
-    ) -> Result<Job<'a>, Memory>
+        stock: Stock<C>,
+    ) -> Result<Job<'a, C>, Memory>
         requires few { length script.now.sessions < 2 ^ 32 }
-        requires room { lines_left (map (λ s. record { lines = s.lines; ticket = None }) script.now.sessions) < 2 ^ 32 }
-        requires boxless { All (λ s. NeedNoBoxes s.lines) script.now.sessions }
-        ensures { IfOk result (λ job. job ≡ start (record { description = checked.now; script = script.now }) blanks) }
+        requires called { All (λ s. CanAllBeCalled s.lines) script.now.sessions }
+        ensures opening { IfOk result
+            (λ job. job.desk.opening ≡ boot checked stock (length script.now.sessions)) }
+        ensures started { IfOk result
+            (λ job. progress_of job ≡ start (record { description = checked; script = script.now }) stock) }
     {
         let texts = script.sessions.as_slice();
         let sessions = waiting(alloc, texts)?;
-        let desk = Desk::boot(alloc, checked, blanks, texts.len() as u32)?;
-        Ok(Job {
-            desk,
-            made: Vec::new(alloc),
-            sessions,
-        })
+        let desk = Desk::boot(alloc, checked, stock, texts.len() as u32)?;
+        Ok(Job { desk, sessions })
     }
 
-    /// The history, once no more is made.
-    fn into_history(self) -> Vec<Entry>
-        ensures { result.items ≡ self.entry.made }
+    /// All that the job did, in order.
+    pub fn history(&self) -> &[Entry]
+        ensures { result.now ≡ self.now.desk.made }
     {
-        self.made
+        self.desk.history()
+    }
+
+    /// The description that the job runs on.
+    pub fn checked(&self) -> &Checked
+        ensures { result.now ≡ self.now.desk.opening.description }
+    {
+        self.desk.checked()
+    }
+
+    /// The book of a job whose loop is closed. It takes no memory.
+    pub fn into_book(self) -> Book<C>
+        requires closed { (now_of self.desk).closed ≡ true }
+        ensures history { result.history.items ≡ self.entry.desk.made }
+        ensures sound { AreSound (moments self.entry.desk.opening self.entry.desk.made) }
+        ensures boxes { map C.meaning result.boxes.items ≡ map (λ l. l.ctl) (now_of self.entry.desk).loaded }
+    {
+        self.desk.finish()
     }
 
     /// All sessions settle, in order.
     #[tactic(auto, unfolding(cm_model::specs::Scheduled::settle_all))]
     fn settle_all(&mut self, alloc: Global) -> Result<(), Memory>
-        ensures { OnOk result (self.new ≡ settle_all self.old) }
+        ensures { OnOk result (GoesOn settle_all self.old self.new) }
     {
-        settle_each(alloc, &mut self.sessions, &mut self.desk, &mut self.made)
+        settle_each(alloc, &mut self.sessions, &mut self.desk)
     }
 
-    /// The loop makes a call, where it is enabled.
+    /// The loop begins the cycle of this number, where it can.
     #[tactic(auto, unfolding(cm_model::specs::Scheduled::looped))]
-    fn looped(&mut self, alloc: Global, call: &Call) -> Result<(), Memory>
-        requires { IsLoops call.now }
-        ensures { OnOk result (self.new ≡ looped call.now self.old) }
+    fn begin(&mut self, alloc: Global, number: u64) -> Result<(), Memory>
+        ensures { OnOk result (GoesOn (looped (call.Begin number)) self.old self.new) }
     {
-        let who = self.desk.sessions();
-        ask(alloc, who, call, &mut self.desk, &mut self.made)?;
+        if self.can_begin(number) {
+            self.desk.begin(alloc)?;
+        }
         Ok(())
+    }
+
+    fn can_begin(&self, number: u64) -> bool
+        ensures { result ≡ can_begin (now_of self.now.desk) number }
+    {
+        !self.desk.aloft()
+            && !self.desk.closed()
+            && self.desk.ended() == number
+            && number < self.all_cycles()
+    }
+
+    /// How many cycles the description has.
+    #[tactic(auto, using(crate::proofs::HistoryLemmas::description_stays))]
+    fn all_cycles(&self) -> u64
+        ensures { result ≡ (now_of self.now.desk).description.cycles }
+    {
+        self.desk.checked().description().cycles
+    }
+
+    /// The loop ends the cycle of this number, where it can.
+    #[tactic(auto, unfolding(cm_model::specs::Scheduled::looped))]
+    fn end(&mut self, number: u64)
+        ensures { GoesOn (looped (call.End number)) self.old self.new }
+    {
+        if self.can_end(number) {
+            self.desk.end();
+        }
+    }
+
+    fn can_end(&self, number: u64) -> bool
+        ensures { result ≡ can_end (now_of self.now.desk) number }
+    {
+        self.desk.aloft() && self.desk.ended() == number
+    }
+
+    /// The loop closes, where it can.
+    #[tactic(auto, unfolding(cm_model::specs::Scheduled::looped))]
+    fn close(&mut self)
+        ensures { GoesOn (looped call.Close) self.old self.new }
+    {
+        if self.can_close() {
+            self.desk.close();
+        }
+    }
+
+    fn can_close(&self) -> bool
+        ensures { result ≡ can_close (now_of self.now.desk) }
+    {
+        !self.desk.aloft() && !self.desk.closed()
     }
 
     /// The sessions settle, and the cycle of this number begins and ends.
     #[tactic(auto, unfolding(cm_model::specs::Scheduled::with_cycle))]
     fn cycle(&mut self, alloc: Global, number: u64) -> Result<(), Memory>
-        ensures { OnOk result (self.new ≡ with_cycle number self.old) }
+        ensures { OnOk result (GoesOn (with_cycle number) self.old self.new) }
     {
         self.settle_all(alloc)?;
-        self.looped(alloc, &Call::Begin(number))?;
-        self.looped(alloc, &Call::End(number))
+        self.begin(alloc, number)?;
+        self.end(number);
+        Ok(())
     }
 
     /// So many cycles, from cycle 0 on.
     fn cycles(&mut self, alloc: Global, count: u64) -> Result<(), Memory>
-        ensures { OnOk result (self.new ≡ cycles count self.old) }
+        ensures { OnOk result (GoesOn (cycles count) self.old self.new) }
     {
         for number in 0..count {
             self.cycle(alloc, number)?;
@@ -140,37 +195,39 @@ impl<'a> Job<'a> {
     /// After the last cycle: the sessions settle, the loop closes, and they settle once more.
     #[tactic(auto, unfolding(cm_model::specs::Scheduled::finish))]
     fn finish(&mut self, alloc: Global) -> Result<(), Memory>
-        ensures { OnOk result (self.new ≡ finish self.old) }
+        ensures { OnOk result (GoesOn finish self.old self.new) }
     {
         self.settle_all(alloc)?;
-        self.looped(alloc, &Call::Close)?;
+        self.close();
         self.settle_all(alloc)
     }
 }
 
-/// The history of the job `run` over a checked description and a script.
-#[tactic(auto, unfolding(cm_model::specs::Scheduled::scheduled))]
-pub fn history(
+/// The job `run` over a checked description and a script, made to its end.
+pub fn run_job<'a, C: Controller>(
     alloc: Global,
-    checked: &Checked,
-    script: &Script,
-    blanks: Blanks,
-) -> Result<Vec<Entry>, Memory>
+    checked: Checked,
+    script: &'a Script,
+    stock: Stock<C>,
+) -> Result<Job<'a, C>, Memory>
     requires few { length script.now.sessions < 2 ^ 32 }
-    requires room { lines_left (map (λ s. record { lines = s.lines; ticket = None }) script.now.sessions) < 2 ^ 32 }
-    requires boxless { All (λ s. NeedNoBoxes s.lines) script.now.sessions }
-    ensures { IfOk result
-        (λ made. made.items ≡ scheduled (record { description = checked.now; script = script.now }) blanks) }
+    requires called { All (λ s. CanAllBeCalled s.lines) script.now.sessions }
+    ensures opening { IfOk result
+        (λ job. job.desk.opening ≡ boot checked stock (length script.now.sessions)) }
+    ensures scheduled { IfOk result
+        (λ job. progress_of job ≡ finish
+        (cycles checked.cycles (start (record { description = checked; script = script.now }) stock))) }
 {
-    let mut job = Job::start(alloc, checked, script, blanks)?;
-    job.cycles(alloc, checked.description().cycles)?;
+    let count = checked.description().cycles;
+    let mut job = Job::start(alloc, checked, script, stock)?;
+    job.cycles(alloc, count)?;
     job.finish(alloc)?;
-    Ok(job.into_history())
+    Ok(job)
 }
 
 /// The sessions of a script, each before its lines.
 fn waiting<'a>(alloc: Global, texts: &'a [SessionText]) -> Result<Vec<Session<'a>>, Memory>
-    requires { All (λ s. NeedNoBoxes s.lines) texts.now }
+    requires { All (λ s. CanAllBeCalled s.lines) texts.now }
     ensures { IfOk result
         (λ sessions. sessions.items ≡ map (λ s. record { lines = s.lines; ticket = None }) texts.now) }
 {
@@ -184,60 +241,54 @@ fn waiting<'a>(alloc: Global, texts: &'a [SessionText]) -> Result<Vec<Session<'a
     Ok(sessions)
 }
 
-/// The sessions settle in order.
-fn settle_each(
+/// The sessions of a desk settle in order.
+fn settle_each<C: Controller>(
     alloc: Global,
     sessions: &mut [Session<'_>],
-    desk: &mut Desk<'_>,
-    made: &mut Vec<Entry>,
+    desk: &mut Desk<C>,
 ) -> Result<(), Memory>
-    requires few { length sessions.old < 2 ^ 32 }
-    requires room { desk.old.loads + lines_left sessions.old < 2 ^ 32 }
+    requires { length sessions.old ≡ desk.old.opening.sessions }
     ensures settled { OnOk result
-        (settle_from 0 sessions.old desk.old made.old.items []
-        ≡ record { state = desk.new; made = made.new.items; sessions = sessions.new }) }
-    ensures room { desk.new.loads + lines_left sessions.new ≤ desk.old.loads + lines_left sessions.old }
+        (settle_from 0 sessions.old (now_of desk.old) desk.old.made []
+        ≡ progress_of (record { desk = desk.new; sessions = sessions.new })) }
+    ensures opening { desk.new.opening ≡ desk.old.opening }
 {
-    for who in 0..sessions.len() {
-        settle(alloc, who as u32, &mut sessions[who], desk, made)?;
+    for who in 0..desk.sessions() {
+        settle(alloc, who, &mut sessions[who as usize], desk)?;
     }
     Ok(())
 }
 
 /// A session settles: it advances until it cannot.
-fn settle(
+fn settle<C: Controller>(
     alloc: Global,
     who: u32,
     session: &mut Session<'_>,
-    desk: &mut Desk<'_>,
-    made: &mut Vec<Entry>,
+    desk: &mut Desk<C>,
 ) -> Result<(), Memory>
-    requires room { desk.old.loads + length session.old.lines < 2 ^ 32 }
-    ensures settled { OnOk result
-        (settle who (at desk.old made.old.items session.old) ≡ at desk.new made.new.items session.new) }
-    ensures room { desk.new.loads + length session.new.lines ≤ desk.old.loads + length session.old.lines }
+    requires { who < desk.old.opening.sessions }
+    ensures settled { OnOk result (settle who (at desk.old session.old) ≡ at desk.new session.new) }
+    ensures opening { desk.new.opening ≡ desk.old.opening }
 {
-    while advance(alloc, who, session, desk, made)? {}
+    while advance(alloc, who, session, desk)? {}
     Ok(())
 }
 
 /// A session advances by one call, where it has one that is enabled: it is told of its ticket, or makes its next line.
-#[tactic(auto, unfolding(cm_model::specs::Scheduled::advance))]
-fn advance(
+#[tactic(auto, unfolding(cm_model::specs::Scheduled::advance), using(crate::proofs::JobLemmas::line_made))]
+fn advance<C: Controller>(
     alloc: Global,
     who: u32,
     session: &mut Session<'_>,
-    desk: &mut Desk<'_>,
-    made: &mut Vec<Entry>,
+    desk: &mut Desk<C>,
 ) -> Result<bool, Memory>
-    requires room { desk.old.loads + length session.old.lines < 2 ^ 32 }
+    requires { who < desk.old.opening.sessions }
     ensures made { IfOk result
-        (Advances (advance who (at desk.old made.old.items session.old)) (at desk.old made.old.items session.old)
-        (at desk.new made.new.items session.new)) }
-    ensures room { desk.new.loads + length session.new.lines ≤ desk.old.loads + length session.old.lines }
+        (Advances (advance who (at desk.old session.old)) (at desk.old session.old) (at desk.new session.new)) }
+    ensures opening { desk.new.opening ≡ desk.old.opening }
 {
     if let Some(ticket) = session.ticket {
-        let Asked::Made(_) = ask(alloc, who, &Call::Told(ticket), desk, made)? else {
+        let Some(_) = desk.told(alloc, who, ticket)? else {
             return Ok(false);
         };
         session.ticket = None;
@@ -246,41 +297,33 @@ fn advance(
     let Some((call, rest)) = session.lines.split_first() else {
         return Ok(false);
     };
-    let Asked::Made(ticket) = ask(alloc, who, call, desk, made)? else {
-        return Ok(false);
-    };
+    let ticket = ask(alloc, who, call, desk)?;
     session.lines = rest;
     session.ticket = ticket;
     Ok(true)
 }
 
-/// Makes a call, where it is enabled, with its entry.
-fn ask(
+/// Makes a session's call, and gives the ticket that it was given. A box that is handed out is dropped.
+fn ask<C: Controller>(
     alloc: Global,
     who: u32,
     call: &Call,
-    desk: &mut Desk<'_>,
-    made: &mut Vec<Entry>,
-) -> Result<Asked, Memory>
-    requires room { desk.old.loads + serials_of call.now < 2 ^ 32 }
-    requires boxless { NeedsNoBox call.now }
-    ensures made { IfOk result
-        (Asks (step desk.old who call.now) who call.now desk.old desk.new made.old.items made.new.items) }
-    ensures room { desk.new.loads ≤ desk.old.loads + serials_of call.now }
-    ensures kept { OnErr result (desk.new ≡ desk.old) }
+    desk: &mut Desk<C>,
+) -> Result<Option<u32>, Memory>
+    requires session { who < desk.old.opening.sessions }
+    requires called { CanBeCalled call.now }
+    ensures made { IfOk result (IsMade desk.old desk.new who call.now) }
+    ensures opening { desk.new.opening ≡ desk.old.opening }
 {
-    made.reserve(1)?;
-    let kept = KeptCall::copy_of(alloc, call)?;
-    let Some(reply) = desk.step(alloc, who, call)? else {
-        return Ok(Asked::Waits);
-    };
-    let ticket = ticket_in(&reply);
-    made.push_reserved(Entry {
-        who,
-        call: kept,
-        reply,
-    });
-    Ok(Asked::Made(ticket))
+    let (reply, _) = desk.call(alloc, who, copy_of(call)?)?;
+    Ok(ticket_in(&reply))
+}
+
+/// A copy of a call, which the session's script keeps.
+fn copy_of(call: &Call) -> Result<Call, Memory>
+    ensures { IfOk result (λ copy. copy ≡ call.now) }
+{
+    Ok(call.clone()?)
 }
 
 /// The ticket that a request was given.

@@ -1,12 +1,13 @@
 -- What a call of `run_alone` promises, and `run` where its words are accepted.
-use Rattle.std.specs.Prelude.{◌≡◌, ℕ, ◌+◌, ◌≤◌, ◌↔◌, false, List, Option, IfSome, IsSome, ◌⊎◌}
+use Rattle.std.specs.Prelude.{◌≡◌, ℕ, ◌+◌, ◌≤◌, ◌↔◌, false, List, Option, None, IfSome, IsSome, ◌⊎◌}
 use Rattle.std.specs.Io.KnownBytes.{IsAtEnd}
 use Rattle.cm_document.specs.declared.limits.TheConstants.{LONGEST_DOCUMENT}
 use Rattle.outside_io.specs.Bytes.{TakesAtMost}
 use Rattle.outside_io.specs.Faults.{Rose}
 use Rattle.cm_model.specs.declared.blanks.Blanks.{Blanks}
 use Rattle.cm_model.specs.Words.{is_asked}
-use Rattle.cm_top.specs.Status.{Histories, EndedWith, IsPlain, ComesOfBytes, status_of}
+use Rattle.cm_top.specs.Book.{BookFacts, Histories, IsBook, HandsOut}
+use Rattle.cm_top.specs.Status.{Written, EndedWith, IsPlain, ComesOfBytes, status_of}
 use Rattle.cm_top.specs.declared.status.Status.{Status}
 use Rattle.cm_top.specs.declared.status.Status.TheVariants as status
 
@@ -28,24 +29,33 @@ source_facts left faults source = record { left = left source; faults = faults s
 abbrev pub sink_facts : {K : Type 0} → (K → Option (List ℕ)) → (K → Option ℕ) → (K → ℕ) → K → SinkFacts
 sink_facts taken flushed faults sink = record { taken = taken sink; flushed = flushed sink; faults = faults sink }
 
--- Words that are not accepted, and they alone, are answered so; then nothing was read and nothing written.
-pub record RefusesWords {S K : Type 0} (words : List (List ℕ)) (source source' : S) (sink sink' : K) (ended : Status) : Type 0 where
+-- what a run wrote into a sink that told this before it and this after it
+abbrev pub written : SinkFacts → SinkFacts → Written
+written sink sink' = record { old = sink.taken; new = sink'.taken; flushed = sink'.flushed }
+
+-- Words that are not accepted, and they alone, are answered so; then nothing was read, nothing written and no book made.
+pub record RefusesWords {S K B : Type 0} (words : List (List ℕ)) (source source' : S) (sink sink' : K) (ended : Status) (book : Option B) : Type 0 where
   pub exactly : (ended ≡ status.BadWords) ↔ (is_asked words ≡ false)
   pub nothing_read : ended ≡ status.BadWords → source' ≡ source
   pub nothing_written : ended ≡ status.BadWords → sink' ≡ sink
+  pub no_book : ended ≡ status.BadWords → book ≡ None
 
--- A run of these bytes into this sink, before and after, with its status.
-pub record RunsBytes (made : Histories) (blanks : Blanks) (bytes : List ℕ) (sink sink' : SinkFacts) (ended : Status) : Type 0 where
-  pub ran : EndedWith made bytes blanks sink.taken sink'.taken sink'.flushed ended
+-- A run of these bytes into this sink, before and after, with its status and its book.
+pub record RunsBytes (made : Histories) (blanks : Blanks) (bytes : List ℕ) (sink sink' : SinkFacts) (ended : Status) (book : Option BookFacts) : Type 0 where
+  pub ran : EndedWith made bytes blanks (written sink sink') ended book
+  pub book_is : HandsOut (IsBook made blanks) ended book
   pub of_bytes : ComesOfBytes ended
   pub plain : IsPlain ended
   pub write_fault : ended ≡ status.WriteFault → Rose sink.faults sink'.faults
   pub later : sink.faults ≤ sink'.faults
 
--- A run from this source, before and after, into this sink, before and after, with its status. The job made these histories.
-pub record Runs (made : Histories) (blanks : Blanks) (source source' : SourceFacts) (sink sink' : SinkFacts) (ended : Status) : Type 0 where
+-- A run from this source, before and after, into this sink, before and after, with its status and its book. The job made these
+-- histories.
+pub record Runs (made : Histories) (blanks : Blanks) (source source' : SourceFacts) (sink sink' : SinkFacts) (ended : Status) (book : Option BookFacts) : Type 0 where
   -- by the bytes of the source, where they are known
-  pub ran : IfSome source.left (λ bytes. EndedWith made bytes blanks sink.taken sink'.taken sink'.flushed ended)
+  pub ran : IfSome source.left (λ bytes. EndedWith made bytes blanks (written sink sink') ended book)
+  -- whatever source and sink tell, a book comes with these statuses alone, and it is that of a run of an accepted document
+  pub book_is : HandsOut (IsBook made blanks) ended book
   -- the words are none of its business
   pub never_words : ended ≡ status.BadWords → ⊥
   -- a run that went well has read its source to the end

@@ -1,6 +1,5 @@
-use Rattle.cm_top.proofs.RoomLemmas.{step-loads}
 use Rattle.cm_top.proofs.session.ask.Goals as goal
 
--- a step takes as many serials as its call may
-pub returns-clause-room : goal.returns-clause-room
-returns-clause-room c = step-loads c.args.desk.now c.args.who c.args.call.now (c.step.new.self, c.in-Some.reply) (rw c.in-Some.is at c.in_ok-reply.ensures.made)
+-- the call that was made is a copy of the one that was asked for
+pub returns-clause-made : goal.returns-clause-made
+returns-clause-made g c = record { answer = c.in_ok-reply.reply; grows = rw c.in_ok-copy_of.ensures at c.in_ok-reply.ensures.made; queued = c.ticket_in.ensures }

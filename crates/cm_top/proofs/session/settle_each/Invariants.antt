@@ -1,11 +1,11 @@
-use Rattle.std.proofs.Common.{◌≡◌, ◌+◌, ◌≤◌, [], take, drop}
+use Rattle.std.proofs.Common.{◌≡◌, [], take, drop}
 use Rattle.cm_model.specs.Scheduled.{settle_from}
-use Rattle.cm_top.specs.Room.{lines_left}
+use Rattle.cm_desk.specs.Desk.{now_of}
 use Rattle.cm_top.proofs.session.settle_each.Given as goal
 
--- to settle the sessions from here on, from what is made, is to settle all; and no more serials are taken than lines made
+-- to settle the sessions from here on, from what is made, is to settle all, over a desk of the same opening
 abbrev pub invariant-loop-who : goal.invariant-loop-who
-invariant-loop-who l = record {
-  settled : settle_from l.who (drop l.who l.sessions) l.desk l.made.items (take l.who l.sessions) ≡ settle_from 0 l.fn.sessions l.fn.desk l.fn.made.items [];
-  room : l.desk.loads + lines_left l.sessions ≤ l.fn.desk.loads + lines_left l.fn.sessions;
+invariant-loop-who g l = record {
+  settled : settle_from l.who (drop l.who l.sessions) (now_of l.desk) l.desk.made (take l.who l.sessions) ≡ settle_from 0 l.fn.sessions (now_of l.fn.desk) l.fn.desk.made [];
+  opening : l.desk.opening ≡ l.fn.desk.opening;
 }

@@ -8,6 +8,7 @@ returns-in-Ok-clause-runs g c =
     let ran = rw c.as_slice.ensures.value at c.run_bytes.ensures.runs.ran in
     record {
       ran = read-EndedWith _ _ c.in-Ok.bytes.items _ c.in-Ok.ensures.whole ran;
+      book_is = c.run_bytes.ensures.runs.book_is;
       never_words = λ words. rw words at c.run_bytes.ensures.runs.of_bytes;
       read_whole = λ well told. read-end _ _ c.in-Ok.bytes.items c.in-Ok.ensures.whole told;
       read_at_most = c.read_whole.ensures.at_most;
@@ -17,5 +18,5 @@ returns-in-Ok-clause-runs g c =
       write_later = c.run_bytes.ensures.runs.later;
       plain = c.run_bytes.ensures.runs.plain;
       exact = read-EndedWith _ _ c.in-Ok.bytes.items _ c.in-Ok.ensures.whole
-          (EndedWith-exact (λ d. scheduled d c.args.stock) c.in-Ok.bytes.items _ _ _ _ _ _ _ ran (λ failed. absurd (rw failed at c.run_bytes.ensures.runs.of_bytes)) c.run_bytes.ensures.runs.write_fault);
+          (EndedWith-exact (λ d. scheduled d c.args.stock) c.in-Ok.bytes.items _ _ _ _ _ _ ran (λ failed. absurd (rw failed at c.run_bytes.ensures.runs.of_bytes)) c.run_bytes.ensures.runs.write_fault);
     }

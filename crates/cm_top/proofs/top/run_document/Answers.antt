@@ -1,27 +1,25 @@
 use Rattle.cm_model.specs.Trace.{output}
-use Rattle.cm_top.proofs.TopLemmas.{rules_room, rules_few, built_boxless, flush-Wrote}
+use Rattle.cm_top.proofs.TopLemmas.{rules_few, built_called, job_done, book_done}
 use Rattle.cm_top.proofs.top.run_document.Goals as goal
 
--- A script that meets the rules leaves room for each of its loads, and for the numbers of its sessions; with built lines alone it
--- reaches no box.
-pub history-requires : goal.history-requires
-history-requires g c = record { few = rules_few _ c.requires.rules; room = rules_room _ c.requires.rules; boxless = built_boxless _ c.requires.grammar }
+-- a script that meets the rules leaves room for the numbers of its sessions
+pub run_job-requires-clause-few : goal.run_job-requires-clause-few
+run_job-requires-clause-few g c = λ _ _. rules_few _ c.requires.rules
 
--- the trace of the scheduled history was taken, and then flushed
-pub returns-in-Ok-write_trace-clause-wrote : goal.returns-in-Ok-write_trace-clause-wrote
-unfolding output
-returns-in-Ok-write_trace-clause-wrote g c =
-    let taken = rw (c.as_slice.ensures.value, c.in-Ok.ensures, c.as_slice-sessions.ensures, c.description-description.ensures.same) at c.in-Ok-write_trace.ensures.ok in
-    flush-Wrote _ _ _ _ _ _ _ taken c.flush.ensures.kept c.flush.ensures.flushed
+-- with built lines alone it has calls that the desk answers
+pub run_job-requires-clause-called : goal.run_job-requires-clause-called
+run_job-requires-clause-called g c = λ _ _. built_called _ c.requires.grammar
 
--- a front of that trace was taken where the sink failed
-pub returns-in-Err-Failed-clause-wrote : goal.returns-in-Err-Failed-clause-wrote
-unfolding output
-returns-in-Err-Failed-clause-wrote g c =
-    rw (c.as_slice.ensures.value, c.in-Ok.ensures, c.as_slice-sessions.ensures, c.description-description.ensures.same) at c.in-Err-Failed.ensures.err
+-- the job has closed its loop
+pub into_book-requires-clause-closed : goal.into_book-requires-clause-closed
+into_book-requires-clause-closed g c = λ _ _. (job_done c.args.document c.args.stock _ c.requires.grammar c.in-Ok.ensures.opening c.in-Ok.ensures.scheduled).closed
 
--- and where memory ran out
-pub returns-clause-wrote : goal.returns-clause-wrote
+-- its book is that of the document's run, and its trace was written
+pub returns-clause-ran : goal.returns-clause-ran
 unfolding output
-returns-clause-wrote g c =
-    rw (c.as_slice.ensures.value, c.in-Ok.ensures, c.as_slice-sessions.ensures, c.description-description.ensures.same) at c.in-Err-Memory.ensures.err
+returns-clause-ran g c =
+    let d = c.args.document in
+    let done = job_done d c.args.stock _ c.requires.grammar c.in-Ok.ensures.opening c.in-Ok.ensures.scheduled in (
+      book_done d c.args.stock _ _ done c.in-Ok.ensures.opening c.into_book.ensures.sound c.into_book.ensures.history c.into_book.ensures.boxes,
+      rw (c.into_book.ensures.history) (rw (c.in-Ok.ensures.opening, c.as_slice.ensures) at c.write-status.ensures.wrote),
+    )
