@@ -196,38 +196,25 @@ told 1
 close
 => bad_line 1";
 
-/// The forms that are built today, and those that are not.
+/// The forms that are built today, those that are not, and of each fault one that a form of today may have.
 pub const FORMS_OF_TODAY: &str = r"=> empty
 
 session a
 load mk
+configure mk
+cleanup mk
+unload mk
+rate mk 5
+send mk 1 -0.5
+send mk @1 1 @2 -0.5
 list controllers
 list interfaces
 list components
-=> |a|load mk|list controllers|list interfaces|list components
+=> |a|load mk|configure mk|cleanup mk|unload mk|rate mk 5|send mk 1.000000 -0.500000\
+|send mk @1 1.000000 @2 -0.500000|list controllers|list interfaces|list components
 
 session a
 session b
-=> bad_line 21
-
-session a
-configure mk
-=> bad_line 21
-
-session a
-cleanup mk
-=> bad_line 21
-
-session a
-unload mk
-=> bad_line 21
-
-session a
-rate mk 5
-=> bad_line 21
-
-session a
-send mk 1
 => bad_line 21
 
 session a
@@ -245,8 +232,31 @@ await 1
 schedule
 => bad_line 20
 
+load mk
+=> no_session 20
+
 configure mk
+=> no_session 20
+
+send mk<0..33 * \s1>
+=> no_session 20
+
+await 1
 => bad_line 20
 
-load mk
-=> no_session 20";
+session a
+configure 1a
+=> bad_line 21
+
+session a
+rate mk 10001
+=> bad_line 21
+
+session a
+send mk<0..32 * \s1>
+send mk<0..33 * \s1>
+=> too_many 22
+
+session a
+send mk<1..66 *  @# 0>\
+=> too_many 21";
