@@ -18,7 +18,7 @@ const LONGEST: usize = 1_048_576;
 const RUNS: Summed<Runs> = Summed {
     teller: Runs {
         step: 4096,
-        mocks: 64,
+        in_stock: 64,
     },
 };
 
@@ -107,14 +107,20 @@ session a
 #<0..391517 * x>
 => 1048576 bytes: 10322917 e9af76b6"#;
 
-/// Behind the description at all limits, but for its cycles: its 50 mocks are loaded, and each list is asked for; then
-/// 10,000 cycles tell of 32 joints each, which make a trace longer than that of the longest document above.
+/// Behind the description at all limits, but for its cycles: its 50 mocks are loaded, its passthroughs and forwards are
+/// loaded and configured with 32 claims each, and each list is asked for; then 10,000 cycles tell of 32 joints each, which
+/// make a trace longer than that of the longest document above.
 const SCRIPT: &str = r"--- script ---
 session a
 <0..50 * load m#
+>\
+<0..3 * load p#
+configure p#
+load f#
+configure f#
 >\
 list controllers
 list components
 <0..100 * list interfaces
 >\
-=> 16761 bytes: 13241690 17767171";
+=> 16887 bytes: 13242110 9fd4f7c6";

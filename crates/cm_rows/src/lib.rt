@@ -8,6 +8,8 @@ mod faults;
 mod largest;
 #[cfg(test)]
 mod runs;
+#[cfg(test)]
+mod stocks;
 
 #[cfg(test)]
 use case_pages::pages;

@@ -1,13 +1,21 @@
 //! Whole runs between a source and a sink in memory: how each ends and what is printed, by the documents' rules.
 
+ghost use Rattle.std.specs.Prelude.{◌<◌, ◌^◌, length};
+ghost use Rattle.std.specs.List.{All};
+ghost use Rattle.cm_model.specs.Controllers.{IsBlank};
+
+mod books;
+mod console;
 mod hardware;
 mod outside;
 mod pages;
 mod words;
 
 use crate::pages::{Teller, hold, joined};
-use cm_model::Blanks;
-use cm_top::{Status, run_alone};
+use crate::stocks::blanks;
+use cm_desk::Book;
+use cm_top::{Status, Stock, run_alone};
+use ctl_trait::Controller;
 use outside::{FAULTS, Fails};
 use outside_io::{MemSink, MemSource};
 use pages::{DESCRIPTIONS, LENGTHS, NOTHING, OF_FIRST, SCRIPTS, SEPARATORS};
@@ -45,30 +53,29 @@ loop close: none
 /// More bytes than any trace of these tests has.
 pub const AMPLE: usize = 16 * 1_048_576;
 
-/// A stock of so many mocks.
-pub fn mocks(mock: u32) -> Blanks {
-    Blanks {
-        forward: 0,
-        passthrough: 0,
-        pid: 0,
-        trajectory: 0,
-        broadcaster: 0,
-        mock,
-    }
-}
+/// How many forwards, passthroughs and mocks each the program has in stock.
+pub const IN_STOCK: u32 = 32;
 
 /// Tells how the run of a document ends, and what it prints, behind one another. The source gives so many bytes a
-/// read, and the stock has so many mocks.
+/// read, and the stock has so many forwards, passthroughs and mocks each.
 #[derive(Clone, Copy)]
 pub struct Runs {
     pub step: usize,
-    pub mocks: u32,
+    pub in_stock: u32,
 }
+
+/// Runs with the program's stock.
+pub const OF_PROGRAM: Runs = Runs {
+    step: 1000,
+    in_stock: IN_STOCK,
+};
 
 impl Teller for Runs {
     fn told(&self, alloc: Global, text: &str) -> Result<String, Fail> {
         let mut sink = MemSink::make(alloc, AMPLE, AMPLE, vec![in alloc]?)?;
-        let status = self.run(alloc, text, &mut sink)?;
+        let mut source = self.source(alloc, text)?;
+        let blanks = blanks(alloc, self.in_stock)?;
+        let (status, _) = run_over(alloc, &mut source, &mut sink, blanks);
         let mut told = format!(in alloc; "{status}\n")?;
         told.push_str(str::from_utf8(sink.bytes())?)?;
         without_end(alloc, told.as_str())
@@ -76,15 +83,27 @@ impl Teller for Runs {
 }
 
 impl Runs {
-    /// How the run of a document ends.
-    fn run(&self, alloc: Global, text: &str, sink: &mut MemSink) -> Result<Status, Fail> {
+    /// The source that gives a document.
+    fn source(&self, alloc: Global, text: &str) -> Result<MemSource, Fail> {
         if self.step == 0 {
             return Err(Fail::new("a step of none"));
         }
         let bytes = text.as_bytes().to_vec(alloc)?;
-        let mut source = MemSource::make(bytes, self.step, vec![in alloc]?);
-        Ok(run_alone(alloc, &mut source, sink, mocks(self.mocks)))
+        Ok(MemSource::make(bytes, self.step, vec![in alloc]?))
     }
+}
+
+/// How a run over a stock of these blanks ends, and what it leaves.
+fn run_over<C: Controller>(
+    alloc: Global,
+    source: &mut MemSource,
+    sink: &mut MemSink,
+    blanks: Vec<C>,
+) -> (Status, Option<Book<C>>)
+    requires blank { All (λ c. IsBlank (C.meaning c)) blanks.items }
+    requires few { length blanks.items < 2 ^ 32 }
+{
+    run_alone(alloc, source, sink, Stock::make(blanks))
 }
 
 /// A text without the end of its last line.
@@ -95,16 +114,19 @@ fn without_end(alloc: Global, told: &str) -> Result<String, Fail> {
     }
 }
 
-/// Runs whose source gives so many bytes a read.
+/// Runs with the program's stock, whose source gives so many bytes a read.
 fn in_steps_of(step: usize) -> Runs {
-    Runs { step, mocks: 32 }
+    Runs {
+        step,
+        in_stock: IN_STOCK,
+    }
 }
 
 #[test]
 fn each_document_is_printed_or_refused(rt: HostRuntime) -> Result<(), Fail> {
     let alloc = rt.alloc();
     for page in [DESCRIPTIONS, SEPARATORS, SCRIPTS, LENGTHS] {
-        hold(alloc, &in_steps_of(1000), "", page)?;
+        hold(alloc, &OF_PROGRAM, "", page)?;
     }
     hold(alloc, &Fails, "", FAULTS)
 }

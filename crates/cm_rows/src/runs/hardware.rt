@@ -3,17 +3,12 @@
 mod failures;
 mod lists;
 
-use super::Runs;
+use super::OF_PROGRAM;
 use crate::pages::{Teller, halves, hold, hold_lines, joined, push_parted};
 use failures::{ARM, OF_ONE_COMPONENT, OF_SEVERAL, STATES_AT_START, STATES_ON_ERROR, TOP, WHOLE};
 use lists::LISTS;
 use std::alloc::Global;
 use std::test::Fail;
-
-const RUNS: Runs = Runs {
-    step: 1000,
-    mocks: 32,
-};
 
 /// Tells what fails in the run of a description without a script: each item of a failure, with its cycle before it; or
 /// `none`, or how a run ends that does not end well.
@@ -23,7 +18,7 @@ struct FailedRuns;
 impl Teller for FailedRuns {
     fn told(&self, alloc: Global, text: &str) -> Result<String, Fail> {
         let document = joined(alloc, text, "--- script ---\n")?;
-        let whole = RUNS.told(alloc, document.as_str())?;
+        let whole = OF_PROGRAM.told(alloc, document.as_str())?;
         failures_in(alloc, whole.as_str())
     }
 }
@@ -60,8 +55,8 @@ fn push_failures(told: &mut String, line: &str) -> Result<(), Fail> {
 #[test]
 fn components_are_listed_run_and_fail(rt: HostRuntime) -> Result<(), Fail> {
     let alloc = rt.alloc();
-    hold(alloc, &RUNS, "", LISTS)?;
-    hold(alloc, &RUNS, "", WHOLE)?;
+    hold(alloc, &OF_PROGRAM, "", LISTS)?;
+    hold(alloc, &OF_PROGRAM, "", WHOLE)?;
     hold_lines(alloc, &FailedRuns, ARM, OF_ONE_COMPONENT)?;
     hold_lines(alloc, &FailedRuns, ARM, STATES_ON_ERROR)?;
     hold_lines(alloc, &FailedRuns, ARM, STATES_AT_START)?;

@@ -1,15 +1,16 @@
 //! Runs over a source or a sink that fails.
 
-use super::{FIRST, mocks};
+use super::books::push_book;
+use super::{FIRST, IN_STOCK, run_over};
 use crate::pages::Teller;
+use crate::stocks::blanks;
 use case_pages::words::word;
-use cm_top::run_alone;
 use outside_io::{MemSink, MemSource};
 use std::alloc::Global;
 use std::str;
 use std::test::Fail;
 
-/// Tells how a run of `FIRST` ends, and what the sink took, by five numbers: the bytes that are given a read, the
+/// Tells how a run of `FIRST` ends, what it leaves, and what the sink took, by five numbers: the bytes that are given a read, the
 /// read that fails, the room of the sink, the bytes that it takes a write, and the write or flush that fails. Calls
 /// are numbered from 0.
 #[derive(Clone, Copy)]
@@ -20,9 +21,13 @@ impl Teller for Fails {
         let row = text.trim_end();
         let mut source = source_of(alloc, row)?;
         let mut sink = sink_of(alloc, row)?;
-        let status = run_alone(alloc, &mut source, &mut sink, mocks(32));
+        let blanks = blanks(alloc, IN_STOCK)?;
+        let (status, book) = run_over(alloc, &mut source, &mut sink, blanks);
+        let mut told = format!(in alloc; "{status}")?;
+        push_book(&mut told, book)?;
         let printed = str::from_utf8(sink.bytes())?;
-        Ok(format!(in alloc; "{status}\n{printed}.")?)
+        write!(told, "\n{printed}.")?;
+        Ok(told)
     }
 }
 
@@ -47,25 +52,34 @@ fn sink_of(alloc: Global, row: &str) -> Result<MemSink, Fail> {
 }
 
 /// A dot stands behind what the sink took. In the fifth case the first call takes the whole trace, and the second is
-/// the flush.
+/// the flush. Whatever the sink takes, the run was made before, and leaves its book: four calls, two cycles and the close,
+/// with the mock that was loaded.
 pub const FAULTS: &str = "8 0 4096 4096 1000000
 => read fault
+no book
 .
 
 8 1 4096 4096 1000000
 => read fault
+no book
 .
 
 8 1000000 4096 10 1
 => write fault
+entries 9
+mock
 a load mk:.
 
 8 1000000 4096 4096 0
 => write fault
+entries 9
+mock
 .
 
 8 1000000 4096 4096 1
 => write fault
+entries 9
+mock
 a load mk: ok 0
 a list controllers: mk mock unconfigured 0
 a load nosuch: not_described
@@ -79,4 +93,6 @@ loop close: none
 
 8 1000000 0 4096 1000000
 => write fault
+entries 9
+mock
 .";

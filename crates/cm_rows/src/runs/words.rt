@@ -1,8 +1,14 @@
 //! Runs by their words, between which nobody waits: neither pace nor gate is called.
 
-use super::{AMPLE, FIRST, FIRST_TRACE, mocks};
+ghost use Rattle.std.specs.Prelude.{◌<◌, ◌^◌, length};
+ghost use Rattle.std.specs.List.{All};
+ghost use Rattle.cm_model.specs.Controllers.{IsBlank};
+
+use super::{AMPLE, FIRST, FIRST_TRACE, IN_STOCK};
 use crate::pages::{halves, hold_told, written_out};
-use cm_top::{Status, run};
+use crate::stocks::blanks;
+use cm_top::{Status, Stock, run};
+use ctl_trait::Controller;
 use outside_io::{Gate, MemSink, MemSource, Pace, Point};
 use std::alloc::Global;
 use std::str;
@@ -48,18 +54,24 @@ fn only_the_one_word_run_is_accepted_and_nobody_waits(rt: HostRuntime) -> Result
     for row in WORDS.lines() {
         let (given, want) = halves(row, " => ")?;
         let words = words(rt.alloc(), given)?;
-        hold_words(&rt, rt.alloc(), words.as_slice(), want)?;
+        let blanks = blanks(rt.alloc(), IN_STOCK)?;
+        hold_words(&rt, rt.alloc(), words.as_slice(), blanks, want)?;
     }
     Ok(())
 }
 
-/// Fails where a run of `FIRST` by these words ends otherwise, or prints something else, or waits.
-fn hold_words<R: Threads + Wait + Sync>(
+/// Fails where a run of `FIRST` by these words ends otherwise, or prints something else, or waits, or leaves a book where it
+/// should leave none, or none where it should.
+fn hold_words<R: Threads + Wait + Sync, C: Controller>(
     rt: &R,
     alloc: Global,
     words: &[String],
+    blanks: Vec<C>,
     want: &str,
-) -> Result<(), Fail> {
+) -> Result<(), Fail>
+    requires blank { All (λ c. IsBlank (C.meaning c)) blanks.items }
+    requires few { length blanks.items < 2 ^ 32 }
+{
     let bytes = FIRST.as_bytes().to_vec(alloc)?;
     let mut source = MemSource::make(bytes, 1000, vec![in alloc]?);
     let mut sink = MemSink::make(alloc, AMPLE, AMPLE, vec![in alloc]?)?;
@@ -67,8 +79,8 @@ fn hold_words<R: Threads + Wait + Sync>(
     let gate = CountingGate {
         calls: AtomicU64::new(0),
     };
-    let stock = mocks(32);
-    let status = run(
+    let stock = Stock::make(blanks);
+    let (status, book) = run(
         rt,
         alloc,
         words,
@@ -82,10 +94,13 @@ fn hold_words<R: Threads + Wait + Sync>(
     hold_status(alloc, status, want)?;
     let trace = if want == "ok" { FIRST_TRACE } else { "" };
     hold_told(alloc, "its words", str::from_utf8(sink.bytes())?, trace)?;
-    if calls == 0 {
-        return Ok(());
+    if calls != 0 {
+        return Err(Fail::new("somebody waits"));
     }
-    Err(Fail::new("somebody waits"))
+    if book.is_some() != (want == "ok") {
+        return Err(Fail::new("a book without a run, or a run without a book"));
+    }
+    Ok(())
 }
 
 fn hold_status(alloc: Global, status: Status, want: &str) -> Result<(), Fail> {

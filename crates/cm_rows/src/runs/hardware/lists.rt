@@ -223,11 +223,11 @@ list controllers
 list interfaces
 => ok
 a load mk: ok 0
-a load relay: stock_empty
+a load relay: ok 1
 a load servo: stock_empty
 a load way: stock_empty
 a load eye: stock_empty
-a list controllers: mk mock unconfigured 0
+a list controllers: mk mock unconfigured 0; relay passthrough unconfigured 1
 a list interfaces: state j1/position 0.000000; command j1/position unset free; command j1/velocity unset free; \
 command relay/j1/position unavailable; command servo/j1/position unavailable
 loop begin 0: none

@@ -1,0 +1,209 @@
+//! What a run leaves behind: its history and the boxes of the controllers that are loaded then.
+
+use super::{AMPLE, IN_STOCK, OF_PROGRAM, run_over};
+use crate::pages::{Teller, hold};
+use crate::stocks::blanks;
+use cm_desk::Book;
+use ctl_trait::Controller;
+use outside_io::MemSink;
+use std::alloc::Global;
+use std::test::Fail;
+
+/// Before which of so many cycles each box is asked whether it is ready.
+const ASKED: u64 = 6;
+
+/// Tells how the run of a document ends, how many entries its book has, and what box by box it holds.
+#[derive(Clone, Copy)]
+struct Books;
+
+impl Teller for Books {
+    fn told(&self, alloc: Global, text: &str) -> Result<String, Fail> {
+        let mut source = OF_PROGRAM.source(alloc, text)?;
+        let mut sink = MemSink::make(alloc, AMPLE, AMPLE, vec![in alloc]?)?;
+        let blanks = blanks(alloc, IN_STOCK)?;
+        let (status, book) = run_over(alloc, &mut source, &mut sink, blanks);
+        let mut told = format!(in alloc; "{status}")?;
+        push_book(&mut told, book)?;
+        Ok(told)
+    }
+}
+
+/// Appends a line that tells the number of a book's entries, and a line for each box; or that there is no book.
+pub fn push_book<C: Controller>(told: &mut String, book: Option<Book<C>>) -> Result<(), Fail> {
+    let Some(book) = book else {
+        told.push_str("\nno book")?;
+        return Ok(());
+    };
+    write!(told, "\nentries {}", book.history.len())?;
+    for ctl in &book.boxes {
+        push_box(told, ctl)?;
+    }
+    Ok(())
+}
+
+/// Appends a line with the kind of a box, and the first cycles before which it is not ready.
+fn push_box<C: Controller>(told: &mut String, ctl: &C) -> Result<(), Fail> {
+    write!(told, "\n{}", ctl.kind().word())?;
+    for cycle in 0..ASKED {
+        push_unready(told, ctl, cycle)?;
+    }
+    Ok(())
+}
+
+fn push_unready<C: Controller>(told: &mut String, ctl: &C, cycle: u64) -> Result<(), Fail> {
+    if !ctl.ready(cycle) {
+        write!(told, ", not ready in {cycle}")?;
+    }
+    Ok(())
+}
+
+/// Two mocks that are not ready in some cycles, which they know once they are configured, one that refuses to be, a forward
+/// and a passthrough. Lines 1 to 31 of the document.
+const ROBOT: &str = r#"version = 1
+update_rate = 100
+cycles = 0
+[[component]]
+name = "arm"
+kind = "actuator"
+[[component.joint]]
+name = "j1"
+vmax = 1
+command = ["position"]
+[[controller]]
+name = "fwd"
+type = "forward"
+claims = ["j1/position"]
+[[controller]]
+name = "relay"
+type = "passthrough"
+claims = ["j1/position"]
+[[controller]]
+name = "mk"
+type = "mock"
+not_ready = [2]
+[[controller]]
+name = "late"
+type = "mock"
+not_ready = [0, 4]
+[[controller]]
+name = "stiff"
+type = "mock"
+not_ready = [1]
+refuse_config = true
+"#;
+
+/// Every call is an entry, a refused one too, and so is the close. The boxes of the loaded controllers stand by serial, each
+/// with its own data: those that moved out are gone, and one that is loaded again is a blank.
+const BOOKS: &str = r"--- script ---
+session a
+=> ok
+entries 1
+
+--- script ---
+session a
+load fwd
+load mk
+load relay
+=> ok
+entries 4
+forward
+mock
+passthrough
+
+--- script ---
+session a
+load relay
+load late
+load mk
+load fwd
+configure mk
+configure late
+configure relay
+=> ok
+entries 8
+passthrough
+mock, not ready in 0, not ready in 4
+mock, not ready in 2
+forward
+
+--- script ---
+session a
+load late
+load mk
+configure late
+configure mk
+cleanup late
+list controllers
+=> ok
+entries 7
+mock
+mock, not ready in 2
+
+--- script ---
+session a
+load fwd
+load mk
+load late
+configure mk
+configure late
+unload mk
+=> ok
+entries 7
+forward
+mock, not ready in 0, not ready in 4
+
+--- script ---
+session a
+load mk
+configure mk
+load relay
+unload mk
+load mk
+=> ok
+entries 6
+passthrough
+mock
+
+--- script ---
+session a
+load stiff
+configure stiff
+load nosuch
+load stiff
+unload mk
+rate mk 5
+send stiff 1
+=> ok
+entries 8
+mock
+
+--- script ---
+session a
+load mk
+unload mk
+unload mk
+=> ok
+entries 4
+
+zzz = 1
+--- script ---
+session a
+load mk
+=> description: bad_key controller[4].zzz
+no book
+
+--- script ---
+session a
+load mk
+await 1
+=> script: bad_line 35
+no book
+
+#<0..1048576 * x>\
+=> document longer than 1048576 bytes
+no book";
+
+#[test]
+fn a_run_leaves_its_history_and_the_boxes_that_are_loaded(rt: HostRuntime) -> Result<(), Fail> {
+    hold(rt.alloc(), &Books, ROBOT, BOOKS)
+}
