@@ -1,5 +1,5 @@
 -- The program's stock.
-use Rattle.std.specs.Prelude.{◌≡◌, ℕ, ◌+◌, List, length, map}
+use Rattle.std.specs.Prelude.{◌≡◌, ℕ, List, length, map}
 use Rattle.std.specs.List.{All}
 use Rattle.cm_model.specs.Controllers.{IsBlank}
 use Rattle.cm_model.specs.declared.blanks.Blanks.{Blanks}
