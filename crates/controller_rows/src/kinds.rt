@@ -7,14 +7,16 @@ mod computing;
 mod pages;
 mod tried;
 
-use crate::kinds::computing::{BROADCASTERS, LINES, TRAJECTORIES};
+use crate::kinds::computing::{BROADCASTERS, LIMITS, LINES, PIDS, TRAJECTORIES};
 use crate::kinds::pages::{FORWARDS, LIFECYCLE, MOCKS, PASSTHROUGHS};
 use crate::kinds::tried::Tried;
 use case_pages::pages::{Teller, hold, push_parted};
+use case_pages::words::number;
 use cm_model::{Fx, Mail, Params, Point2, Seq};
 use ctl_bcast::Broadcaster;
 use ctl_forward::{Forward, Passthrough};
 use ctl_mock::Mock;
+use ctl_pid::PidCtl;
 use ctl_trait::{Controller, Tick, Value};
 use ctl_traj::TrajCtl;
 use std::alloc::Global;
@@ -32,9 +34,54 @@ fn each_kind_does_what_its_row_says(rt: HostRuntime) -> Result<(), Fail> {
 #[test]
 fn each_kind_that_computes_does_what_its_row_says(rt: HostRuntime) -> Result<(), Fail> {
     let alloc = rt.alloc();
+    hold(alloc, &Pids, "", PIDS)?;
+    hold(alloc, &Pids, "", LIMITS)?;
     hold(alloc, &Trajectories, "", TRAJECTORIES)?;
     hold(alloc, &Trajectories, "", LINES)?;
     hold(alloc, &Broadcasters, "", BROADCASTERS)
+}
+
+/// A kind of controller, of which each case plays with a blank. Other bodies hold it as a `C` alone: one that makes a
+/// `PidCtl` and hands it on gets no proof.
+trait Kind: Controller + Sized {
+    fn blank() -> Self
+        ensures { IsBlank (Self.meaning result) };
+}
+
+impl Kind for Forward {
+    fn blank() -> Forward {
+        Forward::blank()
+    }
+}
+
+impl Kind for Passthrough {
+    fn blank() -> Passthrough {
+        Passthrough::blank()
+    }
+}
+
+impl Kind for PidCtl {
+    fn blank() -> PidCtl {
+        PidCtl::blank()
+    }
+}
+
+impl Kind for TrajCtl {
+    fn blank() -> TrajCtl {
+        TrajCtl::blank()
+    }
+}
+
+impl Kind for Broadcaster {
+    fn blank() -> Broadcaster {
+        Broadcaster::blank()
+    }
+}
+
+impl Kind for Mock {
+    fn blank() -> Mock {
+        Mock::blank()
+    }
 }
 
 /// Tells the answers of a forward to the calls of a case.
@@ -42,8 +89,7 @@ struct Forwards;
 
 impl Teller for Forwards {
     fn told(&self, alloc: Global, text: &str) -> Result<String, Fail> {
-        let (params, calls) = text.split_once("\n").unwrap_or((text, ""));
-        play(alloc, Forward::blank(), Vec::new(alloc), params, calls)
+        play::<Forward>(alloc, text)
     }
 }
 
@@ -52,8 +98,16 @@ struct Passthroughs;
 
 impl Teller for Passthroughs {
     fn told(&self, alloc: Global, text: &str) -> Result<String, Fail> {
-        let (params, calls) = text.split_once("\n").unwrap_or((text, ""));
-        play(alloc, Passthrough::blank(), Vec::new(alloc), params, calls)
+        play::<Passthrough>(alloc, text)
+    }
+}
+
+/// Tells the answers of a pid to the calls of a case.
+struct Pids;
+
+impl Teller for Pids {
+    fn told(&self, alloc: Global, text: &str) -> Result<String, Fail> {
+        play::<PidCtl>(alloc, text)
     }
 }
 
@@ -62,8 +116,7 @@ struct Trajectories;
 
 impl Teller for Trajectories {
     fn told(&self, alloc: Global, text: &str) -> Result<String, Fail> {
-        let (params, calls) = text.split_once("\n").unwrap_or((text, ""));
-        play(alloc, TrajCtl::blank(), Vec::new(alloc), params, calls)
+        play::<TrajCtl>(alloc, text)
     }
 }
 
@@ -72,8 +125,7 @@ struct Broadcasters;
 
 impl Teller for Broadcasters {
     fn told(&self, alloc: Global, text: &str) -> Result<String, Fail> {
-        let (params, calls) = text.split_once("\n").unwrap_or((text, ""));
-        play(alloc, Broadcaster::blank(), Vec::new(alloc), params, calls)
+        play::<Broadcaster>(alloc, text)
     }
 }
 
@@ -82,29 +134,26 @@ struct Mocks;
 
 impl Teller for Mocks {
     fn told(&self, alloc: Global, text: &str) -> Result<String, Fail> {
-        let (params, calls) = text.split_once("\n").unwrap_or((text, ""));
-        play(alloc, Mock::blank(), Vec::new(alloc), params, calls)
+        play::<Mock>(alloc, text)
     }
 }
 
-/// The answers of a blank, whose claims hold these values, to these calls, a line for each.
-fn play<C: Controller>(
-    alloc: Global,
-    blank: C,
-    outs: Vec<Value>,
-    params: &str,
-    calls: &str,
-) -> Result<String, Fail>
-    requires { IsBlank (C.meaning blank) }
-{
+/// The answers of a blank to the calls of a case, a line for each.
+fn play<C: Kind>(alloc: Global, case: &str) -> Result<String, Fail> {
+    let (params, calls) = halves_of(case);
     let params = params_of(alloc, params)?;
     let mut told = String::new(alloc);
-    let mut tried = Tried::new(blank, outs);
+    let mut tried = Tried::new(C::blank(), Vec::new(alloc));
     for call in calls.lines() {
         push_parted(&mut told, "\n", "")?;
         answer(alloc, &mut tried, &params, call, &mut told)?;
     }
     Ok(told)
+}
+
+/// The first line of a case, and the others.
+fn halves_of(case: &str) -> (&str, &str) {
+    case.split_once("\n").unwrap_or((case, ""))
 }
 
 /// Appends the answer to one call.
@@ -228,9 +277,21 @@ fn params_of(alloc: Global, text: &str) -> Result<Params, Fail> {
         "broadcaster" => Ok(Params::Broadcaster {
             ins: given.parse()?,
         }),
+        "pid" => pid_of(given),
         "mock" => mock_of(alloc, given),
         _ => Err(Fail::new("an unknown kind")),
     }
+}
+
+/// The parameters of a pid: its three gains and its two limits.
+fn pid_of(given: &str) -> Result<Params, Fail> {
+    Ok(Params::Pid {
+        kp: number(given, 0)?,
+        ki: number(given, 1)?,
+        kd: number(given, 2)?,
+        imax: number(given, 3)?,
+        omax: number(given, 4)?,
+    })
 }
 
 /// The parameters of a mock.

@@ -1,4 +1,180 @@
-//! Calls of trajectories and broadcasters, and their answers. After an update stands what the claims hold.
+//! Calls of pids, trajectories and broadcasters, and their answers. After an update stands what the claims hold.
+
+/// A pid brings what it reads to what is wanted.
+pub const PIDS: &str = "\
+pid 2 1 0.1 10 10
+configure
+activate 0
+update 0, for 30000, states 0, refs 1
+send 1
+update 1, for 30000, states 0, refs 5
+update 2, for 30000, states 0.6, refs unset
+=> done
+done
+ok unset
+done
+ok 2.030000
+ok -1.158000
+
+pid 2 1 0.1 10 10
+configure
+activate chained 0
+send 5
+update 0, for 30000, states 0, refs 1
+update 1, for 30000, states 9, refs unset
+update 2, for 30000, states 0.6, refs 1
+=> done
+done
+chained
+ok 2.030000
+ok unset
+ok -1.158000
+
+pid 0 1 0 10 10
+configure
+activate 0
+send 1
+update 0, for 1000000, states 0, refs unset
+update 1, for 1000000, states 0, refs unset
+deactivate
+activate 0
+update 2, for 1000000, states 0, refs unset
+send 1
+update 3, for 1000000, states 0, refs unset
+=> done
+done
+done
+ok 1.000000
+ok 2.000000
+done
+done
+ok unset
+done
+ok 1.000000
+
+pid 1 1 1 1 1
+configure
+activate 0
+update 0, states 1
+update 0, refs 1
+update 0, for 0, states 1, refs 1
+update 0, for 1000001, states 1, refs 1
+send 1 2
+send @1 1
+send 1
+=> done
+done
+wrong counts
+wrong counts
+no time
+no time
+does not fit
+does not fit
+done
+
+pid 1 1 1 -0.000001 1
+configure
+configure pid 1 1 1 1 -0.000001
+configure pid -1 -1 -1 0 0
+=> out of range
+out of range
+done";
+
+/// The integral and the output of a pid stay within their limits, division rounds down, and sums are exact.
+pub const LIMITS: &str = "\
+pid 0 1 0 0.05 10
+configure
+activate 0
+send 1
+update 0, for 30000, states 0, refs unset
+update 1, for 30000, states 0, refs unset
+update 2, for 30000, states 0, refs unset
+update 3, for 30000, states 2, refs unset
+=> done
+done
+done
+ok 0.030000
+ok 0.050000
+ok 0.050000
+ok 0.020000
+
+pid 2 0 0 10 1.5
+configure
+activate 0
+send 1
+update 0, states 0, refs unset
+update 1, states 2, refs unset
+update 2, states 0.5, refs unset
+=> done
+done
+done
+ok 1.500000
+ok -1.500000
+ok 1.000000
+
+pid 0 1 0 10 10
+configure
+activate 0
+send 0
+update 0, for 10000, states -0.000001, refs unset
+update 1, for 10000, states 0.000001, refs unset
+=> done
+done
+done
+ok 0.000000
+ok -0.000001
+
+pid 0.5 0 0 10 10
+configure
+activate 0
+send 0
+update 0, states 0.000001, refs unset
+update 1, states -0.000001, refs unset
+=> done
+done
+done
+ok -0.000001
+ok 0.000000
+
+pid 0 0 1 10 10
+configure
+activate 0
+send 0
+update 0, for 300000, states 0, refs unset
+update 1, for 300000, states 0.000001, refs unset
+update 2, for 300000, states 0, refs unset
+=> done
+done
+done
+ok 0.000000
+ok -0.000004
+ok 0.000003
+
+pid 1000000000 1000000000 1000000000 1000000000 1000000000
+configure
+activate 0
+send 2
+update 0, for 1000000, states 0, refs unset
+update 1, for 1000000, states 1, refs unset
+=> done
+done
+done
+ok 1000000000.000000
+ok 1000000000.000000
+
+pid 0 0 1 10 1000000000
+configure
+activate 0
+send 1000000000
+update 0, for 1, states 1000000000, refs unset
+update 1, for 1, states -1000000000, refs unset
+update 2, for 1000000, states 1000000000, refs unset
+=> done
+done
+done
+ok 0.000000
+ok 1000000000.000000
+ok -1000000000.000000";
 
 /// A trajectory goes on straight lines from point to point, from the update that takes them.
 pub const TRAJECTORIES: &str = "\
