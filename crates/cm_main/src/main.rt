@@ -1,9 +1,8 @@
 //! The program `cm`: a document from standard input, its trace to standard output.
 #![tactic(auto)]
 
-ghost use Rattle.std.specs.Prelude.{◌≡◌, ◌+◌, ◌<◌, ◌^◌, ◌⊎◌, length, map, IfErr, IfOk, OnOk};
-ghost use Rattle.std.specs.List.{All};
-ghost use Rattle.cm_model.specs.Controllers.{IsBlank};
+ghost use Rattle.std.specs.Prelude.{◌≡◌, ◌⊎◌, IfErr, IfOk, OnOk};
+ghost use Rattle.cm_model.specs.State.{fresh};
 ghost use Rattle.cm_model.specs.declared.blanks.Blanks.{Blanks};
 ghost use Rattle.ctl_rack.specs.Stocks.{with_one_more};
 ghost use Rattle.cm_top.specs.Status.{code_of, ComesBeforeWriting};
@@ -13,7 +12,7 @@ use cm_model::Memory;
 use cm_top::{Status, Stock, run};
 use ctl_forward::{Forward, Passthrough};
 use ctl_mock::Mock;
-use ctl_trait::Controller;
+use ctl_trait::{Controller, CtlKind};
 use outside_io::{NoPace, OpenGate, Sink, Source, StdSink, StdSource};
 use std::alloc::Global;
 use std::io::Eprint;
@@ -52,13 +51,45 @@ where
         Ok(words) => words,
         Err(status) => return status,
     };
-    let Ok(blanks) = blanks(rt.alloc()) else {
-        return Status::Memory;
-    };
-    run_over(rt, words.as_slice(), source, sink, blanks)
+    match run_stocked(rt, words.as_slice(), source, sink) {
+        Ok(status) => status,
+        Err(Memory) => Status::Memory,
+    }
 }
 
-/// Runs the words over a stock of these blanks, and drops the book.
+/// Runs the words over the program's stock, a box for each blank.
+fn run_stocked<R, S, K>(
+    rt: &R,
+    words: &[String],
+    source: &mut S,
+    sink: &mut K,
+) -> Result<Status, Memory>
+where
+    R: Threads + Wait + Sync + AllocGlobal,
+    S: Source,
+    K: Sink,
+    ensures refused { IfOk result (λ status. status ≡ Status.BadWords → source.new ≡ source.old) }
+    ensures untouched { IfOk result (λ status. ComesBeforeWriting status → sink.new ≡ sink.old) }
+{
+    let alloc = rt.alloc();
+    let mut blanks: Vec<Box<dyn Controller>> = Vec::new(alloc);
+    for _number in 0..BLANKS {
+        add(
+            &mut blanks,
+            CtlKind::Forward,
+            Box::new(alloc, Forward::blank())?,
+        )?;
+        add(
+            &mut blanks,
+            CtlKind::Passthrough,
+            Box::new(alloc, Passthrough::blank())?,
+        )?;
+        add(&mut blanks, CtlKind::Mock, Box::new(alloc, Mock::blank())?)?;
+    }
+    Ok(run_over(rt, words, source, sink, blanks))
+}
+
+/// Runs the words over a stock of these blanks, so many of each kind that is built and none of another, and drops the book.
 fn run_over<R, S, K, C>(
     rt: &R,
     words: &[String],
@@ -71,8 +102,7 @@ where
     S: Source,
     K: Sink,
     C: Controller,
-    requires blank { All (λ c. IsBlank (C.meaning c)) blanks.items }
-    requires few { length blanks.items < 2 ^ 32 }
+    requires { AreBlanks C.meaning blanks.items (blanks_of_each BLANKS) }
     ensures refused { result ≡ Status.BadWords → source.new ≡ source.old }
     ensures untouched { ComesBeforeWriting result → sink.new ≡ sink.old }
 {
@@ -91,24 +121,11 @@ where
     status
 }
 
-/// The program's stock: so many blanks of each kind that is built, and none of another kind.
-fn blanks(alloc: Global) -> Result<Vec<Box<dyn Controller>>, Memory>
-    ensures { IfOk result (λ blanks. AreBlanks meaning blanks.items (blanks_of_each BLANKS)) }
-{
-    let mut blanks: Vec<Box<dyn Controller>> = Vec::new(alloc);
-    for _number in 0..BLANKS {
-        add(&mut blanks, Box::new(alloc, Forward::blank())?)?;
-        add(&mut blanks, Box::new(alloc, Passthrough::blank())?)?;
-        add(&mut blanks, Box::new(alloc, Mock::blank())?)?;
-    }
-    Ok(blanks)
-}
-
-/// One blank more.
-fn add<C: Controller>(blanks: &mut Vec<C>, blank: C) -> Result<(), Memory>
-    requires { IsBlank (C.meaning blank) }
+/// One blank more, of this kind.
+fn add<C: Controller>(blanks: &mut Vec<C>, kind: CtlKind, blank: C) -> Result<(), Memory>
+    requires { C.meaning blank ≡ fresh kind }
     ensures { OnOk result ((b : Blanks) → AreBlanks C.meaning blanks.old.items b
-        → AreBlanks C.meaning blanks.new.items (with_one_more b (C.meaning blank).kind)) }
+        → AreBlanks C.meaning blanks.new.items (with_one_more b kind)) }
 {
     blanks.push(blank)?;
     Ok(())

@@ -26,17 +26,19 @@ impl Player for Console {
     fn told(&mut self, alloc: Global, act: &str) -> Result<String, Fail> {
         write!(self.document, "{act}\n")?;
         let told = OF_PROGRAM.told(alloc, self.document.as_str())?;
-        Ok(String::from_str(alloc, last_reply(told.as_str()))?)
+        last_reply(alloc, told.as_str())
     }
 }
 
 /// The last reply to session `a`; where it got none, all that is told.
-fn last_reply(told: &str) -> &str {
-    let mut reply = told;
+fn last_reply(alloc: Global, told: &str) -> Result<String, Fail> {
+    let mut reply = String::from_str(alloc, told)?;
     for line in told.lines() {
-        reply = reply_in(line).unwrap_or(reply);
+        if let Some(later) = reply_in(line) {
+            reply = String::from_str(alloc, later)?;
+        }
     }
-    reply
+    Ok(reply)
 }
 
 fn reply_in(line: &str) -> Option<&str> {

@@ -3,5 +3,5 @@ use Rattle.cm_model.specs.Controllers.{IsBlank}
 use Rattle.cm_rows.proofs.stocks.blanks.Given as goal
 
 -- all so far are blank
-abbrev pub invariant-loop : goal.invariant-loop
-invariant-loop g l = All (λ b. IsBlank ((goal.Controller-dyn g (b.vtable, b.value)).meaning b.value)) l.blanks.items
+abbrev pub invariant-loop-number : goal.invariant-loop-number
+invariant-loop-number g l = All (λ b. IsBlank ((goal.Controller-dyn g (b.vtable, b.value)).meaning b.value)) l.blanks.items
