@@ -1,4 +1,3 @@
 pub mod Answers
 pub mod Last
-pub mod Makes
 pub mod Room

@@ -42,6 +42,13 @@ impl<T> Rare<T> {
         })
     }
 
+    /// These items, which stand on the heap already. It takes no memory.
+    pub fn in_box(items: Box<Vec<T>>) -> Rare<T>
+        ensures { result ≡ items.value.items }
+    {
+        Rare { items: Some(items) }
+    }
+
     /// The items.
     pub fn as_slice(&self) -> &[T]
         ensures { result.now ≡ self.now }
