@@ -11,6 +11,7 @@ use Rattle.cm_document.specs.declared.faults.DescProblem.{DescProblem}
 use Rattle.cm_document.specs.declared.faults.DescProblem.TheVariants.{Text, Check}
 use Rattle.cm_document.specs.declared.faults.ScriptFault.{ScriptFault}
 use Rattle.cm_document.specs.declared.faults.DocumentFault.TheVariants as fault
+use Rattle.cm_document.specs.declared.script.Grammar.{Grammar}
 use Rattle.cm_document.specs.declared.script.Script.{Script}
 use Rattle.cm_document.proofs.ReadingLemmas.{bind_Ok}
 use Rattle.cm_document.proofs.ValidLemmas.{read_IsDescribed, checked_IsValid}
@@ -29,9 +30,9 @@ accepted_description-IsValid bytes d e =
     checked_IsValid read.0 d described (fault_as_value Check _ d read.2)
 
 -- The description of these parts is accepted, and so is their script.
-pub record AcceptedParts (parts : Parts) (d : Document) : Type 0 where
+pub record AcceptedParts (grammar : Grammar) (parts : Parts) (d : Document) : Type 0 where
   pub description : accepted_description parts.description ≡ Ok d.description
-  pub script : accepted_script parts.lines parts.script ≡ Ok d.script
+  pub script : accepted_script grammar parts.lines parts.script ≡ Ok d.script
 
 -- from a reading that came to a document, its parts
 joined : (description : Result Description DescProblem) (script : Result Script ScriptFault) (d : Document)
@@ -41,16 +42,16 @@ joined (Err p) script d e = cc
 joined (Ok x) (Err f) d e = cc
 joined (Ok x) (Ok y) d e = (cc, cc)
 
-document_of-AcceptedParts : (parts : Parts) (d : Document) → document_of parts ≡ Ok d → AcceptedParts parts d
+document_of-AcceptedParts : (grammar : Grammar) (parts : Parts) (d : Document) → document_of grammar parts ≡ Ok d → AcceptedParts grammar parts d
 unfolding document_of
-document_of-AcceptedParts parts d e =
-    let both = joined (accepted_description parts.description) (accepted_script parts.lines parts.script) d e in
+document_of-AcceptedParts grammar parts d e =
+    let both = joined (accepted_description parts.description) (accepted_script grammar parts.lines parts.script) d e in
     record { description = both.0; script = both.1 }
 
 -- the parts of an accepted document are accepted
-pub document-AcceptedParts : (bytes : List ℕ) (d : Document) → document bytes ≡ Ok d → AcceptedParts (parts_of bytes) d
-document-AcceptedParts bytes d e = document_of-AcceptedParts (parts_of bytes) d e
+pub document-AcceptedParts : (grammar : Grammar) (bytes : List ℕ) (d : Document) → document grammar bytes ≡ Ok d → AcceptedParts grammar (parts_of bytes) d
+document-AcceptedParts grammar bytes d e = document_of-AcceptedParts grammar (parts_of bytes) d e
 
 -- the description of an accepted document is valid
-pub document-IsValid : (bytes : List ℕ) (d : Document) → document bytes ≡ Ok d → IsValid d.description
-document-IsValid bytes d e = accepted_description-IsValid (parts_of bytes).description d.description (document-AcceptedParts bytes d e).description
+pub document-IsValid : (grammar : Grammar) (bytes : List ℕ) (d : Document) → document grammar bytes ≡ Ok d → IsValid d.description
+document-IsValid grammar bytes d e = accepted_description-IsValid (parts_of bytes).description d.description (document-AcceptedParts grammar bytes d e).description

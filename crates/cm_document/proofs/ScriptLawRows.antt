@@ -1,7 +1,7 @@
 -- A script with every form keeps the rules and uses accepted forms alone, so the laws of scripts speak of it.
 use Rattle.std.proofs.Common.{[], ◌∷◌, pos, negsuc, true, false, arith, rules}
 use Rattle.std.specs.Prelude.{codes}
-use Rattle.cm_document.specs.Built.{whole_grammar}
+use Rattle.cm_document.specs.Grammars.{whole_grammar}
 use Rattle.cm_document.specs.ScriptLaws.{MeetsRules, UsesGrammar}
 use Rattle.cm_document.specs.declared.call.Call.TheVariants.{Load, Configure, Cleanup, Unload, Rate, Send, Switch, Hardware, Await, ListControllers, ListInterfaces, ListComponents}
 use Rattle.cm_document.specs.declared.call.Mail.TheVariants.{Values, Points}

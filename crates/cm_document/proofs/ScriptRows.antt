@@ -4,7 +4,7 @@ use Rattle.std.specs.Prelude.{codes}
 use Rattle.std.specs.Fmt.{digits}
 use Rattle.fixed_num.specs.Text.{number_of, spelled}
 use Rattle.cm_document.specs.Reading.{◌>>=◌}
-use Rattle.cm_document.specs.Built.{built, whole_grammar}
+use Rattle.cm_document.specs.Grammars.{whole_grammar}
 use Rattle.cm_document.specs.CallText.{script_text}
 use Rattle.cm_document.specs.ScriptRules.{with_line, script_with}
 use Rattle.cm_document.specs.declared.call.Call.TheVariants.{Load, Configure, Cleanup, Unload, Rate, Send, Switch, Hardware, Await, ListControllers, ListInterfaces, ListComponents}
@@ -32,11 +32,6 @@ no_form = refl
 no_session : script_with whole_grammar 20 (codes "load fwd\nload fwd\nconfigure fwd\nswitch strict +fwd\nsend fwd 0.5\n") ≡ Err (NoSession 20)
 unfolding script_with with_line script_text number_of spelled digits
 no_session = refl
-
--- today a form that is not built is a line without a form
-not_built : script_with built 20 (codes "session a\nload fwd\nswitch strict +fwd\n") ≡ Err (BadLine 22)
-unfolding script_with with_line script_text number_of spelled digits
-not_built = refl
 
 -- every form of a session's line
 every_call : script_with whole_grammar 1 (codes "session a\nload c\nconfigure c\ncleanup c\nunload c\nrate c 007\nsend c 0.5 -1\nsend c @1 1 2 @20 3 4\nswitch strict +c -d +e\nswitch best\nhw arm finalized\nawait 12\nlist controllers\nlist interfaces\nlist components\n")

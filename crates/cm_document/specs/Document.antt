@@ -4,9 +4,9 @@ use Rattle.cm_document.specs.Reading.{◌>>=◌, fault_as}
 use Rattle.cm_document.specs.Described.{tree_of, description_in}
 use Rattle.cm_document.specs.Valid.{valid}
 use Rattle.cm_document.specs.Lines.{Parts, parts_of}
-use Rattle.cm_document.specs.Built.{built}
 use Rattle.cm_document.specs.ScriptRules.{script_with}
 use Rattle.cm_document.specs.declared.description.Description.{Description}
+use Rattle.cm_document.specs.declared.script.Grammar.{Grammar}
 use Rattle.cm_document.specs.declared.script.Script.{Script}
 use Rattle.cm_document.specs.declared.document.Document.{Document}
 use Rattle.cm_document.specs.declared.faults.DescProblem.{DescProblem}
@@ -20,18 +20,18 @@ use Rattle.cm_document.specs.declared.faults.DocumentFault.TheVariants as fault
 unfoldable pub accepted_description : List ℕ → Result Description DescProblem
 accepted_description bytes = fault_as Text (description_in (tree_of bytes)) >>= λ described. fault_as Check (valid described)
 
--- The script after so many lines and a separator, by the grammar that is built. Without a separator the line after the last is bad.
-abbrev pub accepted_script : ℕ → Option (List ℕ) → Result Script ScriptFault
-accepted_script lines None = Err (BadLine (lines + 1))
-accepted_script lines (Some text) = script_with built (lines + 2) text
+-- The script after so many lines and a separator, by a grammar. Without a separator the line after the last is bad.
+abbrev pub accepted_script : Grammar → ℕ → Option (List ℕ) → Result Script ScriptFault
+accepted_script grammar lines None = Err (BadLine (lines + 1))
+accepted_script grammar lines (Some text) = script_with grammar (lines + 2) text
 
--- the document of these parts: the description's fault comes before the script's
-unfoldable pub document_of : Parts → Result Document DocumentFault
-document_of parts =
+-- the document of these parts by a grammar: the description's fault comes before the script's
+unfoldable pub document_of : Grammar → Parts → Result Document DocumentFault
+document_of grammar parts =
     fault_as fault.Description (accepted_description parts.description) >>= λ description.
-    fault_as fault.Script (accepted_script parts.lines parts.script) >>= λ script.
+    fault_as fault.Script (accepted_script grammar parts.lines parts.script) >>= λ script.
     Ok (record { description = description; script = script })
 
--- the document that these bytes are, or its first fault
-abbrev pub document : List ℕ → Result Document DocumentFault
-document bytes = document_of (parts_of bytes)
+-- the document that these bytes are where its script may have the lines of this grammar, or its first fault
+abbrev pub document : Grammar → List ℕ → Result Document DocumentFault
+document grammar bytes = document_of grammar (parts_of bytes)

@@ -9,7 +9,7 @@ pub mod Links
 pub mod Valid
 pub mod Places
 pub mod Lines
-pub mod Built
+pub mod Grammars
 pub mod CallText
 pub mod LineGrammar
 pub mod ScriptRules

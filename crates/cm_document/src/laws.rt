@@ -4,6 +4,7 @@ ghost use Rattle.std.specs.Prelude.{◌≡◌, ◌↔◌, ℕ, true, List, take,
 ghost use Rattle.toml.specs.Data.{Members};
 ghost use Rattle.cm_document.specs.declared.description.CtlDesc.{CtlDesc};
 ghost use Rattle.cm_document.specs.declared.document.Document.{Document};
+ghost use Rattle.cm_document.specs.declared.script.Grammar.{Grammar};
 ghost use Rattle.cm_document.specs.Forms.{fault_in};
 ghost use Rattle.cm_document.specs.Described.{description_in, all_faults, fits_description};
 ghost use Rattle.cm_document.specs.Document.{document};
@@ -32,11 +33,11 @@ pub fn precedes_at_a_distance()
         → (precedes_far cs c d ≡ true) ↔ ((es : List CtlDesc) × All (Contains cs) es × IsChain c es d) }
 {}
 
-/// The description of an accepted document is one that a tree stands for, and no check finds a fault in it. So each of its
+/// Whichever lines a script may have, the description of an accepted document is one that a tree stands for, and no check finds a fault in it. So each of its
 /// interfaces stands at one place.
 pub fn accepted_documents_are_valid()
-    ensures valid { (bytes : List ℕ) (d : Document) → document bytes ≡ Ok d → IsValid d.description }
-    ensures places { (bytes : List ℕ) (d : Document) → document bytes ≡ Ok d → EachStandsOnce d.description }
+    ensures valid { (grammar : Grammar) (bytes : List ℕ) (d : Document) → document grammar bytes ≡ Ok d → IsValid d.description }
+    ensures places { (grammar : Grammar) (bytes : List ℕ) (d : Document) → document grammar bytes ≡ Ok d → EachStandsOnce d.description }
 {}
 
 /// Each interface of a checked description stands at one place. So a place on the one hand, and a name with whether it is a

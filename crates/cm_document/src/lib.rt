@@ -16,7 +16,7 @@ pub use limits::{
     MOST_NAMES, MOST_POINTS, MOST_READS, MOST_REFERENCES, MOST_SESSIONS, MOST_STATES, MOST_VALUES,
     VERSION,
 };
-pub use script::{Grammar, Script, ScriptLine, SessionText, Turn, Verb, built, whole_grammar};
+pub use script::{Grammar, Script, ScriptLine, SessionText, Turn, Verb, whole_grammar};
 pub use sequence::{Seq, Shared};
 pub use text::Text;
 pub use vocabulary::{

@@ -1,7 +1,7 @@
 //! Scripts: what each session asks, line by line, and the turns in which sessions and the loop go on.
 
 ghost use Rattle.std.specs.Prelude.{◌≡◌};
-ghost use Rattle.cm_document.specs.Built.{built, whole_grammar};
+ghost use Rattle.cm_document.specs.Grammars.{whole_grammar};
 
 use crate::call::Call;
 use iface_names::Name;
@@ -40,29 +40,6 @@ pub struct Grammar {
     pub list_components: bool,
     /// `schedule`, and the turns `step NAME`, `begin` and `end` after it.
     pub schedule: bool,
-}
-
-/// The lines that are accepted today.
-pub fn built() -> Grammar
-    ensures { result ≡ built }
-{
-    Grammar {
-        first_session: true,
-        further_session: false,
-        load: true,
-        configure: true,
-        cleanup: true,
-        unload: true,
-        rate: true,
-        send: true,
-        switch: false,
-        hardware: false,
-        await_cycles: false,
-        list_controllers: true,
-        list_interfaces: true,
-        list_components: true,
-        schedule: false,
-    }
 }
 
 /// Every line.

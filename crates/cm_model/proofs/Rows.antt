@@ -11,6 +11,7 @@ use Rattle.cm_document.specs.Described.{tree_of, joint_table, component_table, c
 use Rattle.cm_document.specs.Valid.{valid}
 use Rattle.cm_document.specs.Lines.{parts_of}
 use Rattle.cm_document.specs.ScriptRules.{with_line, script_with}
+use Rattle.cm_document.specs.Grammars.{whole_grammar}
 use Rattle.cm_document.specs.Document.{accepted_description, document_of, document}
 use Rattle.cm_model.specs.Boundary.{all_concluded}
 use Rattle.cm_model.specs.Commit.{commit}
@@ -28,7 +29,7 @@ stock = record { forward = 0; passthrough = 0; pid = 0; trajectory = 0; broadcas
 
 -- what `run` prints of these bytes, or the fault
 abbrev printed : List ℕ → Result (List ℕ) DocumentFault
-printed bytes = document bytes >>= λ read. Ok (output read (scheduled read stock))
+printed bytes = document whole_grammar bytes >>= λ read. Ok (output read (scheduled read stock))
 
 -- one controller, loaded once, listed, and refused twice
 one_mock : printed (codes "version = 1\nupdate_rate = 100\ncycles = 2\n[[controller]]\nname = \"mk\"\ntype = \"mock\"\n--- script ---\nsession a\nload mk\nlist controllers\nload nosuch\nload mk\n")

@@ -9,7 +9,7 @@ pub use cm_document::{
     Call, CheckFault, Checked, CompDesc, CompKind, CtlDesc, CtlKind, DescFault, DescProblem,
     Description, Document, DocumentFault, Fx, Grammar, IfaceName, JointDesc, Kind, Life, Mail,
     Memory, Name, NameFault, Params, Point2, Script, ScriptFault, ScriptLine, Seq, SessionText,
-    Shared, SwitchRequest, Text, Turn, Verb, What, Wrong, built, whole_grammar,
+    Shared, SwitchRequest, Text, Turn, Verb, What, Wrong, whole_grammar,
 };
 pub use component::JointInterface;
 pub use data::{CtlData, RunData};

@@ -9,7 +9,7 @@ use Rattle.std.proofs.KnownBytes.{Appends-kept}
 use Rattle.outside_io.specs.Bytes.{AllFlushed, GivesAll}
 use Rattle.outside_io.proofs.Prefixes.{AppendsPrefix-all}
 use Rattle.cm_document.specs.declared.limits.TheConstants.{LONGEST_DOCUMENT}
-use Rattle.cm_document.specs.Built.{built}
+use Rattle.script_text.specs.Built.{built}
 use Rattle.cm_document.specs.Document.{accepted_script, document}
 use Rattle.cm_document.specs.Lines.{parts_of}
 use Rattle.cm_document.specs.ScriptLaws.{MeetsRules, allows, UsesGrammar}
@@ -68,14 +68,14 @@ pub built_called : (s : Script) → UsesGrammar built s → All (λ t. CanAllBeC
 built_called s uses = All-from_recursion (λ (t : SessionText). CanAllBeCalled t.lines) s.sessions (built_sessions s.sessions uses.calls)
 
 -- what an accepted script is
-accepted_script-Rules : (lines : ℕ) (text : Option (List ℕ)) (s : Script) → accepted_script lines text ≡ Ok s → MeetsRules s × UsesGrammar built s
+accepted_script-Rules : (lines : ℕ) (text : Option (List ℕ)) (s : Script) → accepted_script built lines text ≡ Ok s → MeetsRules s × UsesGrammar built s
 accepted_script-Rules lines None s e = cc
 accepted_script-Rules lines (Some text) s e = (read_script_meets built (lines + 2) text s e, read_script_uses built (lines + 2) text s e)
 
 -- the script of an accepted document meets the rules, and has the forms that are built
-pub document-Rules : (bytes : List ℕ) (d : Document) → document bytes ≡ Ok d → MeetsRules d.script × UsesGrammar built d.script
+pub document-Rules : (bytes : List ℕ) (d : Document) → document built bytes ≡ Ok d → MeetsRules d.script × UsesGrammar built d.script
 document-Rules bytes d accepted =
-    let parts = parts_of bytes in accepted_script-Rules parts.lines parts.script d.script (document-AcceptedParts bytes d accepted).script
+    let parts = parts_of bytes in accepted_script-Rules parts.lines parts.script d.script (document-AcceptedParts built bytes d accepted).script
 
 -- A job that was made to its end has made the history that is scheduled, with the loop closed, and its book is that of the document's
 -- run.
@@ -109,7 +109,7 @@ book_done d blanks h book done opening sound history boxes = record {
 
 -- what a run of an accepted document came to says what its run promises
 pub RanDocument-EndedWith : (made : Histories) (bytes : List ℕ) (d : Document) (blanks : Blanks) (w : Written) (ended : Status) (book : Option BookFacts)
-    → length bytes ≤ LONGEST_DOCUMENT → document bytes ≡ Ok d → RanDocument made d blanks w ended book → EndedWith made bytes blanks w ended book
+    → length bytes ≤ LONGEST_DOCUMENT → document built bytes ≡ Ok d → RanDocument made d blanks w ended book → EndedWith made bytes blanks w ended book
 RanDocument-EndedWith made bytes d blanks w ended None short accepted ran = rw ran.0 ran.1
 RanDocument-EndedWith made bytes d blanks w status.Ok (Some book) short accepted ran = record {
   document_is = d;
@@ -127,7 +127,7 @@ RanDocument-EndedWith made bytes d blanks w _ (Some book) short accepted ran = a
 
 -- its book is that of a run of an accepted document
 pub RanDocument-HandsOut : (made : Histories) (bytes : List ℕ) (d : Document) (blanks : Blanks) (w : Written) (ended : Status) (book : Option BookFacts)
-    → length bytes ≤ LONGEST_DOCUMENT → document bytes ≡ Ok d → RanDocument made d blanks w ended book → HandsOut (IsBook made blanks) ended book
+    → length bytes ≤ LONGEST_DOCUMENT → document built bytes ≡ Ok d → RanDocument made d blanks w ended book → HandsOut (IsBook made blanks) ended book
 RanDocument-HandsOut made bytes d blanks w ended None short accepted ran = rw ran.0 tt
 RanDocument-HandsOut made bytes d blanks w status.Ok (Some book) short accepted ran =
     record { bytes = bytes; document_is = d; short = short; accepted = accepted; book_is = ran.0 }
@@ -151,7 +151,7 @@ RanDocument-OfBytes made d blanks w ended None ran = rw ran.0 (tt, tt)
 RanDocument-OfBytes made d blanks w ended (Some book) ran = Wrote-OfBytes (output d book.history) w ended ran.1
 
 -- a document that is short has the status that its reading gives
-short-status : (bytes : List ℕ) → length bytes ≤ LONGEST_DOCUMENT → status_of bytes ≡ status_of_document (document bytes)
+short-status : (bytes : List ℕ) → length bytes ≤ LONGEST_DOCUMENT → status_of bytes ≡ status_of_document (document built bytes)
 short-status bytes short = let no : nat_lt LONGEST_DOCUMENT (length bytes) ≡ false = grind (arith, nat_tests) in rw no refl
 
 -- where neither source nor sink had a fault, the bytes decide the status, unless memory runs out

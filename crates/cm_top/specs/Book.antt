@@ -3,6 +3,7 @@ use Rattle.std.specs.Prelude.{◌≡◌, ℕ, ◌≤◌, List, length, map, Opti
 use Rattle.cm_document.specs.declared.document.Document.{Document}
 use Rattle.cm_document.specs.declared.limits.TheConstants.{LONGEST_DOCUMENT}
 use Rattle.cm_document.specs.Document.{document}
+use Rattle.script_text.specs.Built.{built}
 use Rattle.cm_model.specs.Machine.{IsLegal, state_after}
 use Rattle.cm_model.specs.Sessions.{IsWhole}
 use Rattle.cm_model.specs.Sound.{IsSound}
@@ -45,7 +46,7 @@ pub record IsBook (made : Histories) (blanks : Blanks) (book : BookFacts) : Type
   pub bytes : List ℕ
   pub document_is : Document
   pub short : IsShort bytes
-  pub accepted : document bytes ≡ Ok document_is
+  pub accepted : document built bytes ≡ Ok document_is
   pub book_is : IsBookOf made blanks document_is book
 
 -- Which statuses come with a book: Ok and a write fault always, want of memory may, and no other status.

@@ -4,6 +4,7 @@ use Rattle.std.specs.Io.KnownBytes.{Keeps, Appends}
 use Rattle.outside_io.specs.Bytes.{AllFlushed, AppendsPrefix}
 use Rattle.cm_document.specs.declared.limits.TheConstants.{LONGEST_DOCUMENT}
 use Rattle.cm_document.specs.Document.{document}
+use Rattle.script_text.specs.Built.{built}
 use Rattle.cm_model.specs.Trace.{output}
 use Rattle.cm_document.specs.declared.document.Document.{Document}
 use Rattle.cm_document.specs.declared.faults.DescProblem.TheVariants as problem
@@ -39,7 +40,7 @@ pub record Written : Type 0 where
 pub record Printed (made : Histories) (bytes : List ℕ) (blanks : Blanks) (w : Written) (book : BookFacts) : Type 0 where
   pub document_is : Document
   pub short : IsShort bytes
-  pub accepted : document bytes ≡ Ok document_is
+  pub accepted : document built bytes ≡ Ok document_is
   pub book_is : IsBookOf made blanks document_is book
   pub taken : Appends w.old w.new (output document_is book.history)
   pub all_flushed : AllFlushed w.new w.flushed
@@ -48,7 +49,7 @@ pub record Printed (made : Histories) (bytes : List ℕ) (blanks : Blanks) (w : 
 pub record Cut (made : Histories) (bytes : List ℕ) (blanks : Blanks) (w : Written) (book : BookFacts) : Type 0 where
   pub document_is : Document
   pub short : IsShort bytes
-  pub accepted : document bytes ≡ Ok document_is
+  pub accepted : document built bytes ≡ Ok document_is
   pub book_is : IsBookOf made blanks document_is book
   pub taken : AppendsPrefix w.old w.new (output document_is book.history)
 
@@ -61,8 +62,8 @@ WantsMemory made bytes blanks w (Some book) = Cut made bytes blanks w book
 abbrev pub EndedWith : Histories → List ℕ → Blanks → Written → Status → Option BookFacts → Type 0
 EndedWith made bytes blanks w status.Ok book = IsSomeAnd book (Printed made bytes blanks w)
 EndedWith made bytes blanks w status.BadWords book = ⊥
-EndedWith made bytes blanks w (status.BadDescription p) book = IsShort bytes × (document bytes ≡ Err (fault.Description p))
-EndedWith made bytes blanks w (status.BadScript f) book = IsShort bytes × (document bytes ≡ Err (fault.Script f))
+EndedWith made bytes blanks w (status.BadDescription p) book = IsShort bytes × (document built bytes ≡ Err (fault.Description p))
+EndedWith made bytes blanks w (status.BadScript f) book = IsShort bytes × (document built bytes ≡ Err (fault.Script f))
 EndedWith made bytes blanks w status.ReadFault book = Unit {0}
 EndedWith made bytes blanks w status.TooLong book = LONGEST_DOCUMENT < length bytes
 EndedWith made bytes blanks w status.Memory book = WantsMemory made bytes blanks w book
@@ -77,7 +78,7 @@ status_of_document (Err fault.Memory) = status.Memory
 
 -- The length comes first, then the description, then the script.
 abbrev pub status_of : List ℕ → Status
-status_of bytes = if nat_lt LONGEST_DOCUMENT (length bytes) then status.TooLong else status_of_document (document bytes)
+status_of bytes = if nat_lt LONGEST_DOCUMENT (length bytes) then status.TooLong else status_of_document (document built bytes)
 
 -- the statuses that come before anything is written
 abbrev pub ComesBeforeWriting : Status → Type 0

@@ -6,7 +6,7 @@ ghost use Rattle.outside_io.specs.Bytes.{AllFlushed};
 ghost use Rattle.outside_io.specs.Faults.{Rose};
 ghost use Rattle.cm_model.specs.Words.{is_asked};
 ghost use Rattle.cm_document.specs.declared.limits.TheConstants.{LONGEST_DOCUMENT};
-ghost use Rattle.cm_document.specs.Built.{built};
+ghost use Rattle.script_text.specs.Built.{built};
 ghost use Rattle.cm_document.specs.ScriptLaws.{MeetsRules, UsesGrammar};
 ghost use Rattle.cm_model.specs.Scheduled.{scheduled};
 ghost use Rattle.cm_model.specs.Trace.{trace};

@@ -10,3 +10,4 @@ pub mod PrintCallLemmas
 pub mod PrintScriptLemmas
 pub mod ReadCallLemmas
 pub mod ReadScriptLemmas
+mod BuiltRows

@@ -2,16 +2,39 @@
 
 ghost use Rattle.std.specs.Prelude.{◌≡◌, ◌+◌, ◌<◌, ◌^◌, length};
 ghost use Rattle.sequence.specs.Answers.{Answers};
-ghost use Rattle.cm_document.specs.Built.{built};
 ghost use Rattle.cm_document.specs.Lines.{raw_lines};
 ghost use Rattle.cm_document.specs.ScriptRules.{nothing, with_line, with_lines, script_with};
+ghost use Rattle.script_text.specs.Built.{built};
 
 use crate::grammar::line_of;
 use crate::lines::{bare_line, first_line};
 use crate::rules::Draft;
 use crate::words::{begins_comment, next_word};
-use cm_document::{Grammar, LONGEST_LINE, Script, ScriptFault, built};
+use cm_document::{Grammar, LONGEST_LINE, Script, ScriptFault};
 use std::alloc::Global;
+
+/// The lines that are accepted today.
+pub fn built() -> Grammar
+    ensures { result ≡ built }
+{
+    Grammar {
+        first_session: true,
+        further_session: false,
+        load: true,
+        configure: true,
+        cleanup: true,
+        unload: true,
+        rate: true,
+        send: true,
+        switch: false,
+        hardware: false,
+        await_cycles: false,
+        list_controllers: true,
+        list_interfaces: true,
+        list_components: true,
+        schedule: false,
+    }
+}
 
 /// The script of this text, whose first line has this number in its document; or the first bad line. `Memory` where
 /// memory ran out.
