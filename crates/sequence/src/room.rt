@@ -39,6 +39,13 @@ impl<T> ListRoom<T> {
         self.items.push_reserved(item);
     }
 
+    /// The items so far.
+    pub fn as_slice(&self) -> &[T]
+        ensures { result.now ≡ self.now.items }
+    {
+        self.items.as_slice()
+    }
+
     /// The list. It takes no memory.
     pub fn into_list(self) -> Seq<T>
         ensures { result ≡ self.items }
