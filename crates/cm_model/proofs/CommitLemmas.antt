@@ -5,22 +5,26 @@ use Rattle.std.specs.List.{list_any, AllByRecursion}
 use Rattle.std.proofs.Math.Path.{fun_ext}
 use Rattle.std.proofs.lemmas.Option.{IfSome_then}
 use Rattle.cm_document.proofs.DistinctLemmas.{all_so, all_map}
+use Rattle.fixed_num.specs.declared.value.Value.TheVariants.{Unset}
 use Rattle.iface_names.specs.declared.interface.IfaceName.{IfaceName}
 use Rattle.cm_document.specs.Links.{reference_for, exported_for, refs_of, is_among}
+use Rattle.cm_document.specs.Places.{Whose, of_joint, of_controller}
 use Rattle.cm_document.specs.declared.description.CtlDesc.{CtlDesc}
 use Rattle.cm_document.specs.declared.description.Params.{Params}
 use Rattle.cm_document.specs.declared.description.Params.TheVariants.{Forward, Passthrough, Pid, Trajectory, Broadcaster, Mock}
+use Rattle.cm_document.specs.declared.life.Life.{Life}
 use Rattle.cm_document.specs.declared.life.Life.TheVariants.{Unconfigured, Inactive, Active}
 use Rattle.sequence.proofs.ListLemmas.{any_map}
+use Rattle.cm_model.proofs.InterfaceLemmas.{all_map_back, IsCommandOf, references_command}
 use Rattle.cm_model.proofs.LoadedLemmas.{and_false, and_swapped, has_loaded-own, has_loaded-changed, any_same, all_from}
 use Rattle.cm_model.specs.Claims.{states_for}
-use Rattle.cm_model.specs.Commit.{described_of, seen, scene_of, coming, leaving, committed, is_freed, freed_of, commit}
+use Rattle.cm_model.specs.Commit.{described_of, seen, scene_of, coming, leaving, committed, is_exported_by, is_freed, freed_of, commit}
 use Rattle.cm_model.specs.Controllers.{started, runs_chained}
 use Rattle.cm_model.specs.Order.{Places, controller_at, precedes_at, some_below}
 use Rattle.cm_model.specs.Scene as scenes
-use Rattle.cm_model.specs.Scene.{is_running, is_chained_in}
-use Rattle.cm_model.specs.Sound.{CanRunTogether, IsMarked}
-use Rattle.cm_model.specs.State.{State, Loaded, is_active, active, life_of}
+use Rattle.cm_model.specs.Scene.{is_running, is_claimed_by, is_chained_in}
+use Rattle.cm_model.specs.Sound.{CanRunTogether, IsEmptyUnless, IsMarked}
+use Rattle.cm_model.specs.State.{State, Loaded, is_active, active, available_in, life_of}
 use Rattle.cm_model.specs.Steady.{IsOwn, HoldsNumber, HasBody, AreLoaded, AreConfigured, IsInOrder, IsSteady}
 use Rattle.cm_model.specs.Switches.{differ, restarts, is_stopped, is_started}
 use Rattle.cm_model.specs.Values.{InterfaceValue, unset, running}
@@ -195,6 +199,26 @@ pub freed_interface : (v : InterfaceValue) (freed : Bool) → (if freed then uns
 freed_interface v true = refl
 freed_interface v false = refl
 
+-- what was freed holds nothing, and else what was to be shown is shown of what it held
+freed_empty : (there : Whose → Bool) (v : InterfaceValue) (freed : Bool) → (there v.interface.whose ≡ false → freed ≡ false → v.value ≡ Unset)
+    → IsEmptyUnless there (if freed then unset v.interface else v)
+freed_empty there v true held = λ gone. refl
+freed_empty there v false held = λ gone. held gone refl
+
+-- a reference whose exporter is no member is freed, or was not available before
+not_freed : (was member again claimed : Bool) → member ≡ false → (claimed || (was && (not member || again))) ≡ false → was ≡ false
+not_freed was member again true out kept = absurd (true≢false kept)
+not_freed true true again false out kept = absurd (true≢false out)
+not_freed true false again false out kept = absurd (true≢false kept)
+not_freed false member again false out kept = refl
+
+-- what is not available after, and was not freed, was not available before
+gone_before : (lives : List Life) (before set again : Places) (whose : Whose) (command claimed : Bool) → IsCommandOf whose command → available_in lives set whose ≡ false
+    → (command && (claimed || is_exported_by (λ p. before p && (not (set p) || again p)) whose)) ≡ false → available_in lives before whose ≡ false
+gone_before lives before set again (of_joint component joint) command claimed is gone kept = gone
+gone_before lives before set again (of_controller place) true claimed is gone kept = not_freed (before place) (set place) (again place) claimed gone kept
+gone_before lives before set again (of_controller place) false claimed is gone kept = absurd (true≢false (sym is))
+
 pub interfaces_stay : (change : InterfaceValue → InterfaceValue) → ((v : InterfaceValue) → (change v).interface ≡ v.interface) → (vs : List InterfaceValue)
     → map (λ v. v.interface) (map change vs) ≡ map (λ v. v.interface) vs
 interfaces_stay change stays [] = refl
@@ -234,6 +258,22 @@ module _ (s : State) (set again : Places) (kept : IsInOrder s) (loaded : AreLoad
       (λ l. IsMarked s.description.controllers set (changed s set again l))
       (λ l first second. marks s set again l first.0 first.1 second.0 second.1) s.loaded known both)
 
+  -- what is not available after it holds nothing
+  empty_after : AllByRecursion (IsEmptyUnless (available_in s.lives set)) (map (freeing s set again) s.values)
+  empty_after =
+      let before : AllByRecursion (IsEmptyUnless (available_in s.lives (scenes.active (scene_of s)))) s.values =
+      subst (λ f. AllByRecursion (IsEmptyUnless (available_in s.lives f)) s.values) (sym (scene_active s kept.own)) kept.empty in
+      let commands : AllByRecursion (λ v. IsCommandOf v.interface.whose v.interface.called.is_command) s.values =
+      all_map_back (λ x. IsCommandOf x.whose x.called.is_command) (λ (v : InterfaceValue). v.interface) s.values
+      (subst (AllByRecursion (λ x. IsCommandOf x.whose x.called.is_command)) (sym kept.described) (references_command s.description)) in
+      all_map (IsEmptyUnless (available_in s.lives set)) (freeing s set again) s.values
+      (all_from (λ v. IsCommandOf v.interface.whose v.interface.called.is_command) (IsEmptyUnless (available_in s.lives (scenes.active (scene_of s))))
+      (λ v. IsEmptyUnless (available_in s.lives set) (freeing s set again v))
+      (λ v command empty. freed_empty (available_in s.lives set) v (is_freed s (is_stopped (scene_of s) set again) v.interface) (λ gone freed. empty
+      (gone_before s.lives (scenes.active (scene_of s)) set (restarts (scene_of s) set again) v.interface.whose v.interface.called.is_command
+      (is_claimed_by s.description.controllers (is_stopped (scene_of s) set again) v.interface.called.name) command gone freed)))
+      s.values commands before)
+
   -- What is kept whichever controllers are active is kept.
   pub commit_in_order : IsInOrder (commit s set again)
   unfolding commit
@@ -246,6 +286,7 @@ module _ (s : State) (set again : Places) (kept : IsInOrder s) (loaded : AreLoad
     embodied = all_map _ (freeing s set again) s.values (all_so (λ v. HasBody (length s.bodies) v.interface.whose) (λ v. HasBody (length s.bodies) (freeing s set again v).interface.whose)
         (λ v has. subst (λ interface. HasBody (length s.bodies) interface.whose) (sym (freed_interface v (is_freed s (is_stopped (scene_of s) set again) v.interface))) has) s.values kept.embodied);
     numbers = all_map _ (freeing s set again) s.values (all_so _ _ (λ v holds. freed_holds (running s.lives) v v.interface.called.is_command _ refl holds) s.values kept.numbers);
+    empty = rw commit_active empty_after;
   }
 
   -- A commit of controllers that can run together leaves a steady state.

@@ -15,6 +15,7 @@ mod SwitchRows
 mod CycleRows
 mod UpdateRows
 pub mod LoadedLemmas
+pub mod InterfaceLemmas
 pub mod CommitLemmas
 pub mod MoveLemmas
 pub mod SteadyLemmas

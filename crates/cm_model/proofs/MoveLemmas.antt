@@ -1,5 +1,5 @@
 -- What moves of components leave as it was: each state interface that is available holds a number, whichever components moved.
-use Rattle.std.proofs.Common.{◌≡◌, ℕ, zero, suc, ◌<◌, Bool, true, false, List, [], ◌∷◌, length, Option, Some, None, refl, sym, subst, ◌∙◌, true≢false, arith}
+use Rattle.std.proofs.Common.{◌≡◌, ℕ, zero, suc, ◌<◌, Bool, true, false, List, [], ◌∷◌, length, Option, Some, None, refl, sym, subst, ap, ◌∙◌, true≢false, arith}
 use Rattle.std.specs.Prelude.{◌&&◌, not, is_some, if◌then◌else◌, slice_get}
 use Rattle.std.specs.Option.{option_map_or}
 use Rattle.fixed_num.specs.declared.value.BodyState.{BodyState}
@@ -13,15 +13,15 @@ use Rattle.cm_model.proofs.CommitLemmas.{freed_interface, interfaces_stay}
 use Rattle.cm_model.proofs.LoadedLemmas.{and_false, all_from}
 use Rattle.cm_model.specs.Components.{measured, measured_at}
 use Rattle.cm_model.specs.Cycle.{moved}
-use Rattle.cm_model.specs.Sound.{is_number, CanRunTogether}
-use Rattle.cm_model.specs.State.{State, active}
+use Rattle.cm_model.specs.Sound.{is_number, CanRunTogether, IsEmptyUnless}
+use Rattle.cm_model.specs.State.{State, active, available_in}
 use Rattle.cm_model.specs.Steady.{HoldsNumber, HasBody, IsInOrder, IsSteady}
 use Rattle.cm_model.specs.Values.{InterfaceValue, unset, running, belongs_to, is_state_of, kind_in, shown, read_of, cleared_of, cleared}
 
 -- ---- One interface
 
 -- what a read of a body gives that is there
-measured_number : (o : Option BodyState) (kind : Kind) → is_some o ≡ true → is_number (option_map_or (λ body. Num (measured kind body)) o Unset) ≡ true
+pub measured_number : (o : Option BodyState) (kind : Kind) → is_some o ≡ true → is_number (option_map_or (λ body. Num (measured kind body)) o Unset) ≡ true
 measured_number None kind some = absurd (true≢false (sym some))
 measured_number (Some body) kind some = refl
 
@@ -62,7 +62,7 @@ no_reference components v place whose state =
     true≢false (sym (sym (and_false (not v.interface.called.is_command)) ∙ (rw whose at state)))
 
 -- a list has an item below its length
-some_at : {A : Type 0} (xs : List A) (i : ℕ) → i < length xs → is_some (slice_get xs i) ≡ true
+pub some_at : {A : Type 0} (xs : List A) (i : ℕ) → i < length xs → is_some (slice_get xs i) ≡ true
 some_at [] i within = absurd (omega (arith, within))
 some_at (x ∷ xs) zero within = refl
 some_at (x ∷ xs) (suc i) within = some_at xs i (omega (arith, within))
@@ -88,6 +88,40 @@ moved_holds before after bodies v false (of_joint component joint) is_command is
     (there_number (after component) (before component) v.value (measured_at bodies (record { joint = joint; kind = kind_in v.interface.called.name })) there held
     (measured_number (slice_get bodies joint) (kind_in v.interface.called.name) (some_at bodies joint body)))
 
+-- it holds nothing where it is cleared and not read, or held nothing
+moved_unset : (new gone : Bool) (old seen : Value) → new ≡ false → (gone ≡ false → old ≡ Unset) → (if new then seen else (if gone then Unset else old)) ≡ Unset
+moved_unset true gone old seen unread held = absurd (true≢false unread)
+moved_unset false true old seen unread held = refl
+moved_unset false false old seen unread held = held refl
+
+-- what is not available after a move is not read then,
+not_read : (before after : List Life) (controllers : ℕ → Bool) (command : Bool) (whose : Whose) → available_in after controllers whose ≡ false
+    → (not command && belongs_to (λ each. running after each && not (running before each)) whose) ≡ false
+not_read before after controllers command (of_joint component joint) gone = ap (λ b. not command && (b && not (running before component))) gone ∙ and_false (not command)
+not_read before after controllers command (of_controller place) gone = and_false (not command)
+
+-- and where it was not cleared, it was not available before
+not_cleared : (before after : List Life) (controllers : ℕ → Bool) (whose : Whose) → available_in after controllers whose ≡ false
+    → belongs_to (λ each. not (running after each)) whose ≡ false → available_in before controllers whose ≡ false
+not_cleared before after controllers (of_joint component joint) gone kept = absurd (true≢false (sym (ap not gone) ∙ kept))
+not_cleared before after controllers (of_controller place) gone kept = gone
+
+-- So an interface that is not available after components moved holds nothing.
+moved_empty : (before after : List Life) (controllers : ℕ → Bool) (bodies : List BodyState) (v : InterfaceValue) → IsEmptyUnless (available_in before controllers) v
+    → IsEmptyUnless (available_in after controllers) (read_of (λ each. running after each && not (running before each)) bodies (cleared_of (λ each. not (running after each)) v))
+moved_empty before after controllers bodies v empty = λ gone.
+    let out : available_in after controllers v.interface.whose ≡ false =
+    subst (λ interface. available_in after controllers interface.whose ≡ false) (moved_interface (λ each. running after each && not (running before each)) (λ each. not (running after each)) bodies v) gone in
+    rw (
+      moved_value (is_state_of (λ each. running after each && not (running before each)) (cleared_of (λ each. not (running after each)) v).interface) (belongs_to (λ each. not (running after each)) v.interface.whose) v
+          (shown bodies (cleared_of (λ each. not (running after each)) v).interface.called.name (cleared_of (λ each. not (running after each)) v).interface.whose),
+      cleared_interface (λ each. not (running after each)) v,
+    )
+    (moved_unset (is_state_of (λ each. running after each && not (running before each)) v.interface) (belongs_to (λ each. not (running after each)) v.interface.whose) v.value
+    (shown bodies v.interface.called.name v.interface.whose)
+    (not_read before after controllers v.interface.called.is_command v.interface.whose out)
+    (λ kept. empty (not_cleared before after controllers v.interface.whose out kept)))
+
 -- ---- All
 
 module _ (s : State) (lives : List Life) (kept : IsInOrder s) where
@@ -109,6 +143,8 @@ module _ (s : State) (lives : List Life) (kept : IsInOrder s) where
     numbers = all_map _ _ (cleared (λ component. not (running lives component)) s.values) (all_map _ _ s.values
         (all_from _ _ _ (λ v body holds. moved_holds (running s.lives) (running lives) s.bodies v v.interface.called.is_command v.interface.whose refl refl body holds)
         s.values kept.embodied kept.numbers));
+    empty = all_map _ _ (cleared (λ component. not (running lives component)) s.values) (all_map _ _ s.values
+        (all_so _ _ (λ v empty. moved_empty s.lives lives (active s) s.bodies v empty) s.values kept.empty));
   }
 
   -- A steady state stays steady where the components of the active controllers stay available.

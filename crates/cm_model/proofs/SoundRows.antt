@@ -1,7 +1,9 @@
 -- Worked rows of soundness: for each of its parts a small history that meets it, and what it refuses.
-use Rattle.std.proofs.Common.{◌≡◌, ℕ, Bool, true, false, [], ◌∷◌, ◌++◌, length, Option, Some, refl, sym, ap, true≢false, arith}
+use Rattle.std.proofs.Common.{◌≡◌, ℕ, Bool, true, false, [], ◌∷◌, ◌++◌, length, Option, Some, refl, sym, ap, true≢false, arith, pos}
 use Rattle.std.specs.Prelude.{codes, ◌==◌, ◌||◌}
 use Rattle.std.specs.List.{list_any, IsDistinct}
+use Rattle.fixed_num.specs.declared.value.Value.TheVariants.{Unset, Num}
+use Rattle.cm_document.specs.Places.{a_command, of_controller}
 use Rattle.cm_document.specs.declared.call.Call.TheVariants.{Load, Unload, Hardware, Told, ListControllers, Begin, End}
 use Rattle.cm_document.specs.declared.call.SwitchRequest.{SwitchRequest}
 use Rattle.cm_document.specs.declared.life.Life.TheVariants.{Unconfigured, Active}
@@ -23,7 +25,11 @@ never wrong = absurd (true≢false (sym wrong))
 
 -- ---- Loans
 
--- at boot no controller is active
+-- what is available may hold anything
+available : {A : Type 0} → true ≡ false → A
+available gone = absurd (true≢false gone)
+
+-- at boot no controller is active, and the two references hold nothing
 at_boot : LoansHold (with_running [])
 at_boot = record {
   together = record {
@@ -33,6 +39,7 @@ at_boot = record {
     followed = λ p interface member claims. never member;
   };
   present = λ p interface member reads. never member;
+  empty = (available, (available, (available, (available, (λ gone. refl, (λ gone. refl, tt))))));
   marked = tt;
 }
 
@@ -55,6 +62,10 @@ no_follower holds = true≢false (holds.together.followed 2 pid_reference refl r
 -- a state that is read and holds nothing
 nothing_held : LoansHold (record (with_running (runs 0 4 false ∷ [])) { values = [] }) → ⊥
 nothing_held holds = true≢false (sym (holds.present 4 j1_position refl refl))
+
+-- a reference of a pid that is not active and holds a number
+left_behind : LoansHold (record (with_running []) { values = record { interface = record { called = a_command pid_reference; whose = of_controller 1 }; value = Num (pos 0) } ∷ [] }) → ⊥
+left_behind holds = let nothing : Num (pos 0) ≡ Unset = holds.empty.0 refl in cc
 
 -- a pid beneath an active trajectory that takes mail
 wrong_mark : LoansHold (with_running (runs 0 1 false ∷ runs 1 2 false ∷ [])) → ⊥

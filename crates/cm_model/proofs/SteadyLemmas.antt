@@ -96,6 +96,7 @@ slot_steady s i l new at keeps steady =
         described = kept.described;
         embodied = kept.embodied;
         numbers = kept.numbers;
+        empty = rw alike kept.empty;
       };
       together = rw alike steady.together;
     }
@@ -164,7 +165,7 @@ send_steady s name mail r steady =
     done_only IsSteady r _ s (λ done. changed_steady (after_send mail) s (slot_of s name) (λ l at. sent_keeps s.description.controllers mail l) steady) steady
 
 -- what comes after the first refusal comes only where that does not apply
-not_first : (applies : Bool) (reason : Why) (others : List (Bool × Why)) → unless_refused ((applies, reason) ∷ others) reply.Done ≡ reply.Done → applies ≡ false
+pub not_first : (applies : Bool) (reason : Why) (others : List (Bool × Why)) → unless_refused ((applies, reason) ∷ others) reply.Done ≡ reply.Done → applies ≡ false
 not_first true reason others done = absurd (true≢false (sym (ap is_done done)))
 not_first false reason others done = refl
 
@@ -189,7 +190,7 @@ configure_steady s name steady =
     steady
 
 -- a cleanup is done of an inactive one
-idle_inactive : (params run : Bool) → not (params && not run) ≡ false → run ≡ false
+pub idle_inactive : (params run : Bool) → not (params && not run) ≡ false → run ≡ false
 idle_inactive true true inactive = absurd (true≢false inactive)
 idle_inactive true false inactive = refl
 idle_inactive false run inactive = absurd (true≢false inactive)
@@ -207,7 +208,7 @@ cleanup_steady s name steady =
 
 -- ---- One controller less
 
-all_remove : {A : Type 0} (P : A → Type 0) (xs : List A) (i : ℕ) → AllByRecursion P xs → AllByRecursion P (remove xs i)
+pub all_remove : {A : Type 0} (P : A → Type 0) (xs : List A) (i : ℕ) → AllByRecursion P xs → AllByRecursion P (remove xs i)
 all_remove P [] zero all = tt
 all_remove P [] (suc i) all = tt
 all_remove P (x ∷ xs) zero all = all.1
@@ -219,7 +220,7 @@ map_remove f [] (suc i) = refl
 map_remove f (x ∷ xs) zero = refl
 map_remove f (x ∷ xs) (suc i) = ap (λ ys. f x ∷ ys) (map_remove f xs i)
 
-distinct_remove : (ps : List ℕ) (i : ℕ) → IsDistinct (λ p q. p == q) ps → IsDistinct (λ p q. p == q) (remove ps i)
+pub distinct_remove : (ps : List ℕ) (i : ℕ) → IsDistinct (λ p q. p == q) ps → IsDistinct (λ p q. p == q) (remove ps i)
 unfolding IsDistinct
 distinct_remove [] zero once = tt
 distinct_remove [] (suc i) once = tt
@@ -246,6 +247,7 @@ removed_steady s i l at idle steady =
         described = kept.described;
         embodied = kept.embodied;
         numbers = kept.numbers;
+        empty = rw alike kept.empty;
       };
       together = rw alike steady.together;
     }
@@ -294,6 +296,7 @@ pushed_steady s blanks place c new steady =
         described = kept.described;
         embodied = kept.embodied;
         numbers = kept.numbers;
+        empty = rw alike kept.empty;
       };
       together = rw alike steady.together;
     }
@@ -341,6 +344,7 @@ map_keeps s change keeps aloft mails steady =
         described = kept.described;
         embodied = kept.embodied;
         numbers = kept.numbers;
+        empty = rw alike kept.empty;
       };
       together = rw alike steady.together;
     }

@@ -34,7 +34,7 @@ none_by_rank : {A : Type 0} (ranked : A → ℕ) (n : ℕ) → by_rank ranked n 
 none_by_rank ranked zero = refl
 none_by_rank ranked (suc n) = rw (none_by_rank ranked n) refl
 
-none_below : (test : ℕ → Bool) (n : ℕ) → ((p : ℕ) → test p ≡ false) → some_below test n ≡ false
+pub none_below : (test : ℕ → Bool) (n : ℕ) → ((p : ℕ) → test p ≡ false) → some_below test n ≡ false
 none_below test zero none = refl
 none_below test (suc n) none = rw (none_below test n none, none n) refl
 

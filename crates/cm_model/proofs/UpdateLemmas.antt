@@ -82,7 +82,7 @@ given_keeps claims outs v = either v.interface.called.is_command (unwrap_or (out
     either false value = refl
 
 -- an update changes what the interfaces hold, and nothing else
-given_by_keeps : (claims : List IfaceName) (step : Stepped) (values : List InterfaceValue)
+pub given_by_keeps : (claims : List IfaceName) (step : Stepped) (values : List InterfaceValue)
     → map (λ (v : InterfaceValue). v.interface) (given_by claims step values) ≡ map (λ (v : InterfaceValue). v.interface) values
 given_by_keeps claims step values = by_end step.done
   where

@@ -9,6 +9,7 @@ use Rattle.fixed_num.specs.declared.value.Value.{Value}
 use Rattle.fixed_num.specs.declared.value.Value.TheVariants.{Unset, Num}
 use Rattle.iface_names.specs.declared.interface.IfaceName.{IfaceName}
 use Rattle.cm_document.specs.Links.{is_among}
+use Rattle.cm_document.specs.Places.{Whose}
 use Rattle.cm_document.specs.declared.call.Call.{Call}
 use Rattle.cm_document.specs.declared.call.Call.TheVariants as call
 use Rattle.cm_document.specs.declared.call.SwitchRequest.{SwitchRequest}
@@ -28,7 +29,7 @@ use Rattle.cm_model.specs.Faults.{component_with, is_missing, is_beside}
 use Rattle.cm_model.specs.Machine.{step}
 use Rattle.cm_model.specs.Order.{Places, controller_at, precedes_at}
 use Rattle.cm_model.specs.Scene.{claims_at, is_chained_in}
-use Rattle.cm_model.specs.State.{State, Loaded, MailAloft, boot, is_active, active}
+use Rattle.cm_model.specs.State.{State, Loaded, MailAloft, boot, is_active, active, available_in}
 use Rattle.cm_model.specs.Values.{InterfaceValue}
 use Rattle.cm_model.specs.declared.blanks.Blanks.{Blanks}
 use Rattle.cm_model.specs.declared.cause.Decision.{Decision}
@@ -77,6 +78,10 @@ is_number (Num n) = true
 abbrev pub is_there : Description → List Life → IfaceName → Bool
 is_there d lives interface = option_map_or (λ place. is_available (slice_index_or lives place Unconfigured)) (component_with d.components interface) true
 
+-- where it is not there, the interface holds nothing
+abbrev pub IsEmptyUnless : (Whose → Bool) → InterfaceValue → Type 0
+IsEmptyUnless there v = there v.interface.whose ≡ false → v.value ≡ Unset
+
 -- where it runs, it says chained exactly where a member of the set claims one of its references
 abbrev pub IsMarked : List CtlDesc → Places → Loaded → Type 0
 IsMarked controllers set l = IfSome l.ctl.run (λ part. runs_chained part ≡ is_chained_in controllers set l.place)
@@ -94,12 +99,13 @@ pub record CanRunTogether (d : Description) (lives : List Life) (set : Places) :
   -- and the controller is a member that exports a reference which a member claims.
   pub followed : (p : ℕ) (interface : IfaceName) → set p ≡ true → claims_at d.controllers p interface ≡ true → is_missing d.controllers set interface ≡ false
 
--- In a state the active controllers can run together; each interface that one of them reads holds a number; and each running part says
--- rightly whether its controller is chained.
+-- In a state the active controllers can run together; each interface that one of them reads holds a number, and each that is not
+-- available holds nothing; and each running part says rightly whether its controller is chained.
 pub record LoansHold (s : State) : Type 0 where
   pub together : CanRunTogether s.description s.lives (active s)
   pub present : (p : ℕ) (interface : IfaceName) → active s p ≡ true → reads_at s.description.controllers p interface ≡ true
       → is_number (value_where (is_state_named interface) s.values) ≡ true
+  pub empty : AllByRecursion (IsEmptyUnless (available_in s.lives (active s))) s.values
   pub marked : AllByRecursion (IsMarked s.description.controllers (active s)) s.loaded
 
 -- Loans are exclusive and present after each call.

@@ -29,10 +29,10 @@ use Rattle.cm_model.specs.declared.member.Member.{Member}
 use Rattle.cm_model.specs.declared.seen.Seen.{Seen}
 use Rattle.chain_order.proofs.RunLemmas.{by_rank-all}
 use Rattle.switch_plan.specs.Laws.{CanLeave, asked_off, tried_on}
-use Rattle.switch_plan.proofs.CauseLemmas.{named_one}
+use Rattle.switch_plan.proofs.CauseLemmas.{claims_from, named_one}
 use Rattle.switch_plan.proofs.ElementLemmas.{or_none, any_from}
 use Rattle.switch_plan.proofs.LeavingLemmas.{reduced_CanLeave, asked_active}
-use Rattle.sound_laws.proofs.FitLemmas.{IsClearOf, claims_inside, none_missing, extended_together}
+use Rattle.sound_laws.proofs.FitLemmas.{IsClearOf, none_missing, extended_together}
 use Rattle.sound_laws.proofs.ParamsLemmas.{has_params, HaveParams, params_loaded, active_params, commit_of, faultless_params}
 use Rattle.sound_laws.proofs.StrictLemmas.{seen_loaded}
 
@@ -54,7 +54,7 @@ still_followed small large (Some q) more none = ap not (more q refl (not-false (
 pub precedes_exporter : (scene : Scene) (p : ℕ) (interface : IfaceName) (q : ℕ) → claims_at (controllers_in scene) p interface ≡ true → exporter (controllers_in scene) interface ≡ Some q
     → precedes_at (controllers_in scene) p q ≡ true
 precedes_exporter scene p interface q claims is =
-    any_from (λ interface. is_among interface (refs_of (controller_at (controllers_in scene) q))) (described scene p).claims interface (claims_inside scene p interface claims)
+    any_from (λ interface. is_among interface (refs_of (controller_at (controllers_in scene) q))) (described scene p).claims interface (claims_from scene p interface claims)
     (position-Some (λ (c : CtlDesc). is_among interface (refs_of c)) (controllers_in scene) q nobody is).1
 
 -- A part of a set that can run together can, where no follower of a member is left out.

@@ -7,6 +7,7 @@ use Rattle.cm_document.specs.declared.call.Call.{Call}
 use Rattle.cm_document.specs.declared.call.Call.TheVariants.{Load, Configure, Cleanup, Unload, Rate, Send, Switch, Hardware, Begin, End, Close}
 use Rattle.cm_document.specs.declared.description.CtlDesc.{CtlDesc}
 use Rattle.cm_model.proofs.StayLemmas.{effect-SameLoop, IsStep}
+use Rattle.cm_model.proofs.SteadyLemmas.{not_first, idle_inactive}
 use Rattle.cm_model.specs.Boundary.{request_effect}
 use Rattle.cm_model.specs.Console.{unless_refused, place_of, slot_of, controller_in, controller_of, description_of, is_inactive, configure_refusals, cleanup_refusals, unload_refusals, reply_on, configure_reply, cleanup_reply, unload_reply, configured_with, after_configure, after_cleanup, after_rate, after_send, where_done, with_slot, with_changed, without_slot}
 use Rattle.cm_model.specs.Cycle.{cycle}
@@ -65,16 +66,6 @@ running_push [] l idle = idle_none l idle
 running_push (m ∷ ms) l idle = running_first m (ms ++ l ∷ []) ∙ ap (λ xs. running_ones (m ∷ []) ++ xs) (running_push ms l idle) ∙ sym (running_first m ms)
 
 -- ---- What was done
-
--- what comes after the first refusal comes only where that does not apply
-not_first : (applies : Bool) (reason : Why) (others : List (Bool × Why)) → unless_refused ((applies, reason) ∷ others) reply.Done ≡ reply.Done → applies ≡ false
-not_first true reason others done = absurd (true≢false (sym (ap is_done done)))
-not_first false reason others done = refl
-
-idle_inactive : (params runs : Bool) → not (params && not runs) ≡ false → runs ≡ false
-idle_inactive true true inactive = absurd (true≢false inactive)
-idle_inactive true false inactive = refl
-idle_inactive false runs inactive = absurd (true≢false inactive)
 
 -- of a controller on which a call was done
 done_on : (refusals : Loaded → List (Bool × Why)) (P : Loaded → Type 0) → ((l : Loaded) → unless_refused (refusals l) reply.Done ≡ reply.Done → P l)

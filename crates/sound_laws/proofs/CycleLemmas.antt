@@ -1,33 +1,36 @@
 -- The end of a cycle keeps a state steady.
-use Rattle.std.proofs.Common.{◌≡◌, ℕ, suc, ◌+◌, ◌<◌, false, List, [], ◌∷◌, length, map, None, refl, sym, ◌∙◌, subst, ap, arith}
-use Rattle.std.specs.Prelude.{◌==◌, zip}
+use Rattle.std.proofs.Common.{◌≡◌, ℕ, zero, suc, ◌+◌, ◌<◌, true, false, List, [], ◌∷◌, length, map, refl, sym, ◌∙◌, subst, ap, true≢false, arith}
+use Rattle.std.specs.Prelude.{◌==◌, not, zip, slice_get}
 use Rattle.std.specs.List.{AllByRecursion, IsDistinct}
+use Rattle.std.specs.Option.{option_map_or}
 use Rattle.std.proofs.Math.Path.{fun_ext}
+use Rattle.std.proofs.lemmas.Bool.{and_parts}
 use Rattle.fixed_num.specs.declared.value.BodyState.{BodyState}
 use Rattle.cm_document.proofs.DistinctLemmas.{all_so, all_map}
-use Rattle.cm_document.specs.Links.{joints_of, first_in_loop}
+use Rattle.cm_document.specs.Links.{joints_of}
 use Rattle.cm_document.specs.Places.{Whose, of_joint, of_controller, Interface, interfaces_of}
 use Rattle.cm_document.specs.Valid.{IsValid}
 use Rattle.cm_document.specs.declared.description.CompDesc.{CompDesc}
 use Rattle.cm_document.specs.declared.life.Life.{Life}
+use Rattle.cm_model.proofs.InterfaceLemmas.{all_map_back}
 use Rattle.cm_model.proofs.LoadedLemmas.{all_from}
 use Rattle.cm_model.proofs.MoveLemmas.{moved_in_order}
 use Rattle.cm_model.proofs.UpdateLemmas.{updates_keep, updates_leave_active, updates_keep_interfaces}
 use Rattle.cm_model.specs.Commit.{commit}
-use Rattle.cm_model.specs.Components.{read_succeeds, life_after}
+use Rattle.cm_model.specs.Components.{is_available, is_listed, read_succeeds, life_after}
 use Rattle.cm_model.specs.Cycle.{component_is, updated_in, Updates, updates, components_stepped, CycleResult, cycle_with, cycle, stays_active, lives_after, landed, after_cycle}
 use Rattle.cm_model.specs.Ran.{Ran}
-use Rattle.cm_model.specs.Sound.{IsMarked}
-use Rattle.cm_model.specs.State.{State, Loaded, is_active}
+use Rattle.cm_model.specs.Sound.{IsEmptyUnless, IsMarked}
+use Rattle.cm_model.specs.State.{State, Loaded, is_active, available_in}
 use Rattle.cm_model.specs.Steady.{has_loaded, HoldsNumber, HasBody, IsInOrder, IsSteady}
 use Rattle.cm_model.specs.Values.{InterfaceValue, running, after_reads}
 use Rattle.sound_laws.proofs.BootLemmas.{interfaces_below}
-use Rattle.sound_laws.proofs.LoanLemmas.{all_map_back}
+use Rattle.sound_laws.proofs.ClaimedLemmas.{updated_there}
 use Rattle.sound_laws.proofs.ParamsLemmas.{active_params, commit_of}
-use Rattle.sound_laws.proofs.ReadLemmas.{reads_same, reads_hold}
+use Rattle.sound_laws.proofs.ReadLemmas.{reads_same, reads_hold, reads_empty}
 use Rattle.sound_laws.proofs.StopLemmas.{stays_parts, stays_together}
-use Rattle.sound_laws.proofs.UpdatedLemmas.{step_keeps_place, updates_own, updates_marked, updates_hold, stepped_below}
-use Rattle.sound_laws.proofs.ValidLemmas.{valid-IsChecked}
+use Rattle.sound_laws.proofs.UpdatedLemmas.{step_keeps_place, updates_own, updates_marked, updates_hold, updates_empty, stepped_below}
+use Rattle.sound_laws.proofs.ValidLemmas.{IsChecked, valid-IsChecked}
 
 -- ---- What the cycle leaves
 
@@ -42,7 +45,18 @@ zip_count ended [] (life ∷ lives) as_many = absurd (omega (arith, as_many))
 zip_count ended (c ∷ cs) [] as_many = refl
 zip_count ended (c ∷ cs) (life ∷ lives) as_many = ap suc (zip_count ended cs lives (omega (arith, as_many)))
 
-module _ (s : State) (kept : IsInOrder s) where
+-- a component whose read succeeds runs
+reads_run : (ended : ℕ) (cs : List CompDesc) (lives : List Life) (k : ℕ)
+    → option_map_or (λ p. read_succeeds p.0 p.1 ended) (slice_get (zip cs lives) k) false ≡ true → running lives k ≡ true
+reads_run ended [] lives k reads = absurd (true≢false (sym reads))
+reads_run ended (c ∷ cs) [] k reads = absurd (true≢false (sym reads))
+reads_run ended (c ∷ cs) (life ∷ lives) zero reads = (and_parts (is_available life) (not (is_listed c.fail_read ended)) reads).0
+reads_run ended (c ∷ cs) (life ∷ lives) (suc k) reads = reads_run ended cs lives k reads
+
+module _ (s : State) (checked : IsChecked s.description) (steady : IsSteady s) where
+  abbrev kept : IsInOrder s
+  kept = steady.in_order
+
   -- what the interfaces hold after the reads
   abbrev read : List InterfaceValue
   read = after_reads (component_is read_succeeds s) s.bodies s.values
@@ -85,6 +99,12 @@ module _ (s : State) (kept : IsInOrder s) where
       (reads_hold (running s.lives) (component_is read_succeeds s) s.bodies s.values kept.embodied
       (all_so (HoldsNumber (running s.lives)) _ (λ v holds not_read. holds) s.values kept.numbers))
 
+  empty_stay : AllByRecursion (IsEmptyUnless (available_in s.lives (has_loaded is_active s.loaded))) made.values
+  empty_stay =
+      updates_empty s (available_in s.lives (has_loaded is_active s.loaded)) (interfaces_of s.description) begun (updated_in s)
+      (reads_same (component_is read_succeeds s) s.bodies s.values ∙ kept.described) (updated_there s checked steady.together)
+      (reads_empty (component_is read_succeeds s) s.lives (has_loaded is_active s.loaded) s.bodies (reads_run s.ended s.description.components s.lives) s.values kept.empty)
+
   updated_in_order : IsInOrder updated
   updated_in_order = record {
     once = subst (IsDistinct (λ p q. p == q)) (sym (updates_keep s (λ (l : Loaded). l.place) (λ vs serial l. step_keeps_place s vs serial l) begun (updated_in s))) kept.once;
@@ -95,6 +115,7 @@ module _ (s : State) (kept : IsInOrder s) where
     described = same_interfaces;
     embodied = bodies_stay;
     numbers = numbers_stay;
+    empty = subst (λ set. AllByRecursion (IsEmptyUnless (available_in s.lives set)) made.values) (sym same_active) empty_stay;
   }
 
   landed_in_order : IsInOrder (landed s (cycle_with s made))
@@ -102,19 +123,20 @@ module _ (s : State) (kept : IsInOrder s) where
 
 -- ---- What its end leaves
 
-module _ (s : State) (free : first_in_loop s.description.controllers ≡ None) (steady : IsSteady s) where
+module _ (s : State) (checked : IsChecked s.description) (steady : IsSteady s) where
   abbrev end : CycleResult
-  end = cycle_with s (made s steady.in_order)
+  end = cycle_with s (made s checked steady)
 
   end_steady : (ran : List Ran) → IsSteady (commit (landed s end) (stays_active s ran) (λ p. false))
   end_steady ran =
-      let kept = landed_in_order s steady.in_order in
+      let kept = landed_in_order s checked steady in
       commit_of (landed s end) (stays_active s ran) (λ p. false) kept
-      (λ p stays. active_params (landed s end) kept p (ap (λ f. f p) (same_active s steady.in_order) ∙ (stays_parts s free ran p stays).0))
-      (stays_together s free ran steady.in_order.counted steady.together)
+      (λ p stays. active_params (landed s end) kept p (ap (λ f. f p) (same_active s checked steady) ∙ (stays_parts s checked.free ran p stays).0))
+      (stays_together s checked.free ran steady.in_order.counted steady.together)
 
 -- The end of a cycle of a valid description leaves a steady state.
 pub after_steady : (s : State) → IsValid s.description → IsSteady s → IsSteady (after_cycle s (cycle s))
 unfolding after_cycle cycle
-after_steady s valid steady = end_steady s (valid-IsChecked s.description valid.no_fault).free steady
-    (cycle_with s (made s steady.in_order)).happened.ran
+after_steady s valid steady =
+    let checked = valid-IsChecked s.description valid.no_fault in
+    end_steady s checked steady (cycle_with s (made s checked steady)).happened.ran

@@ -21,7 +21,7 @@ use Rattle.cm_model.specs.declared.cause.Cause.TheVariants as cause
 use Rattle.cm_model.specs.declared.fault_kind.FaultKind.TheVariants as fault_kind
 use Rattle.cm_model.specs.declared.member.Member.{Member}
 use Rattle.cm_model.specs.declared.seen.Seen.{Seen}
-use Rattle.switch_plan.proofs.CauseLemmas.{order_from}
+use Rattle.switch_plan.proofs.CauseLemmas.{claims_from, order_from}
 use Rattle.switch_plan.proofs.ElementLemmas.{map_none, some_of, each_fails, not_found, first_of-none}
 
 -- ---- Tests
@@ -60,18 +60,12 @@ beside_turned (Reference controller joint kind) (Reference controller' joint' ki
 
 -- ---- Claims
 
--- a controller that claims an interface has it among its claims
-pub claims_inside : (scene : Scene) (p : ℕ) (interface : IfaceName) → claims_at (controllers_in scene) p interface ≡ true → Contains (described scene p).claims interface
-claims_inside scene p interface claims =
-    let r = some_of (λ claim. same_interface claim interface) (described scene p).claims claims in
-    subst (Contains (described scene p).claims) ((same_interface-Decides r.0 interface).0 r.2) r.1
-
 -- no follower of it is missing, where that is not found to be its fault
 pub none_missing : (scene : Scene) (set on : Places) (p : ℕ) (interface : IfaceName) → fault_of_kind scene set on fault_kind.Follower p ≡ None
     → claims_at (controllers_in scene) p interface ≡ true → is_missing (controllers_in scene) set interface ≡ false
 none_missing scene set on p interface none claims =
     if_none (is_missing (controllers_in scene) set interface) (cause.MissingFollower interface)
-    (first_of-none (λ interface. cause_if (is_missing (controllers_in scene) set interface) (cause.MissingFollower interface)) (described scene p).claims none interface (claims_inside scene p interface claims))
+    (first_of-none (λ interface. cause_if (is_missing (controllers_in scene) set interface) (cause.MissingFollower interface)) (described scene p).claims none interface (claims_from scene p interface claims))
 
 -- ---- A set
 
@@ -102,7 +96,7 @@ module _ (scene : Scene) (small set added on : Places) (extended : IsExtended sc
       let l = loaded_at q other in
       let none : rival scene set p interface ≡ None =
       map_none (λ (m : Member). cause.Conflict interface (described scene m.place).name) (rival scene set p interface)
-      (first_of-none (conflict_over scene set p) (described scene p).claims (extended.clear p inside new).conflict interface (claims_inside scene p interface claims)) in
+      (first_of-none (conflict_over scene set p) (described scene p).claims (extended.clear p inside new).conflict interface (claims_from scene p interface claims)) in
       let each : (not (l.0.place == p) && claims_at (controllers_in scene) l.0.place interface) ≡ false =
       not_found (λ (m : Member). not (m.place == p) && claims_at (controllers_in scene) m.place interface) (order scene set) none (member l.0)
       (order_from scene set l.0 l.1 (ap set l.2 ∙ other)) in
@@ -116,13 +110,13 @@ module _ (scene : Scene) (small set added on : Places) (extended : IsExtended sc
       let l = loaded_at q other in
       let free : is_mode_taken scene set interface ≡ false =
       if_none (is_mode_taken scene set interface) (cause.ModeRefused (joint_name interface))
-      (first_of-none (λ interface. cause_if (is_mode_taken scene set interface) (cause.ModeRefused (joint_name interface))) (described scene p).claims (extended.clear p inside new).mode interface (claims_inside scene p interface claims)) in
+      (first_of-none (λ interface. cause_if (is_mode_taken scene set interface) (cause.ModeRefused (joint_name interface))) (described scene p).claims (extended.clear p inside new).mode interface (claims_from scene p interface claims)) in
       let each : (set l.0.place && list_any (is_beside interface) (described scene l.0.place).claims) ≡ false =
       each_fails (λ (l : Seen). set l.place && list_any (is_beside interface) (described scene l.place).claims) scene.loaded free l.0 l.1 in
       let none : list_any (is_beside interface) (described scene l.0.place).claims ≡ false =
       and_second (set l.0.place) (list_any (is_beside interface) (described scene l.0.place).claims) each (ap set l.2 ∙ other) in
       each_fails (is_beside interface) (described scene l.0.place).claims none beside
-      (subst (λ r. Contains (described scene r).claims beside) (sym l.2) (claims_inside scene q beside also))
+      (subst (λ r. Contains (described scene r).claims beside) (sym l.2) (claims_from scene q beside also))
 
   -- and what it claims or reads is available
   is_up : (p : ℕ) (interface : IfaceName) → set p ≡ true → added p ≡ true → names_at (controllers_in scene) p interface ≡ true → is_there scene.description scene.components interface ≡ true

@@ -14,6 +14,7 @@ pub mod DecidedLemmas
 pub mod TicketLemmas
 pub mod UpdatedLemmas
 pub mod StopLemmas
+pub mod ClaimedLemmas
 pub mod CycleLemmas
 pub mod SerialLemmas
 pub mod RunLemmas

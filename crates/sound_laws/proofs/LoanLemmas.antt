@@ -1,9 +1,9 @@
 -- Loans of a steady state hold: what an active controller reads is a state interface, available, and so holds a number.
 use Rattle.std.proofs.Common.{◌≡◌, ℕ, zero, suc, ◌+◌, Bool, true, false, List, [], ◌∷◌, ◌++◌, length, map, Option, Some, None, inl, inr, refl, sym, ◌∙◌, subst, ap, true≢false, arith, lt-ltb}
-use Rattle.std.specs.Prelude.{◌==◌, ◌||◌, not, if◌then◌else◌, flat_map, position, slice_index_or}
+use Rattle.std.specs.Prelude.{◌||◌, not, if◌then◌else◌, flat_map, position, slice_index_or}
 use Rattle.std.specs.List.{AllByRecursion, Contains, list_any, position_or_len}
 use Rattle.std.specs.Option.{option_map_or}
-use Rattle.std.proofs.lemmas.Bool.{and_parts, and_from, or_left, or_right, eqb-true, cases_lt}
+use Rattle.std.proofs.lemmas.Bool.{and_parts, and_from, or_left, or_right, cases_lt}
 use Rattle.std.proofs.lemmas.List.Folds.{list_any-append, list_any_none}
 use Rattle.std.proofs.lemmas.List.Quantifiers.{position-Some}
 use Rattle.std.proofs.lemmas.List.Sums.{fails_before_first}
@@ -19,13 +19,14 @@ use Rattle.cm_document.proofs.DistinctLemmas.{all_so}
 use Rattle.cm_document.proofs.PlaceLemmas.{called_by_names}
 use Rattle.cm_document.specs.Described.{states_of_joint, states_of}
 use Rattle.cm_document.specs.Links.{is_among, commands_of, references_of}
-use Rattle.cm_document.specs.Places.{Called, a_state, a_command, Whose, of_joint, of_controller, Interface, at_components, at_controllers, interfaces_of, called_in}
+use Rattle.cm_document.specs.Places.{Called, a_state, a_command, Interface, at_components, at_controllers, interfaces_of, called_in}
 use Rattle.cm_document.specs.Valid.{IsValid}
 use Rattle.cm_document.specs.declared.description.CompDesc.{CompDesc}
 use Rattle.cm_document.specs.declared.description.Description.{Description}
 use Rattle.cm_document.specs.declared.description.JointDesc.{JointDesc}
 use Rattle.cm_document.specs.declared.life.Life.{Life}
 use Rattle.cm_document.specs.declared.life.Life.TheVariants.{Unconfigured}
+use Rattle.cm_model.proofs.InterfaceLemmas.{all_map_back, components_all, controllers_all}
 use Rattle.cm_model.proofs.LoadedLemmas.{all_from}
 use Rattle.cm_model.specs.Claims.{is_state_named, value_where}
 use Rattle.cm_model.specs.Components.{is_available}
@@ -35,17 +36,13 @@ use Rattle.cm_model.specs.State.{State, active}
 use Rattle.cm_model.specs.Steady.{HoldsNumber, IsSteady}
 use Rattle.cm_model.specs.Values.{InterfaceValue, running, belongs_to, is_state_of}
 use Rattle.switch_plan.proofs.ElementLemmas.{some_of, any_from}
-use Rattle.sound_laws.proofs.InterfaceLemmas.{components_all, controllers_all, is_named, has_named, IsOf, states_of_component}
+use Rattle.sound_laws.proofs.InterfaceLemmas.{is_named, has_named, interfaces_of_component, same_turned}
 use Rattle.sound_laws.proofs.ValidLemmas.{IsChecked, valid-IsChecked}
 
 -- ---- Lists
 
-pub all_map_back : {A B : Type 0} (P : B → Type 0) (f : A → B) (xs : List A) → AllByRecursion P (map f xs) → AllByRecursion (λ x. P (f x)) xs
-all_map_back P f [] all = tt
-all_map_back P f (x ∷ xs) all = (all.0, all_map_back P f xs all.1)
-
 -- where no place is found, none passes
-none_at : {A : Type 0} (test : A → Bool) (xs : List A) → position test xs ≡ None → list_any test xs ≡ false
+pub none_at : {A : Type 0} (test : A → Bool) (xs : List A) → position test xs ≡ None → list_any test xs ≡ false
 none_at test xs none =
     list_any_none test xs (λ k d below.
     elim (cases_lt (position_or_len test xs) (length xs)) [
@@ -79,9 +76,6 @@ running_at (life ∷ lives) (suc k) = running_at lives k
 
 -- ---- Of one name
 
-same_turned : (interface j : IfaceName) → same_interface interface j ≡ true → same_interface j interface ≡ true
-same_turned interface j same = (same_interface-Decides j interface).1 (sym ((same_interface-Decides interface j).0 same))
-
 -- the joint of a state interface
 pub record HasJoint (cs : List CompDesc) (interface : IfaceName) : Type 0 where
   pub component : CompDesc
@@ -106,23 +100,18 @@ module _ (d : Description) (lives : List Life) (interface : IfaceName) where
   abbrev Runs : Interface → Type 0
   Runs x = is_state_named interface x.called ≡ true → is_state_of (running lives) x ≡ true
 
-  belongs_on : (k : ℕ) → running lives k ≡ true → (whose : Whose) → belongs_to (λ c. c == k) whose ≡ true → belongs_to (running lives) whose ≡ true
-  belongs_on k runs (of_joint component joint) is = ap (running lives) (eqb-true component k is) ∙ runs
-  belongs_on k runs (of_controller place) is = absurd (true≢false (sym is))
+  runs_of : (x : Interface) → (same_interface x.called.name interface ≡ true → belongs_to (running lives) x.whose ≡ true) → Runs x
+  runs_of x of named =
+      let parts = and_parts (not x.called.is_command) (same_interface x.called.name interface) named in
+      and_from (not x.called.is_command) (belongs_to (running lives) x.whose) parts.0 (of parts.1)
 
-  runs_on : (k : ℕ) → running lives k ≡ true → (x : Interface) → (is_state_named interface x.called ≡ true → belongs_to (λ c. c == k) x.whose ≡ true) → Runs x
-  runs_on k runs x of named =
-      and_from (not x.called.is_command) (belongs_to (running lives) x.whose) (and_parts (not x.called.is_command) (same_interface x.called.name interface) named).0
-      (belongs_on k runs x.whose (of named))
-
-  all_run : (k : ℕ) → running lives k ≡ true
-      → AllByRecursion (λ x. is_state_named interface x.called ≡ true → belongs_to (λ c. c == k) x.whose ≡ true) (at_components a_state (λ j. j.states) 0 0 d.components)
+  all_run : AllByRecursion (λ x. same_interface x.called.name interface ≡ true → belongs_to (running lives) x.whose ≡ true) (at_components a_state (λ j. j.states) 0 0 d.components)
       → AllByRecursion Runs (interfaces_of d)
-  all_run k runs states =
+  all_run states =
       all_append Runs (at_components a_state (λ j. j.states) 0 0 d.components) (at_components a_command (λ j. j.commands) 0 0 d.components ++ at_controllers 0 d.controllers)
-      (all_so _ Runs (λ x of. runs_on k runs x of) (at_components a_state (λ j. j.states) 0 0 d.components) states)
+      (all_so _ Runs runs_of (at_components a_state (λ j. j.states) 0 0 d.components) states)
       (all_append Runs (at_components a_command (λ j. j.commands) 0 0 d.components) (at_controllers 0 d.controllers)
-      (components_all Runs a_command (λ j. j.commands) (λ component n name named. absurd (true≢false (sym named))) 0 0 d.components)
+      (components_all Runs a_command (λ j. j.commands) (λ component n joint kind named. absurd (true≢false (sym named))) 0 0 d.components)
       (controllers_all Runs (λ p name named. absurd (true≢false (sym named))) 0 d.controllers))
 
   -- a state interface of the description stands among the listed ones
@@ -144,13 +133,12 @@ module _ (s : State) (checked : IsChecked s.description) (steady : IsSteady s) w
 
   -- what is a state interface and available holds a number
   module _ (interface : IfaceName) (among : is_among interface (states_of d.components) ≡ true) (there : is_there d s.lives interface ≡ true) where
-    number_at : (k : ℕ) → running s.lives k ≡ true
-        → AllByRecursion (λ x. is_state_named interface x.called ≡ true → belongs_to (λ c. c == k) x.whose ≡ true) (at_components a_state (λ j. j.states) 0 0 d.components)
+    number_at : AllByRecursion (λ x. same_interface x.called.name interface ≡ true → belongs_to (running s.lives) x.whose ≡ true) (at_components a_state (λ j. j.states) 0 0 d.components)
         → is_number (value_where (is_state_named interface) s.values) ≡ true
-    number_at k runs states =
+    number_at states =
         let kept = steady.in_order in
         let known : AllByRecursion (λ v. Runs d s.lives interface v.interface) s.values =
-        all_map_back (Runs d s.lives interface) (λ (v : InterfaceValue). v.interface) s.values (subst (AllByRecursion (Runs d s.lives interface)) (sym kept.described) (all_run d s.lives interface k runs states)) in
+        all_map_back (Runs d s.lives interface) (λ (v : InterfaceValue). v.interface) s.values (subst (AllByRecursion (Runs d s.lives interface)) (sym kept.described) (all_run d s.lives interface states)) in
         let listed : list_any (λ v. is_state_named interface v.interface.called) s.values ≡ true =
         sym (any_map (is_state_named interface) (λ (x : Interface). x.called) (map (λ (v : InterfaceValue). v.interface) s.values) ∙ any_map (λ (x : Interface). is_state_named interface x.called) (λ (v : InterfaceValue). v.interface) s.values)
         ∙ ap (λ (xs : List Interface). list_any (is_state_named interface) (map (λ x. x.called) xs)) kept.described ∙ stands d s.lives interface among in
@@ -166,9 +154,9 @@ module _ (s : State) (checked : IsChecked s.description) (steady : IsSteady s) w
         let up : is_available (slice_index_or s.lives k Unconfigured) ≡ true =
         ap (λ o. option_map_or (λ k. is_available (slice_index_or s.lives k Unconfigured)) o true) (sym at) ∙ there in
         let first : 0 + k ≡ k = omega arith in
-        number_at (Joint joint kind) among there k (running_at s.lives k ∙ up)
-        (subst (λ m. AllByRecursion (IsOf joint kind m) (at_components a_state (λ j. j.states) 0 0 d.components)) first
-        (states_of_component joint kind (λ j. j.states) d.components 0 0 k other checked.joints found.0 found.1))
+        number_at (Joint joint kind) among there
+        (interfaces_of_component joint kind (λ whose. belongs_to (running s.lives) whose ≡ true) false (λ j. j.states) d.components 0 0 k other checked.joints found.0 found.1
+        (λ n. ap (running s.lives) first ∙ running_at s.lives k ∙ up))
 
   pub read_number : (p : ℕ) (interface : IfaceName) → active s p ≡ true → reads_at d.controllers p interface ≡ true → is_number (value_where (is_state_named interface) s.values) ≡ true
   read_number p interface runs reads =
@@ -190,5 +178,6 @@ pub loans_hold : (s : State) → IsValid s.description → IsSteady s → LoansH
 loans_hold s valid steady = record {
   together = steady.together;
   present = read_number s (valid-IsChecked s.description valid.no_fault) steady;
+  empty = steady.in_order.empty;
   marked = steady.in_order.marked;
 }

@@ -22,7 +22,7 @@ use Rattle.cm_model.specs.declared.cause.Cause.TheVariants as cause
 use Rattle.cm_model.specs.declared.data.RunData.{RunData}
 use Rattle.cm_model.specs.declared.seen.Seen.{Seen}
 use Rattle.switch_plan.proofs.CauseLemmas.{loaded_called}
-use Rattle.switch_plan.proofs.ElementLemmas.{none_inside, first_or_later, some_of, any_from, Contains-map_back}
+use Rattle.switch_plan.proofs.ElementLemmas.{here, later, none_inside, first_or_later, some_of, any_from, Contains-map_back}
 
 -- ---- Lists
 
@@ -33,6 +33,11 @@ all_at P (y ∷ ys) all x inside =
       | inl same ↦ subst P same all.0
       | inr after ↦ all_at P ys all.1 x after
     ]
+
+-- what holds of each item of a list holds of all
+pub all_each : {A : Type 0} (P : A → Type 0) (xs : List A) → ((x : A) → Contains xs x → P x) → AllByRecursion P xs
+all_each P [] each = tt
+all_each P (x ∷ xs) each = (each x (here x xs), all_each P xs (λ y inside. each y (later x xs y inside)))
 
 -- ---- Sets of controllers with parameters
 

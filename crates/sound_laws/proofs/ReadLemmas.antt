@@ -1,34 +1,23 @@
--- What a read of components leaves: each interface itself, the joints that they are of, and numbers in what is a state.
-use Rattle.std.proofs.Common.{◌≡◌, ℕ, zero, suc, ◌<◌, Bool, true, false, List, [], ◌∷◌, length, map, Option, Some, None, refl, sym, true≢false, arith}
-use Rattle.std.specs.Prelude.{not, if◌then◌else◌, is_some, slice_get}
+-- What a read of components leaves: each interface itself, the joints that they are of, and numbers in what is a state; and nothing where it is not available.
+use Rattle.std.proofs.Common.{◌≡◌, ℕ, Bool, true, false, List, length, map, refl, sym, ◌∙◌, true≢false}
+use Rattle.std.specs.Prelude.{not, if◌then◌else◌, slice_get}
 use Rattle.std.specs.List.{AllByRecursion}
-use Rattle.std.specs.Option.{option_map_or}
 use Rattle.std.proofs.lemmas.Bool.{and_parts}
 use Rattle.fixed_num.specs.declared.value.BodyState.{BodyState}
 use Rattle.fixed_num.specs.declared.value.Value.{Value}
-use Rattle.fixed_num.specs.declared.value.Value.TheVariants.{Unset, Num}
 use Rattle.iface_names.specs.declared.interface.IfaceName.{IfaceName}
-use Rattle.iface_names.specs.declared.kind.Kind.{Kind}
-use Rattle.cm_document.proofs.DistinctLemmas.{all_map}
+use Rattle.cm_document.proofs.DistinctLemmas.{all_so, all_map}
 use Rattle.cm_document.specs.Places.{Whose, of_joint, of_controller}
+use Rattle.cm_document.specs.declared.life.Life.{Life}
 use Rattle.cm_model.proofs.CommitLemmas.{interfaces_stay}
 use Rattle.cm_model.proofs.LoadedLemmas.{all_from}
-use Rattle.cm_model.specs.Components.{measured}
-use Rattle.cm_model.specs.Sound.{is_number}
+use Rattle.cm_model.proofs.MoveLemmas.{measured_number, some_at}
+use Rattle.cm_model.specs.Sound.{is_number, IsEmptyUnless}
+use Rattle.cm_model.specs.State.{available_in}
 use Rattle.cm_model.specs.Steady.{HoldsNumber, HasBody}
-use Rattle.cm_model.specs.Values.{InterfaceValue, belongs_to, is_state_of, kind_in, shown, read_of, after_reads}
+use Rattle.cm_model.specs.Values.{InterfaceValue, running, belongs_to, is_state_of, kind_in, shown, read_of, after_reads}
 
 -- ---- What is shown
-
--- what a read of a body gives that is there
-measured_number : (o : Option BodyState) (kind : Kind) → is_some o ≡ true → is_number (option_map_or (λ b. Num (measured kind b)) o Unset) ≡ true
-measured_number None kind some = absurd (true≢false (sym some))
-measured_number (Some b) kind some = refl
-
-some_at : {A : Type 0} (xs : List A) (i : ℕ) → i < length xs → is_some (slice_get xs i) ≡ true
-some_at [] i below = absurd (omega (arith, below))
-some_at (x ∷ xs) zero below = refl
-some_at (x ∷ xs) (suc i) below = some_at xs i (omega (arith, below))
 
 shown_number : (components : ℕ → Bool) (bodies : List BodyState) (name : IfaceName) (whose : Whose) → HasBody (length bodies) whose → belongs_to components whose ≡ true
     → is_number (shown bodies name whose) ≡ true
@@ -55,7 +44,31 @@ read_holds there read bodies v body held = either (is_state_of read v.interface)
         shown_number there bodies v.interface.called.name v.interface.whose body (and_parts (not v.interface.called.is_command) (belongs_to there v.interface.whose) state).1
     either false is = held is
 
+-- a component's interface is there where the component runs
+state_there : (read : ℕ → Bool) (lives : List Life) (controllers : ℕ → Bool) → ((c : ℕ) → read c ≡ true → running lives c ≡ true) → (whose : Whose) → belongs_to read whose ≡ true
+    → available_in lives controllers whose ≡ true
+state_there read lives controllers runs (of_joint component joint) belongs = runs component belongs
+state_there read lives controllers runs (of_controller place) belongs = absurd (true≢false (sym belongs))
+
+-- Where only components that run are read, what is not available holds nothing after it as before.
+read_empty : (read : ℕ → Bool) (lives : List Life) (controllers : ℕ → Bool) (bodies : List BodyState) → ((c : ℕ) → read c ≡ true → running lives c ≡ true) → (v : InterfaceValue)
+    → IsEmptyUnless (available_in lives controllers) v → IsEmptyUnless (available_in lives controllers) (read_of read bodies v)
+read_empty read lives controllers bodies runs v empty = either (is_state_of read v.interface) refl
+  where
+    either : (b : Bool) → is_state_of read v.interface ≡ b
+        → IsEmptyUnless (available_in lives controllers) (if b then record v { value = shown bodies v.interface.called.name v.interface.whose } else v)
+    either true is = λ gone.
+        absurd (true≢false (sym (state_there read lives controllers runs v.interface.whose (and_parts (not v.interface.called.is_command) (belongs_to read v.interface.whose) is).1) ∙ gone))
+    either false is = empty
+
 -- ---- All
+
+pub reads_empty : (read : ℕ → Bool) (lives : List Life) (controllers : ℕ → Bool) (bodies : List BodyState) → ((c : ℕ) → read c ≡ true → running lives c ≡ true)
+    → (vs : List InterfaceValue) → AllByRecursion (IsEmptyUnless (available_in lives controllers)) vs
+    → AllByRecursion (IsEmptyUnless (available_in lives controllers)) (after_reads read bodies vs)
+reads_empty read lives controllers bodies runs vs empty =
+    all_map (IsEmptyUnless (available_in lives controllers)) (read_of read bodies) vs
+    (all_so (IsEmptyUnless (available_in lives controllers)) _ (read_empty read lives controllers bodies runs) vs empty)
 
 pub reads_same : (read : ℕ → Bool) (bodies : List BodyState) (vs : List InterfaceValue) → map (λ v. v.interface) (after_reads read bodies vs) ≡ map (λ v. v.interface) vs
 reads_same read bodies vs = interfaces_stay (read_of read bodies) (read_same read bodies) vs

@@ -8,6 +8,7 @@ use Rattle.std.proofs.lemmas.List.Kept.{AllPairs-cons, AllPairs-filter}
 use Rattle.sequence.proofs.ListLemmas.{any_map}
 use Rattle.cm_document.proofs.DistinctLemmas.{all_map}
 use Rattle.cm_document.specs.Links.{first_in_loop}
+use Rattle.cm_model.proofs.InterfaceLemmas.{all_map_back}
 use Rattle.cm_model.proofs.UpdateLemmas.{cycle_tells}
 use Rattle.cm_model.specs.Components.{is_listed}
 use Rattle.cm_model.specs.Cycle.{active_order, is_due_now, is_held_off, updated_in, cycle}
@@ -19,7 +20,6 @@ use Rattle.chain_order.proofs.DepthLemmas.{depth-rises}
 use Rattle.chain_order.proofs.OrderLemmas.{pairs-head, pairs-tail, ByRank, by_rank-sorted}
 use Rattle.switch_plan.proofs.ElementLemmas.{none_inside, first_or_later, some_of, any_from, filter_back, filter_from}
 use Rattle.sound_laws.proofs.ActiveLemmas.{in_active_order, from_active_order}
-use Rattle.sound_laws.proofs.LoanLemmas.{all_map_back}
 use Rattle.sound_laws.proofs.ParamsLemmas.{all_at}
 use Rattle.sound_laws.proofs.SerialLemmas.{serials_of}
 

@@ -10,8 +10,9 @@ use Rattle.cm_document.proofs.DistinctLemmas.{all_so}
 use Rattle.cm_document.specs.declared.call.Call.{Call}
 use Rattle.cm_document.specs.declared.call.Call.TheVariants.{Load, Configure, Cleanup, Unload, Rate, Send, Switch, Hardware, Begin, End, Close}
 use Rattle.cm_document.specs.declared.description.CtlDesc.{CtlDesc}
-use Rattle.cm_model.proofs.UpdateLemmas.{updates_keep}
 use Rattle.cm_document.specs.declared.life.Life.{Life}
+use Rattle.cm_model.proofs.SteadyLemmas.{all_remove, distinct_remove}
+use Rattle.cm_model.proofs.UpdateLemmas.{updates_keep}
 use Rattle.cm_model.specs.BestEffort.{decided}
 use Rattle.cm_model.specs.Boundary.{waiting, request_effect, with_switch, component_place, move_fault, with_move_unless, with_move, concluded, with_outcome, all_concluded, boundary, begin_effect}
 use Rattle.cm_model.specs.Commit.{coming, leaving, committed, scene_of, commit}
@@ -55,19 +56,6 @@ numbered_push loads ns numbered = record {
   once = distinct_push ns loads numbered.once numbered.below;
   below = all_push (λ n. n < loads + 1) ns loads (all_so (λ n. n < loads) (λ n. n < loads + 1) (λ n less. omega (arith, less)) ns numbered.below) (omega arith);
 }
-
-all_remove : (P : ℕ → Type 0) (ns : List ℕ) (i : ℕ) → AllByRecursion P ns → AllByRecursion P (remove ns i)
-all_remove P [] zero all = tt
-all_remove P [] (suc i) all = tt
-all_remove P (n ∷ ns) zero all = all.1
-all_remove P (n ∷ ns) (suc i) all = (all.0, all_remove P ns i all.1)
-
-distinct_remove : (ns : List ℕ) (i : ℕ) → IsDistinct (λ m n. m == n) ns → IsDistinct (λ m n. m == n) (remove ns i)
-unfolding IsDistinct
-distinct_remove [] zero once = tt
-distinct_remove [] (suc i) once = tt
-distinct_remove (n ∷ ns) zero once = once.1
-distinct_remove (n ∷ ns) (suc i) once = (all_remove (λ k. (n == k) ≡ false) ns i once.0, distinct_remove ns i once.1)
 
 pub serials_remove : (ls : List Loaded) (i : ℕ) → serials_of (remove ls i) ≡ remove (serials_of ls) i
 serials_remove [] zero = refl

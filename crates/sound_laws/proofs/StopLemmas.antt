@@ -2,12 +2,13 @@
 use Rattle.std.proofs.Common.{◌≡◌, ℕ, zero, suc, ◌<◌, ◌≤◌, Bool, true, false, List, [], ◌∷◌, length, map, Option, Some, None, inl, inr, refl, sym, ◌∙◌, ap, ap₂, true≢false, arith}
 use Rattle.std.specs.Prelude.{◌==◌, ◌&&◌, ◌||◌, not, if◌then◌else◌, zip, slice_get, slice_index_or}
 use Rattle.std.specs.Option.{option_map_or}
-use Rattle.std.proofs.lemmas.Bool.{and_parts, and_from, or_left, or_right, or_from, not-true, eqb-true, cases_Bool}
+use Rattle.std.proofs.lemmas.Bool.{and_parts, and_from, or_left, or_right, not-true, eqb-true, cases_Bool}
 use Rattle.iface_names.specs.declared.interface.IfaceName.{IfaceName}
 use Rattle.cm_document.specs.Links.{first_in_loop}
 use Rattle.cm_document.specs.declared.description.CompDesc.{CompDesc}
 use Rattle.cm_document.specs.declared.life.Life.{Life}
 use Rattle.cm_document.specs.declared.life.Life.TheVariants.{Unconfigured}
+use Rattle.cm_model.proofs.StillLemmas.{none_below}
 use Rattle.cm_model.specs.Claims.{uses}
 use Rattle.cm_model.specs.Commit.{described_of, scene_of}
 use Rattle.cm_model.specs.Components.{is_available, has_failed, life_after}
@@ -24,10 +25,6 @@ use Rattle.sound_laws.proofs.BestLemmas.{part_together}
 use Rattle.sound_laws.proofs.RequestLemmas.{uses_named}
 
 -- ---- Numbers below
-
-none_below : (test : ℕ → Bool) (n : ℕ) → ((interface : ℕ) → test interface ≡ false) → some_below test n ≡ false
-none_below test zero none = refl
-none_below test (suc n) none = or_from (some_below test n) (test n) (none_below test n none) (none n)
 
 same_below : (f g : ℕ → Bool) (n : ℕ) → ((interface : ℕ) → f interface ≡ g interface) → some_below f n ≡ some_below g n
 same_below f g zero same = refl

@@ -23,7 +23,7 @@ use Rattle.cm_model.specs.declared.fault_kind.FaultKind.TheVariants as fault_kin
 use Rattle.cm_model.specs.declared.seen.Seen.{Seen}
 use Rattle.switch_plan.specs.Laws.{CanBeDone, strict_set}
 use Rattle.switch_plan.proofs.CauseLemmas.{named_one, order_from}
-use Rattle.switch_plan.proofs.DecisionLemmas.{strict_done}
+use Rattle.switch_plan.proofs.DecisionLemmas.{unless_either, strict_done}
 use Rattle.switch_plan.proofs.ElementLemmas.{here, later, some_of}
 use Rattle.sound_laws.proofs.FitLemmas.{none_missing, extended_together}
 use Rattle.sound_laws.proofs.ParamsLemmas.{has_params, HaveParams, params_loaded, active_params, commit_of, faultless_params}
@@ -113,11 +113,6 @@ module _ (s : State) (steady : IsSteady s) (off on : List (List ℕ)) (can : Can
   done_steady again = commit_of s set again steady.in_order params strict_together
 
 -- ---- Done or refused
-
-unless_either : (o : Option Dropped) (rest whole : Decided) → (rest ≡ whole) ⊎ ((d : Dropped) × (rest ≡ refused d))
-    → (unless_because o rest ≡ whole) ⊎ ((d : Dropped) × (unless_because o rest ≡ refused d))
-unless_either None rest whole either = either
-unless_either (Some d) rest whole either = inr (d, refl)
 
 -- what is done whole
 abbrev pub whole_of : Scene → List (List ℕ) → List (List ℕ) → Decided

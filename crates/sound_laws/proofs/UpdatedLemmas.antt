@@ -1,29 +1,33 @@
 -- What the updates of a cycle keep of each controller and of each interface, and that each body steps to one.
-use Rattle.std.proofs.Common.{◌≡◌, ℕ, suc, ◌+◌, ◌-◌, ◌<◌, ◌≤◌, ℤ, Bool, true, false, List, [], ◌∷◌, ◌++◌, length, map, take, drop, Option, Some, None, inl, inr, refl, sym, ◌∙◌, ap, true≢false, arith}
-use Rattle.std.specs.Prelude.{◌==◌, if◌then◌else◌, option_map, is_some, IfSome, unwrap_or, min}
-use Rattle.std.specs.List.{AllByRecursion}
+use Rattle.std.proofs.Common.{◌≡◌, ℕ, suc, ◌+◌, ◌-◌, ◌<◌, ◌≤◌, ℤ, Bool, true, false, List, [], ◌∷◌, ◌++◌, length, map, take, drop, Option, Some, None, inl, inr, refl, sym, ◌∙◌, subst, ap, true≢false, arith}
+use Rattle.std.specs.Prelude.{◌==◌, ◌||◌, if◌then◌else◌, option_map, is_some, IfSome, unwrap_or, min}
+use Rattle.std.specs.List.{AllByRecursion, list_any}
 use Rattle.std.proofs.lemmas.Bool.{cases_lt}
 use Rattle.std.proofs.lemmas.List.{length-append, length-map, length-take, length-drop}
 use Rattle.std.proofs.lemmas.List.FromFn.{length-map-range_with_len}
+use Rattle.fixed_num.specs.Bodies.{stopped}
 use Rattle.fixed_num.specs.declared.value.BodyState.{BodyState}
 use Rattle.fixed_num.specs.declared.value.Value.{Value}
+use Rattle.iface_names.specs.Interfaces.{same_interface}
 use Rattle.iface_names.specs.declared.interface.IfaceName.{IfaceName}
-use Rattle.fixed_num.specs.Bodies.{stopped}
 use Rattle.cm_document.proofs.DistinctLemmas.{all_so, all_map}
 use Rattle.cm_document.specs.Links.{joints_of}
+use Rattle.cm_document.specs.Places.{Whose, Interface}
 use Rattle.cm_document.specs.declared.call.Mail.{Mail}
 use Rattle.cm_document.specs.declared.description.CompDesc.{CompDesc}
 use Rattle.cm_document.specs.declared.description.CtlDesc.{CtlDesc}
 use Rattle.cm_document.specs.declared.description.JointDesc.{JointDesc}
 use Rattle.cm_document.specs.declared.description.Params.{Params}
-use Rattle.cm_model.proofs.UpdateLemmas.{step_keeps_mark}
+use Rattle.cm_model.proofs.InterfaceLemmas.{all_map_back}
+use Rattle.cm_model.proofs.LoadedLemmas.{all_from}
+use Rattle.cm_model.proofs.UpdateLemmas.{step_keeps_mark, given_by_keeps}
 use Rattle.cm_model.specs.Claims.{states_for, refs_for, output_for, given_of, given, given_by}
 use Rattle.cm_model.specs.Commit.{described_of}
 use Rattle.cm_model.specs.Components.{is_written, command_interfaces, claim_on, claimed_by, driven_bodies, bodies_after_step}
 use Rattle.cm_model.specs.Controllers.{runs_chained, Stepped, step_with, mailed, ctl_step}
 use Rattle.cm_model.specs.Cycle.{period, component_is, tick_of, mail_for, step_of, stepped_at, Updates, with_step, with_updates, claims_in, commands_at, component_stepped, components_stepped}
 use Rattle.cm_model.specs.Order.{Places}
-use Rattle.cm_model.specs.Sound.{IsMarked}
+use Rattle.cm_model.specs.Sound.{IsEmptyUnless, IsMarked}
 use Rattle.cm_model.specs.State.{State, Loaded, is_active}
 use Rattle.cm_model.specs.Steady.{IsOwn, HoldsNumber}
 use Rattle.cm_model.specs.Values.{InterfaceValue}
@@ -118,6 +122,47 @@ given_by_holds there claims step values holds = by_end step.done
     by_end done.Ok = all_map (HoldsNumber there) (given_of claims step.outs) values (all_so (HoldsNumber there) _ (given_holds there claims step.outs) values holds)
     by_end done.Error = holds
 
+-- what is given out is given to a claim
+output_claimed : (claims : List IfaceName) (outs : List Value) (name : IfaceName) (value : Value) → output_for claims outs name ≡ Some value
+    → list_any (λ claim. same_interface claim name) claims ≡ true
+output_claimed [] outs name value at = cc
+output_claimed (claim ∷ claims) [] name value at = cc
+output_claimed (claim ∷ claims) (out ∷ outs) name value at = either (same_interface claim name) (output_claimed claims outs name value) at
+  where
+    either : (b : Bool) → (output_for claims outs name ≡ Some value → list_any (λ each. same_interface each name) claims ≡ true)
+        → (if b then Some out else output_for claims outs name) ≡ Some value → (b || list_any (λ each. same_interface each name) claims) ≡ true
+    either true later is = refl
+    either false later is = later is
+
+-- what of this controller's claims is listed is there
+abbrev pub ClaimsAreThere : (Whose → Bool) → CtlDesc → List Interface → Type 0
+ClaimsAreThere there c interfaces =
+    AllByRecursion (λ x. x.called.is_command ≡ true → list_any (λ claim. same_interface claim x.called.name) c.claims ≡ true → there x.whose ≡ true) interfaces
+
+-- so what is not there is given nothing
+given_empty : (there : Whose → Bool) (claims : List IfaceName) (outs : List Value) (v : InterfaceValue)
+    → (v.interface.called.is_command ≡ true → list_any (λ claim. same_interface claim v.interface.called.name) claims ≡ true → there v.interface.whose ≡ true)
+    → IsEmptyUnless there v → IsEmptyUnless there (given_of claims outs v)
+given_empty there claims outs v claimed empty = either v.interface.called.is_command (output_for claims outs v.interface.called.name) refl refl
+  where
+    either : (b : Bool) (o : Option Value) → v.interface.called.is_command ≡ b → output_for claims outs v.interface.called.name ≡ o
+        → IsEmptyUnless there (if b then record v { value = unwrap_or o v.value } else v)
+    either true None is at = empty
+    either true (Some value) is at = λ gone. absurd (true≢false (sym (claimed is (output_claimed claims outs v.interface.called.name value at)) ∙ gone))
+    either false o is at = empty
+
+given_by_empty : (there : Whose → Bool) (c : CtlDesc) (step : Stepped) (values : List InterfaceValue) → ClaimsAreThere there c (map (λ v. v.interface) values)
+    → AllByRecursion (IsEmptyUnless there) values → AllByRecursion (IsEmptyUnless there) (given_by c.claims step values)
+given_by_empty there c step values claimed empty = by_end step.done
+  where
+    by_end : (end : Done) → AllByRecursion (IsEmptyUnless there) (elim end [ done.Ok ↦ given c.claims step.outs values | done.Error ↦ values ])
+    by_end done.Ok = all_map (IsEmptyUnless there) (given_of c.claims step.outs) values
+        (all_from (λ v. v.interface.called.is_command ≡ true → list_any (λ claim. same_interface claim v.interface.called.name) c.claims ≡ true → there v.interface.whose ≡ true)
+        (IsEmptyUnless there) (λ v. IsEmptyUnless there (given_of c.claims step.outs v)) (given_empty there c.claims step.outs) values
+        (all_map_back (λ (x : Interface). x.called.is_command ≡ true → list_any (λ claim. same_interface claim x.called.name) c.claims ≡ true → there x.whose ≡ true)
+        (λ (v : InterfaceValue). v.interface) values claimed) empty)
+    by_end done.Error = empty
+
 -- ---- All updates
 
 -- what each step keeps of each controller, the updates keep
@@ -142,6 +187,15 @@ pub updates_hold : (s : State) (there : ℕ → Bool) (u : Updates) (ls : List L
 updates_hold s there u [] all = all
 updates_hold s there u (l ∷ ls) all =
     updates_hold s there (with_step s l (step_of s u.values l) u) ls (given_by_holds there (described_of s l).claims (step_of s u.values l) u.values all)
+
+-- and what is not available holds nothing, where all that these claim is
+pub updates_empty : (s : State) (there : Whose → Bool) (interfaces : List Interface) (u : Updates) (ls : List Loaded) → map (λ (v : InterfaceValue). v.interface) u.values ≡ interfaces
+    → AllByRecursion (λ l. ClaimsAreThere there (described_of s l) interfaces) ls → AllByRecursion (IsEmptyUnless there) u.values
+    → AllByRecursion (IsEmptyUnless there) (with_updates s u ls).values
+updates_empty s there interfaces u [] same claimed empty = empty
+updates_empty s there interfaces u (l ∷ ls) same claimed empty =
+    updates_empty s there interfaces (with_step s l (step_of s u.values l) u) ls (given_by_keeps (described_of s l).claims (step_of s u.values l) u.values ∙ same) claimed.1
+    (given_by_empty there (described_of s l) (step_of s u.values l) u.values (subst (ClaimsAreThere there (described_of s l)) (sym same) claimed.0) empty)
 
 -- ---- Bodies
 

@@ -4,15 +4,15 @@ use Rattle.std.specs.Prelude.{not}
 use Rattle.std.specs.List.{IsDistinct, find}
 use Rattle.std.proofs.lemmas.Bool.{not-false}
 use Rattle.std.proofs.lemmas.Cmp.{nat_list_eq_equiv}
-use Rattle.iface_names.specs.Interfaces.{same_interface}
+use Rattle.iface_names.specs.Interfaces.{same_interface, interface_text}
 use Rattle.iface_names.specs.Names.{same_name}
-use Rattle.iface_names.specs.Sameness.{same_interface-Decides}
+use Rattle.iface_names.specs.Sameness.{same_interface-Decides, same_interface-IsEquivalence}
 use Rattle.iface_names.specs.declared.interface.IfaceName.{IfaceName}
 use Rattle.cm_document.proofs.DistinctLemmas.{repeated_after-IsDistinct}
 use Rattle.cm_document.proofs.ReadingLemmas.{bind_Ok}
 use Rattle.cm_document.specs.Described.{states_of}
-use Rattle.cm_document.specs.Links.{joints_of, is_among, first_in_loop}
-use Rattle.cm_document.specs.Valid.{repeated_after, names_apart, few_enough, named_apart, in_range, claimable, all_among, links_exist, name_at, loop_free, valid}
+use Rattle.cm_document.specs.Links.{joints_of, references_of, is_among, first_in_loop}
+use Rattle.cm_document.specs.Valid.{repeated_after, names_apart, interfaces_apart, few_enough, named_apart, in_range, claimable, all_among, links_exist, name_at, loop_free, valid}
 use Rattle.cm_document.specs.declared.description.CtlDesc.{CtlDesc}
 use Rattle.cm_document.specs.declared.description.Description.{Description}
 use Rattle.cm_document.specs.declared.faults.CheckFault.{CheckFault}
@@ -30,10 +30,17 @@ none_told fault (Some x) u e = cc
 pub record IsChecked (d : Description) : Type 0 where
   -- joints differ by name,
   pub joints : IsDistinct same_name (map (λ j. j.name) (joints_of d.components))
+  -- and so do references,
+  pub references : IsDistinct same_interface (references_of d.controllers)
   -- what a controller reads is a state interface,
   pub reads : (p : ℕ) (interface : IfaceName) → is_among interface (controller_at d.controllers p).reads ≡ true → is_among interface (states_of d.components) ≡ true
   -- and no controller precedes itself at some distance.
   pub free : first_in_loop d.controllers ≡ None
+
+references-IsDistinct : (names : List IfaceName) (u : Unit {0}) → interfaces_apart names ≡ Ok u → IsDistinct same_interface names
+unfolding IsDistinct
+references-IsDistinct names u e =
+    repeated_after-IsDistinct same_interface same_interface-IsEquivalence [] names (none_told (λ x. NameTwice (interface_text x)) (repeated_after same_interface [] names) u e) tt
 
 names-IsDistinct : (names : List (List ℕ)) (u : Unit {0}) → names_apart names ≡ Ok u → IsDistinct same_name names
 unfolding IsDistinct
@@ -71,8 +78,11 @@ valid-IsChecked d e =
     let loops = bind_Ok (loop_free d.controllers) _ d linked.2 in
     let components = bind_Ok (names_apart (map (λ c. c.name) d.components)) _ named.0 named.1 in
     let joints = bind_Ok (names_apart (map (λ j. j.name) (joints_of d.components))) _ named.0 components.2 in
+    let controllers = bind_Ok (names_apart (map (λ c. c.name) d.controllers)) _ named.0 joints.2 in
+    let references = bind_Ok (interfaces_apart (references_of d.controllers)) _ named.0 controllers.2 in
     record {
       joints = names-IsDistinct (map (λ j. j.name) (joints_of d.components)) joints.0 joints.1;
+      references = references-IsDistinct (references_of d.controllers) references.0 references.1;
       reads = reads_exist (claimable d) (states_of d.components) d.controllers linked.0 linked.1;
       free = none_told (λ place. ChainLoop (name_at d.controllers place)) (first_in_loop d.controllers) loops.0 loops.1;
     }

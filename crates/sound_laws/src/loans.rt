@@ -6,7 +6,7 @@ ghost use Rattle.cm_model.specs.State.{State};
 ghost use Rattle.cm_model.specs.Steady.{IsSteady};
 
 /// In a steady state of a valid description the loans hold: the active controllers can run together, so that what each claims is its
-/// own; what each reads holds a number; and each says rightly whether it is chained.
+/// own; what each reads holds a number; what is not available holds nothing; and each says rightly whether it is chained.
 pub fn the_loans_of_a_steady_state_hold()
     ensures { (s : State) → IsValid s.description → IsSteady s → LoansHold s }
 {}

@@ -41,7 +41,7 @@ name_itself : (a : List ℕ) → same_name a a ≡ true
 name_itself a = (bytes_eq-Decides a a).1 refl
 
 -- a controller that claims an interface has it among its claims
-claims_from : (scene : Scene) (p : ℕ) (i : IfaceName) → claims_at (controllers_in scene) p i ≡ true → Contains (described scene p).claims i
+pub claims_from : (scene : Scene) (p : ℕ) (i : IfaceName) → claims_at (controllers_in scene) p i ≡ true → Contains (described scene p).claims i
 claims_from scene p i claims =
     let r = some_of (λ claim. same_interface claim i) (described scene p).claims claims in
     subst (Contains (described scene p).claims) ((same_interface-Decides r.0 i).0 r.2) r.1

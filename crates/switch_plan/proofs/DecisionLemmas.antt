@@ -74,7 +74,7 @@ unless_refused : (o : Option Dropped) (rest : Decided) (d : Dropped) → unless_
 unless_refused None rest d e = inr e
 unless_refused (Some b) rest d e = inl (ap (λ r. Some (because_of r d)) e)
 
-unless_either : (o : Option Dropped) (rest whole : Decided) → (rest ≡ whole) ⊎ ((d : Dropped) × (rest ≡ refused d))
+pub unless_either : (o : Option Dropped) (rest whole : Decided) → (rest ≡ whole) ⊎ ((d : Dropped) × (rest ≡ refused d))
     → (unless_because o rest ≡ whole) ⊎ ((d : Dropped) × (unless_because o rest ≡ refused d))
 unless_either None rest whole either = either
 unless_either (Some d) rest whole either = inr (d, refl)
