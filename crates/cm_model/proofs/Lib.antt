@@ -2,6 +2,8 @@ pub mod RanLemmas
 pub mod AdvanceLemmas
 pub mod LegalLemmas
 pub mod StayLemmas
+pub mod HistoryLemmas
+pub mod WaitingLemmas
 pub mod WholeLemmas
 pub mod EnabledLemmas
 mod Rows
@@ -21,6 +23,7 @@ pub mod MoveLemmas
 pub mod SteadyLemmas
 mod Worked
 mod BoundaryRows
+mod ScheduleRows
 mod SoundRows
 mod ConsoleRows
 pub mod RangedLemmas

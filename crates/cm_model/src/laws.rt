@@ -3,16 +3,16 @@
 ghost use Rattle.std.specs.Prelude.{◌≡◌, ◌<◌, ℕ, ℤ, true, List, length, map, Option, None};
 ghost use Rattle.cm_document.specs.declared.call.Call.{Call};
 ghost use Rattle.cm_document.specs.declared.document.Document.{Document};
-ghost use Rattle.cm_document.specs.Built.{built};
-ghost use Rattle.cm_document.specs.ScriptLaws.{UsesGrammar};
+ghost use Rattle.cm_document.specs.ScriptLaws.{MeetsRules};
 ghost use Rattle.cm_model.specs.declared.blanks.Blanks.{Blanks};
 ghost use Rattle.fixed_num.specs.declared.value.Value.{Value};
 ghost use Rattle.cm_document.specs.declared.call.Mail.{Mail};
 ghost use Rattle.cm_model.specs.declared.data.CtlData.{CtlData};
+ghost use Rattle.cm_model.specs.declared.entry.Entry.{Entry};
 ghost use Rattle.cm_model.specs.declared.tick.Tick.{Tick};
 ghost use Rattle.cm_model.specs.Controllers.{ctl_step, KeepsChained};
 ghost use Rattle.cm_model.specs.Cycle.{IsIdle, cycle, updated_in, updates};
-ghost use Rattle.cm_model.specs.Machine.{IsLegal, is_enabled};
+ghost use Rattle.cm_model.specs.Machine.{IsLegal, LegalFrom, state_after, is_enabled};
 ghost use Rattle.cm_model.specs.State.{State, IsStill, active};
 ghost use Rattle.cm_model.specs.Values.{InterfaceValue};
 ghost use Rattle.cm_model.specs.Scheduled.{Advanced, advance, settle, scheduled};
@@ -24,11 +24,18 @@ pub fn scheduled_histories_are_legal()
         → IsLegal document.description blanks (length document.script.sessions) (scheduled document blanks) }
 {}
 
-/// Each history that is scheduled for a document whose lines have forms that are built is whole for it: it has every session's
-/// lines, each once and in order, the begin and the end of each cycle, the close, and nothing else.
+/// Each history that is scheduled for a document whose script meets the rules of scripts is whole for it: it has every session's
+/// lines, each once and in order, behind each request the Told of its ticket, the begin and the end of each cycle, the close, and
+/// nothing else.
 pub fn scheduled_histories_are_whole()
     ensures { (document : Document) (blanks : Blanks)
-        → UsesGrammar built document.script → IsWhole document (scheduled document blanks) }
+        → MeetsRules document.script → IsWhole document (scheduled document blanks) }
+{}
+
+/// A legal history that is whole for a document leaves the loop closed.
+pub fn whole_histories_leave_the_loop_closed()
+    ensures { (document : Document) (history : List Entry) (s : State)
+        → LegalFrom s history → IsWhole document history → (state_after s history).closed ≡ true }
 {}
 
 /// A session that settled cannot advance: it has nothing left to do, or its next call is not enabled.

@@ -12,7 +12,7 @@ use Rattle.cm_model.specs.declared.entry.Entry.{Entry}
 use Rattle.cm_model.specs.declared.reply.Reply.{Reply}
 use Rattle.cm_desk.specs.Desk.{History, now_of, Grows}
 use Rattle.cm_top.specs.Session.{at, IsMade, Standing, progress_of, GoesOn}
-use Rattle.cm_top.proofs.HistoryLemmas.{sessions_stay}
+use Rattle.cm_model.proofs.HistoryLemmas.{sessions_stay}
 
 -- a session whose next line was made has advanced
 pub line_made : (who : ℕ) (h next : History) (call : Call) (lines : List Call) (ticket : Option ℕ) → IsMade h next who call ticket

@@ -2,7 +2,6 @@ pub mod PartsLemmas
 pub mod NameLemmas
 pub mod JoinLemmas
 pub mod SettleLemmas
-pub mod HistoryLemmas
 pub mod JobLemmas
 pub mod StreamLemmas
 pub mod PlainLemmas

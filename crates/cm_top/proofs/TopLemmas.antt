@@ -33,7 +33,7 @@ use Rattle.cm_desk.specs.Desk.{History, now_of, CanBeCalled}
 use Rattle.cm_top.specs.Session.{CanAllBeCalled, Standing, progress_of}
 use Rattle.cm_top.specs.Book.{BookFacts, Histories, IsBookOf, IsBook, HandsOut}
 use Rattle.cm_top.specs.Status.{Written, EndedWith, Wrote, RanDocument, IsPlain, ComesOfBytes, status_of, status_of_document}
-use Rattle.cm_top.proofs.HistoryLemmas.{whole-closed}
+use Rattle.cm_model.proofs.HistoryLemmas.{whole-closed}
 use Rattle.cm_top.specs.declared.status.Status.{Status}
 use Rattle.cm_top.specs.declared.status.Status.TheVariants as status
 
@@ -85,14 +85,14 @@ pub record IsDone (d : Document) (blanks : Blanks) (h : History) : Type 0 where
   pub whole : IsWhole d h.made
   pub closed : (now_of h).closed ≡ true
 
-pub job_done : (d : Document) (blanks : Blanks) (j : Standing) → UsesGrammar built d.script
+pub job_done : (d : Document) (blanks : Blanks) (j : Standing) → MeetsRules d.script
     → j.desk.opening ≡ boot d.description blanks (length d.script.sessions)
     → progress_of j ≡ finish (cycles d.description.cycles (start d blanks)) → IsDone d blanks j.desk
 unfolding scheduled
-job_done d blanks j uses opening ran =
+job_done d blanks j rules opening ran =
     let made : j.desk.made ≡ scheduled d blanks = ap (λ (p : Progress). p.made) ran in
     let legal : IsLegal d.description blanks (length d.script.sessions) j.desk.made = rw made (scheduled-IsLegal d blanks) in
-    let whole : IsWhole d j.desk.made = rw made (scheduled-IsWhole d blanks uses.calls) in
+    let whole : IsWhole d j.desk.made = rw made (scheduled-IsWhole d blanks rules) in
     record { made = made; legal = legal; whole = whole; closed = rw opening (whole-closed d j.desk.made (boot d.description blanks (length d.script.sessions)) legal whole) }
 
 -- the book that it hands out

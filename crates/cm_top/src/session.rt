@@ -132,7 +132,7 @@ impl<'a, C: Controller> Job<'a, C> {
     }
 
     /// How many cycles the description has.
-    #[tactic(auto, using(crate::proofs::HistoryLemmas::description_stays))]
+    #[tactic(auto, using(cm_model::proofs::HistoryLemmas::description_stays))]
     fn all_cycles(&self) -> u64
         ensures { result ≡ (now_of self.now.desk).description.cycles }
     {

@@ -2,4 +2,4 @@ use Rattle.cm_model.proofs.WholeLemmas.{scheduled-IsWhole}
 use Rattle.cm_model.proofs.laws.scheduled_histories_are_whole.Goals as goal
 
 pub returns : goal.returns
-returns c = λ document blanks uses. scheduled-IsWhole document blanks uses.calls
+returns c = scheduled-IsWhole

@@ -12,14 +12,14 @@ run_job-requires-clause-called g c = λ _ _. built_called _ c.requires.grammar
 
 -- the job has closed its loop
 pub into_book-requires-clause-closed : goal.into_book-requires-clause-closed
-into_book-requires-clause-closed g c = λ _ _. (job_done c.args.document c.args.stock _ c.requires.grammar c.in-Ok.ensures.opening c.in-Ok.ensures.scheduled).closed
+into_book-requires-clause-closed g c = λ _ _. (job_done c.args.document c.args.stock _ c.requires.rules c.in-Ok.ensures.opening c.in-Ok.ensures.scheduled).closed
 
 -- its book is that of the document's run, and its trace was written
 pub returns-clause-ran : goal.returns-clause-ran
 unfolding output
 returns-clause-ran g c =
     let d = c.args.document in
-    let done = job_done d c.args.stock _ c.requires.grammar c.in-Ok.ensures.opening c.in-Ok.ensures.scheduled in (
+    let done = job_done d c.args.stock _ c.requires.rules c.in-Ok.ensures.opening c.in-Ok.ensures.scheduled in (
       book_done d c.args.stock _ _ done c.in-Ok.ensures.opening c.into_book.ensures.sound c.into_book.ensures.history c.into_book.ensures.boxes,
       rw (c.into_book.ensures.history) (rw (c.in-Ok.ensures.opening, c.as_slice.ensures) at c.write-status.ensures.wrote),
     )
