@@ -60,6 +60,12 @@ a_float_for_a_quantity : document whole_grammar (codes "version = 1\nupdate_rate
 unfolding tree_of is_utf8 chars toml_on_literals digits description_form top_table described_states component_table joint_table controller_table number_of interface_of valid parts_of accepted_description document_of
 a_float_for_a_quantity = refl
 
+-- the description of one joint is accepted, and the first line of its script without a form is told
+one_joint : document whole_grammar (codes "version = 1\nupdate_rate = 100\ncycles = 3\n\n[[component]]\nname = \"arm\"\nkind = \"actuator\"\n\n[[component.joint]]\nname = \"j1\"\nvmax = 1\ncommand = [\"position\"]\nstate = [\"position\"]\n\n[[controller]]\nname = \"fwd\"\ntype = \"forward\"\nclaims = [\"j1/position\"]\n--- script ---\nsession a\nload fwd\nconfigure fwd\njump fwd\nsend fwd 0.5\n")
+    ≡ Err (fault.Script (BadLine 23))
+unfolding tree_of is_utf8 chars toml_on_literals digits description_form top_table described_states component_table joint_table controller_table number_of interface_of valid parts_of accepted_description document_of with_line script_with
+one_joint = refl
+
 -- two passthroughs that claim each other's reference: the first is told
 a_loop_of_two : document whole_grammar (codes "version = 1\nupdate_rate = 100\ncycles = 2\n[[controller]]\nname = \"p\"\ntype = \"passthrough\"\nclaims = [\"q/j1/position\"]\n[[controller]]\nname = \"q\"\ntype = \"passthrough\"\nclaims = [\"p/j1/position\"]\n--- script ---\n")
     ≡ Err (fault.Description (Check (ChainLoop (codes "p"))))
