@@ -11,7 +11,7 @@ use Rattle.cm_document.specs.declared.faults.What.{What}
 use Rattle.cm_document.specs.declared.faults.What.TheVariants.{Components, Joints, States, Commands, Controllers}
 
 -- what is within its limit is not above it
-within_limit : (what : What) (number limit : ℕ) (u : Unit {0}) → limited what number limit ≡ Ok u → number ≤ limit
+pub within_limit : (what : What) (number limit : ℕ) (u : Unit {0}) → limited what number limit ≡ Ok u → number ≤ limit
 within_limit what number limit u e =
     elim (cases_Bool (nat_lt limit number)) [
       | inl above ↦ (let f = rw above at e in cc)

@@ -91,6 +91,13 @@ impl PlaceSet {
         self.flags[place as usize] = true;
     }
 
+    /// No controller is a member any more.
+    pub fn clear(&mut self)
+        ensures { self.new ≡ replicate (length self.old) false }
+    {
+        self.flags.fill(false);
+    }
+
     /// The set with one more.
     pub fn with(&self, alloc: Global, place: u32) -> Result<PlaceSet, Memory>
         requires { place < length self.now }

@@ -87,7 +87,7 @@ module _ (s : State) (set stopped started : Places) (none_stopped : (p : ℕ) �
       ∙ none_both v.interface.called.is_command in
       ap (λ (b : Bool). if b then unset v.interface else v) free
 
-  nothing_changes : changed s set stopped started ≡ s
+  pub nothing_changes : changed s set stopped started ≡ s
   nothing_changes =
       ap₂ (λ (loaded : List Loaded) (values : List InterfaceValue). record s { loaded = loaded; values = values })
       (map_same (committed s set stopped started) controller_stays s.loaded) (map_same (freed_of s stopped) value_stays s.values)

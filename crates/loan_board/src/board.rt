@@ -92,7 +92,7 @@ impl Board {
 
 // What is changed at a place. None of these calls takes memory, and each leaves every other place as it was.
 impl Board {
-    ghost use Rattle.loan_board.specs.Loans.{loan_at, with_loan, set, claimed, released, made_available, CanBeClaimed};
+    ghost use Rattle.loan_board.specs.Loans.{loan_at, with_loan, IsSound, set, claimed, released, made_available, lent, CanBeClaimed};
 
     /// The interface holds this value.
     #[tactic(auto, using(crate::proofs::BoardLemmas::changes))]
@@ -136,5 +136,27 @@ impl Board {
         let value = if yes { loan.value.get() } else { Value::Unset };
         loan.is_available = yes;
         loan.value = StoredValue::of(value);
+    }
+
+    /// The controller of this serial has the interface, or nobody, whoever had it; it is available or not; and it keeps what it holds
+    /// where it is said so, or else becomes Unset. One that somebody has is a command interface or a reference, and available.
+    #[tactic(auto, using(crate::proofs::BoardLemmas::changes))]
+    pub fn lend(&mut self, place: u32, owner: Option<u32>, is_available: bool, keeps: bool)
+        requires place { place < length self.old }
+        requires sound { IsSound (lent owner is_available keeps (loan_at self.old place)) }
+        ensures { self.new ≡ with_loan self.old place (lent owner is_available keeps) }
+    {
+        let loan = &mut self.loans[place as usize];
+        let value = if keeps {
+            loan.value.get()
+        } else {
+            Value::Unset
+        };
+        *loan = Loan {
+            value: StoredValue::of(value),
+            owner,
+            is_command: loan.is_command,
+            is_available,
+        };
     }
 }

@@ -229,6 +229,11 @@ module _ (s : State) (steady : IsSteady s) (off on : List (List ℕ)) where
   best_together dropped into again is =
       subst (CanRunTogether s.description s.lives) (ap (λ (d : Decided). set_in d (λ p. false)) is) (effort_fit _).together
 
+  -- and each of the set has parameters.
+  pub best_params : (dropped : List Dropped) (into again : Places) → best (scene_of s) off on ≡ done dropped into again → HaveParams s.loaded into
+  best_params dropped into again is =
+      subst (HaveParams s.loaded) (ap (λ (d : Decided). set_in d (λ p. false)) is) (effort_fit _).params
+
   -- What becomes of a best effort is steady.
   pub best_steady : IsSteady (with_switch s (best (scene_of s) off on)).state
   best_steady = commit_effort _

@@ -118,7 +118,7 @@ module _ (s : State) (checked : IsChecked s.description) (steady : IsSteady s) w
     empty = subst (λ set. AllByRecursion (IsEmptyUnless (available_in s.lives set)) made.values) (sym same_active) empty_stay;
   }
 
-  landed_in_order : IsInOrder (landed s (cycle_with s made))
+  pub landed_in_order : IsInOrder (landed s (cycle_with s made))
   landed_in_order = moved_in_order updated (lives_after s) updated_in_order (zip_count s.ended s.description.components s.lives kept.counted)
 
 -- ---- What its end leaves

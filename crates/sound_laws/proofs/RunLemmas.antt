@@ -134,6 +134,10 @@ module _ (s : State) (free : first_in_loop s.description.controllers ≡ None) (
       )
       by_depth a b first second (inr level) = (level.1, not_preceded a b first second (omega (arith, level.0)))
 
+  -- so each stands there once
+  pub ordered_once : IsDistinct (λ m n. m == n) (serials_of (active_order s))
+  ordered_once = pairs_distinct (active_order s) (λ i j d before within. (order_first i j d before within).0)
+
   -- so those that are updated
   updated_first : AllPairs GoesFirst (updated_in s)
   updated_first = AllPairs-filter GoesFirst (λ (l : Loaded). is_due_now s l && not (is_held_off s l)) (active_order s) order_first

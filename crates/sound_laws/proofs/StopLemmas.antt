@@ -26,7 +26,7 @@ use Rattle.sound_laws.proofs.RequestLemmas.{uses_named}
 
 -- ---- Numbers below
 
-same_below : (f g : ℕ → Bool) (n : ℕ) → ((interface : ℕ) → f interface ≡ g interface) → some_below f n ≡ some_below g n
+pub same_below : (f g : ℕ → Bool) (n : ℕ) → ((interface : ℕ) → f interface ≡ g interface) → some_below f n ≡ some_below g n
 same_below f g zero same = refl
 same_below f g (suc n) same = ap₂ (λ a b. a || b) (same_below f g n same) (same n)
 
@@ -51,7 +51,7 @@ module _ (linked : ℕ → ℕ → Bool) (hit : ℕ → Bool) (count : ℕ) wher
 
   module _ (low : ℕ → ℕ) (falls : (p q : ℕ) → linked p q ≡ true → low q < low p) where
     -- where a number falls along each link, as many links lead as far as one more
-    settled : (n p : ℕ) → low p ≤ n → reaches linked hit count (suc n) p ≡ reaches linked hit count n p
+    pub settled : (n p : ℕ) → low p ≤ n → reaches linked hit count (suc n) p ≡ reaches linked hit count n p
     unfolding reaches
     settled zero p small =
         ap (λ b. hit p || b) (none_below (λ q. linked p q && hit q) count (λ q.

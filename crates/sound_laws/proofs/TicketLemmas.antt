@@ -33,7 +33,7 @@ place_keeps : (s : State) (name : List ℕ) (target : Life) (o : Option ℕ) →
 place_keeps s name target None = refl
 place_keeps s name target (Some component) = move_keeps s name component target (move_fault s component target)
 
-concluded_keeps : (s : State) (r : Request) → (concluded s r).state.outcomes ≡ s.outcomes
+pub concluded_keeps : (s : State) (r : Request) → (concluded s r).state.outcomes ≡ s.outcomes
 concluded_keeps s (request.Switch r) = switch_keeps s (decided (scene_of s) r)
 concluded_keeps s (request.Hardware component target) = place_keeps s component target (component_place s.description component)
 

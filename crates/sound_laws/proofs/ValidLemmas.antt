@@ -21,7 +21,7 @@ use Rattle.cm_model.specs.Order.{controller_at}
 use Rattle.switch_plan.proofs.ElementLemmas.{some_of, not_found}
 
 -- where no fault is told, none was found
-none_told : {A : Type 0} (fault : A → CheckFault) (found : Option A) (u : Unit {0})
+pub none_told : {A : Type 0} (fault : A → CheckFault) (found : Option A) (u : Unit {0})
     → ◌≡◌ {A = Result (Unit {0}) CheckFault} (elim found [ None ↦ Ok tt | Some x ↦ Err (fault x) ]) (Ok u) → found ≡ None
 none_told fault None u e = refl
 none_told fault (Some x) u e = cc
