@@ -1,0 +1,122 @@
+//! The interfaces of a description, listed once by their names.
+
+ghost use Rattle.std.specs.Prelude.{◌≡◌, ◌<◌, ◌^◌, ◌++◌, map, flat_map, length, IfOk, OnOk};
+ghost use Rattle.cm_document.specs.Places.{interfaces_of};
+ghost use Rattle.loan_board.specs.Loans.{kinds_of};
+ghost use Rattle.ctl_places.specs.Listing.{listed_of, listed_at, listed_joint, listed_joints, listed_references, listed_controllers};
+
+use crate::names::reference_for;
+use cm_model::{Checked, CompDesc, CtlDesc, IfaceName, JointDesc, Kind, Memory, Name};
+use std::alloc::Global;
+
+/// An interface as it is listed, at its place: what it is called, and the controller that exports it.
+#[derive(Debug, Drop)]
+pub(crate) struct Listed {
+    pub(crate) is_command: bool,
+    pub(crate) name: IfaceName,
+    pub(crate) exporter: Option<u32>,
+}
+
+/// All interfaces of a description, each at its place.
+pub(crate) fn list(alloc: Global, checked: &Checked) -> Result<Vec<Listed>, Memory>
+    ensures { IfOk result (λ listed. listed.items ≡ map listed_of (interfaces_of checked.now)) }
+{
+    let description = checked.description();
+    let components = description.components.as_slice();
+    let mut listed = Vec::new(alloc);
+    push_components(&mut listed, components, false)?;
+    push_components(&mut listed, components, true)?;
+    push_controllers(&mut listed, description.controllers.as_slice())?;
+    Ok(listed)
+}
+
+/// The command interfaces of components, or else their state interfaces.
+fn push_components(
+    listed: &mut Vec<Listed>,
+    components: &[CompDesc],
+    is_command: bool,
+) -> Result<(), Memory>
+    ensures { OnOk result (listed.new.items ≡ listed.old.items ++ listed_joints is_command components.now) }
+{
+    for component in components {
+        push_joints(listed, component.joints.as_slice(), is_command)?;
+    }
+    Ok(())
+}
+
+/// The command interfaces of joints, or else their state interfaces.
+fn push_joints(
+    listed: &mut Vec<Listed>,
+    joints: &[JointDesc],
+    is_command: bool,
+) -> Result<(), Memory>
+    ensures { OnOk result (listed.new.items ≡ listed.old.items ++ flat_map (listed_joint is_command) joints.now) }
+{
+    for joint in joints {
+        push_kinds(listed, &joint.name, kinds_of(joint, is_command), is_command)?;
+    }
+    Ok(())
+}
+
+/// The kinds of the command interfaces of a joint, or else of its state interfaces.
+fn kinds_of(joint: &JointDesc, is_command: bool) -> &[Kind]
+    ensures { result.now ≡ kinds_of is_command joint.now }
+{
+    if is_command {
+        joint.commands.as_slice()
+    } else {
+        joint.states.as_slice()
+    }
+}
+
+/// An interface of each of these kinds, of the joint of this name.
+fn push_kinds(
+    listed: &mut Vec<Listed>,
+    joint: &Name,
+    kinds: &[Kind],
+    is_command: bool,
+) -> Result<(), Memory>
+    ensures { OnOk result (listed.new.items ≡ listed.old.items ++ map (listed_at is_command joint.now) kinds.now) }
+{
+    for kind in kinds {
+        listed.push(listed_at(joint, *kind, is_command)?)?;
+    }
+    Ok(())
+}
+
+/// An interface of this joint and kind.
+fn listed_at(joint: &Name, kind: Kind, is_command: bool) -> Result<Listed, Memory>
+    ensures { IfOk result (λ listed. listed ≡ listed_at is_command joint.now kind) }
+{
+    let joint = joint.clone()?;
+    Ok(Listed {
+        is_command,
+        name: IfaceName::Joint { joint, kind },
+        exporter: None,
+    })
+}
+
+/// The references of controllers.
+fn push_controllers(listed: &mut Vec<Listed>, controllers: &[CtlDesc]) -> Result<(), Memory>
+    requires { length controllers.now < 2 ^ 32 }
+    ensures { OnOk result (listed.new.items ≡ listed.old.items ++ listed_controllers 0 controllers.now) }
+{
+    for (place, controller) in controllers.iter().enumerate() {
+        push_references(listed, controller, place as u32)?;
+    }
+    Ok(())
+}
+
+/// The references of the controller at this place.
+fn push_references(listed: &mut Vec<Listed>, controller: &CtlDesc, place: u32) -> Result<(), Memory>
+    ensures { OnOk result (listed.new.items ≡ listed.old.items ++ listed_references place controller.now) }
+{
+    for interface in controller.exported_for() {
+        listed.push(Listed {
+            is_command: true,
+            name: reference_for(&controller.name, interface)?,
+            exporter: Some(place),
+        })?;
+    }
+    Ok(())
+}
