@@ -33,11 +33,13 @@ pub fn precedes_at_a_distance()
         → (precedes_far cs c d ≡ true) ↔ ((es : List CtlDesc) × All (Contains cs) es × IsChain c es d) }
 {}
 
-/// Whichever lines a script may have, the description of an accepted document is one that a tree stands for, and no check finds a fault in it. So each of its
-/// interfaces stands at one place.
+/// Whichever lines a script may have, the description of an accepted document is one that a tree stands for, and no check finds a
+/// fault in it. So each of its interfaces stands at one place.
 pub fn accepted_documents_are_valid()
-    ensures valid { (grammar : Grammar) (bytes : List ℕ) (d : Document) → document grammar bytes ≡ Ok d → IsValid d.description }
-    ensures places { (grammar : Grammar) (bytes : List ℕ) (d : Document) → document grammar bytes ≡ Ok d → EachStandsOnce d.description }
+    ensures valid { (grammar : Grammar) (bytes : List ℕ) (d : Document) → document grammar bytes ≡ Ok d
+        → IsValid d.description }
+    ensures places { (grammar : Grammar) (bytes : List ℕ) (d : Document) → document grammar bytes ≡ Ok d
+        → EachStandsOnce d.description }
 {}
 
 /// Each interface of a checked description stands at one place. So a place on the one hand, and a name with whether it is a

@@ -11,7 +11,7 @@ use Rattle.cm_model.specs.Commit.{seen, scene_of}
 use Rattle.cm_model.specs.Faults.{fault_of_kind}
 use Rattle.cm_model.specs.Order.{Places}
 use Rattle.cm_model.specs.Scene as scenes
-use Rattle.cm_model.specs.Scene.{Scene, claims_at, loaded_of, loaded_all, named, member, order}
+use Rattle.cm_model.specs.Scene.{Scene, loaded_of, loaded_all, named, member}
 use Rattle.cm_model.specs.Sound.{CanRunTogether}
 use Rattle.cm_model.specs.State.{State, Loaded, active}
 use Rattle.cm_model.specs.Steady.{has_loaded, IsSteady}
