@@ -1,0 +1,11 @@
+use Rattle.std.proofs.Common.{◌≡◌, ℕ, length, take}
+use Rattle.stop_plan.specs.Reports.{is_struck_in, places_where}
+use Rattle.cm_model.specs.Order.{set_of}
+use Rattle.stop_plan.proofs.sets.gather_struck.Given as goal
+
+-- the places of those so far
+abbrev pub invariant-loop-member : goal.invariant-loop-member
+invariant-loop-member l = record {
+  long : length l.set ≡ length l.fn.set;
+  so_far : (p : ℕ) → set_of l.set p ≡ places_where (is_struck_in l.report) (take l.member-index l.report.order.now) p;
+}
