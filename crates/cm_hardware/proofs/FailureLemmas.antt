@@ -1,14 +1,15 @@
 -- What is told of the failures of a cycle, and how many can be told.
-use Rattle.std.proofs.Common.{◌≡◌, ℕ, ◌+◌, ◌≤◌, Bool, true, false, List, [], ◌∷◌, ◌++◌, map, length, refl, sym, ap, ap₂, ◌∙◌, arith}
+use Rattle.std.proofs.Common.{◌≡◌, ℕ, ◌+◌, ◌≤◌, Bool, true, false, List, [], ◌∷◌, ◌++◌, map, length, refl, sym, ap, ◌∙◌, arith}
 use Rattle.std.specs.Prelude.{◌==◌, not, ◌&&◌, ◌||◌, filter}
 use Rattle.std.specs.List.{range_with_len}
 use Rattle.std.proofs.lemmas.List.{length-map}
 use Rattle.sequence.proofs.ListLemmas.{not_empty}
 use Rattle.cm_model.specs.Components.{is_listed, is_available, write_runs, read_fails, write_fails}
-use Rattle.cm_model.specs.Cycle.{component_is, failed_in}
+use Rattle.cm_model.specs.Cycle.{component_is}
 use Rattle.cm_model.specs.State.{State}
 use Rattle.cm_model.specs.declared.record.FailedPart.{FailedPart}
-use Rattle.cm_hardware.specs.Wiring.{Mounted, Wired, IsWired, failure, failures, read, fails_read, fails_write, failed_reads, failed_writes, failures_at, one_if, count, can_fail, most_failures}
+use Rattle.cm_hardware.specs.Holding.{reads_failed_in, writes_failed_in}
+use Rattle.cm_hardware.specs.Wiring.{Mounted, IsWired, failure, failures, read, fails_read, fails_write, failed_reads, failed_writes, one_if, count, can_fail, most_failures}
 use Rattle.cm_hardware.proofs.ReadLemmas.{Agrees}
 use Rattle.cm_hardware.proofs.StateLemmas.{asked_of, agrees_in}
 
@@ -35,17 +36,20 @@ writes_agree : (n k : ℕ) (ms : List Mounted) → failed_writes n k (map (read 
 writes_agree n k [] = refl
 writes_agree n k (m ∷ ms) = ap (λ (l : List FailedPart). failure k false (fails_write n (read n m)) ++ l) (writes_agree n (k + 1) ms)
 
--- What is told is what a cycle of the state tells.
-pub failures_are : (s : State) (w : Wired) → IsWired s w.components → failures_at s.ended w ≡ failed_in s
-failures_are s w wired =
-    let number : length w.components ≡ length s.description.components =
-    sym (length-map w.components (λ (m : Mounted). m.hardware.description)) ∙ ap length (sym wired.components) in
-    let reads : failed_reads s.ended 0 w.components ≡ map (part true) (filter (component_is read_fails s) (range_with_len 0 (length s.description.components))) =
-    rw (sym number) (failures_agree true (component_is read_fails s) (fails_read s.ended) 0 w.components (agrees_in read_fails s w.components wired)) in
-    let writes : failed_writes s.ended 0 (map (read s.ended) w.components) ≡ map (part false) (filter (component_is write_fails s) (range_with_len 0 (length s.description.components))) =
-    writes_agree s.ended 0 w.components
-    ∙ rw (sym number) (failures_agree false (component_is write_fails s) (asked_of write_fails s.ended) 0 w.components (agrees_in write_fails s w.components wired)) in
-    ap₂ (λ (xs ys : List FailedPart). xs ++ ys) reads writes
+-- What is told of reads is what a cycle of the state tells of them.
+pub reads_told : (s : State) (ms : List Mounted) → IsWired s ms → failed_reads s.ended 0 ms ≡ reads_failed_in s
+reads_told s ms wired =
+    let number : length ms ≡ length s.description.components =
+    sym (length-map ms (λ (m : Mounted). m.hardware.description)) ∙ ap length (sym wired.components) in
+    rw (sym number) (failures_agree true (component_is read_fails s) (fails_read s.ended) 0 ms (agrees_in read_fails s ms wired))
+
+-- So it is of writes.
+pub writes_told : (s : State) (ms : List Mounted) → IsWired s ms → failed_writes s.ended 0 (map (read s.ended) ms) ≡ writes_failed_in s
+writes_told s ms wired =
+    let number : length ms ≡ length s.description.components =
+    sym (length-map ms (λ (m : Mounted). m.hardware.description)) ∙ ap length (sym wired.components) in
+    writes_agree s.ended 0 ms
+    ∙ rw (sym number) (failures_agree false (component_is write_fails s) (asked_of write_fails s.ended) 0 ms (agrees_in write_fails s ms wired))
 
 -- ---- How many
 

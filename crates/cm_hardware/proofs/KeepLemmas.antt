@@ -1,14 +1,14 @@
--- What a cycle keeps: what is described of components, how many places there are, and that nobody claims any.
-use Rattle.std.proofs.Common.{◌≡◌, ℕ, zero, suc, ◌+◌, Bool, true, false, List, [], ◌∷◌, map, length, Option, refl, sym, ap, ap₂, ◌∙◌}
+-- What a cycle keeps: what is described of components, how many places there are, and that what is claimed is available.
+use Rattle.std.proofs.Common.{◌≡◌, ℕ, suc, ◌+◌, Bool, true, false, List, [], ◌∷◌, map, length, Option, refl, sym, ap, ap₂, ◌∙◌}
 use Rattle.std.specs.Prelude.{if◌then◌else◌}
 use Rattle.std.proofs.lemmas.List.{length-set}
 use Rattle.fixed_num.specs.declared.value.Value.{Value}
 use Rattle.cm_document.specs.declared.description.CompDesc.{CompDesc}
 use Rattle.cm_model.specs.Components.{state_interfaces, command_interfaces, measured_states, read_succeeds}
 use Rattle.loan_board.specs.declared.board.Loan.{Loan}
-use Rattle.loan_board.specs.Loans.{loan_at, with_loan, set, made_available}
-use Rattle.cm_hardware.specs.Wiring.{Mounted, Wired, states_count, all_states, commands_count, all_commands, all_joints, AreFew, AreFree, can_fail, most_failures, one_if, read, all_written, stepped_on, after_failure, with_values, after_read_of, after_reads_of, has_left, after_failures_of, loans_read, components_run, after_run, IsManaged}
-use Rattle.cm_hardware.proofs.FreeLemmas.{free_with}
+use Rattle.loan_board.specs.Loans.{IsSound, loan_at, with_loan, set}
+use Rattle.cm_hardware.specs.Wiring.{Mounted, Wired, states_count, all_states, commands_count, all_commands, all_joints, AreFew, AreSound, vacated, can_fail, most_failures, one_if, read, all_written, stepped_on, after_failure, with_values, after_read_of, after_reads_of, has_left, changed_where, after_reads_in, components_run, after_run, IsSameBuild, IsManaged}
+use Rattle.cm_hardware.proofs.SoundLemmas.{idle_sound, sound_at, sound_with}
 use Rattle.cm_hardware.proofs.StillLemmas.{if_both}
 use Rattle.cm_hardware.proofs.StepLemmas.{written_description, failure_description}
 
@@ -33,7 +33,7 @@ alike_written n at loans [] (y ∷ ys) alike = absurd alike
 alike_written n at loans (x ∷ xs) [] alike = absurd alike
 alike_written n at loans (x ∷ xs) (y ∷ ys) alike = (written_description n at loans y ∙ alike.0, alike_written n (at + commands_count y) loans xs ys alike.1)
 
-alike_same : (xs : List Mounted) → Alike xs xs
+pub alike_same : (xs : List Mounted) → Alike xs xs
 alike_same [] = tt
 alike_same (x ∷ xs) = (refl, alike_same xs)
 
@@ -78,48 +78,52 @@ few_stay (x ∷ xs) (y ∷ ys) alike few = (rw alike.0 few.0, few_stay xs ys ali
 pub alike_read : (n : ℕ) (ms : List Mounted) → Alike ms (map (read n) ms)
 alike_read n ms = alike_map (read n) (λ (m : Mounted). refl) ms ms (alike_same ms)
 
-pub alike_run : (n at : ℕ) (loans : List Loan) (ms : List Mounted) → Alike ms (all_written n at loans (map (read n) ms))
-alike_run n at loans ms = alike_written n at loans ms (map (read n) ms) (alike_read n ms)
+pub alike_run : (n at : ℕ) (loans : List Loan) (ms : List Mounted) → Alike ms (all_written n at loans ms)
+alike_run n at loans ms = alike_written n at loans ms ms (alike_same ms)
 
-pub alike_after : (n dt_us at : ℕ) (loans : List Loan) (ms : List Mounted) → Alike ms (map after_failure (map (stepped_on dt_us) (all_written n at loans (map (read n) ms))))
+pub alike_after : (n dt_us at : ℕ) (loans : List Loan) (ms : List Mounted) → Alike ms (map after_failure (map (stepped_on dt_us) (all_written n at loans ms)))
 alike_after n dt_us at loans ms =
-    alike_map after_failure failure_description ms (map (stepped_on dt_us) (all_written n at loans (map (read n) ms)))
-    (alike_map (stepped_on dt_us) (λ (m : Mounted). refl) ms (all_written n at loans (map (read n) ms)) (alike_run n at loans ms))
+    alike_map after_failure failure_description ms (map (stepped_on dt_us) (all_written n at loans ms))
+    (alike_map (stepped_on dt_us) (λ (m : Mounted). refl) ms (all_written n at loans ms) (alike_run n at loans ms))
 
 -- ---- The board
 
-free_set : (loans : List Loan) (place : ℕ) (value : Value) → AreFree loans → AreFree (with_loan loans place (set value))
-free_set [] place value free = tt
-free_set (l ∷ loans) zero value free = free
-free_set (l ∷ loans) (suc place) value free = (free.0, free_set loans place value free.1)
+-- what holds another value is as sound
+set_sound : (value : Value) (loan : Loan) → IsSound loan → IsSound (set value loan)
+set_sound value loan sound = record { command = sound.command; available = sound.available }
 
-free_values : (loans : List Loan) (at : ℕ) (values : List Value) → AreFree loans → AreFree (with_values loans at values)
-free_values loans at [] free = free
-free_values loans at (v ∷ values) free = free_values (with_loan loans at (set v)) (at + 1) values (free_set loans at v free)
+pub sound_set : (loans : List Loan) (place : ℕ) (value : Value) → AreSound loans → AreSound (with_loan loans place (set value))
+sound_set loans place value sound = sound_with loans place (set value) sound (set_sound value (loan_at loans place) (sound_at loans place sound))
 
-free_read : (succeeds : Bool) (loans : List Loan) (at : ℕ) (values : List Value) → AreFree loans → AreFree (if succeeds then with_values loans at values else loans)
-free_read true loans at values free = free_values loans at values free
-free_read false loans at values free = free
+pub sound_values : (loans : List Loan) (at : ℕ) (values : List Value) → AreSound loans → AreSound (with_values loans at values)
+sound_values loans at [] sound = sound
+sound_values loans at (v ∷ values) sound = sound_values (with_loan loans at (set v)) (at + 1) values (sound_set loans at v sound)
 
--- nobody claims any interface after reads
-pub free_reads : (n at : ℕ) (loans : List Loan) (ms : List Mounted) → AreFree loans → AreFree (after_reads_of n at loans ms)
-free_reads n at loans [] free = free
-free_reads n at loans (m ∷ ms) free =
+sound_read : (succeeds : Bool) (loans : List Loan) (at : ℕ) (values : List Value) → AreSound loans → AreSound (if succeeds then with_values loans at values else loans)
+sound_read true loans at values sound = sound_values loans at values sound
+sound_read false loans at values sound = sound
+
+-- what is claimed is available after reads
+pub sound_reads : (n at : ℕ) (loans : List Loan) (ms : List Mounted) → AreSound loans → AreSound (after_reads_of n at loans ms)
+sound_reads n at loans [] sound = sound
+sound_reads n at loans (m ∷ ms) sound =
     let h = m.hardware in
-    free_reads n (at + states_count m) (after_read_of n at loans h) ms (free_read (read_succeeds h.description h.life n) loans at (measured_states h.description h.bodies) free)
+    sound_reads n (at + states_count m) (after_read_of n at loans h) ms (sound_read (read_succeeds h.description h.life n) loans at (measured_states h.description h.bodies) sound)
 
-free_leave : (left : Bool) (loans : List Loan) (place : ℕ) → AreFree loans → AreFree (if left then with_loan loans place (made_available false) else loans)
-free_leave true loans place free = free_with loans place free
-free_leave false loans place free = free
+-- and where places change that pass a test, if the change leaves each sound
+sound_one : (here : Bool) (change : Loan → Loan) (loans : List Loan) (at : ℕ) → ((loan : Loan) → IsSound loan → IsSound (change loan)) → AreSound loans
+    → AreSound (if here then with_loan loans at change else loans)
+sound_one true change loans at each sound = sound_with loans at change sound (each (loan_at loans at) (sound_at loans at sound))
+sound_one false change loans at each sound = sound
 
--- and after failures
-pub free_failures : (ms : List Mounted) (at : ℕ) (places : List (Option ℕ)) (loans : List Loan) → AreFree loans → AreFree (after_failures_of ms at places loans)
-free_failures ms at [] loans free = free
-free_failures ms at (c ∷ places) loans free =
-    free_failures ms (at + 1) places (if has_left ms c then with_loan loans at (made_available false) else loans) (free_leave (has_left ms c) loans at free)
+pub sound_where : (test : Option ℕ → Bool) (change : Loan → Loan) (at : ℕ) (places : List (Option ℕ)) (loans : List Loan) → ((loan : Loan) → IsSound loan → IsSound (change loan))
+    → AreSound loans → AreSound (changed_where test change at places loans)
+sound_where test change at [] loans each sound = sound
+sound_where test change at (c ∷ places) loans each sound =
+    sound_where test change (at + 1) places (if test c then with_loan loans at change else loans) each (sound_one (test c) change loans at each sound)
 
 -- there are as many places as before
-length_values : (loans : List Loan) (at : ℕ) (values : List Value) → length (with_values loans at values) ≡ length loans
+pub length_values : (loans : List Loan) (at : ℕ) (values : List Value) → length (with_values loans at values) ≡ length loans
 length_values loans at [] = refl
 length_values loans at (v ∷ values) = length_values (with_loan loans at (set v)) (at + 1) values ∙ length-set loans at (set v (loan_at loans at))
 
@@ -131,27 +135,37 @@ length_reads n at loans (m ∷ ms) =
     ∙ if_both (λ (l : List Loan). length l) (read_succeeds h.description h.life n) (with_values loans at (measured_states h.description h.bodies)) loans (length loans)
     (length_values loans at (measured_states h.description h.bodies)) refl
 
-pub length_failures : (ms : List Mounted) (at : ℕ) (places : List (Option ℕ)) (loans : List Loan) → length (after_failures_of ms at places loans) ≡ length loans
-length_failures ms at [] loans = refl
-length_failures ms at (c ∷ places) loans =
-    length_failures ms (at + 1) places (if has_left ms c then with_loan loans at (made_available false) else loans)
-    ∙ if_both (λ (l : List Loan). length l) (has_left ms c) (with_loan loans at (made_available false)) loans (length loans)
-    (length-set loans at (made_available false (loan_at loans at))) refl
+pub length_where : (test : Option ℕ → Bool) (change : Loan → Loan) (at : ℕ) (places : List (Option ℕ)) (loans : List Loan) → length (changed_where test change at places loans) ≡ length loans
+length_where test change at [] loans = refl
+length_where test change at (c ∷ places) loans =
+    length_where test change (at + 1) places (if test c then with_loan loans at change else loans)
+    ∙ if_both (λ (l : List Loan). length l) (test c) (with_loan loans at change) loans (length loans) (length-set loans at (change (loan_at loans at))) refl
 
 -- ---- All of it
 
+-- what is kept stays so where the components are described as before and the places are as many, and sound
+pub managed_so : (first : ℕ) (w after : Wired) → IsManaged first w → Alike w.components after.components → length after.loans ≡ length w.loans → after.places ≡ w.places
+    → AreSound after.loans → IsManaged first after
+managed_so first w after m alike long places sound = record {
+  first = m.first ∙ sym (states_stay w.components after.components alike);
+  fits = rw (commands_stay w.components after.components alike, long) m.fits;
+  places = ap length places ∙ m.places ∙ sym long;
+  few = rw (number_stays w.components after.components alike) m.few;
+  joints = few_stay w.components after.components alike m.joints;
+  sound = sound;
+}
+
+pub same_build : (w after : Wired) → Alike w.components after.components → IsSameBuild w after
+same_build w after alike = record { failures = failures_stay w.components after.components alike; joints = joints_stay w.components after.components alike }
+
+-- after the reads
+pub managed_read : (first n : ℕ) (w : Wired) → IsManaged first w → IsManaged first (after_reads_in n w)
+managed_read first n w m =
+    managed_so first w (after_reads_in n w) m (alike_read n w.components) (length_reads n 0 w.loans w.components) refl (sound_reads n 0 w.loans w.components m.sound)
+
+-- after the end of a cycle
 pub managed : (first n dt_us : ℕ) (w : Wired) → IsManaged first w → IsManaged first (after_run n dt_us w)
 managed first n dt_us w m =
-    let ms = w.components in
-    let after = (after_run n dt_us w).components in
-    let alike : Alike ms after = alike_after n dt_us (all_states ms) (loans_read n w) ms in
-    let long : length (after_run n dt_us w).loans ≡ length w.loans =
-    length_failures (components_run n dt_us w) 0 w.places (loans_read n w) ∙ length_reads n 0 w.loans ms in
-    record {
-      first = m.first ∙ sym (states_stay ms after alike);
-      fits = rw (commands_stay ms after alike, long) m.fits;
-      places = m.places ∙ sym long;
-      few = rw (number_stays ms after alike) m.few;
-      joints = few_stay ms after alike m.joints;
-      free = free_failures (components_run n dt_us w) 0 w.places (loans_read n w) (free_reads n 0 w.loans ms m.free);
-    }
+    let run = components_run n dt_us w in
+    managed_so first w (after_run n dt_us w) m (alike_after n dt_us (all_states w.components) w.loans w.components) (length_where (has_left run) vacated 0 w.places w.loans) refl
+    (sound_where (has_left run) vacated 0 w.places w.loans (λ (loan : Loan) (so : IsSound loan). idle_sound loan.is_command) m.sound)

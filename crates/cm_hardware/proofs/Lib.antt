@@ -1,12 +1,27 @@
 pub mod ReadLemmas
 pub mod StateLemmas
 pub mod FreeLemmas
+pub mod SoundLemmas
 pub mod StillLemmas
 pub mod FailureLemmas
 pub mod StepLemmas
+pub mod HeldLemmas
+pub mod LentLemmas
 pub mod MoveLemmas
 pub mod KeepLemmas
 pub mod CycleLemmas
 pub mod ListLemmas
 pub mod StartLemmas
+pub mod MovedLemmas
+pub mod MoveAtLemmas
 pub mod SameLemmas
+pub mod PresentLemmas
+pub mod OutputLemmas
+pub mod ToldLemmas
+pub mod CommitOwnerLemmas
+pub mod CommitJointLemmas
+pub mod CommitModeLemmas
+pub mod CommitKeepLemmas
+pub mod CommitLemmas
+pub mod CommitSerialLemmas
+mod CommitRows

@@ -1,6 +1,6 @@
 -- The board after failures holds what the interfaces of the state hold after the moves of components.
-use Rattle.std.proofs.Common.{◌≡◌, ℕ, zero, suc, ◌+◌, Bool, true, false, List, [], ◌∷◌, ◌++◌, map, length, Option, refl, sym, subst, ap, ap₂, ◌∙◌, arith, append_assoc, length-append, inl, inr}
-use Rattle.std.specs.Prelude.{not, ◌&&◌, slice_get, zip, if◌then◌else◌}
+use Rattle.std.proofs.Common.{◌≡◌, ℕ, zero, suc, ◌+◌, Bool, true, false, List, [], ◌∷◌, ◌++◌, map, length, Option, Some, None, refl, sym, subst, ap, ap₂, ◌∙◌, arith, append_assoc, length-append, inl, inr}
+use Rattle.std.specs.Prelude.{not, ◌&&◌, is_some, slice_get, zip, if◌then◌else◌}
 use Rattle.std.specs.List.{AllByRecursion}
 use Rattle.std.specs.Option.{option_map_or}
 use Rattle.std.proofs.lemmas.Simd.{map-map}
@@ -14,8 +14,8 @@ use Rattle.cm_model.specs.Components.{is_available, read_succeeds, is_listed}
 use Rattle.cm_model.specs.State.{available_in}
 use Rattle.cm_model.specs.Values.{InterfaceValue, unset, running, belongs_to, is_state_of, shown, read_of, cleared_of}
 use Rattle.loan_board.specs.declared.board.Loan.{Loan}
-use Rattle.loan_board.specs.Loans.{with_loan, made_available}
-use Rattle.cm_hardware.specs.Wiring.{Mounted, loan_of, component_of, leaves, has_left, changed_where, after_failures_of}
+use Rattle.loan_board.specs.Loans.{with_loan}
+use Rattle.cm_hardware.specs.Wiring.{AreSound, loan_of, component_of, vacated, changed_where}
 use Rattle.cm_hardware.proofs.FailureLemmas.{both_first, both_second}
 use Rattle.cm_hardware.proofs.StillLemmas.{if_both}
 use Rattle.cm_hardware.proofs.StepLemmas.{Fate}
@@ -46,20 +46,20 @@ places_each test change component before after pre (x ∷ xs) all =
     ∙ places_each test change component before after (pre ++ after x ∷ []) xs all.1
     ∙ append_assoc pre (after x ∷ []) (map after xs)
 
--- what a place keeps, where its component leaves
-abbrev pub after_leave : List Mounted → Option ℕ → Loan → Loan
-after_leave ms component loan = if has_left ms component then made_available false loan else loan
+-- what a place keeps, where it passes the test, and else
+abbrev pub after_change : (Option ℕ → Bool) → (Loan → Loan) → Option ℕ → Loan → Loan
+after_change test change component loan = if test component then change loan else loan
 
 -- the component of each interface
 abbrev pub component_at : InterfaceValue → Option ℕ
 component_at v = component_of v.interface.whose
 
 -- Where each place changes as its interface does, the board does so.
-pub places_change : (own own' : Interface → Option ℕ) (there there' : Interface → Bool) (next : InterfaceValue → InterfaceValue) (ms : List Mounted) (pre : List Loan) (vs : List InterfaceValue)
-    → AllByRecursion (λ (v : InterfaceValue). after_leave ms (component_at v) (loan_of own there v) ≡ loan_of own' there' (next v)) vs
-    → after_failures_of ms (length pre) (map component_at vs) (pre ++ map (loan_of own there) vs) ≡ pre ++ map (loan_of own' there') (map next vs)
-places_change own own' there there' next ms pre vs all =
-    places_each (has_left ms) (made_available false) component_at (loan_of own there) (λ (v : InterfaceValue). loan_of own' there' (next v)) pre vs all
+pub places_change : (own own' : Interface → Option ℕ) (there there' : Interface → Bool) (test : Option ℕ → Bool) (change : Loan → Loan) (next : InterfaceValue → InterfaceValue) (pre : List Loan) (vs : List InterfaceValue)
+    → AllByRecursion (λ (v : InterfaceValue). after_change test change (component_at v) (loan_of own there v) ≡ loan_of own' there' (next v)) vs
+    → changed_where test change (length pre) (map component_at vs) (pre ++ map (loan_of own there) vs) ≡ pre ++ map (loan_of own' there') (map next vs)
+places_change own own' there there' test change next pre vs all =
+    places_each test change component_at (loan_of own there) (λ (v : InterfaceValue). loan_of own' there' (next v)) pre vs all
     ∙ ap (λ (loans : List Loan). pre ++ loans) (sym (map-map (loan_of own' there') next vs))
 
 -- ---- One interface
@@ -111,58 +111,81 @@ module _ (before after : List Life) (bodies : List BodyState) (called : Called) 
       ap (λ (b : Bool). read_of (λ c. running after c && not (running before c)) bodies (if not b then of_parts called (of_joint c j) Unset else of_parts called (of_joint c j) value)) there
       ∙ not_read (λ c. running after c && not (running before c)) bodies (of_parts called (of_joint c j) value) unread
 
-module _ (own : Interface → Option ℕ) (controllers : ℕ → Bool) (ms : List Mounted) (before after : List Life) (bodies : List BodyState) where
+-- an interface that is not available, by these lifecycle states and active controllers, has no owner
+abbrev pub IsFreeUnlessThere : (Interface → Option ℕ) → List Life → (ℕ → Bool) → Interface → Type 0
+IsFreeUnlessThere own lives controllers i = available_in lives controllers i.whose ≡ false → own i ≡ None
+
+module _ (own : Interface → Option ℕ) (controllers : ℕ → Bool) (test : Option ℕ → Bool) (before after : List Life) (bodies : List BodyState) where
+  -- whether an interface is available by these lifecycle states, and who has it then
+  abbrev pub there : List Life → Interface → Bool
+  there lives i = available_in lives controllers i.whose
+
+  abbrev pub has : List Life → Interface → Option ℕ
+  has lives i = if available_in lives controllers i.whose then own i else None
+
   -- its place changes as it does
   abbrev pub Moves : InterfaceValue → Type 0
-  Moves v =
-      after_leave ms (component_at v) (loan_of own (λ (i : Interface). available_in before controllers i.whose) v)
-      ≡ loan_of own (λ (i : Interface). available_in after controllers i.whose) (moved_of before after bodies v)
+  Moves v = after_change test vacated (component_at v) (loan_of own (there before) v) ≡ loan_of (has after) (there after) (moved_of before after bodies v)
 
-  -- and where it is not available after, it holds nothing
-  abbrev pub Empties : InterfaceValue → Type 0
-  Empties v = IsEmpty after controllers (moved_of before after bodies v)
+  -- what is kept of an interface
+  abbrev kept : Called → Value → Option ℕ → Bool → Loan
+  kept called value owner there = record { value = value; owner = owner; is_command = called.is_command; is_available = there }
 
-  -- what is kept of an interface of a component
-  abbrev kept : Called → ℕ → ℕ → Value → Bool → Loan
-  kept called c j value there =
-      record { value = value; owner = own (record { called = called; whose = of_joint c j }); is_command = called.is_command; is_available = there }
-
-  -- what its place keeps after a component of these left
+  -- what its place keeps, whether or not a component of these left
   abbrev left_or_not : Loan → Bool → Loan
-  left_or_not loan left = if left then made_available false loan else loan
+  left_or_not loan left = if left then vacated loan else loan
 
-  moves_off : (called : Called) (c j : ℕ) (value : Value) → option_map_or leaves (slice_get ms c) false ≡ true → running after c ≡ false → Moves (of_parts called (of_joint c j) value)
-  moves_off called c j value left there =
-      ap (left_or_not (kept called c j value (running before c))) left
-      ∙ ap (kept called c j Unset) (sym there)
-      ∙ ap (loan_of own (λ (i : Interface). available_in after controllers i.whose)) (sym (moved_off before after bodies called c j value there))
+  -- an interface of a joint
+  abbrev joint_at : Called → ℕ → ℕ → Interface
+  joint_at called c j = record { called = called; whose = of_joint c j }
 
-  moves_not : (called : Called) (c j : ℕ) (value : Value) (here : Bool) → IsEmpty before controllers (of_parts called (of_joint c j) value)
-      → option_map_or leaves (slice_get ms c) false ≡ false → running after c ≡ here → running before c ≡ here → Moves (of_parts called (of_joint c j) value)
-  moves_not called c j value true empty left there was =
-      ap (left_or_not (kept called c j value (running before c))) left
-      ∙ ap (kept called c j value) (was ∙ sym there)
-      ∙ ap (loan_of own (λ (i : Interface). available_in after controllers i.whose)) (sym (moved_on before after bodies called c j value there was))
-  moves_not called c j value false empty left there was =
-      let nothing : value ≡ Unset = empty was in
-      ap (left_or_not (kept called c j value (running before c))) left
-      ∙ ap₂ (kept called c j) nothing (was ∙ sym there)
-      ∙ ap (loan_of own (λ (i : Interface). available_in after controllers i.whose)) (sym (moved_off before after bodies called c j value there))
+  moves_off : (called : Called) (c j : ℕ) (value : Value) → test (Some c) ≡ true → running after c ≡ false → Moves (of_parts called (of_joint c j) value)
+  moves_off called c j value left there_after =
+      ap (left_or_not (kept called value (own (joint_at called c j)) (running before c))) left
+      ∙ ap (λ (b : Bool). kept called Unset (if b then own (joint_at called c j) else None) b) (sym there_after)
+      ∙ ap (loan_of (has after) (there after)) (sym (moved_off before after bodies called c j value there_after))
 
-  moves_part : (called : Called) (whose : Whose) (value : Value) → ((c : ℕ) → Fate (option_map_or leaves (slice_get ms c) false) (running before c) (running after c))
-      → IsEmpty before controllers (of_parts called whose value) → Moves (of_parts called whose value)
-  moves_part called (of_controller place) value fate empty =
-      ap (loan_of own (λ (i : Interface). available_in after controllers i.whose)) (sym (moved_reference before after bodies called place value))
-  moves_part called (of_joint c j) value fate empty = elim (fate c) [
-    | inl (left, there) ↦ moves_off called c j value left there
-    | inr (left, there) ↦ moves_not called c j value (running before c) empty left there refl
+  moves_not : (called : Called) (c j : ℕ) (value : Value) (here : Bool) → IsEmpty before controllers (of_parts called (of_joint c j) value) → IsFreeUnlessThere own before controllers (joint_at called c j)
+      → test (Some c) ≡ false → running after c ≡ here → running before c ≡ here → Moves (of_parts called (of_joint c j) value)
+  moves_not called c j value true empty free left there_after was =
+      ap (left_or_not (kept called value (own (joint_at called c j)) (running before c))) left
+      ∙ ap (kept called value (own (joint_at called c j))) was
+      ∙ ap (λ (b : Bool). kept called value (if b then own (joint_at called c j) else None) b) (sym there_after)
+      ∙ ap (loan_of (has after) (there after)) (sym (moved_on before after bodies called c j value there_after was))
+  moves_not called c j value false empty free left there_after was =
+      ap (left_or_not (kept called value (own (joint_at called c j)) (running before c))) left
+      ∙ ap₂ (λ (x : Value) (o : Option ℕ). kept called x o (running before c)) (empty was) (free was)
+      ∙ ap (kept called Unset None) was
+      ∙ ap (λ (b : Bool). kept called Unset (if b then own (joint_at called c j) else None) b) (sym there_after)
+      ∙ ap (loan_of (has after) (there after)) (sym (moved_off before after bodies called c j value there_after))
+
+  -- a reference stays as it is, and its owner has it
+  moves_reference : (called : Called) (place : ℕ) (value : Value) (here : Bool) → controllers place ≡ here → IsFreeUnlessThere own before controllers (record { called = called; whose = of_controller place })
+      → test None ≡ false → Moves (of_parts called (of_controller place) value)
+  moves_reference called place value true is free none =
+      ap (left_or_not (kept called value (own (record { called = called; whose = of_controller place })) (controllers place))) none
+      ∙ ap (λ (o : Option ℕ). kept called value o (controllers place)) (ap (λ (b : Bool). if b then own (record { called = called; whose = of_controller place }) else None) (sym is))
+      ∙ ap (loan_of (has after) (there after)) (sym (moved_reference before after bodies called place value))
+  moves_reference called place value false is free none =
+      ap (left_or_not (kept called value (own (record { called = called; whose = of_controller place })) (controllers place))) none
+      ∙ ap (λ (o : Option ℕ). kept called value o (controllers place)) (free is ∙ ap (λ (b : Bool). if b then own (record { called = called; whose = of_controller place }) else None) (sym is))
+      ∙ ap (loan_of (has after) (there after)) (sym (moved_reference before after bodies called place value))
+
+  moves_part : (called : Called) (whose : Whose) (value : Value) → test None ≡ false → ((c : ℕ) → Fate (test (Some c)) (running before c) (running after c))
+      → IsEmpty before controllers (of_parts called whose value) → IsFreeUnlessThere own before controllers (record { called = called; whose = whose }) → Moves (of_parts called whose value)
+  moves_part called (of_controller place) value none fate empty free = moves_reference called place value (controllers place) refl free none
+  moves_part called (of_joint c j) value none fate empty free = elim (fate c) [
+    | inl (left, there_after) ↦ moves_off called c j value left there_after
+    | inr (left, there_after) ↦ moves_not called c j value (running before c) empty free left there_after refl
   ]
 
-  pub moves : (v : InterfaceValue) → ((c : ℕ) → Fate (option_map_or leaves (slice_get ms c) false) (running before c) (running after c)) → IsEmpty before controllers v → Moves v
-  moves v fate empty = moves_part v.interface.called v.interface.whose v.value fate empty
+  pub moves : (v : InterfaceValue) → test None ≡ false → ((c : ℕ) → Fate (test (Some c)) (running before c) (running after c)) → IsEmpty before controllers v
+      → IsFreeUnlessThere own before controllers v.interface → Moves v
+  moves v none fate empty free = moves_part v.interface.called v.interface.whose v.value none fate empty free
 
+module _ (controllers : ℕ → Bool) (before after : List Life) (bodies : List BodyState) where
   empties_case : (called : Called) (c j : ℕ) (value : Value) (here : Bool) → running after c ≡ here → (running after c ≡ true → running before c ≡ true)
-      → Empties (of_parts called (of_joint c j) value)
+      → IsEmpty after controllers (moved_of before after bodies (of_parts called (of_joint c j) value))
   empties_case called c j value true is was =
       subst (IsEmpty after controllers) (sym (moved_on before after bodies called c j value is (was is)))
       (λ (gone : running after c ≡ false). let e : true ≡ false = sym is ∙ gone in cc)
@@ -170,12 +193,23 @@ module _ (own : Interface → Option ℕ) (controllers : ℕ → Bool) (ms : Lis
       subst (IsEmpty after controllers) (sym (moved_off before after bodies called c j value is)) (λ (gone : running after c ≡ false). refl)
 
   empties_part : (called : Called) (whose : Whose) (value : Value) → ((c : ℕ) → running after c ≡ true → running before c ≡ true)
-      → IsEmpty before controllers (of_parts called whose value) → Empties (of_parts called whose value)
+      → IsEmpty before controllers (of_parts called whose value) → IsEmpty after controllers (moved_of before after bodies (of_parts called whose value))
   empties_part called (of_controller place) value still empty = subst (IsEmpty after controllers) (sym (moved_reference before after bodies called place value)) empty
   empties_part called (of_joint c j) value still empty = empties_case called c j value (running after c) refl (still c)
 
-  pub empties : (v : InterfaceValue) → ((c : ℕ) → running after c ≡ true → running before c ≡ true) → IsEmpty before controllers v → Empties v
+  -- where none comes to be available, what is not holds nothing
+  pub empties : (v : InterfaceValue) → ((c : ℕ) → running after c ≡ true → running before c ≡ true) → IsEmpty before controllers v → IsEmpty after controllers (moved_of before after bodies v)
   empties v still empty = empties_part v.interface.called v.interface.whose v.value still empty
+
+-- what is claimed on a board is available
+pub frees : (own : Interface → Option ℕ) (lives : List Life) (controllers : ℕ → Bool) (vs : List InterfaceValue)
+    → AreSound (map (loan_of own (λ (i : Interface). available_in lives controllers i.whose)) vs) → AllByRecursion (λ (v : InterfaceValue). IsFreeUnlessThere own lives controllers v.interface) vs
+frees own lives controllers [] sound = tt
+frees own lives controllers (v ∷ vs) sound = (free_case (own v.interface) (available_in lives controllers v.interface.whose) sound.0.available, frees own lives controllers vs sound.1)
+  where
+    free_case : (o : Option ℕ) (here : Bool) → (is_some o ≡ true → here ≡ true) → here ≡ false → o ≡ None
+    free_case None here claimed gone = refl
+    free_case (Some n) here claimed gone = let e : true ≡ false = sym (claimed refl) ∙ gone in cc
 
 -- what was available after was so before
 pub was_there : (left before after : Bool) → Fate left before after → after ≡ true → before ≡ true

@@ -7,9 +7,10 @@ use Rattle.std.proofs.lemmas.Simd.{map-map}
 use Rattle.sequence.proofs.ListLemmas.{all_append}
 use Rattle.fixed_num.specs.declared.value.BodyState.{BodyState}
 use Rattle.fixed_num.specs.declared.value.Value.{Value}
+use Rattle.iface_names.specs.declared.interface.IfaceName.{IfaceName}
 use Rattle.iface_names.specs.declared.interface.IfaceName.TheVariants.{Joint}
 use Rattle.iface_names.specs.declared.kind.Kind.{Kind}
-use Rattle.cm_document.specs.Places.{Interface, a_state, of_joint, at_joint, at_joints, at_components}
+use Rattle.cm_document.specs.Places.{Called, Interface, a_state, of_joint, at_joint, at_joints, at_components}
 use Rattle.cm_document.specs.declared.description.CompDesc.{CompDesc}
 use Rattle.cm_document.specs.declared.description.JointDesc.{JointDesc}
 use Rattle.cm_model.specs.Components.{measured_at, measured_states, state_interfaces, interfaces_from}
@@ -119,19 +120,19 @@ module _ (test : ℕ → Bool) where
 -- ---- Lists of interfaces
 
 -- what holds of what each is holds of each
-all_of_map : {A B : Type 0} (P : B → Type 0) (f : A → B) (xs : List A) → AllByRecursion P (map f xs) → AllByRecursion (λ x. P (f x)) xs
+pub all_of_map : {A B : Type 0} (P : B → Type 0) (f : A → B) (xs : List A) → AllByRecursion P (map f xs) → AllByRecursion (λ x. P (f x)) xs
 all_of_map P f [] all = tt
 all_of_map P f (x ∷ xs) all = (all.0, all_of_map P f xs all.1)
 
 -- a list whose map is two lists is two lists
-record Parted {A B : Type 0} (f : A → B) (xs : List A) (front back : List B) : Type 0 where
-  first : List A
-  rest : List A
-  whole : xs ≡ first ++ rest
-  front_is : map f first ≡ front
-  back_is : map f rest ≡ back
+pub record Parted {A B : Type 0} (f : A → B) (xs : List A) (front back : List B) : Type 0 where
+  pub first : List A
+  pub rest : List A
+  pub whole : xs ≡ first ++ rest
+  pub front_is : map f first ≡ front
+  pub back_is : map f rest ≡ back
 
-parted : {A B : Type 0} (f : A → B) (xs : List A) (front back : List B) → map f xs ≡ front ++ back → Parted f xs front back
+pub parted : {A B : Type 0} (f : A → B) (xs : List A) (front back : List B) → map f xs ≡ front ++ back → Parted f xs front back
 parted f xs [] back is = record { first = []; rest = xs; whole = refl; front_is = refl; back_is = is }
 parted f [] (b ∷ front) back is = cc
 parted f (x ∷ xs) (b ∷ front) back is =
@@ -139,14 +140,16 @@ parted f (x ∷ xs) (b ∷ front) back is =
     let p = parted f xs front back tail in
     record { first = x ∷ p.first; rest = p.rest; whole = ap (λ l. x ∷ l) p.whole; front_is = cc; back_is = p.back_is }
 
--- a component has as many state interfaces as stand at its joints
-interfaces_count : (component joint place : ℕ) (js : List JointDesc) → length (interfaces_from (λ j. j.states) joint js) ≡ length (at_joints a_state (λ j. j.states) component place js)
-interfaces_count component joint place [] = refl
-interfaces_count component joint place (j ∷ js) =
-    length-append (map (λ kind. record { joint = joint; kind = kind }) j.states) (interfaces_from (λ j. j.states) (joint + 1) js)
-    ∙ ap₂ (λ m n. m + n) (length-map j.states (λ kind. record { joint = joint; kind = kind }) ∙ sym (length-map j.states (λ kind. record { called = a_state (Joint j.name kind); whose = of_joint component place })))
-    (interfaces_count component (joint + 1) (place + 1) js)
-    ∙ sym (length-append (at_joint a_state (λ j. j.states) component place j) (at_joints a_state (λ j. j.states) component (place + 1) js))
+-- a component has as many interfaces as stand at its joints
+pub interfaces_count : (call : IfaceName → Called) (kinds : JointDesc → List Kind) (component joint place : ℕ) (js : List JointDesc)
+    → length (interfaces_from kinds joint js) ≡ length (at_joints call kinds component place js)
+interfaces_count call kinds component joint place [] = refl
+interfaces_count call kinds component joint place (j ∷ js) =
+    length-append (map (λ kind. record { joint = joint; kind = kind }) (kinds j)) (interfaces_from kinds (joint + 1) js)
+    ∙ ap₂ (λ m n. m + n)
+    (length-map (kinds j) (λ kind. record { joint = joint; kind = kind }) ∙ sym (length-map (kinds j) (λ kind. record { called = call (Joint j.name kind); whose = of_joint component place })))
+    (interfaces_count call kinds component (joint + 1) (place + 1) js)
+    ∙ sym (length-append (at_joint call kinds component place j) (at_joints call kinds component (place + 1) js))
 
 -- ---- All components
 
@@ -207,7 +210,7 @@ module _ (own : Interface → Option ℕ) (there : Interface → Bool) (test : �
         interfaces = p.back_is ∙ ap (λ place. at_components a_state (λ j. j.states) (component + 1) place (map (λ (m : Mounted). m.hardware.description) ms) ++ others) (omega (arith, left.bodies.0, length-append before h.bodies));
         unread = left.unread;
       } in
-      let places : length pre + length (state_interfaces c) ≡ length pre' = omega (arith, length-append pre (map (read_of test all) p.first), length-map p.first (read_of test all), sym (length-map p.first (λ (v : InterfaceValue). v.interface)) ∙ ap length p.front_is, interfaces_count component 0 (length before) c.joints) in
+      let places : length pre + length (state_interfaces c) ≡ length pre' = omega (arith, length-append pre (map (read_of test all) p.first), length-map p.first (read_of test all), sym (length-map p.first (λ (v : InterfaceValue). v.interface)) ∙ ap length p.front_is, interfaces_count a_state (λ j. j.states) component 0 (length before) c.joints) in
       let step = reads_at_once (component + 1) (before ++ h.bodies) ms pre' p.rest others next in
       let front : pre ++ (map (read_of test all) p.first ++ p.rest) ≡ pre' ++ p.rest = sym (append_assoc pre (map (read_of test all) p.first) p.rest) in
       let bodies : (before ++ h.bodies) ++ after ≡ all = append_assoc before h.bodies after in

@@ -24,11 +24,11 @@ use Rattle.cm_model.specs.State.{State, boot, lives_at_start, all_bodies_at_star
 use Rattle.cm_model.specs.Values.{InterfaceValue, unset, running, read_of, after_reads}
 use Rattle.cm_model.specs.declared.blanks.Blanks.{Blanks}
 use Rattle.hw_component.specs.Hardware.{CanBeMade}
-use Rattle.loan_board.specs.Loans.{idle_of, made_available}
+use Rattle.loan_board.specs.Loans.{IsSound, idle_of, made_available}
 use Rattle.loan_board.specs.declared.board.Loan.{Loan}
 use Rattle.cm_hardware.specs.Holding.{IsHardwareOf, IsAtRest, IsEmptyUnlessAvailable}
 use Rattle.cm_hardware.specs.Starting.{mounted, places_from, places_of, all_places, is_up, opened, after_measure_of, after_measures_of}
-use Rattle.cm_hardware.specs.Wiring.{Mounted, Wired, loan_of, component_of, states_count, commands_count, all_states, all_commands, with_values, after_reads_of, IsWired, AreFew, AreFree, IsManaged}
+use Rattle.cm_hardware.specs.Wiring.{Mounted, Wired, loan_of, component_of, states_count, commands_count, all_states, all_commands, with_values, after_reads_of, IsWired, AreFew, AreFree, AreSound, IsManaged}
 use Rattle.cm_hardware.proofs.StateLemmas.{reads_are}
 use Rattle.cm_hardware.proofs.StillLemmas.{if_both, claimed_nothing}
 use Rattle.cm_hardware.proofs.MoveLemmas.{places_each, unread, read_keeps, interfaces_stay, all_of_each}
@@ -206,10 +206,10 @@ module _ (d : Description) (blanks : Blanks) (sessions : ℕ) where
 -- ---- What is measured
 
 -- To measure components is to read components that never fail.
-abbrev unfailing : CompDesc → CompDesc
+abbrev pub unfailing : CompDesc → CompDesc
 unfailing c = record c { fail_read = [] }
 
-abbrev never_failing : Mounted → Mounted
+abbrev pub never_failing : Mounted → Mounted
 never_failing m = record m { hardware = record m.hardware { description = unfailing m.hardware.description } }
 
 -- the read of one succeeds wherever its interfaces are available
@@ -217,7 +217,7 @@ succeeds_so : (up : Bool) → (up && true) ≡ up
 succeeds_so true = refl
 succeeds_so false = refl
 
-measured_is_read : (at : ℕ) (loans : List Loan) (ms : List Mounted) → after_measures_of at loans ms ≡ after_reads_of 0 at loans (map never_failing ms)
+pub measured_is_read : (at : ℕ) (loans : List Loan) (ms : List Mounted) → after_measures_of at loans ms ≡ after_reads_of 0 at loans (map never_failing ms)
 measured_is_read at loans [] = refl
 measured_is_read at loans (m ∷ ms) =
     let h = m.hardware in
@@ -226,7 +226,7 @@ measured_is_read at loans (m ∷ ms) =
     ∙ ap (λ (up : Bool). after_reads_of 0 (at + states_count m) (if up then measured else loans) (map never_failing ms)) (sym (succeeds_so (is_available h.life)))
 
 -- a description whose components never fail has the same interfaces
-same_at_components : (call : IfaceName → Called) (kinds : JointDesc → List Kind) (component place : ℕ) (cs : List CompDesc)
+pub same_at_components : (call : IfaceName → Called) (kinds : JointDesc → List Kind) (component place : ℕ) (cs : List CompDesc)
     → at_components call kinds component place (map unfailing cs) ≡ at_components call kinds component place cs
 same_at_components call kinds component place [] = refl
 same_at_components call kinds component place (c ∷ cs) =
@@ -364,9 +364,13 @@ pub free_idle : (is : List Interface) → AreFree (map idle_of is)
 free_idle [] = tt
 free_idle (i ∷ is) = (refl, free_idle is)
 
-free_loans : (own : Interface → Option ℕ) (there : Interface → Bool) → ((i : Interface) → own i ≡ None) → (vs : List InterfaceValue) → AreFree (map (loan_of own there) vs)
-free_loans own there none [] = tt
-free_loans own there none (v ∷ vs) = (none v.interface, free_loans own there none vs)
+-- what nobody claims is sound
+free_sound : (loan : Loan) → loan.owner ≡ None → IsSound loan
+free_sound loan free = record { command = λ e. let bad = rw free at e in cc; available = λ e. let bad = rw free at e in cc }
+
+sound_loans : (own : Interface → Option ℕ) (there : Interface → Bool) → ((i : Interface) → own i ≡ None) → (vs : List InterfaceValue) → AreSound (map (loan_of own there) vs)
+sound_loans own there none [] = tt
+sound_loans own there none (v ∷ vs) = (free_sound (loan_of own there v) (none v.interface), sound_loans own there none vs)
 
 few_joints : (cs : List CompDesc) → AllByRecursion CanBeMade cs → AreFew (map mounted cs)
 few_joints [] all = tt
@@ -385,5 +389,5 @@ managed_is d w first made is count can few = record {
   places = ap length (made.places ∙ places_are d) ∙ length-map (interfaces_of d) whose_at ∙ sym count;
   few = rw (made.components, length-map d.components mounted) few;
   joints = rw made.components (few_joints d.components (recursion_from_All CanBeMade d.components can));
-  free = rw (loans_are d no_blanks 0 w made) (free_loans (owner (boot d no_blanks 0)) (available (boot d no_blanks 0)) (none_owns d no_blanks 0) (values_at_start d));
+  sound = rw (loans_are d no_blanks 0 w made) (sound_loans (owner (boot d no_blanks 0)) (available (boot d no_blanks 0)) (none_owns d no_blanks 0) (values_at_start d));
 }

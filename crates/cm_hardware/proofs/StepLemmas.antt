@@ -1,26 +1,24 @@
 -- One component after the other through the reads, writes and steps of a cycle, and to its state on error.
-use Rattle.std.proofs.Common.{◌≡◌, ℕ, zero, suc, ◌+◌, Bool, true, false, List, [], ◌∷◌, ◌++◌, map, length, take, drop, refl, sym, ap, ap₂, ◌∙◌, arith, ◌⊎◌, inl, inr}
+use Rattle.std.proofs.Common.{◌≡◌, ℕ, zero, suc, ◌+◌, Bool, true, false, List, [], ◌∷◌, ◌++◌, map, length, take, drop, Option, refl, sym, ap, ap₂, ◌∙◌, arith, ◌⊎◌, inl, inr}
 use Rattle.std.specs.Prelude.{slice_get, zip, flat_map, if◌then◌else◌}
-use Rattle.std.specs.List.{AllByRecursion, range_with_len}
+use Rattle.std.specs.List.{AllByRecursion}
 use Rattle.std.specs.Option.{option_map_or}
 use Rattle.std.proofs.lemmas.List.{length-map, take_at, drop_at}
-use Rattle.fixed_num.specs.Bodies.{stopped, stepped}
+use Rattle.fixed_num.specs.Bodies.{stopped}
 use Rattle.fixed_num.specs.declared.value.BodyState.{BodyState}
-use Rattle.fixed_num.specs.declared.value.JointMode.TheVariants as mode
 use Rattle.fixed_num.specs.declared.value.Value.{Value}
-use Rattle.fixed_num.specs.declared.value.Value.TheVariants.{Unset}
 use Rattle.cm_document.specs.declared.description.CompDesc.{CompDesc}
 use Rattle.cm_document.specs.declared.description.JointDesc.{JointDesc}
 use Rattle.cm_document.specs.declared.life.Life.{Life}
 use Rattle.cm_document.specs.declared.life.Life.TheVariants.{Unconfigured, Inactive, Active, Finalized}
 use Rattle.cm_model.specs.declared.component.JointInterface.{JointInterface}
-use Rattle.cm_model.specs.Components.{is_available, write_runs, has_move, is_listed, is_written, has_failed, life_after, plant_of, command_interfaces, claim_on, claimed_by, driven_bodies, bodies_after_step, commands_after_move}
+use Rattle.cm_model.specs.Components.{is_available, write_runs, has_move, is_listed, is_written, has_failed, life_after, command_interfaces, claimed_by, driven_bodies, bodies_after_step, commands_after_move}
 use Rattle.cm_model.specs.Cycle.{component_is, claims_in, commands_at, component_stepped, components_stepped, period}
 use Rattle.cm_model.specs.State.{State}
 use Rattle.cm_model.specs.Values.{InterfaceValue, running}
 use Rattle.hw_component.specs.Hardware.{Hardware, after_write, after_move}
 use Rattle.loan_board.specs.declared.board.Loan.{Loan}
-use Rattle.cm_hardware.specs.Holding.{IsAtRest}
+use Rattle.cm_hardware.specs.Holding.{AreClaimed, IsAtRest}
 use Rattle.cm_hardware.specs.Wiring.{Mounted, read, fails_read, commands_count, values_at, is_due, written, all_written, stepped_on, after_failure, leaves}
 use Rattle.cm_hardware.proofs.ReadLemmas.{Agrees}
 use Rattle.cm_hardware.proofs.StateLemmas.{asked_of}
@@ -151,65 +149,56 @@ pub at_rest : (dt_us : ℕ) (ms : List Mounted) → AllByRecursion IsAtRest (map
 at_rest dt_us [] = tt
 at_rest dt_us (m ∷ ms) = (record { failed = cleared (stepped_on dt_us m); written = written_off (stepped_on dt_us m) refl }, at_rest dt_us ms)
 
--- ---- Bodies, where nothing is claimed
+-- ---- Bodies
 
--- where no joint has a claim, it does not matter what the interfaces hold
-idle_driven : (commands : List JointInterface) (values others : List Value) (dt_us : ℕ) (js : List JointDesc) (ks : List ℕ) (bodies : List BodyState)
-    → driven_bodies commands values dt_us js (map (claim_on commands []) ks) bodies ≡ driven_bodies commands others dt_us js (map (claim_on commands []) ks) bodies
-idle_driven commands values others dt_us [] ks bodies = refl
-idle_driven commands values others dt_us (j ∷ js) [] bodies = refl
-idle_driven commands values others dt_us (j ∷ js) (k ∷ ks) [] = refl
-idle_driven commands values others dt_us (j ∷ js) (k ∷ ks) (b ∷ bodies) =
-    ap (λ (l : List BodyState). stepped (plant_of j) mode.Idle Unset dt_us b ∷ l) (idle_driven commands values others dt_us js ks bodies)
-
--- what is known of a component between two cycles while nothing is claimed
-pub record IsIdle (m : Mounted) : Type 0 where
+-- what is known of a component before its writes: none is to be applied, and it has a body and a claim, or none, for each joint
+pub record IsFit (m : Mounted) : Type 0 where
   pub written : m.hardware.written ≡ false
-  pub claimed : m.hardware.claimed ≡ claimed_by m.hardware.description []
+  pub claimed : length m.hardware.claimed ≡ length m.hardware.description.joints
   pub joints : length m.hardware.bodies ≡ length m.hardware.description.joints
 
-step_case : (n dt_us at : ℕ) (loans : List Loan) (values : List Value) (m : Mounted) (runs fails listed : Bool) → IsIdle m
+step_case : (n dt_us at : ℕ) (loans : List Loan) (m : Mounted) (runs fails listed : Bool) → m.hardware.written ≡ false
     → write_runs m.hardware.life ≡ runs → fails_read n m ≡ fails → is_listed m.hardware.description.fail_write n ≡ listed
     → (ran_one n dt_us at loans m).hardware.bodies
-    ≡ bodies_after_step m.hardware.description (is_written m.hardware.description m.hardware.life n) (claimed_by m.hardware.description []) values dt_us m.hardware.bodies
-step_case n dt_us at loans values m true true listed idle r f l = rw (r, f, r, idle.written) refl
-step_case n dt_us at loans values m true false true idle r f l = rw (r, f, l, r, idle.written) refl
-step_case n dt_us at loans values m true false false idle r f l =
-    let c = m.hardware.description in
-    rw (r, f, l, r, idle.claimed)
-    (idle_driven (command_interfaces c) (values_at loans at (commands_count m)) values dt_us c.joints (range_with_len 0 (length c.joints)) m.hardware.bodies)
-step_case n dt_us at loans values m false fails listed idle r f l = rw (r, r) refl
+    ≡ bodies_after_step m.hardware.description (is_written m.hardware.description m.hardware.life n) m.hardware.claimed (values_at loans at (commands_count m)) dt_us m.hardware.bodies
+step_case n dt_us at loans m true true listed off r f l = rw (r, f, r, off) refl
+step_case n dt_us at loans m true false true off r f l = rw (r, f, l, r, off) refl
+step_case n dt_us at loans m true false false off r f l = rw (r, f, l, r) refl
+step_case n dt_us at loans m false fails listed off r f l = rw (r, r) refl
 
-bodies_of_one : (n dt_us at : ℕ) (loans : List Loan) (values : List Value) (m : Mounted) → IsIdle m
+bodies_of_one : (n dt_us at : ℕ) (loans : List Loan) (m : Mounted) → m.hardware.written ≡ false
     → (ran_one n dt_us at loans m).hardware.bodies
-    ≡ bodies_after_step m.hardware.description (is_written m.hardware.description m.hardware.life n) (claimed_by m.hardware.description []) values dt_us m.hardware.bodies
-bodies_of_one n dt_us at loans values m idle =
-    step_case n dt_us at loans values m (write_runs m.hardware.life) (fails_read n m) (is_listed m.hardware.description.fail_write n) idle refl refl refl
+    ≡ bodies_after_step m.hardware.description (is_written m.hardware.description m.hardware.life n) m.hardware.claimed (values_at loans at (commands_count m)) dt_us m.hardware.bodies
+bodies_of_one n dt_us at loans m off =
+    step_case n dt_us at loans m (write_runs m.hardware.life) (fails_read n m) (is_listed m.hardware.description.fail_write n) off refl refl refl
 
--- the step of the component at a place of the state is this one
-step_of : (s : State) (component : ℕ) (c : CompDesc) (commands : List InterfaceValue) (bodies : List BodyState) (written : Bool)
-    → component_is is_written s component ≡ written → claims_in s commands ≡ []
-    → component_stepped s component c commands bodies ≡ bodies_after_step c written (claimed_by c []) (map (λ (v : InterfaceValue). v.value) commands) (period s.description) bodies
-step_of s component c commands bodies written is none =
-    ap₂ (λ (w : Bool) (claims : List ℕ). bodies_after_step c w (claimed_by c claims) (map (λ (v : InterfaceValue). v.value) commands) (period s.description) bodies) is none
+-- what the board holds for these components, the first of which has its first command interface at this place, is what their command
+-- interfaces hold
+abbrev pub AreHeld : List InterfaceValue → List Loan → ℕ → ℕ → List Mounted → Type 0
+AreHeld values loans at component [] = Unit {0}
+AreHeld values loans at component (m ∷ ms) =
+    (values_at loans at (commands_count m) ≡ map (λ (v : InterfaceValue). v.value) (commands_at component values)) × AreHeld values loans (at + commands_count m) (component + 1) ms
 
 -- All bodies step as those of the state do.
 pub bodies_step : (s : State) (values : List InterfaceValue) (n at component : ℕ) (loans : List Loan) (ms : List Mounted)
-    → Agrees (component_is is_written s) (asked_of is_written n) component ms → AllByRecursion IsIdle ms → ((commands : List InterfaceValue) → claims_in s commands ≡ [])
+    → Agrees (component_is is_written s) (asked_of is_written n) component ms → AllByRecursion IsFit ms → AreClaimed (record s { values = values }) component ms
+    → AreHeld values loans at component ms
     → flat_map (λ (m : Mounted). m.hardware.bodies) (ran n (period s.description) at loans ms)
     ≡ components_stepped s values component (map (λ (m : Mounted). m.hardware.description) ms) (flat_map (λ (m : Mounted). m.hardware.bodies) ms)
-bodies_step s values n at component loans [] agrees idle none = refl
-bodies_step s values n at component loans (m ∷ ms) agrees idle none =
+bodies_step s values n at component loans [] agrees fit claims held = refl
+bodies_step s values n at component loans (m ∷ ms) agrees fit claims held =
     let c = m.hardware.description in
+    let dt_us = period s.description in
     let commands = commands_at component values in
     let others = flat_map (λ (m : Mounted). m.hardware.bodies) ms in
-    let front : take (length c.joints) (m.hardware.bodies ++ others) ≡ m.hardware.bodies = take_at m.hardware.bodies others (length c.joints) idle.0.joints in
-    let back : drop (length c.joints) (m.hardware.bodies ++ others) ≡ others = drop_at m.hardware.bodies others (length c.joints) idle.0.joints in
-    let here : (ran_one n (period s.description) at loans m).hardware.bodies ≡ component_stepped s component c commands (take (length c.joints) (m.hardware.bodies ++ others)) =
-    bodies_of_one n (period s.description) at loans (map (λ (v : InterfaceValue). v.value) commands) m idle.0
-    ∙ sym (step_of s component c commands m.hardware.bodies (is_written c m.hardware.life n) agrees.0 (none commands))
+    let front : take (length c.joints) (m.hardware.bodies ++ others) ≡ m.hardware.bodies = take_at m.hardware.bodies others (length c.joints) fit.0.joints in
+    let back : drop (length c.joints) (m.hardware.bodies ++ others) ≡ others = drop_at m.hardware.bodies others (length c.joints) fit.0.joints in
+    let here : (ran_one n dt_us at loans m).hardware.bodies ≡ component_stepped s component c commands (take (length c.joints) (m.hardware.bodies ++ others)) =
+    bodies_of_one n dt_us at loans m fit.0.written
+    ∙ ap (λ (w : Bool). bodies_after_step c w m.hardware.claimed (values_at loans at (commands_count m)) dt_us m.hardware.bodies) (sym agrees.0)
+    ∙ ap₂ (λ (claimed : List (Option ℕ)) (held : List Value). bodies_after_step c (component_is is_written s component) claimed held dt_us m.hardware.bodies) claims.0 held.0
     ∙ ap (λ (b : List BodyState). component_stepped s component c commands b) (sym front) in
-    let rest = bodies_step s values n (at + commands_count (read n m)) (component + 1) loans ms agrees.1 idle.1 none in
+    let rest = bodies_step s values n (at + commands_count m) (component + 1) loans ms agrees.1 fit.1 claims.1 held.1 in
     ap₂ (λ (xs ys : List BodyState). xs ++ ys) here
     (rest ∙ ap (λ (b : List BodyState). components_stepped s values (component + 1) (map (λ (m : Mounted). m.hardware.description) ms) b) (sym back))
 
@@ -221,46 +210,47 @@ bodies_stay (m ∷ ms) = ap₂ (λ (xs ys : List BodyState). xs ++ ys) (failure_
 -- ---- What stays of each
 
 -- as many bodies as joints
-driven_length : (commands : List JointInterface) (values : List Value) (dt_us k : ℕ) (js : List JointDesc) (bodies : List BodyState) → length bodies ≡ length js
-    → length (driven_bodies commands values dt_us js (map (claim_on commands []) (range_with_len k (length js))) bodies) ≡ length js
-driven_length commands values dt_us k [] bodies same = refl
-driven_length commands values dt_us k (j ∷ js) [] same = absurd (omega (arith, same))
-driven_length commands values dt_us k (j ∷ js) (b ∷ bodies) same = ap suc (driven_length commands values dt_us (k + 1) js bodies (omega (arith, same)))
+driven_length : (commands : List JointInterface) (values : List Value) (dt_us : ℕ) (js : List JointDesc) (ks : List (Option ℕ)) (bodies : List BodyState)
+    → length ks ≡ length js → length bodies ≡ length js → length (driven_bodies commands values dt_us js ks bodies) ≡ length js
+driven_length commands values dt_us [] ks bodies claims same = refl
+driven_length commands values dt_us (j ∷ js) [] bodies claims same = absurd (omega (arith, claims))
+driven_length commands values dt_us (j ∷ js) (k ∷ ks) [] claims same = absurd (omega (arith, same))
+driven_length commands values dt_us (j ∷ js) (k ∷ ks) (b ∷ bodies) claims same =
+    ap suc (driven_length commands values dt_us js ks bodies (omega (arith, claims)) (omega (arith, same)))
 
-step_length : (c : CompDesc) (written : Bool) (values : List Value) (dt_us : ℕ) (bodies : List BodyState) → length bodies ≡ length c.joints
-    → length (bodies_after_step c written (claimed_by c []) values dt_us bodies) ≡ length c.joints
-step_length c true values dt_us bodies same = driven_length (command_interfaces c) values dt_us 0 c.joints bodies same
-step_length c false values dt_us bodies same = length-map bodies stopped ∙ same
+step_length : (c : CompDesc) (written : Bool) (ks : List (Option ℕ)) (values : List Value) (dt_us : ℕ) (bodies : List BodyState) → length ks ≡ length c.joints → length bodies ≡ length c.joints
+    → length (bodies_after_step c written ks values dt_us bodies) ≡ length c.joints
+step_length c true ks values dt_us bodies claims same = driven_length (command_interfaces c) values dt_us c.joints ks bodies claims same
+step_length c false ks values dt_us bodies claims same = length-map bodies stopped ∙ same
 
 -- what is described of it
 description_stays : (n dt_us at : ℕ) (loans : List Loan) (m : Mounted) → (after_failure (ran_one n dt_us at loans m)).hardware.description ≡ m.hardware.description
 description_stays n dt_us at loans m =
     failure_description (ran_one n dt_us at loans m) ∙ written_description n at loans (read n m)
 
-pub joints_stay : (n dt_us at : ℕ) (loans : List Loan) (ms : List Mounted) → AllByRecursion IsIdle ms
+pub joints_stay : (n dt_us at : ℕ) (loans : List Loan) (ms : List Mounted) → AllByRecursion IsFit ms
     → AllByRecursion (λ (m : Mounted). length m.hardware.bodies ≡ length m.hardware.description.joints) (map after_failure (ran n dt_us at loans ms))
-joints_stay n dt_us at loans [] idle = tt
-joints_stay n dt_us at loans (m ∷ ms) idle =
+joints_stay n dt_us at loans [] fit = tt
+joints_stay n dt_us at loans (m ∷ ms) fit =
     let x = ran_one n dt_us at loans m in
     let c = m.hardware.description in
     let count : length (after_failure x).hardware.bodies ≡ length c.joints =
-    ap length (failure_keeps (λ (h : Hardware). h.bodies) x refl ∙ bodies_of_one n dt_us at loans [] m idle.0)
-    ∙ step_length c (is_written c m.hardware.life n) [] dt_us m.hardware.bodies idle.0.joints in
-    (count ∙ sym (ap (λ (d : CompDesc). length d.joints) (description_stays n dt_us at loans m)), joints_stay n dt_us (at + commands_count (read n m)) loans ms idle.1)
+    ap length (failure_keeps (λ (h : Hardware). h.bodies) x refl ∙ bodies_of_one n dt_us at loans m fit.0.written)
+    ∙ step_length c (is_written c m.hardware.life n) m.hardware.claimed (values_at loans at (commands_count m)) dt_us m.hardware.bodies fit.0.claimed fit.0.joints in
+    (count ∙ sym (ap (λ (d : CompDesc). length d.joints) (description_stays n dt_us at loans m)), joints_stay n dt_us (at + commands_count m) loans ms fit.1)
 
 -- what is claimed
-pub claims_stay : (n dt_us at : ℕ) (loans : List Loan) (ms : List Mounted) → AllByRecursion IsIdle ms
-    → AllByRecursion (λ (m : Mounted). m.hardware.claimed ≡ claimed_by m.hardware.description []) (map after_failure (ran n dt_us at loans ms))
-claims_stay n dt_us at loans [] idle = tt
-claims_stay n dt_us at loans (m ∷ ms) idle =
+pub claims_stay : (s : State) (component n dt_us at : ℕ) (loans : List Loan) (ms : List Mounted) → AreClaimed s component ms → AreClaimed s component (map after_failure (ran n dt_us at loans ms))
+claims_stay s component n dt_us at loans [] claims = tt
+claims_stay s component n dt_us at loans (m ∷ ms) claims =
     let x = ran_one n dt_us at loans m in (
-      failure_keeps (λ (h : Hardware). h.claimed) x refl ∙ written_keeps (λ (h : Hardware). h.claimed) n at loans (read n m) refl ∙ idle.0.claimed
-          ∙ sym (ap (λ (d : CompDesc). claimed_by d []) (description_stays n dt_us at loans m)),
-      claims_stay n dt_us (at + commands_count (read n m)) loans ms idle.1,
+      failure_keeps (λ (h : Hardware). h.claimed) x refl ∙ written_keeps (λ (h : Hardware). h.claimed) n at loans (read n m) refl ∙ claims.0
+          ∙ sym (ap (λ (d : CompDesc). claimed_by d (claims_in s (commands_at component s.values))) (description_stays n dt_us at loans m)),
+      claims_stay s (component + 1) n dt_us (at + commands_count m) loans ms claims.1,
     )
 
 pub descriptions_stay : (n dt_us at : ℕ) (loans : List Loan) (ms : List Mounted)
     → map (λ (m : Mounted). m.hardware.description) (map after_failure (ran n dt_us at loans ms)) ≡ map (λ (m : Mounted). m.hardware.description) ms
 descriptions_stay n dt_us at loans [] = refl
 descriptions_stay n dt_us at loans (m ∷ ms) =
-    ap₂ (λ (d : CompDesc) (ds : List CompDesc). d ∷ ds) (description_stays n dt_us at loans m) (descriptions_stay n dt_us (at + commands_count (read n m)) loans ms)
+    ap₂ (λ (d : CompDesc) (ds : List CompDesc). d ∷ ds) (description_stays n dt_us at loans m) (descriptions_stay n dt_us (at + commands_count m) loans ms)

@@ -2,3 +2,5 @@ pub mod Wiring
 pub mod Holding
 pub mod Listed
 pub mod Starting
+pub mod Outputs
+pub mod Committed

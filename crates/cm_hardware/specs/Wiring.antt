@@ -1,17 +1,21 @@
 -- Components over a board: what the calls of a cycle make of them, one component after the other.
-use Rattle.std.specs.Prelude.{◌≡◌, ℕ, zero, suc, ◌+◌, ◌<◌, ◌≤◌, ◌^◌, ◌==◌, not, ◌&&◌, ◌||◌, Bool, true, false, if◌then◌else◌, List, [], ◌∷◌, ◌++◌, length, map, flat_map, slice_get, Option, None, Some}
+use Rattle.std.specs.Prelude.{◌≡◌, ℕ, zero, suc, ◌+◌, ◌<◌, ◌≤◌, ◌^◌, ◌==◌, not, ◌&&◌, ◌||◌, Bool, true, false, if◌then◌else◌, List, [], ◌∷◌, ◌++◌, length, map, flat_map, take, slice_get, Option, None, Some, Result, Ok, Err}
 use Rattle.std.specs.List.{AllByRecursion}
 use Rattle.std.specs.Option.{option_map_or}
 use Rattle.fixed_num.specs.declared.value.BodyState.{BodyState}
 use Rattle.fixed_num.specs.declared.value.Value.{Value}
 use Rattle.cm_document.specs.Places.{Interface, Whose, of_joint, of_controller, interfaces_of}
 use Rattle.cm_document.specs.declared.description.CompDesc.{CompDesc}
-use Rattle.cm_model.specs.Components.{write_runs, is_available, is_listed, read_succeeds, read_fails, measured_states, state_interfaces, command_interfaces}
+use Rattle.cm_document.specs.declared.life.Life.{Life}
+use Rattle.cm_document.specs.declared.life.Life.TheVariants.{Unconfigured}
+use Rattle.cm_model.specs.Components.{write_runs, is_available, has_move, is_listed, read_succeeds, read_fails, measured_states, state_interfaces, command_interfaces}
 use Rattle.cm_model.specs.State.{State}
 use Rattle.cm_model.specs.Values.{InterfaceValue}
 use Rattle.cm_model.specs.declared.record.FailedPart.{FailedPart}
 use Rattle.hw_component.specs.Hardware.{Hardware, after_write, after_step, after_move}
-use Rattle.loan_board.specs.Loans.{set, made_available, loan_at, with_loan}
+use Rattle.hw_component.specs.declared.faults.HwFault.{HwFault}
+use Rattle.hw_component.specs.declared.faults.HwFault.TheVariants.{NoSuchMove}
+use Rattle.loan_board.specs.Loans.{IsSound, idle, set, made_available, loan_at, with_loan}
 use Rattle.loan_board.specs.declared.board.Loan.{Loan}
 
 -- what the board keeps of an interface, by who owns which and which are available
@@ -169,6 +173,14 @@ AreFew ms = AllByRecursion (λ m. length m.hardware.description.joints < 2 ^ 32)
 abbrev pub AreFree : List Loan → Type 0
 AreFree loans = AllByRecursion (λ loan. loan.owner ≡ None) loans
 
+-- what is claimed is a command interface or a reference, and available
+abbrev pub AreSound : List Loan → Type 0
+AreSound loans = AllByRecursion IsSound loans
+
+-- an interface of a component that is not there any more: nobody claims it, and it is unavailable and Unset
+abbrev pub vacated : Loan → Loan
+vacated loan = idle loan.is_command
+
 -- the component whose an interface is; none where a controller exports it
 abbrev pub component_of : Whose → Option ℕ
 component_of (of_joint component joint) = Some component
@@ -192,9 +204,54 @@ abbrev pub changed_where : (Option ℕ → Bool) → (Loan → Loan) → ℕ →
 changed_where test change at [] loans = loans
 changed_where test change at (c ∷ cs) loans = changed_where test change (at + 1) cs (if test c then with_loan loans at change else loans)
 
--- The interfaces of those that leave become unavailable and Unset; these are the components of the places from this one on.
+-- The interfaces of those that leave become free, unavailable and Unset; these are the components of the places from this one on.
 abbrev pub after_failures_of : List Mounted → ℕ → List (Option ℕ) → List Loan → List Loan
-after_failures_of ms at cs loans = changed_where (has_left ms) (made_available false) at cs loans
+after_failures_of ms at cs loans = changed_where (has_left ms) vacated at cs loans
+
+-- ---- Moves
+
+-- the lifecycle state of the component at this place
+abbrev pub life_in : ℕ → List Mounted → Life
+life_in place ms = option_map_or (λ m. m.hardware.life) (slice_get ms place) Unconfigured
+
+-- the one at this place moves, where it can
+abbrev pub moved_at : ℕ → Life → List Mounted → List Mounted
+moved_at place target [] = []
+moved_at zero target (m ∷ ms) = record m { hardware = after_move m.hardware target } ∷ ms
+moved_at (suc place) target (m ∷ ms) = m ∷ moved_at place target ms
+
+-- whether it can
+abbrev pub move_answer : ℕ → Life → List Mounted → Result (Unit {0}) HwFault
+move_answer place target ms = if has_move (life_in place ms) target then Ok tt else Err NoSuchMove
+
+-- a place is of this component; one of no component is not
+abbrev pub is_of : ℕ → Option ℕ → Bool
+is_of component None = false
+is_of component (Some place) = place == component
+
+-- what the component at this place measures
+abbrev pub measured_in : ℕ → List Mounted → List Value
+measured_in place ms = option_map_or (λ m. measured_states m.hardware.description m.hardware.bodies) (slice_get ms place) []
+
+-- its state interfaces hold that
+abbrev pub measured_of : ℕ → List Mounted → List Loan → List Loan
+measured_of place ms loans = with_values loans (all_states (take place ms)) (measured_in place ms)
+
+-- What the board holds after the move of a component, whose interfaces were available before or not: where they are not then, they are
+-- free and Unset; where they were not and are then, the state interfaces hold what it measures.
+abbrev pub settled : ℕ → Bool → List Mounted → List (Option ℕ) → List Loan → List Loan
+settled place had ms cs loans =
+    if is_available (life_in place ms) then
+    (if had then loans else measured_of place ms (changed_where (is_of place) (made_available true) 0 cs loans))
+    else changed_where (is_of place) vacated 0 cs loans
+
+-- the hardware after the move of the component at this place; nothing changes where there is no such move
+abbrev pub after_move_at : ℕ → Life → Wired → Wired
+after_move_at place target w =
+    if has_move (life_in place w.components) target then record w {
+      components = moved_at place target w.components;
+      loans = settled place (is_available (life_in place w.components)) (moved_at place target w.components) w.places w.loans;
+    } else w
 
 -- ---- A cycle
 
@@ -202,30 +259,39 @@ after_failures_of ms at cs loans = changed_where (has_left ms) (made_available f
 abbrev pub loans_read : ℕ → Wired → List Loan
 loans_read cycle w = after_reads_of cycle 0 w.loans w.components
 
--- the components when they were read and written and their bodies stepped
+-- the hardware after them
+abbrev pub after_reads_in : ℕ → Wired → Wired
+after_reads_in cycle w = record w { components = map (read cycle) w.components; loans = loans_read cycle w }
+
+-- the components when they were written and their bodies stepped
 abbrev pub components_run : ℕ → ℕ → Wired → List Mounted
-components_run cycle dt_us w = map (stepped_on dt_us) (all_written cycle (all_states w.components) (loans_read cycle w) (map (read cycle) w.components))
+components_run cycle dt_us w = map (stepped_on dt_us) (all_written cycle (all_states w.components) w.loans w.components)
 
 -- the hardware after the cycle, when those that failed went to their states on error
 abbrev pub after_run : ℕ → ℕ → Wired → Wired
 after_run cycle dt_us w = record {
   components = map after_failure (components_run cycle dt_us w);
-  loans = after_failures_of (components_run cycle dt_us w) 0 w.places (loans_read cycle w);
+  loans = after_failures_of (components_run cycle dt_us w) 0 w.places w.loans;
   places = w.places;
 }
 
--- what is told of its failures: reads come before writes
-abbrev pub failures_at : ℕ → Wired → List FailedPart
-failures_at cycle w = failed_reads cycle 0 w.components ++ failed_writes cycle 0 (map (read cycle) w.components)
+-- How many writes are to fail in a cycle, when the components were read.
+abbrev pub writes_to_fail : ℕ → List Mounted → ℕ
+writes_to_fail cycle ms = count (fails_write cycle) ms
+
+-- As many failures can be told, and of as many bodies: a cycle changes nothing of what is described.
+pub record IsSameBuild (before after : Wired) : Type 0 where
+  pub failures : most_failures after.components ≡ most_failures before.components
+  pub joints : all_joints after.components ≡ all_joints before.components
 
 -- ---- What is kept
 
 -- The command interfaces of all components follow their state interfaces, the first of them at this place; the numbers of components
--- and of a component's joints have 32 bits; each place has its component told, and nobody claims any interface.
+-- and of a component's joints have 32 bits; each place has its component told; and what is claimed is available.
 pub record IsManaged (first_command : ℕ) (w : Wired) : Type 0 where
   pub first : first_command ≡ all_states w.components
   pub fits : first_command + all_commands w.components ≤ length w.loans
   pub places : length w.places ≡ length w.loans
   pub few : length w.components < 2 ^ 32
   pub joints : AreFew w.components
-  pub free : AreFree w.loans
+  pub sound : AreSound w.loans

@@ -1,16 +1,17 @@
-//! The cycle of a resource manager.
+//! The cycle of a resource manager: its reads, what the interfaces hold in it, and its end.
 
-ghost use Rattle.std.specs.Prelude.{◌≡◌, ◌+◌, ◌<◌, ◌≤◌, ◌++◌};
+ghost use Rattle.std.specs.Prelude.{◌≡◌, ◌+◌, ◌<◌, ◌≤◌, ◌++◌, length};
 ghost use Rattle.cm_model.specs.Cycle.{period};
 ghost use Rattle.cm_model.specs.State.{State};
-ghost use Rattle.cm_hardware.specs.Wiring.{most_failures, all_joints, all_bodies, components_run, after_run, failures_at};
-ghost use Rattle.cm_hardware.specs.Holding.{IsHardwareOf, IsStill, RanCycle};
+ghost use Rattle.loan_board.specs.Loans.{loan_at, with_loan, set};
+ghost use Rattle.cm_hardware.specs.Wiring.{most_failures, writes_to_fail, all_joints, all_bodies, after_reads_in, components_run, after_run, failed_reads, failed_writes, AreSound, IsSameBuild};
+ghost use Rattle.cm_hardware.specs.Holding.{IsHardwareOf, IsInCycle, values_updated, IsStill, ReadInCycle, FinishedCycle, RanCycle};
 
 use crate::hardware::{
     count_joints, fail_units, most_failures, read_units, step_units, write_units,
 };
 use crate::manager::ResourceManager;
-use cm_model::{BodyState, FailedPart, ListRoom};
+use cm_model::{BodyState, FailedPart, ListRoom, Value};
 use joint_body::LONGEST_STEP;
 
 impl ResourceManager {
@@ -26,6 +27,58 @@ impl ResourceManager {
         ensures { result ≡ all_joints self.now.components }
     {
         count_joints(&self.units)
+    }
+}
+
+// A cycle in its parts: the reads, then what controllers give out, then the end. No call takes memory.
+impl ResourceManager {
+    /// The reads of the cycle of this number: every inactive or active component is read, and its state interfaces hold what its bodies
+    /// measure where the read did not fail. It tells of the failures.
+    pub fn read(&mut self, number: u64, failed: &mut ListRoom<FailedPart>)
+        requires { most_failures self.old.components ≤ failed.old.room }
+        ensures read { (s : State) → IsHardwareOf s self.old → s.ended ≡ number
+            → ReadInCycle s self.new failed.old.items failed.new.items }
+        ensures left { writes_to_fail number self.new.components ≤ failed.new.room }
+        ensures build { IsSameBuild self.old self.new }
+    {
+        self.read_all(number, failed);
+    }
+
+    /// What the interface at this place holds in the cycle.
+    pub fn value(&self, place: u32) -> Value
+        requires { place < length self.now.loans }
+        ensures { result ≡ (loan_at self.now.loans place).value }
+    {
+        self.board.get(place)
+    }
+
+    /// The interface at this place holds this value from now on: an output of a controller that claims it.
+    pub fn set(&mut self, place: u32, value: Value)
+        requires { place < length self.old.loans }
+        ensures { self.new ≡ record self.old { loans = with_loan self.old.loans place (set value) } }
+    {
+        self.board.set(place, value);
+    }
+
+    /// The end of the cycle of this number: the active components are written whose read did not fail; the body of every joint steps by
+    /// `dt_us` microseconds, as the claims on it and what these hold say; those that failed go to their state on error. It tells of the
+    /// failures of writes and of the bodies.
+    pub fn finish(
+        &mut self,
+        number: u64,
+        dt_us: u32,
+        failed: &mut ListRoom<FailedPart>,
+        bodies: &mut ListRoom<BodyState>,
+    )
+        requires time { (1 ≤ dt_us) × (dt_us ≤ LONGEST_STEP) }
+        requires failures { writes_to_fail number self.old.components ≤ failed.old.room }
+        requires joints { all_joints self.old.components ≤ bodies.old.room }
+        ensures finished { (s : State) → IsInCycle s (values_updated s) self.old → s.ended ≡ number
+            → period s.description ≡ dt_us
+            → FinishedCycle s self.new failed.old.items failed.new.items bodies.old.items bodies.new.items }
+        ensures build { IsSameBuild self.old self.new }
+    {
+        self.run(number, dt_us, failed, bodies);
     }
 }
 
@@ -50,10 +103,24 @@ impl ResourceManager {
         ensures failures { most_failures self.new.components ≡ most_failures self.old.components }
         ensures joints { all_joints self.new.components ≡ all_joints self.old.components }
     {
-        self.run(number, dt_us, failed, bodies);
+        self.read(number, failed);
+        self.finish(number, dt_us, failed, bodies);
+    }
+}
+
+impl ResourceManager {
+    /// The reads, component by component.
+    fn read_all(&mut self, number: u64, failed: &mut ListRoom<FailedPart>)
+        requires { most_failures self.old.components ≤ failed.old.room }
+        ensures hardware { self.new ≡ after_reads_in number self.old }
+        ensures failed { failed.new.items ≡ failed.old.items ++ failed_reads number 0 self.old.components }
+        ensures left { writes_to_fail number self.new.components ≤ failed.new.room }
+    {
+        let units = self.units.as_mut_slice();
+        read_units(units, &mut self.board, number, failed);
     }
 
-    /// A cycle, component by component.
+    /// The end of a cycle, component by component.
     fn run(
         &mut self,
         number: u64,
@@ -61,16 +128,15 @@ impl ResourceManager {
         failed: &mut ListRoom<FailedPart>,
         bodies: &mut ListRoom<BodyState>,
     )
-        requires some_time { 1 ≤ dt_us }
-        requires no_longer { dt_us ≤ LONGEST_STEP }
-        requires failures { most_failures self.old.components ≤ failed.old.room }
+        requires time { (1 ≤ dt_us) × (dt_us ≤ LONGEST_STEP) }
+        requires failures { writes_to_fail number self.old.components ≤ failed.old.room }
         requires joints { all_joints self.old.components ≤ bodies.old.room }
         ensures hardware { self.new ≡ after_run number dt_us self.old }
-        ensures failed { failed.new.items ≡ failed.old.items ++ failures_at number self.old }
+        ensures failed { failed.new.items ≡ failed.old.items ++ failed_writes number 0 self.old.components }
         ensures bodies { bodies.new.items ≡ bodies.old.items ++ all_bodies (components_run number dt_us self.old) }
+        ensures sound { AreSound self.old.loans }
     {
         let units = self.units.as_mut_slice();
-        read_units(units, &mut self.board, number, failed);
         write_units(units, &self.board, self.first_command, number, failed);
         step_units(units, dt_us, bodies);
         fail_units(units, &mut self.board, &self.places);

@@ -2,9 +2,9 @@
 
 ghost use Rattle.std.specs.Prelude.{◌≡◌, ◌+◌, ◌<◌, ◌≤◌, ◌^◌, ◌++◌, if◌then◌else◌, false, length, map};
 ghost use Rattle.std.specs.List.{list_any};
-ghost use Rattle.cm_model.specs.Components.{is_available};
-ghost use Rattle.loan_board.specs.Loans.{with_loan, made_available};
-ghost use Rattle.cm_hardware.specs.Wiring.{read, states_count, all_states, with_values, after_read_of, after_reads_of, failure, failed_reads, commands_count, all_commands, all_written, failed_writes, values_at, fails_read, fails_write, one_if, count, can_fail, most_failures, written, stepped_on, all_joints, all_bodies, AreFew, AreFree, leaves, has_left, after_failure, after_failures_of};
+ghost use Rattle.cm_model.specs.Components.{is_available, measured_states};
+ghost use Rattle.loan_board.specs.Loans.{with_loan};
+ghost use Rattle.cm_hardware.specs.Wiring.{read, states_count, all_states, with_values, after_read_of, after_reads_of, failure, failed_reads, commands_count, all_commands, all_written, failed_writes, values_at, fails_read, fails_write, one_if, count, can_fail, most_failures, written, stepped_on, all_joints, all_bodies, AreFew, vacated, leaves, has_left, after_failure, after_failures_of};
 
 use cm_model::{BodyState, CompDesc, Done, FailedPart, Life, ListRoom, Value};
 use hw_component::Component;
@@ -18,6 +18,8 @@ pub(crate) struct Unit {
     pub(crate) component: Component,
     pub(crate) states: Vec<Value>,
     pub(crate) commands: Vec<Value>,
+    /// Room for the numbers of those command interfaces that are claimed.
+    pub(crate) claims: Vec<u32>,
     pub(crate) failed: bool,
 }
 
@@ -26,13 +28,14 @@ impl Model for Unit {
 
     ghost Value = { Mounted };
 
-    ghost use Rattle.std.specs.Prelude.{◌≡◌, length};
+    ghost use Rattle.std.specs.Prelude.{◌≡◌, ◌≤◌, length, vec_capacity};
     ghost use Rattle.cm_model.specs.Components.{state_interfaces, command_interfaces};
 
     ghost view = { λ u. record { hardware = u.component; failed = u.failed } };
 
     ghost invariant = { λ u. (length u.states.items ≡ length (state_interfaces u.component.description))
-        × (length u.commands.items ≡ length (command_interfaces u.component.description)) };
+        × ((length u.commands.items ≡ length (command_interfaces u.component.description))
+        × (length u.commands.items ≤ vec_capacity u.claims)) };
 }
 
 impl Unit {
@@ -41,6 +44,18 @@ impl Unit {
         ensures { result ≡ states_count self.now }
     {
         self.states.len()
+    }
+
+    /// The state interfaces of the component, the first of which has this place, hold what they measure.
+    pub(crate) fn measure_all(&mut self, board: &mut Board, at: u32)
+        requires { at + states_count self.old ≤ length board.old }
+        ensures unit { self.new ≡ self.old }
+        ensures board { board.new
+            ≡ with_values board.old at (measured_states self.old.hardware.description self.old.hardware.bodies) }
+        ensures places { length board.new ≡ length board.old }
+    {
+        self.component.measure(&mut self.states);
+        set_places(board, at, &self.states);
     }
 
     /// Reads the component, where it is inactive or active, into its places of the board, the first of which is `at`.
@@ -135,7 +150,7 @@ fn take_places(values: &mut [Value], board: &Board, at: u32)
 }
 
 /// Sets the places of a board from `at` on to these values.
-pub(crate) fn set_places(board: &mut Board, at: u32, values: &[Value])
+fn set_places(board: &mut Board, at: u32, values: &[Value])
     requires { at + length values.now ≤ length board.old }
     ensures board { board.new ≡ with_values board.old at values.now }
     ensures places { length board.new ≡ length board.old }
@@ -261,26 +276,37 @@ fn has_left(units: &[Unit], component: Option<u32>) -> bool
     }
 }
 
-/// The place becomes unavailable and Unset, where its component left.
-#[tactic(auto, using(crate::proofs::FreeLemmas::staying_free))]
-fn leave(board: &mut Board, place: u32, has_left: bool)
-    requires place { place < length board.old }
-    requires free { AreFree board.old }
-    ensures board { board.new ≡ (if has_left then with_loan board.old place (made_available false) else board.old) }
-    ensures free { AreFree board.new }
+/// The place becomes free, unavailable and Unset.
+#[tactic(auto, using(crate::proofs::SoundLemmas::vacating))]
+pub(crate) fn vacate(board: &mut Board, place: u32)
+    requires { place < length board.old }
+    ensures board { board.new ≡ with_loan board.old place vacated }
     ensures places { length board.new ≡ length board.old }
 {
-    if has_left {
-        board.set_available(place, false);
+    match board.owner(place) {
+        Some(_serial) => {
+            board.release(place);
+            board.set_available(place, false);
+        }
+        None => board.set_available(place, false),
     }
 }
 
-/// The interfaces of components that leave become unavailable and Unset. The component of each place is told.
+/// The place becomes free, unavailable and Unset, where its component left.
+fn leave(board: &mut Board, place: u32, has_left: bool)
+    requires { place < length board.old }
+    ensures board { board.new ≡ (if has_left then with_loan board.old place vacated else board.old) }
+    ensures places { length board.new ≡ length board.old }
+{
+    if has_left {
+        vacate(board, place);
+    }
+}
+
+/// The interfaces of components that leave become free, unavailable and Unset. The component of each place is told.
 fn leave_places(board: &mut Board, places: &[Option<u32>], units: &[Unit])
-    requires places { length places.now ≤ length board.old }
-    requires free { AreFree board.old }
+    requires { length places.now ≤ length board.old }
     ensures board { board.new ≡ after_failures_of units.now 0 places.now board.old }
-    ensures free { AreFree board.new }
     ensures places { length board.new ≡ length board.old }
 {
     board.len();
@@ -305,12 +331,11 @@ fn fail_each(units: &mut [Unit])
     }
 }
 
-/// Every component that failed goes to its state on error, and its interfaces, which nobody claims, become unavailable and Unset
-/// where they are not available in that state.
-#[tactic(auto, using(crate::proofs::FreeLemmas::none_failed))]
+/// Every component that failed goes to its state on error, and its interfaces become free, unavailable and Unset where they are not
+/// available in that state.
+#[tactic(auto, using(crate::proofs::SoundLemmas::none_failed))]
 pub(crate) fn fail_units(units: &mut [Unit], board: &mut Board, places: &[Option<u32>])
-    requires places { length places.now ≤ length board.old }
-    requires free { AreFree board.old }
+    requires { length places.now ≤ length board.old }
     ensures units { units.new ≡ map after_failure units.old }
     ensures board { board.new ≡ after_failures_of units.old 0 places.now board.old }
 {

@@ -3,8 +3,11 @@
 
 pub use manager::ResourceManager;
 
+mod commit;
 mod cycle;
 mod hardware;
+pub mod laws;
 mod lists;
 mod manager;
+mod moves;
 mod start;

@@ -8,7 +8,7 @@ ghost use Rattle.cm_hardware.specs.Holding.{IsHardwareOf};
 ghost use Rattle.cm_hardware.specs.Starting.{mounted, places_from, places_of, all_places, is_up, opened, after_measure_of, after_measures_of};
 ghost use Rattle.cm_hardware.specs.Wiring.{states_count, commands_count, all_states, AreFree};
 
-use crate::hardware::{Unit, is_available, set_places};
+use crate::hardware::{Unit, is_available};
 use crate::manager::ResourceManager;
 use cm_model::{Checked, CompDesc, Memory, Value};
 use hw_component::Component;
@@ -63,6 +63,7 @@ impl Unit {
         Ok(Unit {
             states: vec![in alloc; Value::Unset; component.state_interfaces().len()]?,
             commands: vec![in alloc; Value::Unset; component.command_interfaces().len()]?,
+            claims: Vec::with_capacity(alloc, component.command_interfaces().len())?,
             component,
             failed: false,
         })
@@ -176,14 +177,13 @@ impl Unit {
         ensures places { length board.new ≡ length board.old }
     {
         if is_available(self.component.life()) {
-            self.component.measure(&mut self.states);
-            set_places(board, at, &self.states);
+            self.measure_all(board, at);
         }
     }
 }
 
-/// How many state interfaces all components have, which is the place of the first command interface.
-fn count_states(units: &[Unit], board: &Board) -> u32
+/// How many state interfaces these components have: those of all are so many places before the first command interface.
+pub(crate) fn count_states(units: &[Unit], board: &Board) -> u32
     requires { all_states units.now ≤ length board.now }
     ensures { result ≡ all_states units.now }
 {

@@ -1,5 +1,5 @@
 use Rattle.std.proofs.Common.{sym, ◌∙◌}
-use Rattle.cm_hardware.proofs.FreeLemmas.{none_failed-board}
+use Rattle.cm_hardware.proofs.SoundLemmas.{none_failed-board}
 use Rattle.cm_hardware.proofs.hardware.fail_units.Goals as goal
 
 -- where none failed, no place changes

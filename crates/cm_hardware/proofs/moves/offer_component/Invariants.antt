@@ -1,0 +1,12 @@
+use Rattle.std.proofs.Common.{◌≡◌, ◌<◌, ◌^◌, true, drop, length}
+use Rattle.loan_board.specs.Loans.{made_available}
+use Rattle.cm_hardware.specs.Wiring.{is_of, changed_where}
+use Rattle.cm_hardware.proofs.moves.offer_component.Given as goal
+
+-- what becomes of the places that are left is what becomes of all
+abbrev pub invariant-loop-place : goal.invariant-loop-place
+invariant-loop-place l = record {
+  board : changed_where (is_of l.component) (made_available true) l.place (drop l.place l.places) l.board ≡ changed_where (is_of l.component) (made_available true) 0 l.places l.fn.board;
+  places : length l.board ≡ length l.fn.board;
+  few : length l.board < 2 ^ 32;
+}
