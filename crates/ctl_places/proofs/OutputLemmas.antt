@@ -110,6 +110,18 @@ module _ (claim : IfaceName) (claims : List IfaceName) (out : Value) (outs : Lis
 
 -- ---- All claims
 
+stays : (b : Bool) (v : InterfaceValue) → (if b then record v { value = v.value } else v) ≡ v
+stays true v = refl
+stays false v = refl
+
+-- where no output is for a claim, all stays
+given_none : (names : List IfaceName) (outs : List Value) → ((v : InterfaceValue) → output_for names outs v.interface.called.name ≡ None) → (vs : List InterfaceValue)
+    → map (given_of names outs) vs ≡ vs
+given_none names outs none [] = refl
+given_none names outs none (v ∷ vs) =
+    let one : given_of names outs v ≡ v = rw (none v) (stays v.interface.called.is_command v) in
+    ap₂ (λ y ys. y ∷ ys) one (given_none names outs none vs)
+
 module _ (d : Description) (once : EachStandsOnce d) where
   -- an interface at a place is called as it is listed there
   called_at : (values : List InterfaceValue) → AreValuesOf d values → (k : ℕ) (v : InterfaceValue) → slice_get values k ≡ Some v
@@ -127,33 +139,28 @@ module _ (d : Description) (once : EachStandsOnce d) where
       (called_at values are j u at_j ∙ ap Some (called_as name u.interface.called named_j ∙ sym (called_as name v.interface.called named_k)))
       (called_at values are k v at_k)
 
-  given_placed : (names : List IfaceName) (outs : List Value) (values : List InterfaceValue) → length outs ≡ length names
+  given_placed : (names : List IfaceName) (outs : List Value) (values : List InterfaceValue)
       → AllByRecursion (IsFound (command_place d)) names → IsDistinct same_interface names → AreValuesOf d values
       → given names outs values ≡ with_outputs values (filter_map (command_place d) names) outs
   unfolding IsDistinct
-  given_placed [] outs values count found apart are = given_none values
-    where
-      stays : (b : Bool) (v : InterfaceValue) → (if b then record v { value = v.value } else v) ≡ v
-      stays true v = refl
-      stays false v = refl
-
-      given_none : (vs : List InterfaceValue) → map (given_of [] outs) vs ≡ vs
-      given_none [] = refl
-      given_none (v ∷ vs) = ap₂ (λ y ys. y ∷ ys) (stays v.interface.called.is_command v) (given_none vs)
-  given_placed (name ∷ names) [] values count found apart are = cc
-  given_placed (name ∷ names) (out ∷ outs) values count found apart are =
+  given_placed [] outs values found apart are = given_none [] outs (λ v. refl) values
+  given_placed (name ∷ names) [] values found apart are = rw found.0.1 (given_none (name ∷ names) [] (λ v. refl) values)
+  given_placed (name ∷ names) (out ∷ outs) values found apart are =
       let k = found.0.0 in
       let there = found_at (λ v. is_command_named name v.interface.called) values k (value_found d values are (is_command_named name) k found.0.1) in
-      let less : length outs ≡ length names = omega (arith, count) in
       let first = given_first name names out outs apart.0 values k there.0 there.1 there.2
       (λ j u at so. only_there values are name j k u there.0 at so there.1 there.2) in
-      let rest = given_placed names outs (with_value values k out) less found.1 apart.1 (with_value-interfaces values k out ∙ are) in
+      let rest = given_placed names outs (with_value values k out) found.1 apart.1 (with_value-interfaces values k out ∙ are) in
       rw found.0.1 (first ∙ rest)
 
--- The claims of a controller hold its outputs where each place of a claim holds its output, one after the other.
+-- The claims of a controller hold its outputs where each place of a claim holds its output, one after the other, as many as there are.
+pub given-any : (d : Description) → IsValid d → (values : List InterfaceValue) → AreValuesOf d values → (p : ℕ) (outs : List Value)
+    → given (controller_at d.controllers p).claims outs values ≡ with_outputs values (linked (placed_of d).claims p) outs
+given-any d ok values are p outs =
+    given_placed d (IsValid-EachStandsOnce d ok) (controller_at d.controllers p).claims outs values (claims_found d ok p) (claims_apart d ok p) are
+    ∙ ap (λ places. with_outputs values places outs) (sym (claims_row d p))
+
 pub given-placed : (d : Description) → IsValid d → (values : List InterfaceValue) → AreValuesOf d values → (p : ℕ) (outs : List Value)
     → length outs ≡ length (controller_at d.controllers p).claims
     → given (controller_at d.controllers p).claims outs values ≡ with_outputs values (linked (placed_of d).claims p) outs
-given-placed d ok values are p outs count =
-    given_placed d (IsValid-EachStandsOnce d ok) (controller_at d.controllers p).claims outs values count (claims_found d ok p) (claims_apart d ok p) are
-    ∙ ap (λ places. with_outputs values places outs) (sym (claims_row d p))
+given-placed d ok values are p outs count = given-any d ok values are p outs

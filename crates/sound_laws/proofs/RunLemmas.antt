@@ -57,7 +57,7 @@ pairs_distinct (l ∷ ls) each =
     (all_map (λ n. (l.serial == n) ≡ false) (λ (m : Loaded). m.serial) ls (by_recursion (Differ l) ls (pairs-head Differ l ls each)), pairs_distinct ls (pairs-tail Differ l ls each))
 
 -- a serial is that of one loaded controller
-one_of_serial : (ls : List Loaded) → IsDistinct (λ m n. m == n) (serials_of ls) → (a b : Loaded) → Contains ls a → Contains ls b → a.serial ≡ b.serial → a ≡ b
+pub one_of_serial : (ls : List Loaded) → IsDistinct (λ m n. m == n) (serials_of ls) → (a b : Loaded) → Contains ls a → Contains ls b → a.serial ≡ b.serial → a ≡ b
 unfolding IsDistinct
 one_of_serial [] once a b inside also same = absurd (none_inside a inside)
 one_of_serial (l ∷ ls) once a b inside also same =
