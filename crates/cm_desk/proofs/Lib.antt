@@ -1,4 +1,3 @@
-pub mod LifeLemmas
 pub mod FlightLemmas
 pub mod WorksLemmas
 pub mod AnswerLemmas

@@ -21,7 +21,7 @@ use Rattle.cm_model.specs.declared.blanks.Blanks.{Blanks}
 use Rattle.cm_model.specs.declared.reply.Reply.TheVariants as reply
 use Rattle.cm_model.specs.declared.reply.Why.{Why}
 use Rattle.ctl_rack.specs.Stocks.{total}
-use Rattle.cm_desk.proofs.LifeLemmas.{none_is}
+use Rattle.ctl_slots.proofs.LifeLemmas.{none_is}
 use Rattle.cm_desk.specs.Flight.{Flown}
 use Rattle.cm_desk.specs.Works.{IsAsDescribed, IsKept, IsConfigured}
 use Rattle.ctl_trait.specs.declared.fault.CfgFault.{CfgFault}

@@ -1,5 +1,4 @@
--- In reading order: one loaded controller, what a cycle needs, then all that the desk keeps.
-pub mod Lives
+-- In reading order: what a cycle needs, then all that the desk keeps.
 pub mod Flight
 pub mod Works
 pub mod Desk

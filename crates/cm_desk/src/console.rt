@@ -7,7 +7,7 @@ ghost use Rattle.cm_model.specs.Kinds.{are_ranged, takes, takes_none};
 ghost use Rattle.cm_model.specs.State.{is_active};
 ghost use Rattle.cm_desk.specs.Works.{IsAnswered, IsAsDescribed, IsConfigured};
 
-use crate::slot::Slot;
+use ctl_slots::Slot;
 use crate::works::{Works, described_at};
 use chain_order::divisor;
 use cm_model::{Checked, CtlDesc, Mail, Memory, Name, Reply, Why};
@@ -47,7 +47,7 @@ impl<C: Controller> Works<C> {
     }
 
     /// The controller gives up its parameters. It takes no memory.
-    #[tactic(auto, using(crate::proofs::LifeLemmas::idle_where_inactive))]
+    #[tactic(auto, using(ctl_slots::proofs::LifeLemmas::idle_where_inactive))]
     pub fn cleanup(&mut self, name: &Name) -> Reply
         ensures { IsAnswered (cleanup_reply self.old name.now) (cleanup_effect self.old name.now) self.new result }
     {

@@ -9,7 +9,7 @@ pub use cm_model::{
 pub use ctl_rack::Stock;
 pub use ctl_trait::Controller;
 pub use desk::Desk;
-pub use slot::Slot;
+pub use ctl_slots::Slot;
 pub use works::Works;
 
 mod answer;
@@ -19,5 +19,4 @@ mod cycles;
 mod desk;
 mod flight;
 mod lines;
-mod slot;
 mod works;

@@ -8,7 +8,7 @@ ghost use Rattle.cm_model.specs.State.{boot};
 ghost use Rattle.cm_desk.specs.Works.{IsAnswered, load_reply};
 
 use crate::flight::Flight;
-use crate::slot::Slot;
+use ctl_slots::Slot;
 use cm_model::{Checked, CtlDesc, Memory, Name, Reply, Shared, Why};
 use ctl_rack::{Piles, Stock};
 use ctl_trait::Controller;

@@ -10,7 +10,7 @@ use Rattle.cm_model.specs.Scene.{is_running, is_configured}
 use Rattle.cm_model.specs.State.{Loaded, life_of}
 use Rattle.cm_model.specs.declared.data.CtlData.{CtlData}
 use Rattle.cm_model.specs.declared.data.RunData.{RunData}
-use Rattle.cm_desk.specs.Lives.{IsIn}
+use Rattle.ctl_slots.specs.Lives.{IsIn, IsKept}
 
 some_is : {A : Type 0} (P : A → Type 0) (o : Option A) → IsSomeAnd o P → is_some o ≡ true
 some_is P None h = absurd h
@@ -26,11 +26,11 @@ there_is None e = cc
 there_is (Some x) e = tt
 
 -- it runs exactly in the state that is so
-pub active_is : (life : Life) (ctl : CtlData) → IsIn life ctl → is_running life ≡ is_some ctl.run
-active_is Unconfigured ctl h = sym (ap (λ c. is_some c.run) h)
-active_is Inactive ctl h = sym (ap is_some h.idle)
-active_is Active ctl h = sym (some_is (λ r. Unit {0}) ctl.run h.running)
-active_is Finalized ctl h = absurd h
+pub active_in : (life : Life) (ctl : CtlData) → IsIn life ctl → is_running life ≡ is_some ctl.run
+active_in Unconfigured ctl h = sym (ap (λ c. is_some c.run) h)
+active_in Inactive ctl h = sym (ap is_some h.idle)
+active_in Active ctl h = sym (some_is (λ r. Unit {0}) ctl.run h.running)
+active_in Finalized ctl h = absurd h
 
 -- it has parameters exactly in those that are so
 configured_is : (life : Life) (ctl : CtlData) → IsIn life ctl → is_configured life ≡ is_some ctl.params
@@ -39,9 +39,12 @@ configured_is Inactive ctl h = sym (some_is (λ p. Unit {0}) ctl.params h.config
 configured_is Active ctl h = sym (some_is (λ p. Unit {0}) ctl.params h.configured)
 configured_is Finalized ctl h = absurd h
 
+pub active_is : (life : Life) (ctl : CtlData) → IsKept life ctl → is_running life ≡ is_some ctl.run
+active_is life ctl h = active_in life ctl h.state
+
 -- so it is inactive in that state alone
-pub inactive_is : (life : Life) (ctl : CtlData) → IsIn life ctl → (is_configured life && not (is_running life)) ≡ (is_some ctl.params && not (is_some ctl.run))
-inactive_is life ctl h = rw (configured_is life ctl h, active_is life ctl h) refl
+pub inactive_is : (life : Life) (ctl : CtlData) → IsKept life ctl → (is_configured life && not (is_running life)) ≡ (is_some ctl.params && not (is_some ctl.run))
+inactive_is life ctl h = rw (configured_is life ctl h.state, active_in life ctl h.state) refl
 
 life_from : (params : Option Params) (r : Option RunData) (kind : _) (life : Life) → is_configured life ≡ is_some params → is_running life ≡ is_some r → (life ≡ Finalized → ⊥)
     → life ≡ life_of (record { kind = kind; params = params; run = r })
@@ -63,8 +66,8 @@ not_final Active ctl h e = cc
 not_final Finalized ctl h e = h
 
 -- and the state is that of its data
-pub life_is : (life : Life) (ctl : CtlData) → IsIn life ctl → life ≡ life_of ctl
-life_is life ctl h = life_from ctl.params ctl.run ctl.kind life (configured_is life ctl h) (active_is life ctl h) (not_final life ctl h)
+pub life_is : (life : Life) (ctl : CtlData) → IsKept life ctl → life ≡ life_of ctl
+life_is life ctl h = life_from ctl.params ctl.run ctl.kind life (configured_is life ctl h.state) (active_in life ctl h.state) (not_final life ctl h.state)
 
 idle_from : (ctl : CtlData) (p : Option Params) (r : Option RunData) → ctl.params ≡ p → ctl.run ≡ r → (is_some p && not (is_some r)) ≡ true → IsIdle ctl
 idle_from ctl None r params run e = cc

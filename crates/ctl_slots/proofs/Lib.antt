@@ -1,0 +1,10 @@
+pub mod LifeLemmas
+pub mod StepLemmas
+pub mod CommitLemmas
+pub mod MailLemmas
+pub mod UpdateLemmas
+pub mod CommitStateLemmas
+pub mod UpdateStateLemmas
+pub mod ShapeLemmas
+pub mod SeatLemmas
+pub mod FitLemmas

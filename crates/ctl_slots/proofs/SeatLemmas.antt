@@ -1,0 +1,181 @@
+-- Where the loaded controllers of a steady state of a valid description stand.
+use Rattle.std.proofs.Common.{◌≡◌, ℕ, zero, suc, ◌<◌, ◌≤◌, Bool, true, false, List, [], ◌∷◌, length, map, take, Option, Some, None, Ok, refl, sym, ap, ◌∙◌, true≢false, length-take, arith}
+use Rattle.std.specs.Prelude.{◌||◌, if◌then◌else◌, IfSome}
+use Rattle.std.specs.List.{AllByRecursion, IsDistinct}
+use Rattle.std.proofs.lemmas.List.{length-map}
+use Rattle.std.proofs.lemmas.Option.{slice_get-get_or}
+use Rattle.iface_names.specs.Interfaces.{same_interface, interface_text}
+use Rattle.iface_names.specs.Sameness.{same_interface-Decides, same_interface-IsEquivalence}
+use Rattle.iface_names.specs.declared.interface.IfaceName.{IfaceName}
+use Rattle.cm_document.specs.Described.{states_of}
+use Rattle.cm_document.specs.Links.{is_among, joints_of, references_of, refs_of, reference_for, exported_for}
+use Rattle.cm_document.specs.Places.{interfaces_of}
+use Rattle.cm_document.specs.Valid.{limited, few_enough, names_apart, interfaces_apart, links_apart, named_apart, repeated_after, valid, IsValid}
+use Rattle.cm_document.specs.declared.description.CtlDesc.{CtlDesc}
+use Rattle.cm_document.specs.declared.description.Description.{Description}
+use Rattle.cm_document.specs.declared.description.Params.{Params}
+use Rattle.cm_document.specs.declared.description.Params.TheVariants.{Forward, Passthrough, Pid, Trajectory, Broadcaster, Mock}
+use Rattle.cm_document.specs.declared.faults.CheckFault.TheVariants.{NameTwice}
+use Rattle.cm_document.specs.declared.faults.What.TheVariants.{Components, Joints, States}
+use Rattle.cm_document.proofs.DistinctLemmas.{all_so, repeated_after-IsDistinct}
+use Rattle.cm_document.proofs.ReadingLemmas.{bind_Ok}
+use Rattle.cm_model.specs.Controllers.{AreItsCounts}
+use Rattle.cm_model.specs.Order.{controller_at, nobody}
+use Rattle.cm_model.specs.State.{Loaded}
+use Rattle.cm_model.specs.Steady.{IsOwn}
+use Rattle.chain_order.proofs.FewLemmas.{within_limit, few_controllers}
+use Rattle.chain_order.specs.Links.{linked}
+use Rattle.sound_laws.proofs.ValidLemmas.{none_told, valid-IsChecked}
+use Rattle.ctl_places.specs.Placed.{placed_of, AreFound}
+use Rattle.ctl_places.proofs.ExistLemmas.{among_itself}
+use Rattle.ctl_places.proofs.PlacedLemmas.{placed_of-HasAllRows, reads-AreFound, references-AreFound, claims-AreFound}
+use Rattle.ctl_slots.specs.Seats.{IsSeated, HasRoom, widest}
+use Rattle.ctl_slots.proofs.ShapeLemmas.{IsWellShaped, described_shape}
+
+-- ---- Distinct names among others are no more than these
+
+-- the others without the first that is the same
+abbrev without_one : IfaceName → List IfaceName → List IfaceName
+without_one x [] = []
+without_one x (y ∷ ys) = if same_interface x y then ys else y ∷ without_one x ys
+
+without_count : (x : IfaceName) (ys : List IfaceName) → is_among x ys ≡ true → length ys ≡ suc (length (without_one x ys))
+without_count x [] among = absurd (true≢false (sym among))
+without_count x (y ∷ ys) among = either (same_interface x y) among (without_count x ys)
+  where
+    either : (b : Bool) → (b || is_among x ys) ≡ true → (is_among x ys ≡ true → length ys ≡ suc (length (without_one x ys)))
+        → suc (length ys) ≡ suc (length (if b then ys else y ∷ without_one x ys))
+    either true among rest = refl
+    either false among rest = ap suc (rest among)
+
+without_keeps : (x z : IfaceName) (ys : List IfaceName) → same_interface x z ≡ false → is_among z ys ≡ true → is_among z (without_one x ys) ≡ true
+without_keeps x z [] differ among = among
+without_keeps x z (y ∷ ys) differ among = either (same_interface x y) refl (same_interface z y) refl among (without_keeps x z ys differ)
+  where
+    either : (b : Bool) → same_interface x y ≡ b → (c : Bool) → same_interface z y ≡ c → (c || is_among z ys) ≡ true → (is_among z ys ≡ true → is_among z (without_one x ys) ≡ true)
+        → is_among z (if b then ys else y ∷ without_one x ys) ≡ true
+    either true e true f among rest =
+        let one : x ≡ y = (same_interface-Decides x y).0 e in
+        let two : z ≡ y = (same_interface-Decides z y).0 f in
+        absurd (true≢false (sym ((same_interface-Decides x z).1 (one ∙ sym two)) ∙ differ))
+    either true e false f among rest = among
+    either false e true f among rest = rw f refl
+    either false e false f among rest = rw f (rest among)
+
+pub distinct_most : (xs ys : List IfaceName) → IsDistinct same_interface xs → AllByRecursion (λ x. is_among x ys ≡ true) xs → length xs ≤ length ys
+unfolding IsDistinct
+distinct_most [] ys apart among = omega arith
+distinct_most (x ∷ xs) ys apart among =
+    let less = distinct_most xs (without_one x ys) apart.1 (others xs apart.0 among.1) in
+    let one = without_count x ys among.0 in
+    omega (arith, less, one)
+  where
+    others : (zs : List IfaceName) → AllByRecursion (λ z. same_interface x z ≡ false) zs → AllByRecursion (λ z. is_among z ys ≡ true) zs
+        → AllByRecursion (λ z. is_among z (without_one x ys) ≡ true) zs
+    others [] apart among = tt
+    others (z ∷ zs) apart among = (without_keeps x z ys apart.0 among.0, others zs apart.1 among.1)
+
+-- ---- Reads
+
+reads_distinct : (cs : List CtlDesc) (u : Unit {0}) → links_apart cs ≡ Ok u → (p : ℕ) → IsDistinct same_interface (controller_at cs p).reads
+unfolding IsDistinct
+reads_distinct [] u e p = tt
+reads_distinct (c ∷ cs) u e zero =
+    let claims = bind_Ok (interfaces_apart c.claims) _ u e in
+    let reads = bind_Ok (interfaces_apart c.reads) _ u claims.2 in
+    repeated_after-IsDistinct same_interface same_interface-IsEquivalence [] c.reads
+    (none_told (λ x. NameTwice (interface_text x)) (repeated_after same_interface [] c.reads) reads.0 reads.1) tt
+reads_distinct (c ∷ cs) u e (suc p) =
+    let claims = bind_Ok (interfaces_apart c.claims) _ u e in
+    let reads = bind_Ok (interfaces_apart c.reads) _ u claims.2 in
+    reads_distinct cs u reads.2 p
+
+valid_reads_distinct : (d : Description) → valid d ≡ Ok d → (p : ℕ) → IsDistinct same_interface (controller_at d.controllers p).reads
+unfolding valid
+valid_reads_distinct d e =
+    let counted = bind_Ok (few_enough d) _ d e in
+    let named = bind_Ok (named_apart d) _ d counted.2 in
+    let components = bind_Ok (names_apart (map (λ c. c.name) d.components)) _ named.0 named.1 in
+    let joints = bind_Ok (names_apart (map (λ j. j.name) (joints_of d.components))) _ named.0 components.2 in
+    let controllers = bind_Ok (names_apart (map (λ c. c.name) d.controllers)) _ named.0 joints.2 in
+    let references = bind_Ok (interfaces_apart (references_of d.controllers)) _ named.0 controllers.2 in
+    reads_distinct d.controllers named.0 references.2
+
+few_states : (d : Description) → valid d ≡ Ok d → length (states_of d.components) ≤ 96
+unfolding valid
+few_states d e =
+    let counted = bind_Ok (few_enough d) _ d e in
+    let components = bind_Ok (limited Components (length d.components) 16) _ counted.0 counted.1 in
+    let joints = bind_Ok (limited Joints (length (joints_of d.components)) 32) _ counted.0 components.2 in
+    let states = bind_Ok (limited States (length (states_of d.components)) 96) _ counted.0 joints.2 in
+    within_limit States (length (states_of d.components)) 96 states.0 states.1
+
+-- A controller reads no more interfaces than there may be states.
+few_reads : (d : Description) → IsValid d → (p : ℕ) → length (controller_at d.controllers p).reads ≤ 96
+few_reads d ok p =
+    let reads = (controller_at d.controllers p).reads in
+    let there = all_so (λ name. is_among name reads ≡ true) (λ name. is_among name (states_of d.components) ≡ true)
+    (λ name. (valid-IsChecked d ok.no_fault).reads p name) reads (among_itself reads) in
+    let most = distinct_most reads (states_of d.components) (valid_reads_distinct d ok.no_fault p) there in
+    omega (arith, most, few_states d ok.no_fault)
+
+-- ---- References
+
+-- a controller has no more references than it has claims, or one
+references_most : (c : CtlDesc) (p : Params) → length c.claims ≤ 32 → length (map (reference_for c.name) (exported_for p c)) ≤ 32
+references_most c (Forward outs) few = omega arith
+references_most c (Passthrough outs) few = omega (arith, few, length-map c.claims (reference_for c.name))
+references_most c (Pid kp ki kd imax omax) few = omega (arith, length-map (take 1 c.reads) (reference_for c.name), length-take 1 c.reads)
+references_most c (Trajectory outs) few = omega arith
+references_most c (Broadcaster ins) few = omega arith
+references_most c (Mock outs refuse_config not_ready fail_update) few = omega arith
+
+-- ---- Seats
+
+module _ (d : Description) (ok : IsValid d) (l : Loaded) (described : l.place < length d.controllers) where
+  abbrev c : CtlDesc
+  c = controller_at d.controllers l.place
+
+  reads : AreFound d c.reads (linked (placed_of d).reads l.place)
+  reads = reads-AreFound d ok l.place
+
+  references : AreFound d (refs_of c) (linked (placed_of d).references l.place)
+  references = references-AreFound d l.place
+
+  claims : AreFound d c.claims (linked (placed_of d).claims l.place)
+  claims = claims-AreFound d ok l.place
+
+  shape : IsWellShaped c
+  shape =
+      let few = few_reads d ok l.place in
+      described_shape d ok l.place c (slice_get-get_or d.controllers l.place nobody described) (omega (arith, few))
+
+  own_counts : (o : Option Params) → IfSome o (λ params. params ≡ c.params)
+      → IfSome o (λ params. AreItsCounts params (length (linked (placed_of d).reads l.place)) (length (linked (placed_of d).references l.place)) (length (linked (placed_of d).claims l.place)))
+  own_counts None own = tt
+  own_counts (Some params) own = rw (own, reads.count, references.count, claims.count) shape.counts
+
+  -- A loaded controller with its own parameters stands on the board of its description.
+  pub own_seat : IsOwn d.controllers l → IsSeated (placed_of d) (length (interfaces_of d)) l
+  own_seat own =
+      let rows = placed_of-HasAllRows d in
+      record {
+        few = omega (arith, described, few_controllers d ok);
+        few_reads = omega (arith, reads.count, few_reads d ok l.place);
+        few_claims = omega (arith, claims.count, shape.few_claims);
+        reads = omega (arith, rows.reads, described);
+        references = omega (arith, rows.references, described);
+        claims = omega (arith, rows.claims, described);
+        read_there = reads.within;
+        referred_there = references.within;
+        claimed_there = claims.within;
+        counts = own_counts l.ctl.params own.described;
+      }
+
+  -- And there is room for what it has.
+  pub own_room : HasRoom (placed_of d) widest l
+  own_room = record {
+    states = omega (arith, reads.count, few_reads d ok l.place);
+    references = omega (arith, references.count, references_most c c.params shape.few_claims);
+    outs = omega (arith, claims.count, shape.few_claims);
+  }
