@@ -1,0 +1,147 @@
+//! Requests that a component be brought to a lifecycle state, which are decided.
+
+ghost use Rattle.std.specs.Prelude.{◌≡◌, ◌<◌, length, map, position, Some, IfOk, IfSome};
+ghost use Rattle.iface_names.specs.Names.{same_name};
+ghost use Rattle.cm_model.specs.Boundary.{component_place, move_fault};
+ghost use Rattle.cm_model.specs.State.{State};
+ghost use Rattle.cm_model.specs.declared.request.Request.TheVariants as asks;
+ghost use Rattle.switch_plan.specs.Relations.{relations_of};
+ghost use Rattle.request_plan.specs.Stands.{IsStand, IsSeenOf};
+ghost use Rattle.request_plan.specs.Acts.{IsConclusionOf, IsActWithin};
+
+use crate::acts::{Act, Conclusion};
+use crate::moves::move_fault;
+use crate::stand::{Stand, order};
+use cm_model::{Boxed, Cause, Checked, CompDesc, Life, Member, Memory, Name, Outcome, Rare};
+use std::alloc::Global;
+use switch_plan::Relations;
+
+/// What is concluded of a request that a component be brought to a lifecycle state.
+pub(crate) fn conclude_move(
+    alloc: Global,
+    checked: &Checked,
+    relations: &Relations,
+    stand: &Stand,
+    component: &Name,
+    target: Life,
+) -> Result<Conclusion, Memory>
+    requires relations { relations.now ≡ relations_of checked.now }
+    requires stand { IsStand checked.now stand.now }
+    ensures concluded { IfOk result (λ c. (s : State) → IsSeenOf s checked.now stand.now
+        → IsConclusionOf s (asks.Hardware component.now target) c) }
+    ensures within { IfOk result (λ c. IsActWithin (length stand.now.lives.items) c.act) }
+{
+    match component_place(checked, component) {
+        Some(place) => {
+            let conclusion = conclude_at(
+                alloc, checked, relations, stand, component, place, target,
+            )?;
+            Ok(conclusion)
+        }
+        None => {
+            let conclusion = refused(alloc, component, Cause::Unknown)?;
+            Ok(conclusion)
+        }
+    }
+}
+
+/// What is concluded of a request that a component be brought to a lifecycle state, which has this place.
+fn conclude_at(
+    alloc: Global,
+    checked: &Checked,
+    relations: &Relations,
+    stand: &Stand,
+    component: &Name,
+    place: u32,
+    target: Life,
+) -> Result<Conclusion, Memory>
+    requires relations { relations.now ≡ relations_of checked.now }
+    requires stand { IsStand checked.now stand.now }
+    requires at { component_place checked.now component.now ≡ Some place }
+    requires within { place < length stand.now.lives.items }
+    ensures concluded { IfOk result (λ c. (s : State) → IsSeenOf s checked.now stand.now
+        → IsConclusionOf s (asks.Hardware component.now target) c) }
+    ensures within { IfOk result (λ c. IsActWithin (length stand.now.lives.items) c.act) }
+{
+    match fault_at(alloc, checked, relations, stand, place, target)? {
+        Some(cause) => {
+            let conclusion = refused(alloc, component, cause)?;
+            Ok(conclusion)
+        }
+        None => Ok(Conclusion {
+            outcome: Outcome::Done {
+                dropped: Rare::none(),
+            },
+            act: Act::Move {
+                component: place,
+                target,
+            },
+        }),
+    }
+}
+
+/// What speaks against the move of the component at a place to a lifecycle state.
+fn fault_at(
+    alloc: Global,
+    checked: &Checked,
+    relations: &Relations,
+    stand: &Stand,
+    place: u32,
+    target: Life,
+) -> Result<Option<Cause>, Memory>
+    requires relations { relations.now ≡ relations_of checked.now }
+    requires stand { IsStand checked.now stand.now }
+    requires within { place < length stand.now.lives.items }
+    ensures { IfOk result (λ fault. (s : State) → IsSeenOf s checked.now stand.now
+        → fault ≡ move_fault s place target) }
+{
+    let place = place as usize;
+    let life = stand.lives[place];
+    let members = order(alloc, checked, relations, &stand.loaded)?;
+    let places = places_of(alloc, &members)?;
+    let fault = move_fault(checked, relations, place, life, target, &places)?;
+    Ok(fault)
+}
+
+/// The request is refused because of this name.
+fn refused(alloc: Global, name: &Name, cause: Cause) -> Result<Conclusion, Memory>
+    ensures outcome { IfOk result (λ c. c.outcome ≡ Outcome.Refused name.now cause) }
+    ensures act { IfOk result (λ c. c.act ≡ Act.Nothing) }
+{
+    let name = Boxed::new(alloc, name.clone()?)?;
+    let cause = Boxed::new(alloc, cause)?;
+    Ok(Conclusion {
+        outcome: Outcome::Refused(name, cause),
+        act: Act::Nothing,
+    })
+}
+
+/// The place of the component of this name.
+fn component_place(checked: &Checked, name: &Name) -> Option<u32>
+    ensures place { result ≡ component_place checked.now name.now }
+    ensures within { IfSome result (λ place. place < length checked.now.components) }
+{
+    let place = position(checked.description().components.as_slice(), name)?;
+    Some(place as u32)
+}
+
+/// Where the component of this name stands.
+fn position(components: &[CompDesc], name: &Name) -> Option<usize>
+    ensures place { result ≡ position (λ component. same_name component.name name.now) components.now }
+    ensures within { IfSome result (λ place. place < length components.now) }
+{
+    components
+        .iter()
+        .position(|component| component.name == *name)
+}
+
+/// The places of these.
+fn places_of(alloc: Global, members: &[Member]) -> Result<Vec<u32>, Memory>
+    ensures { IfOk result (λ places. places.items ≡ map (λ m. m.place) members.now) }
+{
+    let mut places = Vec::with_capacity(alloc, members.len())?;
+    for member in members {
+        places.push(member.place)?;
+    }
+    Ok(places)
+}

@@ -1,0 +1,19 @@
+//! Requests that wait: what becomes of each is planned where a cycle begins, one after the other, each in the state that the one before
+//! it left. Planning takes memory and changes nothing; what is planned is then done without memory.
+#![tactic(auto)]
+
+pub use acts::{Act, Conclusion, Switched};
+pub use cm_model::{
+    Cause, Checked, Decision, Life, Member, Memory, Outcome, Rare, Reply, Request, Seen, Why,
+};
+pub use plans::Plan;
+pub use requests::Requests;
+pub use stand::Stand;
+
+mod acts;
+mod components;
+mod moves;
+mod plans;
+mod requests;
+mod stand;
+mod switches;
