@@ -7,10 +7,10 @@ ghost use Rattle.cm_model.specs.Kinds.{are_ranged, takes, takes_none};
 ghost use Rattle.cm_model.specs.State.{is_active};
 ghost use Rattle.cm_desk.specs.Works.{IsAnswered, IsAsDescribed, IsConfigured};
 
-use ctl_slots::Slot;
 use crate::works::{Works, described_at};
 use chain_order::divisor;
 use cm_model::{Checked, CtlDesc, Mail, Memory, Name, Reply, Why};
+use ctl_slots::Slot;
 use ctl_trait::{CfgFault, Controller, takes, takes_none};
 use std::alloc::Global;
 

@@ -7,9 +7,9 @@ pub use cm_model::{
     Outcome, Reply, Why,
 };
 pub use ctl_rack::Stock;
+pub use ctl_slots::Slot;
 pub use ctl_trait::Controller;
 pub use desk::Desk;
-pub use ctl_slots::Slot;
 pub use works::Works;
 
 mod answer;

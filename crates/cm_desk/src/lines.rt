@@ -6,10 +6,10 @@ ghost use Rattle.std.specs.Option.{option_map_or};
 ghost use Rattle.cm_document.specs.Links.{precedes};
 ghost use Rattle.cm_model.specs.State.{is_active, is_chained, precedes_described, controller_line, controller_lines};
 
-use ctl_slots::Slot;
 use crate::works::Works;
 use chain_order::exports;
 use cm_model::{CtlDesc, CtlLine, Memory, Seq};
+use ctl_slots::Slot;
 use ctl_trait::Controller;
 use std::alloc::Global;
 

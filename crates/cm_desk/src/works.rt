@@ -8,9 +8,9 @@ ghost use Rattle.cm_model.specs.State.{boot};
 ghost use Rattle.cm_desk.specs.Works.{IsAnswered, load_reply};
 
 use crate::flight::Flight;
-use ctl_slots::Slot;
 use cm_model::{Checked, CtlDesc, Memory, Name, Reply, Shared, Why};
 use ctl_rack::{Piles, Stock};
+use ctl_slots::Slot;
 use ctl_trait::Controller;
 use std::alloc::Global;
 use std::marker::Model;
