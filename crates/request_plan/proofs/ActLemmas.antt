@@ -11,7 +11,10 @@ use Rattle.cm_document.specs.declared.life.Life.{Life}
 use Rattle.cm_document.specs.declared.life.Life.TheVariants.{Unconfigured, Inactive, Active}
 use Rattle.cm_model.proofs.CommitLemmas.{scene_active}
 use Rattle.cm_model.specs.BestEffort.{best, decided, plan_of}
-use Rattle.cm_model.specs.Boundary.{component_place, move_fault, with_switch, with_move_unless, with_move, Concluded, concluded}
+use Rattle.std.specs.Option.{option_or}
+use Rattle.cm_model.specs.Components.{has_move}
+use Rattle.cm_model.specs.Faults.{cause_if}
+use Rattle.cm_model.specs.Boundary.{component_place, life_at, move_fault, with_switch, with_move_unless, with_move, Concluded, concluded}
 use Rattle.cm_model.specs.Commit.{seen, scene_of, commit}
 use Rattle.cm_model.specs.Cycle.{active_order, moved}
 use Rattle.cm_model.specs.Order.{Places, set_of, depth, in_order}
@@ -271,6 +274,11 @@ order_seen s d stand is loaded same =
 
 -- ---- A move
 
+-- a move that nothing speaks against is one that there is
+can_move : (b : Bool) (rest : Option Cause) → option_or (cause_if (not b) cause.NoSuchMove) rest ≡ None → b ≡ true
+can_move true rest none = refl
+can_move false rest none = cc
+
 module _ (s : State) (d : Description) (stand : Stand) (is : IsSeenOf s d stand) (name : List ℕ) (target : Life) where
   -- A move of no described component is refused.
   pub move_unknown : component_place d name ≡ None → (c : Conclusion) → c.outcome ≡ outcome.Refused name cause.Unknown → c.act ≡ act.Nothing
@@ -306,7 +314,7 @@ module _ (s : State) (d : Description) (stand : Stand) (is : IsSeenOf s d stand)
         record {
           outcome = became ∙ ap (λ (m : Concluded). m.outcome) (sym made);
           act = subst (IsActOf s (concluded s (request.Hardware name target)).state) (sym does)
-              (record { within = rw (of_lives s d stand is) below; is = ap (λ (m : Concluded). m.state) made });
+              (record { within = rw (of_lives s d stand is) below; possible = can_move (has_move (life_at s place) target) _ (sym is_fault ∙ is_so); is = ap (λ (m : Concluded). m.state) made });
         }
 
 -- What speaks against a move by the places of the active controllers in order is what speaks against it in the state.

@@ -3,8 +3,9 @@ use Rattle.std.specs.Prelude.{◌≡◌, ℕ, ◌<◌, Bool, true, false, not, �
 use Rattle.cm_document.specs.declared.description.Description.{Description}
 use Rattle.cm_document.specs.declared.life.Life.{Life}
 use Rattle.cm_document.specs.declared.life.Life.TheVariants.{Inactive, Active}
-use Rattle.cm_model.specs.Boundary.{concluded}
+use Rattle.cm_model.specs.Boundary.{life_at, concluded}
 use Rattle.cm_model.specs.Commit.{scene_of, commit}
+use Rattle.cm_model.specs.Components.{has_move}
 use Rattle.cm_model.specs.Cycle.{moved}
 use Rattle.cm_model.specs.Order.{Places, set_of}
 use Rattle.cm_model.specs.Scene.{is_chained_in}
@@ -58,9 +59,10 @@ pub record IsSwitchOf (s after : State) (c : Switched) : Type 0 where
   pub configured : AreConfigured s.loaded (set_of c.set)
   pub together : CanRunTogether s.description s.lives (set_of c.set)
 
--- The component at this place comes to the target.
+-- The component at this place comes to the target, to which it can move.
 pub record IsMoveOf (s after : State) (component : ℕ) (target : Life) : Type 0 where
   pub within : component < length s.lives
+  pub possible : has_move (life_at s component) target ≡ true
   pub is : after ≡ moved s (slice_set s.lives component target)
 
 -- This is done for the plan of a switch: nothing where it is refused, and else its sets.
