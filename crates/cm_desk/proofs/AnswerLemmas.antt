@@ -1,14 +1,18 @@
 -- What lists leave, and the replies of the other calls, which take no memory.
-use Rattle.std.proofs.Common.{◌≡◌, ℕ, Bool, true, List, [], ◌∷◌, Option, Some, None, refl}
+use Rattle.std.proofs.Common.{◌≡◌, ℕ, Bool, true, Result, Ok, Err, List, [], ◌∷◌, length, Option, Some, None, refl, ap}
+use Rattle.std.specs.Prelude.{IfOk, OnErr}
 use Rattle.cm_document.specs.declared.call.Call.{Call}
 use Rattle.cm_document.specs.declared.call.Call.TheVariants.{ListControllers, ListInterfaces, ListComponents}
 use Rattle.cm_document.proofs.ReadingLemmas.{chosen}
+use Rattle.cm_model.specs.Boundary.{request_refusals, request_reply, request_effect}
 use Rattle.cm_model.specs.Console.{unless_refused, place_of, reply_on}
 use Rattle.cm_model.specs.Machine.{load_refusals, reply_of}
 use Rattle.cm_model.specs.State.{State, Loaded}
 use Rattle.cm_model.specs.declared.reply.Reply.{Reply}
 use Rattle.cm_model.specs.declared.reply.Reply.TheVariants as reply
 use Rattle.cm_model.specs.declared.reply.Why.{Why}
+use Rattle.cm_model.specs.declared.request.Request.{Request}
+use Rattle.request_plan.specs.Requests.{Asked, with_asked, IsAnswered}
 use Rattle.cm_desk.specs.Desk.{is_list, IsShort, IsAnswerTo}
 use Rattle.cm_desk.specs.Works.{load_reply}
 
@@ -30,3 +34,19 @@ load_reply_is_short s name = unless_refused-IsShort (load_refusals s (place_of s
 pub reply_on_is_short : (refusals : Loaded → List (Bool × Why)) (l : Option Loaded) → IsShort (reply_on refusals l)
 reply_on_is_short refusals None = tt
 reply_on_is_short refusals (Some l) = unless_refused-IsShort (refusals l) reply.Done tt
+
+pub request_reply_is_short : (s : State) → IsShort (request_reply s)
+request_reply_is_short s = unless_refused-IsShort (request_refusals s) (reply.Queued (length s.requests)) tt
+
+-- what is answered in every state with these requests is answered in this one
+pub asked_so : {E : Type 0} (s : State) (before after : Asked) (closed : Bool) (asked : Request) (result : Result Reply E)
+    → IfOk result (λ answer. (u : State) → IsAnswered (request_reply (with_asked u before closed)) (request_effect (with_asked u before closed) asked) (with_asked u after closed) answer)
+    → IfOk result (λ answer. IsAnswered (request_reply (with_asked s before closed)) (request_effect (with_asked s before closed) asked) (with_asked s after closed) answer)
+asked_so s before after closed asked (Ok answer) answered = answered s
+asked_so s before after closed asked (Err e) answered = tt
+
+-- where the requests stay, the state does
+pub unasked_so : {A E : Type 0} (s : State) (before after : Asked) (closed : Bool) (result : Result A E) → OnErr result (after ≡ before)
+    → OnErr result (with_asked s after closed ≡ with_asked s before closed)
+unasked_so s before after closed (Ok answer) kept = tt
+unasked_so s before after closed (Err e) kept = ap (λ (asked : Asked). with_asked s asked closed) kept

@@ -1,5 +1,19 @@
+pub mod RosterLemmas
 pub mod FlightLemmas
-pub mod WorksLemmas
 pub mod AnswerLemmas
+pub mod ActiveLemmas
+pub mod KeptLemmas
+pub mod StayLemmas
+pub mod WorksLemmas
+pub mod CommitLemmas
+pub mod BeginLemmas
+pub mod EndLemmas
 pub mod RecordLemmas
 mod DeskRows
+pub mod ChangeLemmas
+pub mod OrderLemmas
+pub mod BootLemmas
+pub mod TimeLemmas
+pub mod SendLemmas
+pub mod AfterLemmas
+pub mod ActingLemmas

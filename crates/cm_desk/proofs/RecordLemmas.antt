@@ -1,32 +1,44 @@
 -- One lemma for every call: from 'what is kept at run time made the step' to what the desk's type keeps and its clauses say.
-use Rattle.std.proofs.Common.{◌≡◌, ℕ, suc, ◌+◌, ◌<◌, ◌≤◌, Bool, true, false, nat_lt, List, [], length, take, drop, length-append, length-take, length-drop, length-set, Option, Some, None, refl, sym, ap, ◌∙◌, arith}
+use Rattle.std.proofs.Common.{◌≡◌, ℕ, suc, ◌+◌, ◌<◌, ◌≤◌, Bool, true, false, nat_lt, List, [], length, take, drop, length-append, length-take, length-drop, length-set, Option, Some, None, refl, sym, ap, subst, ◌∙◌, arith}
 use Rattle.std.specs.Prelude.{not, ◌==◌, ◌&&◌, option_map, slice_get}
 use Rattle.std.proofs.lemmas.Bool.Decides.{nat_tests}
 use Rattle.std.proofs.lemmas.List.{length-map, length_push}
+use Rattle.std.proofs.lemmas.Option.{slice_get_within}
 use Rattle.cm_document.specs.declared.call.Call.{Call}
-use Rattle.cm_document.specs.declared.call.Call.TheVariants.{Load, Configure, Cleanup, Unload, Rate, Send, Told, Await, ListControllers, ListInterfaces, ListComponents, Begin, End, Close}
+use Rattle.cm_document.specs.declared.call.Call.TheVariants.{Load, Configure, Cleanup, Unload, Rate, Send, Switch, Hardware, Told, Await, ListControllers, ListInterfaces, ListComponents, Begin, End, Close}
 use Rattle.cm_document.specs.declared.description.CtlDesc.{CtlDesc}
 use Rattle.cm_model.specs.Console.{place_of, slot_of, where_done, with_slot, with_changed, without_slot, after_configure, after_cleanup, after_rate, after_send}
+use Rattle.cm_model.specs.Boundary.{is_decided, waiting, boundary, request_effect, begin_effect, begin_reply, close_effect, close_reply}
 use Rattle.cm_model.specs.Commit.{commit}
 use Rattle.cm_model.specs.Components.{read_succeeds}
 use Rattle.cm_model.specs.Cycle.{CycleResult, component_is, updated_in, updates, cycle, after_cycle}
-use Rattle.cm_model.specs.Machine.{is_decided, is_reached, is_enabled, reply_of, effect, with_controller, with_loaded, load_effect, can_begin, can_close, step}
+use Rattle.cm_model.specs.Machine.{is_reached, is_enabled, reply_of, effect, with_controller, with_loaded, load_effect, can_begin, can_close, step}
 use Rattle.cm_model.specs.Scheduled.{with_entry}
 use Rattle.cm_model.specs.State.{State, Loaded, boot, newly_loaded}
 use Rattle.cm_model.specs.Values.{after_reads}
 use Rattle.cm_model.specs.declared.blanks.Blanks.{Blanks}
+use Rattle.cm_model.specs.declared.cause.Outcome.{Outcome}
 use Rattle.cm_model.specs.declared.entry.Entry.{Entry}
 use Rattle.cm_model.specs.declared.reply.Reply.{Reply}
 use Rattle.cm_model.specs.declared.reply.Reply.TheVariants as reply
+use Rattle.cm_model.specs.declared.request.Request.{Request}
+use Rattle.cm_model.specs.declared.request.Request.TheVariants as request
 use Rattle.cm_model.proofs.LegalLemmas.{Leads, Leads-step}
-use Rattle.cm_model.proofs.QuietLemmas.{quiet_begin, quiet_begin_reply, quiet_close, quiet_close_reply}
-use Rattle.cm_model.proofs.StayLemmas.{step-Stands}
+use Rattle.cm_model.proofs.StayLemmas.{step-Stands, step-IsStep}
 use Rattle.cm_model.proofs.UpdateLemmas.{updates_keep}
-use Rattle.sound_laws.proofs.HistoryLemmas.{legal_sound}
+use Rattle.sound_laws.proofs.HistoryLemmas.{legal_sound, step_steady}
+use Rattle.sound_laws.proofs.SerialLemmas.{IsNumbered, renumbered_numbered, effect_renumbered}
 use Rattle.cm_desk.specs.Desk.{owed, flag, seen, Keeps, Grows, CanBeCalled}
-use Rattle.cm_desk.specs.Works.{IsQuiet}
+use Rattle.cm_desk.proofs.BeginLemmas.{boundary_stays}
+use Rattle.cm_desk.proofs.StayLemmas.{begun_stays, count_stays}
 
 -- ---- One entry more
+
+-- serials go on to differ
+step_numbered : (s : State) (who : ℕ) (call : Call) (made : State × Reply) → IsNumbered s → step s who call ≡ Some made → IsNumbered made.0
+step_numbered s who call made numbered stepped =
+    let is = step-IsStep s who call made stepped in
+    subst IsNumbered (sym is.next) (renumbered_numbered s (effect s call made.1) (effect_renumbered s call made.1) numbered)
 
 -- what comes of a call that was recorded
 pub record Recorded (at_boot : Blanks) (s next : State) (made after : List Entry) (who : ℕ) (call : Call) (r : Reply) (entries boxes : ℕ) : Type 0 where
@@ -48,6 +60,8 @@ recorded at_boot s next made after who call r entries boxes later places kept st
         legal = rw grown leads.legal;
         sound = rw grown (legal_sound s.description at_boot s.sessions (with_entry made who call r) kept.valid leads.legal);
         ends = rw grown leads.ends;
+        steady = step_steady s who call (next, r) kept.valid kept.steady stepped;
+        numbered = step_numbered s who call (next, r) kept.numbered stepped;
         room = room;
         places = loaded;
       });
@@ -79,8 +93,8 @@ pub owed-end : (s : State) (c : CycleResult) → s.aloft ≡ true → owed (afte
 unfolding after_cycle commit
 owed-end s c aloft = rw aloft (omega arith)
 
--- the close was owed
-pub owed-close : (s : State) → s.closed ≡ false → owed (record s { closed = true }) + 1 ≡ owed s
+-- so was the close
+pub owed-close : (s : State) → s.closed ≡ false → owed (close_effect s) + 1 ≡ owed s
 owed-close s closed = rw closed (omega arith)
 
 -- the loop is open where it can close
@@ -118,6 +132,10 @@ without_slot-few : (s : State) (slot : Option ℕ) → length (without_slot s sl
 without_slot-few s None = omega arith
 without_slot-few s (Some i) = omega (arith, length-append (take i s.loaded) (drop (suc i) s.loaded), length-take i s.loaded, length-drop (suc i) s.loaded)
 
+request_effect-few : (s : State) (asked : Request) (r : Reply) → length (request_effect s asked r).loaded ≤ length s.loaded + 1
+request_effect-few s asked (reply.Queued _) = omega arith
+request_effect-few s asked _ = omega arith
+
 where_done-few : (r : Reply) (after s : State) → length after.loaded ≤ length s.loaded + 1 → length (where_done r after s).loaded ≤ length s.loaded + 1
 where_done-few reply.Done after s few = few
 where_done-few _ after s few = omega arith
@@ -130,6 +148,8 @@ effect-few s (Cleanup name) r can = where_done-few r _ s (with_changed-few after
 effect-few s (Unload name) r can = where_done-few r _ s (without_slot-few s (slot_of s name))
 effect-few s (Rate name hz) r can = where_done-few r _ s (with_changed-few (after_rate hz) s (slot_of s name))
 effect-few s (Send name mail) r can = where_done-few r _ s (with_changed-few (after_send mail) s (slot_of s name))
+effect-few s (Switch asked) r can = request_effect-few s (request.Switch asked) r
+effect-few s (Hardware component target) r can = request_effect-few s (request.Hardware component target) r
 effect-few s ListControllers r can = omega arith
 effect-few s ListInterfaces r can = omega arith
 effect-few s ListComponents r can = omega arith
@@ -143,6 +163,11 @@ end-few s =
     let same = updates_keep {B = ℕ} s (λ (l : Loaded). 0) (λ vs serial l. refl) (record { loaded = s.loaded; values = values; ran = [] }) (updated_in s) in
     length-map (updates s values).loaded _
     ∙ sym (length-map (updates s values).loaded (λ (l : Loaded). 0)) ∙ ap length same ∙ length-map s.loaded (λ (l : Loaded). 0)
+
+-- nor does a begin
+pub begin-few : (s : State) → length (begin_effect s).loaded ≡ length s.loaded
+begin-few s =
+    count_stays (boundary s).loaded (begin_effect s).loaded (begun_stays (boundary s)) ∙ count_stays s.loaded (boundary s).loaded (boundary_stays s (waiting s))
 
 -- ---- Steps
 
@@ -168,18 +193,29 @@ called_step s next who call r less can replied effected = stepped call can repli
     stepped (Unload name) can = enabled (Unload name) known
     stepped (Rate name hz) can = enabled (Rate name hz) known
     stepped (Send name mail) can = enabled (Send name mail) known
+    stepped (Switch asked) can = enabled (Switch asked) known
+    stepped (Hardware component target) can = enabled (Hardware component target) known
     stepped ListControllers can = enabled ListControllers known
     stepped ListInterfaces can = enabled ListInterfaces known
     stepped ListComponents can = enabled ListComponents known
     stepped _ can = absurd can
 
--- a session is told nothing of a request that is not decided
-pub told_waits : (s : State) (who ticket : ℕ) → who < s.sessions → length s.outcomes ≤ ticket → step s who (Told ticket) ≡ None
+-- a session is told what became of a request that is decided
+pub told_step : (s : State) (who ticket : ℕ) (o : Outcome) → who < s.sessions → slice_get s.outcomes ticket ≡ Some o → step s who (Told ticket) ≡ Some (s, reply.Outcome o)
 unfolding step
-told_waits s who ticket less undecided = rw (session_itself s who less, waits) refl
+told_step s who ticket o less told =
+    let below = slice_get_within s.outcomes ticket o told in
+    let decided : is_decided s ticket ≡ true = grind (arith, nat_tests) in
+    rw (session_itself s who less, decided, told) refl
+
+-- and nothing of one that is not
+pub told_waits : (s : State) (who ticket : ℕ) → who < s.sessions → slice_get s.outcomes ticket ≡ None → step s who (Told ticket) ≡ None
+unfolding step
+told_waits s who ticket less undecided = either (is_decided s ticket) refl
   where
-    waits : is_decided s ticket ≡ false
-    waits = grind (arith, nat_tests)
+    either : (b : Bool) → is_decided s ticket ≡ b → step s who (Told ticket) ≡ None
+    either true is = rw (session_itself s who less, is, undecided) refl
+    either false is = rw (session_itself s who less, is) refl
 
 -- a session goes on where so many cycles have ended, or the loop is closed
 pub await_step : (s : State) (who n : ℕ) → who < s.sessions → is_reached s n ≡ true → step s who (Await n) ≡ Some (s, reply.Done)
@@ -194,19 +230,17 @@ await_waits s who n less unreached = rw (session_itself s who less, unreached) r
 loop_itself : (n : ℕ) → (n == n) ≡ true
 loop_itself n = grind (arith, nat_tests)
 
--- the loop begins a cycle where it can, and decides nothing where nothing waits
-pub begin_step : (s : State) (n : ℕ) → can_begin s n ≡ true → IsQuiet s → step s s.sessions (Begin n) ≡ Some (record s { aloft = true }, reply.Decisions [])
+-- the loop begins a cycle where it can
+pub begin_step : (s : State) (n : ℕ) → can_begin s n ≡ true → step s s.sessions (Begin n) ≡ Some (begin_effect s, begin_reply s)
 unfolding step
-begin_step s n can quiet =
-    rw (loop_itself s.sessions, can, quiet_begin s quiet.unasked quiet.undecided quiet.still quiet.no_mail, quiet_begin_reply s quiet.unasked quiet.undecided) refl
+begin_step s n can = rw (loop_itself s.sessions, can) refl
 
 -- it ends the cycle that is aloft
 pub end_step : (s : State) → s.aloft ≡ true → step s s.sessions (End s.ended) ≡ Some (after_cycle s (cycle s), reply.Cycle (cycle s).happened)
 unfolding step
 end_step s aloft = rw (loop_itself s.sessions, aloft, loop_itself s.ended) refl
 
--- it closes where it can, and decides nothing where nothing waits
-pub close_step : (s : State) → can_close s ≡ true → IsQuiet s → step s s.sessions Close ≡ Some (record s { closed = true }, reply.Decisions [])
+-- it closes where it can
+pub close_step : (s : State) → can_close s ≡ true → step s s.sessions Close ≡ Some (close_effect s, close_reply s)
 unfolding step
-close_step s can quiet =
-    rw (loop_itself s.sessions, can, quiet_close s quiet.unasked quiet.undecided, quiet_close_reply s quiet.unasked quiet.undecided) refl
+close_step s can = rw (loop_itself s.sessions, can) refl

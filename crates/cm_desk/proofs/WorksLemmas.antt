@@ -1,29 +1,30 @@
 -- What the desk's calls make of the loaded controllers.
-use Rattle.std.proofs.Common.{◌≡◌, ℕ, suc, ◌+◌, ◌<◌, Bool, true, false, Result, Ok, Err, List, [], ◌∷◌, ◌++◌, length, get_or, take, drop, set, Option, Some, None, refl, sym, subst, ap, ◌∙◌, arith}
+use Rattle.std.proofs.Common.{◌≡◌, ℕ, suc, ◌+◌, ◌<◌, Bool, true, false, Result, Ok, Err, List, length, get_or, take, drop, set, Option, Some, None, refl, sym, subst, ap, ◌∙◌, arith}
 use Rattle.std.specs.Prelude.{◌==◌, ◌↔◌, slice_get, option_map, IsSomeAnd, OnOk, OnErr}
 use Rattle.std.specs.List.{All, remove}
 use Rattle.std.proofs.lemmas.List.{set-get_or}
-use Rattle.std.proofs.lemmas.List.Elements.{All-append, All-take, All-drop, All-push, All-set}
-use Rattle.std.proofs.lemmas.Option.{slice_get_within, slice_get_read, get_or_from_slice_get}
+use Rattle.std.proofs.lemmas.List.Elements.{All-append, All-take, All-drop}
+use Rattle.std.proofs.lemmas.Option.{same_Some, slice_get_within, slice_get_read, get_or_from_slice_get}
 use Rattle.cm_document.specs.Params.{kind_of}
 use Rattle.cm_document.specs.declared.description.CtlDesc.{CtlDesc}
 use Rattle.cm_document.specs.declared.description.CtlKind.{CtlKind}
 use Rattle.cm_document.specs.declared.description.CtlKind.TheVariants.{Forward, Passthrough, Pid, Trajectory, Broadcaster, Mock}
 use Rattle.cm_document.specs.declared.description.Description.{Description}
 use Rattle.cm_document.specs.declared.description.Params.{Params}
-use Rattle.cm_model.specs.Console.{unless_refused, controller_in, controller_of, slot_of, reply_on, with_changed}
+use Rattle.cm_model.specs.Console.{unless_refused, controller_in, controller_of, slot_of, reply_on, with_changed, without_slot, unload_refusals, unload_reply, moves_out}
 use Rattle.cm_model.specs.Controllers.{configured, CanBeConfigured}
 use Rattle.cm_model.specs.Kinds.{are_ranged, is_refused}
 use Rattle.cm_model.specs.Machine.{is_sold_out_at}
 use Rattle.cm_model.specs.Order.{divisor}
 use Rattle.cm_model.specs.State.{State, Loaded, blanks_of, with_one_less, is_active}
 use Rattle.cm_model.specs.declared.blanks.Blanks.{Blanks}
+use Rattle.cm_model.specs.declared.data.CtlData.{CtlData}
 use Rattle.cm_model.specs.declared.reply.Reply.TheVariants as reply
 use Rattle.cm_model.specs.declared.reply.Why.{Why}
 use Rattle.ctl_rack.specs.Stocks.{total}
 use Rattle.ctl_slots.proofs.LifeLemmas.{none_is}
-use Rattle.cm_desk.specs.Flight.{Flown}
-use Rattle.cm_desk.specs.Works.{IsAsDescribed, IsKept, IsConfigured}
+use Rattle.cm_desk.specs.Works.{IsAsDescribed, IsConfigured}
+use Rattle.cm_desk.proofs.ActiveLemmas.{IsSameOne}
 use Rattle.ctl_trait.specs.declared.fault.CfgFault.{CfgFault}
 use Rattle.ctl_trait.specs.declared.fault.CfgFault.TheVariants.{Refused, Memory}
 
@@ -43,6 +44,10 @@ described_from (Some c) kind e = (c, refl, cc)
 pub described_there : (d : Description) (l : Loaded) → IsAsDescribed d l → (c : CtlDesc) × (slice_get d.controllers l.place ≡ Some c) × (kind_of c.params ≡ l.ctl.kind)
 described_there d l e = described_from (slice_get d.controllers l.place) l.ctl.kind e
 
+-- the one that stands somewhere is as described
+pub kept_there : (d : Description) (ls : List Loaded) (i : ℕ) (l : Loaded) → All (IsAsDescribed d) ls → slice_get ls i ≡ Some l → IsAsDescribed d l
+kept_there d ls i l described there = subst (IsAsDescribed d) (get_or_from_slice_get ls i l l there) (described i l (slice_get_within ls i l there))
+
 -- ---- Blanks
 
 -- each load takes a blank, so that loads and blanks stay as many together
@@ -59,59 +64,6 @@ pub sold_out : (s : State) (place : ℕ) (c : CtlDesc) → slice_get s.descripti
     → is_sold_out_at s place ≡ (blanks_of s.blanks (kind_of c.params) == 0)
 sold_out s place c e = rw e refl
 
--- ---- What is kept
-
--- a controller of the described kind was loaded, which is not active
-pub kept_after_load : (d : Description) (names : List (List ℕ)) (blanks : Blanks) (loads : ℕ) (loaded : List Loaded) (f : Flown) (ended : ℕ) (c : CtlDesc) (l : Loaded)
-    → IsKept d names blanks loads loaded f ended → 0 < blanks_of blanks (kind_of c.params) → slice_get d.controllers l.place ≡ Some c → l.ctl.kind ≡ kind_of c.params → is_active l ≡ false
-    → IsKept d names (with_one_less blanks (kind_of c.params)) (loads + 1) (loaded ++ l ∷ []) f ended
-kept_after_load d names blanks loads loaded f ended c l kept some there kind idle = record {
-  named = kept.named;
-  described = All-push (IsAsDescribed d) loaded l kept.described (rw (there, kind) refl);
-  still = All-push (λ (m : Loaded). is_active m ≡ false) loaded l kept.still idle;
-  counted = omega (arith, kept.counted, one_less blanks (kind_of c.params) some);
-  flown = kept.flown;
-}
-
--- one was changed, which stays of its kind and is not active
-pub kept_after_change : (d : Description) (names : List (List ℕ)) (blanks : Blanks) (loads : ℕ) (loaded : List Loaded) (f : Flown) (ended : ℕ) (i : ℕ) (l : Loaded)
-    → IsKept d names blanks loads loaded f ended → IsAsDescribed d l → is_active l ≡ false → IsKept d names blanks loads (set loaded i l) f ended
-kept_after_change d names blanks loads loaded f ended i l kept same idle = record {
-  named = kept.named;
-  described = All-set (IsAsDescribed d) loaded i l same kept.described;
-  still = All-set (λ (m : Loaded). is_active m ≡ false) loaded i l idle kept.still;
-  counted = kept.counted;
-  flown = kept.flown;
-}
-
--- one was unloaded
-pub kept_after_unload : (d : Description) (names : List (List ℕ)) (blanks : Blanks) (loads : ℕ) (loaded : List Loaded) (f : Flown) (ended : ℕ) (i : ℕ)
-    → IsKept d names blanks loads loaded f ended → IsKept d names blanks loads (remove loaded i) f ended
-kept_after_unload d names blanks loads loaded f ended i kept = record {
-  named = kept.named;
-  described = All-remove (IsAsDescribed d) loaded i kept.described;
-  still = All-remove (λ (m : Loaded). is_active m ≡ false) loaded i kept.still;
-  counted = kept.counted;
-  flown = kept.flown;
-}
-
--- the one that stands somewhere is as described
-pub kept_there : (d : Description) (names : List (List ℕ)) (blanks : Blanks) (loads : ℕ) (loaded : List Loaded) (f : Flown) (ended : ℕ) (i : ℕ) (l : Loaded)
-    → IsKept d names blanks loads loaded f ended → slice_get loaded i ≡ Some l → IsAsDescribed d l
-kept_there d names blanks loads loaded f ended i l kept there =
-    let is : get_or loaded i l ≡ l = get_or_from_slice_get loaded i l l there in
-    subst (IsAsDescribed d) is (kept.described i l (slice_get_within loaded i l there))
-
--- what is kept of what is read there
-pub kept_at : (d : Description) (names : List (List ℕ)) (blanks : Blanks) (loads : ℕ) (loaded : List Loaded) (f : Flown) (ended : ℕ) (i : ℕ) (l : Loaded)
-    → IsKept d names blanks loads loaded f ended → i < length loaded → l ≡ get_or loaded i l
-    → (slice_get loaded i ≡ Some l) × IsAsDescribed d l × (is_active l ≡ false)
-kept_at d names blanks loads loaded f ended i l kept within read = (
-  slice_get_read loaded (length loaded) i l refl within read,
-  subst (IsAsDescribed d) (sym read) (kept.described i l within),
-  subst (λ (m : Loaded). is_active m ≡ false) (sym read) (kept.still i l within),
-)
-
 -- ---- What stands somewhere
 
 there_from : {X : Type 0} (P : X → Type 0) (xs : List X) (i : ℕ) (x : X) (o : Option X) → slice_get xs i ≡ o → IsSomeAnd o P → x ≡ get_or xs i x
@@ -125,12 +77,12 @@ there_from P xs i x (Some y) e holds same =
 pub there : {X : Type 0} (P : X → Type 0) (xs : List X) (i : ℕ) (x : X) → IsSomeAnd (slice_get xs i) P → x ≡ get_or xs i x → (slice_get xs i ≡ Some x) × P x
 there P xs i x holds same = there_from P xs i x (slice_get xs i) refl holds same
 
--- what was configured, or was not, stays of its kind and is not active
+-- what was configured, or was not, stays of its kind, under its serial and at its place, and is not active
 pub still_as_described : (d : Description) (l after : Loaded) (p : Params) (n : ℕ) (result : Result (Unit {0}) CfgFault)
     → OnOk result (after ≡ record l { ctl = configured l.ctl p; divisor = Some n }) → OnErr result (after ≡ l)
-    → IsAsDescribed d l → is_active l ≡ false → IsAsDescribed d after × (is_active after ≡ false)
-still_as_described d l after p n (Ok u) made kept same idle = (rw made same, rw made refl)
-still_as_described d l after p n (Err e) made kept same idle = (rw kept same, rw kept idle)
+    → IsAsDescribed d l → is_active l ≡ false → IsAsDescribed d after × IsSameOne l after
+still_as_described d l after p n (Ok u) made kept same idle = (rw made same, rw made (record { serial = refl; place = refl; active = sym idle }))
+still_as_described d l after p n (Err e) made kept same idle = (rw kept same, rw kept (record { serial = refl; place = refl; active = refl }))
 
 changed_from : (s new : State) (o : Option ℕ) (i : ℕ) (l after : Loaded) (refusals : Loaded → List (Bool × Why)) (change : Loaded → Loaded)
     → Some i ≡ o → slice_get s.loaded i ≡ Some l → unless_refused (refusals l) reply.Done ≡ reply.Done → after ≡ change l
@@ -146,6 +98,24 @@ pub changed_there : (s new : State) (name : List ℕ) (i : ℕ) (l after : Loade
     → (reply.Done ≡ reply_on refusals (controller_of s name)) × (new ≡ with_changed change s (slot_of s name))
 changed_there s new name i l after refusals change found stands allowed made next =
     changed_from s new (slot_of s name) i l after refusals change found stands allowed made next
+
+unloaded_from : (s new : State) (o : Option ℕ) (i : ℕ) (l : Loaded) → Some i ≡ o → slice_get s.loaded i ≡ Some l → is_active l ≡ false → new ≡ record s { loaded = remove s.loaded i }
+    → (reply.Done ≡ reply_on unload_refusals (controller_in s o)) × (new ≡ without_slot s o)
+unloaded_from s new o i l found stands idle next = rw (← found) (rw (stands, idle) refl, next)
+
+-- the one of a name is unloaded, where it is not active,
+pub unloaded_there : (s new : State) (name : List ℕ) (i : ℕ) (l : Loaded) → Some i ≡ slot_of s name → slice_get s.loaded i ≡ Some l → is_active l ≡ false
+    → new ≡ record s { loaded = remove s.loaded i } → (reply.Done ≡ unload_reply s name) × (new ≡ without_slot s (slot_of s name))
+unloaded_there s new name i l found stands idle next = unloaded_from s new (slot_of s name) i l found stands idle next
+
+handed_from : (s : State) (o : Option ℕ) (i : ℕ) (l : Loaded) (ctl : CtlData) → Some i ≡ o → slice_get s.loaded i ≡ Some l → ctl ≡ l.ctl
+    → Some ctl ≡ option_map (λ (m : Loaded). m.ctl) (controller_in s o)
+handed_from s o i l ctl found stands same = rw (← found) (rw (stands, same) refl)
+
+-- and its box is handed out
+pub handed_there : (s : State) (name : List ℕ) (i : ℕ) (l : Loaded) (ctl : CtlData) → Some i ≡ slot_of s name → slice_get s.loaded i ≡ Some l → ctl ≡ l.ctl
+    → Some ctl ≡ moves_out s name reply.Done
+handed_there s name i l ctl found stands same = handed_from s (slot_of s name) i l ctl found stands same
 
 -- ---- Configuring
 
@@ -178,3 +148,13 @@ configured_there old new i l after c n (Err Refused) there idle described rate n
     (rw there (rw (idle, described, refused.0 refl) refl), next ∙ ap (λ x. record old { loaded = x }) (put_back old.loaded i after l (kept ∙ sym (get_or_from_slice_get old.loaded i l l there))))
 configured_there old new i l after c n (Err Memory) there idle described rate next made refused kept =
     next ∙ ap (λ x. record old { loaded = x }) (put_back old.loaded i after l (kept ∙ sym (get_or_from_slice_get old.loaded i l l there)))
+
+-- what is read there stands there, and is as described
+pub stands_here : (d : Description) (ls : List Loaded) (i : ℕ) (l : Loaded) → All (IsAsDescribed d) ls → i < length ls → l ≡ get_or ls i l
+    → (slice_get ls i ≡ Some l) × IsAsDescribed d l
+stands_here d ls i l described within read = (slice_get_read ls (length ls) i l refl within read, subst (IsAsDescribed d) (sym read) (described i l within))
+
+-- what is read there twice is the same
+pub same_read : {X : Type 0} (xs : List X) (i : ℕ) (first again : X) → i < length xs → first ≡ get_or xs i first → again ≡ get_or xs i again → first ≡ again
+same_read xs i first again within read read_again =
+    same_Some first again (sym (slice_get_read xs (length xs) i first refl within read) ∙ slice_get_read xs (length xs) i again refl within read_again)

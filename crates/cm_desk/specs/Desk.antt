@@ -2,17 +2,19 @@
 use Rattle.std.specs.Prelude.{◌≡◌, ℕ, ◌+◌, ◌≤◌, Bool, true, false, not, List, length, Option, Some, None}
 use Rattle.cm_document.specs.Valid.{IsValid}
 use Rattle.cm_document.specs.declared.call.Call.{Call}
-use Rattle.cm_document.specs.declared.call.Call.TheVariants.{Load, Configure, Cleanup, Unload, Rate, Send, ListControllers, ListInterfaces, ListComponents}
+use Rattle.cm_document.specs.declared.call.Call.TheVariants.{Load, Configure, Cleanup, Unload, Rate, Send, Switch, Hardware, ListControllers, ListInterfaces, ListComponents}
 use Rattle.cm_model.specs.Console.{moves_out}
 use Rattle.cm_model.specs.Machine.{LegalFrom, state_after, reply_of, effect, step}
 use Rattle.cm_model.specs.Scheduled.{with_entry}
 use Rattle.cm_model.specs.Sound.{moments, AreSound}
 use Rattle.cm_model.specs.State.{State, boot}
+use Rattle.cm_model.specs.Steady.{IsSteady}
 use Rattle.cm_model.specs.declared.blanks.Blanks.{Blanks}
 use Rattle.cm_model.specs.declared.data.CtlData.{CtlData}
 use Rattle.cm_model.specs.declared.entry.Entry.{Entry}
 use Rattle.cm_model.specs.declared.reply.Reply.{Reply}
 use Rattle.cm_model.specs.declared.reply.Reply.TheVariants as reply
+use Rattle.sound_laws.proofs.SerialLemmas.{IsNumbered}
 
 -- ---- A history
 
@@ -42,7 +44,7 @@ GrowsWhere false old new who call r = Waits old new who call
 
 -- ---- Calls
 
--- A call that the desk answers for a session: one on a controller, or a list.
+-- A call that the desk answers for a session: one on a controller, a request, or a list.
 abbrev pub CanBeCalled : Call → Type 0
 CanBeCalled (Load _) = Unit {0}
 CanBeCalled (Configure _) = Unit {0}
@@ -50,6 +52,8 @@ CanBeCalled (Cleanup _) = Unit {0}
 CanBeCalled (Unload _) = Unit {0}
 CanBeCalled (Rate _ _) = Unit {0}
 CanBeCalled (Send _ _) = Unit {0}
+CanBeCalled (Switch _) = Unit {0}
+CanBeCalled (Hardware _ _) = Unit {0}
 CanBeCalled ListControllers = Unit {0}
 CanBeCalled ListInterfaces = Unit {0}
 CanBeCalled ListComponents = Unit {0}
@@ -66,6 +70,7 @@ is_list _ = false
 abbrev pub IsShort : Reply → Type 0
 IsShort reply.Done = Unit {0}
 IsShort (reply.Serial _) = Unit {0}
+IsShort (reply.Queued _) = Unit {0}
 IsShort (reply.Not _) = Unit {0}
 IsShort _ = ⊥
 
@@ -91,12 +96,15 @@ flag false = 0
 abbrev pub owed : State → ℕ
 owed s = flag s.aloft + flag (not s.closed)
 
--- The description is valid; the history is legal and sound, and leads to this state; there is room for the entries that are owed, and for the boxes that are loaded.
+-- The description is valid; the history is legal and sound, and leads to this state, which is steady and whose serials differ; there is
+-- room for the entries that are owed, and for the boxes that are loaded.
 pub record Keeps (opening : State) (made : List Entry) (now : State) (entries boxes : ℕ) : Type 0 where
   pub valid : IsValid opening.description
   pub legal : LegalFrom opening made
   pub sound : AreSound (moments opening made)
   pub ends : state_after opening made ≡ now
+  pub steady : IsSteady now
+  pub numbered : IsNumbered now
   pub room : length made + owed now ≤ entries
   pub places : length now.loaded ≤ boxes
 

@@ -1,11 +1,14 @@
 //! What a call of a session comes to: each is answered by the function of its name.
 
 ghost use Rattle.std.specs.Prelude.{◌≡◌, true, false, option_map, Some, IfOk, OnErr};
+ghost use Rattle.cm_model.specs.Boundary.{request_reply, request_effect};
 ghost use Rattle.cm_model.specs.Machine.{reply_of};
+ghost use Rattle.cm_model.specs.Steady.{IsSteady};
 ghost use Rattle.cm_desk.specs.Desk.{CanBeCalled, IsAnswerTo, is_list, IsShort};
+ghost use Rattle.cm_desk.specs.Works.{IsAnswered};
 
 use crate::works::Works;
-use cm_model::{Boxed, Call, Memory, Reply};
+use cm_model::{Boxed, Call, Memory, Reply, Request};
 use ctl_trait::Controller;
 use std::alloc::Global;
 
@@ -21,6 +24,7 @@ impl<C: Controller> Works<C> {
     /// Answers a call of a session. Where memory ran out nothing has changed.
     pub(crate) fn answer(&mut self, alloc: Global, call: Call) -> Result<Answer<C>, Memory>
         requires called { CanBeCalled call }
+        requires steady { IsSteady self.old }
         ensures made { IfOk result
             (λ answer. IsAnswerTo self.old call self.new answer.reply (option_map C.meaning answer.given)) }
         ensures twice { IfOk result (λ answer. answer.noted ≡ answer.reply) }
@@ -78,9 +82,10 @@ impl<C: Controller> Works<C> {
     }
 
     /// Answers a call that is no list, by the function of its name. Where memory ran out nothing has changed.
-    #[tactic(auto, using(crate::proofs::AnswerLemmas::load_reply_is_short, crate::proofs::AnswerLemmas::reply_on_is_short))]
+    #[tactic(auto, using(crate::proofs::AnswerLemmas::load_reply_is_short, crate::proofs::AnswerLemmas::reply_on_is_short, crate::proofs::AnswerLemmas::request_reply_is_short))]
     fn change(&mut self, alloc: Global, call: Call) -> Result<(Reply, Option<C>), Memory>
         requires called { CanBeCalled call }
+        requires steady { IsSteady self.old }
         requires no_list { is_list call ≡ false }
         ensures made { IfOk result
             (λ answer. IsAnswerTo self.old call self.new answer.0 (option_map C.meaning answer.1)) }
@@ -94,8 +99,25 @@ impl<C: Controller> Works<C> {
             Call::Unload(name) => Ok(self.unload(&name)),
             Call::Rate { name, hz } => Ok((self.rate(&name, hz), None)),
             Call::Send { name, mail } => Ok((self.send(&name, mail), None)),
+            Call::Switch(asked) => Ok((self.ask(alloc, Request::Switch(asked))?, None)),
+            Call::Hardware { component, target } => Ok((
+                self.ask(alloc, Request::Hardware { component, target })?,
+                None,
+            )),
             _ => unreachable!(),
         }
+    }
+}
+
+impl<C: Controller> Works<C> {
+    /// A request comes to wait under the next ticket, where the loop is open and fewer wait than can wait. Where memory ran out nothing has
+    /// changed.
+    fn ask(&mut self, alloc: Global, request: Request) -> Result<Reply, Memory>
+        ensures made { IfOk result
+            (IsAnswered (request_reply self.old) (request_effect self.old request) self.new) }
+        ensures kept { OnErr result (self.new ≡ self.old) }
+    {
+        self.requests.ask(alloc, self.closed, request)
     }
 }
 
@@ -117,6 +139,7 @@ fn copied(reply: &Reply) -> Reply
     match reply {
         Reply::Done => Reply::Done,
         Reply::Serial(serial) => Reply::Serial(*serial),
+        Reply::Queued(ticket) => Reply::Queued(*ticket),
         Reply::Not(why) => Reply::Not(*why),
         _ => unreachable!(),
     }

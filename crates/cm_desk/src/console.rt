@@ -5,6 +5,7 @@ ghost use Rattle.cm_document.specs.Params.{kind_of};
 ghost use Rattle.cm_model.specs.Console.{configure_reply, configure_effect, cleanup_reply, cleanup_effect, unload_reply, unload_effect, rate_reply, rate_effect, send_reply, send_refusals, send_effect, reply_on, moves_out};
 ghost use Rattle.cm_model.specs.Kinds.{are_ranged, takes, takes_none};
 ghost use Rattle.cm_model.specs.State.{is_active};
+ghost use Rattle.cm_model.specs.Steady.{IsSteady};
 ghost use Rattle.cm_desk.specs.Works.{IsAnswered, IsAsDescribed, IsConfigured};
 
 use crate::works::{Works, described_at};
@@ -62,7 +63,6 @@ impl<C: Controller> Works<C> {
     }
 
     /// The controller is not loaded any more, and its box moves out. It takes no memory.
-    #[tactic(auto, using(crate::proofs::WorksLemmas::kept_after_unload))]
     pub fn unload(&mut self, name: &Name) -> (Reply, Option<C>)
         ensures made { IsAnswered (unload_reply self.old name.now) (unload_effect self.old name.now) self.new result.0 }
         ensures given { option_map C.meaning result.1 ≡ moves_out self.old name.now result.0 }
@@ -74,6 +74,7 @@ impl<C: Controller> Works<C> {
             return (Reply::Not(Why::Active), None);
         }
         let slot = self.slots.remove(index);
+        self.roster.reindex(&self.slots);
         (Reply::Done, Some(slot.into_ctl()))
     }
 
@@ -93,6 +94,7 @@ impl<C: Controller> Works<C> {
 
     /// The mail waits for the controller, in place of any other. It takes no memory.
     pub fn send(&mut self, name: &Name, mail: Mail) -> Reply
+        requires { IsSteady self.old }
         ensures { IsAnswered (send_reply self.old name.now mail) (send_effect self.old name.now mail) self.new result }
     {
         let Some(index) = self.slot_of(name) else {
@@ -107,7 +109,8 @@ impl<C: Controller> Works<C> {
 
     /// Why the loaded controller that stands there is not sent the mail.
     fn mail_refusal(&self, index: usize, mail: &Mail) -> Option<Why>
-        requires { index < length self.now.loaded }
+        requires within { index < length self.now.loaded }
+        requires steady { IsSteady self.now }
         ensures { MatchOption result
             (reply_on (send_refusals self.now mail.now) (slice_get self.now.loaded index) ≡ Reply.Done)
             (λ why. reply_on (send_refusals self.now mail.now) (slice_get self.now.loaded index) ≡ Reply.Not why) }

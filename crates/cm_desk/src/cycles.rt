@@ -1,13 +1,13 @@
-//! What the loop does, and the lists of hardware.
+//! Where the loop stands, its close, and the lists of hardware.
 
-ghost use Rattle.std.specs.Prelude.{◌≡◌, ◌+◌, ◌<◌, true, length, IfOk, OnOk, OnErr};
-ghost use Rattle.cm_model.specs.Cycle.{cycle, after_cycle};
-ghost use Rattle.cm_model.specs.Machine.{is_reached, can_begin, can_close};
+ghost use Rattle.std.specs.Prelude.{◌≡◌, true, length, option_map, slice_get, IfOk};
+ghost use Rattle.cm_model.specs.Boundary.{close_effect, close_reply};
+ghost use Rattle.cm_model.specs.Machine.{is_reached, can_close};
 ghost use Rattle.cm_model.specs.State.{interface_lines, component_lines};
-ghost use Rattle.cm_desk.specs.Works.{IsQuiet};
+ghost use Rattle.cm_model.specs.declared.reply.Reply.TheVariants as reply;
 
 use crate::works::Works;
-use cm_model::{CompLine, CycleRecord, IfaceLine, Memory, Seq};
+use cm_model::{CompLine, Decision, IfaceLine, Memory, Outcome, Rare, Seq};
 use ctl_trait::Controller;
 use std::alloc::Global;
 
@@ -23,7 +23,7 @@ impl<C: Controller> Works<C> {
     pub fn is_aloft(&self) -> bool
         ensures { result ≡ self.now.aloft }
     {
-        self.flight.is_aloft()
+        self.flight.begun.is_some()
     }
 
     /// Whether the loop is closed.
@@ -40,69 +40,41 @@ impl<C: Controller> Works<C> {
         self.ended >= cycles || self.closed
     }
 
-    /// How many requests are decided: none can be made yet.
+    /// How many requests are decided: those of the tickets below.
     pub fn decided(&self) -> u32
-        ensures counted { result ≡ length self.now.outcomes }
-        ensures none { result ≡ 0 }
+        ensures { result ≡ length self.now.outcomes }
     {
-        let _ = &self.ended;
-        0
+        self.requests.decided()
     }
 
-    /// The next cycle begins, and takes all memory that it needs. Nothing can wait to be decided yet.
-    #[tactic(auto, using(crate::proofs::FlightLemmas::begins_within, crate::proofs::FlightLemmas::kept_after_begin, crate::proofs::FlightLemmas::quiet_kept))]
-    pub fn begin(&mut self, alloc: Global) -> Result<(), Memory>
-        requires { can_begin self.old self.old.ended ≡ true }
-        ensures quiet { IsQuiet self.old }
-        ensures begun { OnOk result (self.new ≡ record self.old { aloft = true }) }
-        ensures kept { OnErr result (self.new ≡ self.old) }
+    /// What became of the request of a ticket, where it is decided.
+    pub fn told(&self, ticket: u32) -> Option<&Outcome>
+        ensures { option_map (λ outcome. outcome.now) result ≡ slice_get self.now.outcomes ticket }
     {
-        self.flight.begin(alloc)?;
-        Ok(())
+        self.requests.told(ticket)
     }
 
-    /// The cycle that is aloft ends, with what happened in it. It takes no memory.
-    pub fn end(&mut self) -> CycleRecord
-        requires { self.old.aloft ≡ true }
-        ensures after { self.new ≡ after_cycle self.old (cycle self.old) }
-        ensures told { result ≡ (cycle self.old).happened }
-    {
-        let told = self.flight.end(self.ended);
-        self.ended = one_more(self.ended, self.checked.description().cycles);
-        told
-    }
-
-    /// The loop closes. It takes no memory.
-    #[tactic(auto, using(crate::proofs::FlightLemmas::quiet_kept))]
-    pub fn close(&mut self)
+    /// The loop closes, and each request that waits is ended with it, and told so. It takes no memory.
+    pub fn close(&mut self) -> Rare<Decision>
         requires { can_close self.old ≡ true }
-        ensures quiet { IsQuiet self.old }
-        ensures closed { self.new ≡ record self.old { closed = true } }
+        ensures closed { self.new ≡ close_effect self.old }
+        ensures told { reply.Decisions result ≡ close_reply self.old }
     {
         self.closed = true;
+        self.requests.close_all()
     }
 
     /// The list of interfaces, by place.
-    #[tactic(auto, using(crate::proofs::FlightLemmas::hardware_of))]
     pub fn interfaces(&self, alloc: Global) -> Result<Seq<IfaceLine>, Memory>
         ensures { IfOk result (λ lines. lines ≡ interface_lines self.now) }
     {
-        Ok(self.flight.hardware().interface_lines(alloc)?)
+        Ok(self.flight.hardware.interface_lines(alloc)?)
     }
 
     /// The list of components, by place.
-    #[tactic(auto, using(crate::proofs::FlightLemmas::hardware_of))]
     pub fn components(&self, alloc: Global) -> Result<Seq<CompLine>, Memory>
         ensures { IfOk result (λ lines. lines ≡ component_lines self.now) }
     {
-        Ok(self.flight.hardware().component_lines(alloc)?)
+        Ok(self.flight.hardware.component_lines(alloc)?)
     }
-}
-
-/// The next number, which a greater one leaves room for.
-fn one_more(number: u64, greater: u64) -> u64
-    requires { number < greater }
-    ensures { result ≡ number + 1 }
-{
-    number + 1
 }

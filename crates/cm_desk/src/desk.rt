@@ -2,6 +2,7 @@
 
 ghost use Rattle.std.specs.Prelude.{◌≡◌, ◌<◌, true, [], map, length, option_map, IfOk, OnOk, OnErr, MatchOption};
 ghost use Rattle.cm_document.specs.declared.call.Call.TheVariants as call;
+ghost use Rattle.cm_model.specs.Boundary.{begin_reply, close_reply};
 ghost use Rattle.cm_model.specs.Cycle.{cycle};
 ghost use Rattle.cm_model.specs.Machine.{LegalFrom, can_begin, can_close};
 ghost use Rattle.cm_model.specs.Sound.{moments, AreSound};
@@ -10,7 +11,7 @@ ghost use Rattle.cm_desk.specs.Desk.{now_of, Grows, Waits, GrowsWhere, CanBeCall
 
 use crate::book::Book;
 use crate::works::Works;
-use cm_model::{Blanks, Call, Checked, Entry, KeptCall, Memory, Outcome, Rare, Reply};
+use cm_model::{Blanks, Boxed, Call, Checked, Entry, KeptCall, Memory, Outcome, Reply};
 use ctl_rack::Stock;
 use ctl_trait::Controller;
 use std::alloc::Global;
@@ -92,7 +93,7 @@ impl<C: Controller> Desk<C> {
 
     /// What became of the request of a ticket, asked by a session. Where it is not decided, None, and nothing changes. Want of memory
     /// changes nothing either.
-    pub fn told(&mut self, _alloc: Global, who: u32, ticket: u32) -> Result<Option<Outcome>, Memory>
+    pub fn told(&mut self, alloc: Global, who: u32, ticket: u32) -> Result<Option<Outcome>, Memory>
         requires session { who < self.old.opening.sessions }
         ensures made { IfOk result
             (λ outcome. MatchOption outcome
@@ -100,11 +101,19 @@ impl<C: Controller> Desk<C> {
             (λ o. Grows self.old self.new who (call.Told ticket) (Reply.Outcome o))) }
         ensures kept { OnErr result (self.new ≡ self.old) }
     {
-        if ticket < self.works.decided() {
-            // No request can be made yet.
-            unreachable!();
-        }
-        Ok(None)
+        let Some(outcome) = self.works.told(ticket) else {
+            return Ok(None);
+        };
+        let told = copy_of(outcome)?;
+        let noted = Boxed::new(alloc, copy_of(outcome)?)?;
+        self.history.reserve(ENTRIES_AHEAD)?;
+        let kept = KeptCall::of(alloc, Call::Told(ticket))?;
+        self.history.push_reserved(Entry {
+            who,
+            call: kept,
+            reply: Reply::Outcome(noted),
+        });
+        Ok(Some(told))
     }
 
     /// Whether so many cycles have ended or the loop is closed, asked by a session, which goes on where it is so. Where not, nothing
@@ -128,23 +137,23 @@ impl<C: Controller> Desk<C> {
         Ok(true)
     }
 
-    /// The loop begins the next cycle, and takes all memory that the cycle needs. Nothing can wait to be decided yet. Want of memory
+    /// The loop begins the next cycle: the requests that wait are decided, and all memory is taken that the cycle needs. Want of memory
     /// changes nothing.
     pub fn begin(&mut self, alloc: Global) -> Result<(), Memory>
         requires can { can_begin (now_of self.old) (now_of self.old).ended ≡ true }
         ensures made { OnOk result
             (Grows self.old self.new self.old.opening.sessions (call.Begin (now_of self.old).ended)
-            (Reply.Decisions [])) }
+            (begin_reply (now_of self.old))) }
         ensures kept { OnErr result (self.new ≡ self.old) }
     {
         self.history.reserve(ENTRIES_AHEAD)?;
         let who = self.works.sessions();
         let cycle = self.works.ended();
-        self.works.begin(alloc)?;
+        let decisions = self.works.begin(alloc)?;
         self.history.push_reserved(Entry {
             who,
             call: KeptCall::begin(cycle),
-            reply: Reply::Decisions(Rare::none()),
+            reply: Reply::Decisions(decisions),
         });
         Ok(())
     }
@@ -165,17 +174,17 @@ impl<C: Controller> Desk<C> {
         });
     }
 
-    /// The loop closes. It takes no memory.
+    /// The loop closes, and each request that waits is ended with it. It takes no memory.
     pub fn close(&mut self)
         requires can { can_close (now_of self.old) ≡ true }
-        ensures made { Grows self.old self.new self.old.opening.sessions call.Close (Reply.Decisions []) }
+        ensures made { Grows self.old self.new self.old.opening.sessions call.Close (close_reply (now_of self.old)) }
     {
         let who = self.works.sessions();
-        self.works.close();
+        let decisions = self.works.close();
         self.history.push_reserved(Entry {
             who,
             call: KeptCall::close(),
-            reply: Reply::Decisions(Rare::none()),
+            reply: Reply::Decisions(decisions),
         });
     }
 
@@ -248,4 +257,11 @@ impl<C: Controller> Desk<C> {
             boxes: works.into_boxes(boxes),
         }
     }
+}
+
+/// An outcome once more.
+fn copy_of(outcome: &Outcome) -> Result<Outcome, Memory>
+    ensures { IfOk result (λ copy. copy ≡ outcome.now) }
+{
+    Ok(outcome.clone()?)
 }

@@ -1,117 +1,125 @@
 //! What a cycle needs.
 
-ghost use Rattle.std.specs.Prelude.{◌≡◌, ◌≤◌, true, IfOk, OnOk, OnErr};
+ghost use Rattle.std.specs.Prelude.{◌≡◌, ◌+◌, ◌≤◌, ◌<◌, length, sum_by, IfOk, All};
 ghost use Rattle.joint_body.specs.declared.TheConstants.{LONGEST_STEP};
 ghost use Rattle.cm_model.specs.Cycle.{period};
-ghost use Rattle.cm_model.specs.State.{State, IsStill};
-ghost use Rattle.cm_hardware.specs.Wiring.{most_failures, all_joints};
-ghost use Rattle.cm_hardware.specs.Holding.{IsHardwareOf};
-ghost use Rattle.cm_desk.specs.Flight.{IsAtStart, HasLanded};
+ghost use Rattle.ctl_places.specs.Placed.{placed_of};
+ghost use Rattle.cm_desk.specs.Flight.{IsAtStart, HasRoom, IsBuiltAs, outs_at, numbers_at};
 
+use crate::works::described_at;
 use cm_hardware::ResourceManager;
-use cm_model::{Checked, CycleParts, CycleRecord, Memory, RecordRoom, RecordSize, SECOND_US};
+use cm_model::{
+    Checked, CtlDesc, CycleParts, Member, Memory, Params, RecordRoom, RecordSize, SECOND_US,
+};
+use ctl_places::CtlPlaces;
+use ctl_slots::{MailAloft, Room};
 use std::alloc::Global;
-use std::marker::Model;
 
-/// What a cycle needs: the hardware, the time of a cycle, and while one is aloft its record, with room for all that it can tell. It
+/// What a cycle needs, and while one is aloft its record, with room for all that it can tell, and the mail that went with it. It
 /// borrows nothing, so a cycle can be made wherever this is moved to.
 #[derive(Debug, Drop)]
 pub(crate) struct Flight {
-    hardware: ResourceManager,
+    pub(crate) hardware: ResourceManager,
     /// The time from one cycle to the next, in microseconds.
-    period_us: u32,
-    begun: Option<RecordRoom>,
+    pub(crate) period_us: u32,
+    pub(crate) begun: Option<RecordRoom>,
     /// The place of a record that a cycle left over, of which there was nothing to tell.
-    left_over: Option<Box<CycleParts>>,
-}
-
-impl Model for Flight {
-    ghost use Rattle.std.specs.Prelude.{is_some};
-    ghost use Rattle.cm_desk.specs.Flight.{Flown, IsReady};
-
-    ghost Value = { Flown };
-
-    ghost view = { λ f. record { hardware = f.hardware; period_us = f.period_us; aloft = is_some f.begun } };
-
-    ghost invariant = { λ f. IsReady f.hardware f.period_us f.begun };
+    pub(crate) left_over: Option<Box<CycleParts>>,
+    /// The mail that went aloft, and is not taken yet.
+    pub(crate) mails: Vec<MailAloft>,
+    /// The serials of the controllers whose update failed in the cycle.
+    pub(crate) erred: Vec<u32>,
+    /// Room for what one controller is given and gives out.
+    pub(crate) room: Room,
 }
 
 impl Flight {
     /// The hardware of a description at start.
     pub(crate) fn make(alloc: Global, checked: &Checked) -> Result<Flight, Memory>
-        ensures { IfOk result (λ flight. IsAtStart checked.now flight) }
+        ensures { IfOk result (IsAtStart checked.now) }
     {
         Ok(Flight {
             hardware: ResourceManager::make(alloc, checked)?,
             period_us: period_us(checked),
             begun: None,
             left_over: None,
+            mails: Vec::new(alloc),
+            erred: Vec::new(alloc),
+            room: Room::make(alloc)?,
         })
-    }
-
-    /// The components and the board.
-    pub(crate) fn hardware(&self) -> &ResourceManager
-        ensures { result.now ≡ self.now.hardware }
-    {
-        &self.hardware
-    }
-
-    pub(crate) fn is_aloft(&self) -> bool
-        ensures { result ≡ self.now.aloft }
-    {
-        self.begun.is_some()
-    }
-
-    /// A cycle is aloft. All memory that it needs is taken here.
-    pub(crate) fn begin(&mut self, alloc: Global) -> Result<(), Memory>
-        ensures begun { OnOk result (self.new ≡ record self.old { aloft = true }) }
-        ensures kept { OnErr result (self.new ≡ self.old) }
-    {
-        let size = record_size(&self.hardware);
-        self.begun = Some(RecordRoom::with_room(alloc, size, self.left_over.take())?);
-        Ok(())
-    }
-
-    /// The cycle that is aloft, which has this number, is made while no controller is active: the hardware makes it, and its record
-    /// tells of it. It takes no memory.
-    pub(crate) fn end(&mut self, number: u64) -> CycleRecord
-        requires { self.old.aloft ≡ true }
-        ensures { (s : State) → IsHardwareOf s self.old.hardware → IsStill s → s.ended ≡ number
-            → period s.description ≡ self.old.period_us → HasLanded s self.old self.new result }
-    {
-        let Some(mut record) = self.begun.take() else {
-            unreachable!()
-        };
-        self.hardware.cycle(
-            number,
-            self.period_us,
-            &mut record.failed,
-            &mut record.bodies,
-        );
-        let (told, left_over) = record.land(number);
-        self.left_over = left_over;
-        told
     }
 }
 
-/// How much one cycle of this hardware can have to tell. No controller can be active yet.
-fn record_size(hardware: &ResourceManager) -> RecordSize
-    ensures { result ≡ record {
-      failed = most_failures hardware.now.components;
-      ran = 0;
-      values = 0;
-      numbers = 0;
-      bodies = all_joints hardware.now.components;
-      stops = 0;
-    } }
+/// A record for a cycle of this hardware in which these controllers are active, with room for all that it can tell. Its parts come to stand
+/// in the place that another cycle left over, where there is one.
+pub(crate) fn record_for(
+    alloc: Global,
+    checked: &Checked,
+    places: &CtlPlaces,
+    hardware: &ResourceManager,
+    order: &[Member],
+    left_over: Option<Box<CycleParts>>,
+) -> Result<RecordRoom, Memory>
+    requires places { places.now ≡ placed_of checked.now }
+    requires build { IsBuiltAs checked.now hardware.now }
+    requires within { All (λ m. m.place < length checked.now.controllers) order.now }
+    ensures { IfOk result (HasRoom checked.now places.now order.now) }
 {
-    RecordSize {
+    let size = RecordSize {
         failed: hardware.most_failures(),
-        ran: 0,
-        values: 0,
-        numbers: 0,
+        ran: order.len(),
+        values: count_values(places, order)?,
+        numbers: count_numbers(checked, places, order)?,
         bodies: hardware.joints(),
-        stops: 0,
+        stops: order.len(),
+    };
+    Ok(RecordRoom::with_room(alloc, size, left_over)?)
+}
+
+/// How many values these controllers give out together.
+fn count_values(places: &CtlPlaces, order: &[Member]) -> Result<usize, Memory>
+    requires { All (λ m. m.place < length places.now.claims) order.now }
+    ensures { IfOk result (λ count. count ≡ sum_by (outs_at places.now) order.now) }
+{
+    let mut count = 0;
+    for member in order {
+        count = sum(count, places.claims(member.place).len())?;
+    }
+    Ok(count)
+}
+
+/// How many numbers they publish together.
+fn count_numbers(checked: &Checked, places: &CtlPlaces, order: &[Member]) -> Result<usize, Memory>
+    requires within { All (λ m. m.place < length checked.now.controllers) order.now }
+    requires places { length places.now.reads ≡ length checked.now.controllers }
+    ensures { IfOk result (λ count. count ≡ sum_by (numbers_at checked.now places.now) order.now) }
+{
+    let mut count = 0;
+    for member in order {
+        count = sum(count, numbers_of(checked, places, member))?;
+    }
+    Ok(count)
+}
+
+/// How many numbers one of them publishes.
+fn numbers_of(checked: &Checked, places: &CtlPlaces, member: &Member) -> usize
+    requires within { member.now.place < length checked.now.controllers }
+    requires places { length places.now.reads ≡ length checked.now.controllers }
+    ensures { result ≡ numbers_at checked.now places.now member.now }
+{
+    match described_at(checked, member.place as usize).params {
+        Params::Broadcaster { .. } => places.reads(member.place).len(),
+        _ => 0,
+    }
+}
+
+/// Two numbers together. Of more than memory could hold there is no room.
+fn sum(count: usize, more: usize) -> Result<usize, Memory>
+    ensures { IfOk result (λ all. all ≡ count + more) }
+{
+    match count.checked_add(more) {
+        Some(all) => Ok(all),
+        None => Err(Memory),
     }
 }
 

@@ -1,4 +1,5 @@
-//! The desk, the one object that changes: the loaded controllers with the console's calls on them, and the hardware with its cycles.
+//! The desk, the one object that changes: the loaded controllers with the console's calls on them, the requests that wait,
+//! and the hardware with its cycles, in which the active controllers are updated.
 #![tactic(auto)]
 
 pub use book::Book;
@@ -13,10 +14,15 @@ pub use desk::Desk;
 pub use works::Works;
 
 mod answer;
+mod begin;
 mod book;
+mod commits;
 mod console;
 mod cycles;
 mod desk;
+mod end;
 mod flight;
 mod lines;
+mod roster;
+mod start;
 mod works;

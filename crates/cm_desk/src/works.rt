@@ -8,26 +8,43 @@ ghost use Rattle.cm_model.specs.State.{boot};
 ghost use Rattle.cm_desk.specs.Works.{IsAnswered, load_reply};
 
 use crate::flight::Flight;
+use crate::roster::Roster;
+use crate::start::{at_start, worked_out};
 use cm_model::{Checked, CtlDesc, Memory, Name, Reply, Shared, Why};
+use ctl_places::CtlPlaces;
 use ctl_rack::{Piles, Stock};
 use ctl_slots::Slot;
 use ctl_trait::Controller;
+use request_plan::Requests;
 use std::alloc::Global;
 use std::marker::Model;
+use stop_plan::Ending;
+use switch_plan::Relations;
 
-/// The loaded controllers with their boxes, the blanks that are left, and the hardware. Contracts see the written state.
+/// The loaded controllers with their boxes, the blanks that are left, the requests, and the hardware with what a cycle needs. Contracts see
+/// the written state.
 #[derive(Drop)]
 pub struct Works<C: Controller> {
     pub(crate) checked: Checked,
     /// The names of the described controllers, by place, for the lines of lists.
     pub(crate) names: Vec<Shared<Name>>,
+    /// Whom and what each described controller has to do with, by place.
+    pub(crate) relations: Relations,
+    /// Where their interfaces stand on the board.
+    pub(crate) places: CtlPlaces,
     pub(crate) sessions: u32,
     pub(crate) blanks: Piles<C>,
     pub(crate) loads: u32,
     /// By serial: a load comes last.
     pub(crate) slots: Vec<Slot<C>>,
+    /// By ticket.
+    pub(crate) requests: Requests,
     /// What a cycle needs.
     pub(crate) flight: Flight,
+    /// Who is active.
+    pub(crate) roster: Roster,
+    /// What the end of a cycle changes.
+    pub(crate) ending: Ending,
     /// How many cycles have ended.
     pub(crate) ended: u64,
     /// Whether the loop is closed.
@@ -40,9 +57,12 @@ impl<C: Controller> Model for Works<C> {
 
     ghost Value = { State };
 
-    ghost view = { λ w. state_with w.checked w.blanks w.sessions w.loads w.slots.items w.flight w.ended w.closed };
+    ghost view = { λ w.
+        state_with w.checked w.blanks w.sessions w.loads w.slots.items w.requests w.flight w.ended w.closed };
 
-    ghost invariant = { λ w. IsKept w.checked w.names.items w.blanks w.loads w.slots.items w.flight w.ended };
+    ghost invariant = { λ w. IsKept
+        (state_with w.checked w.blanks w.sessions w.loads w.slots.items w.requests w.flight w.ended w.closed)
+        w.names.items w.relations w.places w.flight w.roster w.ending };
 }
 
 impl<C: Controller> Works<C> {
@@ -56,17 +76,22 @@ impl<C: Controller> Works<C> {
         ensures booted { IfOk result (λ works. works ≡ boot checked stock sessions) }
         ensures valid { OnOk result (IsValid checked) }
     {
-        let names = names_of(alloc, checked.description().controllers.as_slice())?;
-        let flight = Flight::make(alloc, &checked)?;
+        let worked_out = worked_out(alloc, &checked)?;
+        let start = at_start(alloc, &checked)?;
         let blanks = stock.sorted(alloc)?;
         Ok(Works {
             checked,
-            names,
+            names: worked_out.names,
+            relations: worked_out.relations,
+            places: worked_out.places,
             sessions,
             blanks,
             loads: 0,
             slots: Vec::new(alloc),
-            flight,
+            requests: Requests::none(alloc),
+            flight: start.flight,
+            roster: start.roster,
+            ending: start.ending,
             ended: 0,
             closed: false,
         })
@@ -177,15 +202,4 @@ pub(crate) fn described_at(checked: &Checked, place: usize) -> &CtlDesc
     ensures valid { IsValid checked.now }
 {
     &checked.description().controllers.as_slice()[place]
-}
-
-/// The names of these controllers, each to be shared by all lines that tell it.
-fn names_of(alloc: Global, controllers: &[CtlDesc]) -> Result<Vec<Shared<Name>>, Memory>
-    ensures { IfOk result (λ names. names.items ≡ map (λ c. c.name) controllers.now) }
-{
-    let mut names = Vec::with_capacity(alloc, controllers.len())?;
-    for controller in controllers {
-        names.push(Shared::new(alloc, controller.name.clone()?)?)?;
-    }
-    Ok(names)
 }

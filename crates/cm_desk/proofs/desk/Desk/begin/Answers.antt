@@ -1,27 +1,28 @@
-use Rattle.std.proofs.Common.{◌≡◌, ◌+◌, ◌≤◌, length, [], Some, vec_capacity, refl, arith}
+use Rattle.std.proofs.Common.{◌≡◌, ◌+◌, ◌≤◌, length, Some, vec_capacity, refl, arith}
 use Rattle.cm_document.specs.declared.call.Call.TheVariants.{Begin}
+use Rattle.cm_model.specs.Boundary.{begin_reply}
 use Rattle.cm_model.specs.Machine.{step}
 use Rattle.cm_model.specs.Scheduled.{with_entry}
-use Rattle.cm_model.specs.declared.reply.Reply.TheVariants.{Decisions}
-use Rattle.cm_desk.proofs.RecordLemmas.{Recorded, recorded, room_after, begin_step}
+use Rattle.cm_desk.proofs.RecordLemmas.{Recorded, recorded, room_after, begin-few, begin_step}
 use Rattle.cm_desk.proofs.desk.Desk.begin.Given.{Over}
 use Rattle.cm_desk.proofs.desk.Desk.begin.Goals as goal
 
 -- the begin is a step, and has one entry
 entry : (g : Over) (c : goal.After-push_reserved g)
     → Recorded c.self.inside.at_boot c.self.inside.works c.begin.new.self c.self.inside.history.items c.push_reserved.new.self.items
-    c.self.inside.works.sessions (Begin c.self.inside.works.ended) (Decisions []) (vec_capacity c.push_reserved.new.self) (vec_capacity c.self.inside.boxes)
+    c.self.inside.works.sessions (Begin c.self.inside.works.ended) (begin_reply c.self.inside.works) (vec_capacity c.push_reserved.new.self) (vec_capacity c.self.inside.boxes)
 entry g c =
     let a = c.self.inside in
     let who = a.works.sessions in
     let call = Begin a.works.ended in
-    let begun = c.in_ok-begin.ensures.begun in
-    let grown : c.push_reserved.new.self.items ≡ with_entry a.history.items who call (Decisions []) =
-    rw (c.push_reserved.ensures.items, c.reserve.ensures.items, c.sessions-who.ensures, c.begin-2.ensures, c.ended-cycle.ensures, c.none.ensures) refl in
-    let stepped : step a.works who call ≡ Some (c.begin.new.self, Decisions []) = rw begun (begin_step a.works a.works.ended (rw (← c.self.view_is, c.self.invariant.0.ends) at c.requires.can) c.in_ok-begin.ensures.quiet) in
+    let begun = c.in_ok-decisions.ensures.begun in
+    let reply = begin_reply a.works in
+    let grown : c.push_reserved.new.self.items ≡ with_entry a.history.items who call reply =
+    rw (c.push_reserved.ensures.items, c.reserve.ensures.items, c.sessions-who.ensures, c.begin-2.ensures, c.ended-cycle.ensures, c.in_ok-decisions.ensures.told) refl in
+    let stepped : step a.works who call ≡ Some (c.begin.new.self, reply) = rw begun (begin_step a.works a.works.ended (rw (← c.self.view_is, c.self.invariant.0.ends) at c.requires.can)) in
     let room : length a.history.items + 3 ≤ vec_capacity c.push_reserved.new.self = omega (arith, c.push_reserved.ensures.capacity, c.in_ok-reserve.ensures.ok) in
     recorded _ _ _ _ _ _ _ _ _ _ _ _ c.self.invariant.0 stepped grown
-    (room_after c.begin.new.self a.history.items _ who call (Decisions []) _ room grown) (rw begun c.self.invariant.0.places)
+    (room_after c.begin.new.self a.history.items _ who call reply _ room grown) (rw (begun, begin-few a.works) c.self.invariant.0.places)
 
 pub invariant_of-self-2 : goal.invariant_of-self-2
 invariant_of-self-2 g c = ((entry g c).keeps, c.self.invariant.1)

@@ -1,5 +1,5 @@
 use Rattle.std.proofs.Common.{◌≡◌, map, take}
-use Rattle.cm_desk.proofs.works.names_of.Given as goal
+use Rattle.cm_desk.proofs.start.names_of.Given as goal
 
 -- the names so far
 abbrev pub invariant-loop-controller : goal.invariant-loop-controller

@@ -1,0 +1,360 @@
+-- The begin of a cycle: each request that waits in the state that the one before it left, and then the cycle goes aloft.
+use Rattle.std.proofs.Common.{◌≡◌, ℕ, zero, suc, ◌+◌, ◌<◌, ◌≤◌, Bool, true, false, List, [], ◌∷◌, ◌++◌, length, drop, map, Option, Some, None, refl, sym, ap, ap₂, subst, ◌∙◌, arith}
+use Rattle.std.specs.Prelude.{◌==◌, ◌&&◌, if◌then◌else◌, not, nat_lt, filter_map, is_some, IfSome, vec_capacity}
+use Rattle.std.specs.List.{All, AllByRecursion}
+use Rattle.std.proofs.lemmas.Bool.{and_parts, eqb-true, ltb-true}
+use Rattle.std.proofs.Math.Seq.{drop-length}
+use Rattle.std.proofs.lemmas.List.{length_push}
+use Rattle.cm_document.specs.declared.call.Call.TheVariants.{Begin}
+use Rattle.cm_document.specs.declared.description.Description.{Description}
+use Rattle.cm_document.specs.declared.life.Life.{Life}
+use Rattle.cm_model.specs.BestEffort.{decided}
+use Rattle.cm_model.specs.Boundary.{waiting, with_switch, with_move_unless, with_move, component_place, move_fault, concluded, with_outcome, all_concluded, boundary, decisions_from, decisions_between, begin_effect}
+use Rattle.cm_model.specs.Commit.{scene_of, commit}
+use Rattle.cm_model.specs.Cycle.{active_order, begun, mail_off, without_mail_off, is_due_now}
+use Rattle.cm_model.specs.Machine.{can_begin, effect}
+use Rattle.cm_model.specs.State.{State, Loaded, MailAloft, is_active}
+use Rattle.cm_model.specs.Steady.{IsSteady}
+use Rattle.cm_model.specs.Switches.{Decided, refused, done}
+use Rattle.cm_model.specs.declared.cause.Cause.{Cause}
+use Rattle.cm_model.specs.declared.blanks.Blanks.{Blanks}
+use Rattle.cm_model.specs.declared.cause.Outcome.{Outcome}
+use Rattle.cm_model.specs.declared.member.Member.{Member}
+use Rattle.cm_model.specs.declared.record_room.RecordRoom.{RecordRoom}
+use Rattle.cm_model.specs.declared.reply.Reply.TheVariants as reply
+use Rattle.cm_model.specs.declared.request.Request.{Request}
+use Rattle.cm_model.specs.declared.request.Request.TheVariants as request
+use Rattle.cm_model.proofs.StayLemmas.{boundary-SameLoop}
+use Rattle.cm_hardware.specs.Listed.{with_hardware}
+use Rattle.cm_hardware.specs.Wiring.{Wired}
+use Rattle.ctl_places.specs.Placed.{Placed}
+use Rattle.request_plan.specs.Plans.{AreConclusionsOf, IsPlanOf}
+use Rattle.request_plan.specs.Requests.{Asked}
+use Rattle.request_plan.specs.declared.acts.Conclusion.{Conclusion}
+use Rattle.request_plan.specs.Stands as planned
+use Rattle.request_plan.specs.declared.plans.Plan.{Plan}
+use Rattle.stop_plan.specs.Ending.{member_of, members_in_order}
+use Rattle.stop_plan.specs.declared.ending.Ending.{Ending}
+use Rattle.sound_laws.proofs.BoundaryLemmas.{concluded_steady, outcome_steady}
+use Rattle.sound_laws.proofs.SerialLemmas.{AreNumbered, IsNumbered, renumbered_numbered, effect_renumbered}
+use Rattle.switch_plan.specs.Relations.{Related}
+use Rattle.cm_desk.specs.Begin.{none_waits, IsNext}
+use Rattle.ctl_slots.specs.Fit.{IsTimedIn}
+use Rattle.ctl_slots.specs.Updates.{HasTime}
+use Rattle.cm_desk.specs.Flight.{HasRoom}
+use Rattle.cm_desk.specs.Roster.{Listed, IsListedOf, actives}
+use Rattle.cm_desk.specs.Works.{IsAsDescribed, IsKept, state_with}
+use Rattle.cm_desk.specs.declared.flight.Flight.{Flight}
+use Rattle.cm_desk.proofs.ActiveLemmas.{IsSameOne, actives_map, same_serial, same_order, hardware_stays}
+use Rattle.ctl_slots.proofs.FitLemmas.{fit_begun}
+use Rattle.cm_desk.proofs.OrderLemmas.{order_within}
+use Rattle.cm_desk.proofs.StayLemmas.{all_staying, begun_stays, serials_stay, count_stays, described_stay, concluded_stays}
+
+-- ---- When a cycle can begin
+
+-- none is aloft,
+pub begins_down : (s : State) → can_begin s s.ended ≡ true → s.aloft ≡ false
+begins_down s can = first s.aloft s.closed (s.ended == s.ended) (nat_lt s.ended s.description.cycles) can
+  where
+    first : (aloft closed now within : Bool) → (((not aloft && not closed) && now) && within) ≡ true → aloft ≡ false
+    first true closed now within can = cc
+    first false closed now within can = refl
+
+-- and the next one is described
+pub begins_within : (s : State) → can_begin s s.ended ≡ true → s.ended < s.description.cycles
+begins_within s can = ltb-true s.ended s.description.cycles (and_parts ((not s.aloft && not s.closed) && s.ended == s.ended) (nat_lt s.ended s.description.cycles) can).1
+
+-- ---- Where nothing waits
+
+nil_where : (rs : List Request) → (length rs == 0) ≡ true → rs ≡ []
+nil_where [] none = refl
+nil_where (r ∷ rs) none = let none_there : length (r ∷ rs) ≡ 0 = eqb-true (length (r ∷ rs)) 0 none in absurd (omega (arith, none_there))
+
+pub nothing_waits : (s : State) → none_waits s.requests s.outcomes ≡ true → waiting s ≡ []
+nothing_waits s none = nil_where (waiting s) none
+
+pub quiet_boundary : (s : State) → waiting s ≡ [] → boundary s ≡ s
+unfolding all_concluded
+quiet_boundary s none = ap (all_concluded s) none
+
+pub quiet_decisions : (s : State) → waiting s ≡ [] → decisions_between s (boundary s) ≡ []
+quiet_decisions s none =
+    ap (decisions_between s) (quiet_boundary s none) ∙ ap (decisions_from (length s.outcomes)) (drop-length s.outcomes)
+
+-- ---- The first that waits
+
+record KeepsAsked (s t : State) : Type 0 where
+  requests : t.requests ≡ s.requests
+  outcomes : t.outcomes ≡ s.outcomes
+  aloft : t.aloft ≡ s.aloft
+
+commit_keeps : (s : State) (set again : ℕ → Bool) → KeepsAsked s (commit s set again)
+unfolding commit
+commit_keeps s set again = record { requests = refl; outcomes = refl; aloft = refl }
+
+switch_keeps : (s : State) (d : Decided) → KeepsAsked s (with_switch s d).state
+switch_keeps s (refused because) = record { requests = refl; outcomes = refl; aloft = refl }
+switch_keeps s (done dropped set again) = commit_keeps s set again
+
+move_unless_keeps : (s : State) (name : List ℕ) (component : ℕ) (target : Life) (o : Option Cause) → KeepsAsked s (with_move_unless s name component target o).state
+move_unless_keeps s name component target None = record { requests = refl; outcomes = refl; aloft = refl }
+move_unless_keeps s name component target (Some reason) = record { requests = refl; outcomes = refl; aloft = refl }
+
+move_keeps : (s : State) (name : List ℕ) (target : Life) (o : Option ℕ) → KeepsAsked s (with_move s name target o).state
+move_keeps s name target None = record { requests = refl; outcomes = refl; aloft = refl }
+move_keeps s name target (Some component) = move_unless_keeps s name component target (move_fault s component target)
+
+concluded_keeps : (s : State) (asked : Request) → KeepsAsked s (concluded s asked).state
+concluded_keeps s (request.Switch asked) = switch_keeps s (decided (scene_of s) asked)
+concluded_keeps s (request.Hardware component target) = move_keeps s component target (component_place s.description component)
+
+-- a conclusion leaves the cycle down
+pub concluded_down : (s : State) (asked : Request) → s.aloft ≡ false → (with_outcome (concluded s asked)).aloft ≡ false
+concluded_down s asked down = (concluded_keeps s asked).aloft ∙ down
+
+dropped_first : {A : Type 0} (n : ℕ) (xs : List A) (x : A) (later : List A) → drop n xs ≡ x ∷ later → (n < length xs) × (drop (n + 1) xs ≡ later)
+dropped_first zero [] x later is = cc
+dropped_first zero (y ∷ ys) x later is = (omega arith, ap tail is)
+  where
+    tail : {A : Type 0} → List A → List A
+    tail [] = []
+    tail (z ∷ zs) = zs
+dropped_first (suc n) [] x later is = cc
+dropped_first (suc n) (y ∷ ys) x later is =
+    let rest = dropped_first n ys x later is in
+    let one_more : suc n + 1 ≡ suc (n + 1) = omega arith in
+    (omega (arith, rest.0), ap (λ (k : ℕ). drop k (y ∷ ys)) one_more ∙ rest.1)
+
+-- it has no outcome yet
+pub first_undecided : (s : State) (asked : Request) (later : List Request) → waiting s ≡ asked ∷ later → length s.outcomes < length s.requests
+first_undecided s asked later is = (dropped_first (length s.outcomes) s.requests asked later is).0
+
+-- nor has it in the state that its conclusion leaves
+pub still_undecided : (s t : State) (asked : Request) (later : List Request) → waiting s ≡ asked ∷ later → t ≡ (concluded s asked).state → length t.outcomes < length t.requests
+still_undecided s t asked later is same =
+    let kept = concluded_keeps s asked in
+    rw (same, kept.outcomes, kept.requests) (first_undecided s asked later is)
+
+-- then the others wait
+pub next_waiting : (s : State) (asked : Request) (later : List Request) → waiting s ≡ asked ∷ later → waiting (with_outcome (concluded s asked)) ≡ later
+next_waiting s asked later is =
+    let kept = concluded_keeps s asked in
+    let o = (concluded s asked).outcome in
+    ap₂ (λ (rs : List Request) (os : List Outcome). drop (length (os ++ o ∷ [])) rs) kept.requests kept.outcomes
+    ∙ ap (λ n. drop n s.requests) (length_push s.outcomes o)
+    ∙ (dropped_first (length s.outcomes) s.requests asked later is).1
+
+pub boundary_next : (s : State) (asked : Request) (later : List Request) → waiting s ≡ asked ∷ later → boundary s ≡ boundary (with_outcome (concluded s asked))
+unfolding all_concluded
+boundary_next s asked later is =
+    ap (all_concluded s) is ∙ ap (all_concluded (with_outcome (concluded s asked))) (sym (next_waiting s asked later is))
+
+-- ---- One conclusion after the other
+
+-- What is left to be done from one state on leads to the boundary of another.
+pub record IsLeft (opening s : State) (conclusions : List Conclusion) : Type 0 where
+  pub down : s.aloft ≡ false
+  pub steady : IsSteady s
+  pub concluded : AreConclusionsOf s (waiting s) conclusions
+  pub same : boundary s ≡ boundary opening
+
+-- the first of those that wait, and what is concluded of it
+pub record HasNext (s : State) (c : Conclusion) (cs : List Conclusion) : Type 0 where
+  pub asked : Request
+  pub others : List Request
+  pub next : IsNext s asked others c
+  pub later : AreConclusionsOf (with_outcome (concluded s asked)) others cs
+
+next_from : (s : State) (rs : List Request) (c : Conclusion) (cs : List Conclusion) → waiting s ≡ rs → AreConclusionsOf s rs (c ∷ cs) → HasNext s c cs
+next_from s [] c cs is concluded = absurd concluded
+next_from s (asked ∷ others) c cs is concluded = record {
+  asked = asked;
+  others = others;
+  next = record { first = is; concluded = concluded.0 };
+  later = concluded.1;
+}
+
+pub next_of : (opening s : State) (c : Conclusion) (cs : List Conclusion) → IsLeft opening s (c ∷ cs) → HasNext s c cs
+next_of opening s c cs left = next_from s (waiting s) c cs refl left.concluded
+
+pub left_next : (opening s t : State) (c : Conclusion) (cs : List Conclusion) → IsLeft opening s (c ∷ cs)
+    → ((asked : Request) (later : List Request) → IsNext s asked later c → t ≡ with_outcome (concluded s asked)) → IsLeft opening t cs
+left_next opening s t c cs left made =
+    let n = next_of opening s c cs left in
+    let is = made n.asked n.others n.next in
+    subst (λ u. IsLeft opening u cs) (sym is) (record {
+      down = concluded_down s n.asked left.down;
+      steady = outcome_steady (concluded s n.asked) (concluded_steady s n.asked left.steady);
+      concluded = subst (λ rs. AreConclusionsOf (with_outcome (concluded s n.asked)) rs cs) (sym (next_waiting s n.asked n.others n.next.first)) n.later;
+      same = sym (boundary_next s n.asked n.others n.next.first) ∙ left.same;
+    })
+
+none_left : (s : State) (rs : List Request) → AreConclusionsOf s rs [] → rs ≡ []
+none_left s [] concluded = refl
+none_left s (r ∷ rs) concluded = absurd concluded
+
+pub left_none : (opening s : State) → IsLeft opening s [] → s ≡ boundary opening
+left_none opening s left = sym (quiet_boundary s (none_left s (waiting s) left.concluded)) ∙ left.same
+
+-- the state after a conclusion, with its outcome
+pub concluded_so : (s t : State) (asked : Request) (c : Conclusion) → t ≡ (concluded s asked).state → c.outcome ≡ (concluded s asked).outcome
+    → record t { outcomes = t.outcomes ++ c.outcome ∷ [] } ≡ with_outcome (concluded s asked)
+concluded_so s t asked c same outcome =
+    ap₂ (λ (u : State) (o : Outcome). record u { outcomes = u.outcomes ++ o ∷ [] }) same outcome
+
+-- ---- The boundary
+
+pub boundary_stays : (s : State) (rs : List Request) → all_staying (all_concluded s rs).loaded ≡ all_staying s.loaded
+unfolding all_concluded
+boundary_stays s [] = refl
+boundary_stays s (asked ∷ later) = boundary_stays (with_outcome (concluded s asked)) later ∙ concluded_stays s asked
+
+-- serials go on to differ
+boundary_numbered : (s : State) → IsNumbered s → IsNumbered (boundary s)
+boundary_numbered s numbered =
+    let begins : IsNumbered (begin_effect s) = renumbered_numbered s (effect s (Begin 0) reply.Done) (effect_renumbered s (Begin 0) reply.Done) numbered in
+    subst (AreNumbered (boundary s).loads) (serials_stay (boundary s).loaded (begun (boundary s)).loaded (begun_stays (boundary s))) begins
+
+-- What is known of the state after all that waited is decided: a cycle can begin in it.
+pub record HasDecided (s t : State) : Type 0 where
+  pub description : t.description ≡ s.description
+  pub down : t.aloft ≡ false
+  pub within : t.ended < t.description.cycles
+  pub numbered : IsNumbered t
+  pub counted : length t.loaded ≡ length s.loaded
+
+pub has_decided : (s t : State) → t ≡ boundary s → can_begin s s.ended ≡ true → IsNumbered s → HasDecided s t
+has_decided s t is can numbered =
+    let loop = boundary-SameLoop s in
+    let few : s.ended < s.description.cycles = begins_within s can in
+    subst (HasDecided s) (sym is) (record {
+      description = loop.description;
+      down = loop.aloft ∙ begins_down s can;
+      within = rw (loop.ended, loop.description) few;
+      numbered = boundary_numbered s numbered;
+      counted = count_stays s.loaded (boundary s).loaded (boundary_stays s (waiting s));
+    })
+
+same_members : (ls : List Loaded) → map planned.member_of ls ≡ map member_of ls
+same_members [] = refl
+same_members (l ∷ ls) = ap (λ (ms : List Member). member_of l ∷ ms) (same_members ls)
+
+-- in it is updated in the order that was planned who is active in it
+pub planned_order : (s : State) (plan : Plan) → IsPlanOf s (waiting s) plan → plan.order.items ≡ members_in_order (boundary s)
+planned_order s plan is = is.order ∙ same_members (active_order (boundary s))
+
+-- who is active in it is described
+pub order_decided : (s : State) → All (IsAsDescribed s.description) s.loaded → All (λ m. m.place < length s.description.controllers) (members_in_order (boundary s))
+order_decided s described =
+    let same = (boundary-SameLoop s).description in
+    let still = described_stay s.description s.loaded (boundary s).loaded (boundary_stays s (waiting s)) described in
+    subst (λ (d : Description). All (λ m. m.place < length d.controllers) (members_in_order (boundary s))) same
+    (order_within (boundary s) (subst (λ (d : Description). All (IsAsDescribed d) (boundary s).loaded) (sym same) still))
+
+-- ---- While none is aloft
+
+-- what is kept then goes by these parts of a flight
+pub kept_still : (s t : State) (names : List (List ℕ)) (related : Related) (placed : Placed) (before after : Flight) (listed : Listed) (ending : Ending)
+    → IsKept s names related placed before listed ending → t ≡ s → is_some before.begun ≡ false
+    → after.hardware ≡ before.hardware → after.period_us ≡ before.period_us → after.room ≡ before.room → after.begun ≡ before.begun → after.erred.items ≡ []
+    → IsKept t names related placed after listed ending
+kept_still s t names related placed before after listed ending kept same down hardware timed room begun none_erred =
+    subst (λ (u : State). IsKept u names related placed after listed ending) (sym same) (record {
+      worked_out = kept.worked_out;
+      described = kept.described;
+      counted = kept.counted;
+      few = kept.few;
+      hardware = rw hardware kept.hardware;
+      timed = timed ∙ kept.timed;
+      within = kept.within;
+      ordered = kept.ordered;
+      no_mail = kept.no_mail;
+      listed = kept.listed;
+      fit = kept.fit;
+      roomy = record {
+        wide = room ∙ kept.roomy.wide;
+        flags = kept.roomy.flags;
+        told = rw begun kept.roomy.told;
+        none_erred = none_erred;
+        erred = λ aloft. (let no : false ≡ true = sym down ∙ ap (λ (o : Option RecordRoom). is_some o) (sym begun) ∙ aloft in cc);
+      };
+    })
+
+-- ---- The cycle goes aloft
+
+-- each is updated in time
+pub all_timed : (d : Description) (ls : List Loaded) → AllByRecursion (IsTimedIn d) ls → AllByRecursion HasTime ls
+all_timed d [] timed = tt
+all_timed d (l ∷ ls) timed = (timed.0.0, all_timed d ls timed.1)
+
+mail_leaves : (s : State) (l : Loaded) → IsSameOne l (without_mail_off s l)
+mail_leaves s l = either (is_active l && is_due_now s l)
+  where
+    either : (b : Bool) → IsSameOne l (if b then record l { mail = None } else l)
+    either true = record { serial = refl; place = refl; active = refl }
+    either false = record { serial = refl; place = refl; active = refl }
+
+begun_actives : (s : State) → actives (begun s).loaded ≡ actives s.loaded
+begun_actives s = actives_map (without_mail_off s) (mail_leaves s) s.loaded
+
+-- What is kept then, when the order of updates is the one of now.
+pub kept_aloft : (s : State) (names : List (List ℕ)) (related : Related) (placed : Placed) (before after : Flight) (was listed : Listed) (ending : Ending)
+    → IsKept s names related placed before was ending → IsNumbered s → s.aloft ≡ false → s.ended < s.description.cycles
+    → IsListedOf s listed → listed.fresh ≡ true
+    → after.hardware ≡ before.hardware → after.period_us ≡ before.period_us → after.room ≡ before.room
+    → IfSome after.begun (HasRoom s.description placed listed.order) → after.erred.items ≡ [] → length listed.order ≤ vec_capacity after.erred
+    → IsKept (begun s) names related placed after listed ending
+kept_aloft s names related placed before after was listed ending kept numbered down within is fresh hardware timed room told none_erred erred =
+    let same = begun_actives s in
+    let stays = begun_stays s in
+    record {
+      worked_out = kept.worked_out;
+      described = described_stay s.description s.loaded (begun s).loaded stays kept.described;
+      counted = kept.counted;
+      few = omega (arith, kept.few, count_stays s.loaded (begun s).loaded stays);
+      hardware = rw hardware (hardware_stays s (begun s) same refl before.hardware refl refl refl kept.hardware);
+      timed = timed ∙ kept.timed;
+      within = λ aloft. within;
+      ordered = λ aloft. fresh;
+      no_mail = λ still. cc;
+      listed = record {
+        active = record { counted = is.active.counted; told = λ p below. is.active.told p below ∙ sym (same_serial s (begun s) same refl p) };
+        order = λ now. is.order now ∙ sym (same_order s (begun s) same refl);
+        run = λ now. rw (serials_stay s.loaded (begun s).loaded stays) (is.run now);
+      };
+      fit = fit_begun s numbered (kept.no_mail down) kept.fit;
+      roomy = record { wide = rw room kept.roomy.wide; flags = kept.roomy.flags; told = told; none_erred = none_erred; erred = λ aloft. erred };
+    }
+
+-- It is so when a cycle went aloft with this record, in the flight that there was room in.
+pub kept_flown : (s : State) (names : List (List ℕ)) (related : Related) (placed : Placed) (before mid after : Flight) (was listed : Listed) (ending : Ending) (room : RecordRoom)
+    → IsKept s names related placed before was ending → IsNumbered s → s.aloft ≡ false → s.ended < s.description.cycles
+    → IsListedOf s listed → listed.fresh ≡ true
+    → mid.hardware ≡ before.hardware → mid.period_us ≡ before.period_us → mid.room ≡ before.room → mid.erred.items ≡ [] → length listed.order ≤ vec_capacity mid.erred
+    → HasRoom s.description placed listed.order room → after ≡ record mid { begun = Some room; mails = after.mails }
+    → IsKept (begun s) names related placed after listed ending
+kept_flown s names related placed before mid after was listed ending room kept numbered down within is fresh hardware timed wide none_erred erred told flown =
+    let aloft : after.begun ≡ Some room = ap (λ (f : Flight). f.begun) flown in
+    let places : vec_capacity after.erred ≡ vec_capacity mid.erred = ap (λ (f : Flight). vec_capacity f.erred) flown in
+    kept_aloft s names related placed before after was listed ending kept numbered down within is fresh
+    (ap (λ (f : Flight). f.hardware) flown ∙ hardware) (ap (λ (f : Flight). f.period_us) flown ∙ timed) (ap (λ (f : Flight). f.room) flown ∙ wide)
+    (subst (λ (o : Option RecordRoom). IfSome o (HasRoom s.description placed listed.order)) (sym aloft) told)
+    (ap (λ (f : Flight). f.erred.items) flown ∙ none_erred) (omega (arith, places, erred))
+
+-- a state with what is aloft in it
+abbrev aloft_with : State → List Loaded → Wired → Bool → List MailAloft → State
+aloft_with s loaded w aloft mails = with_hardware (record s { loaded = loaded; aloft = aloft; mails = mails }) w
+
+-- and the state is the one of the cycle that begins
+pub view_flown : (d : Description) (blanks : Blanks) (sessions loads : ℕ) (loaded slots : List Loaded) (asked : Asked) (before mid after : Flight) (ended : ℕ) (closed : Bool) (room : RecordRoom)
+    → slots ≡ map (without_mail_off (state_with d blanks sessions loads loaded asked before ended closed)) loaded
+    → after.mails.items ≡ filter_map (mail_off (state_with d blanks sessions loads loaded asked before ended closed)) loaded
+    → mid.hardware ≡ before.hardware → after ≡ record mid { begun = Some room; mails = after.mails }
+    → state_with d blanks sessions loads slots asked after ended closed ≡ begun (state_with d blanks sessions loads loaded asked before ended closed)
+view_flown d blanks sessions loads loaded slots asked before mid after ended closed room left off hardware flown =
+    let s = state_with d blanks sessions loads loaded asked before ended closed in
+    let went = map (without_mail_off s) loaded in
+    ap (λ (ls : List Loaded). aloft_with s ls after.hardware (is_some after.begun) after.mails.items) left
+    ∙ ap (λ (w : Wired). aloft_with s went w (is_some after.begun) after.mails.items) (ap (λ (f : Flight). f.hardware) flown ∙ hardware)
+    ∙ ap (λ (o : Option RecordRoom). aloft_with s went before.hardware (is_some o) after.mails.items) (ap (λ (f : Flight). f.begun) flown)
+    ∙ ap (λ (ms : List MailAloft). aloft_with s went before.hardware true ms) off

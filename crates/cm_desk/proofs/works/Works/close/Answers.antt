@@ -1,0 +1,29 @@
+use Rattle.std.proofs.Common.{◌≡◌, Bool, true, false, refl, sym, ap, ◌∙◌}
+use Rattle.cm_model.specs.Boundary.{close_effect, close_reply}
+use Rattle.cm_model.specs.State.{State}
+use Rattle.cm_desk.specs.Works.{state_with}
+use Rattle.cm_desk.proofs.KeptLemmas.{kept_after_ask}
+use Rattle.cm_desk.proofs.RecordLemmas.{open_where}
+use Rattle.cm_desk.proofs.works.Works.close.Goals as goal
+
+-- the requests change, and the loop is closed
+pub invariant_of-self : goal.invariant_of-self
+invariant_of-self g c =
+    let a = c.self.inside in
+    let s = state_with a.checked a.blanks a.sessions a.loads a.slots.items a.requests a.flight a.ended a.closed in
+    let t = state_with a.checked a.blanks a.sessions a.loads a.slots.items c.close_all.new.self a.flight a.ended true in
+    kept_after_ask s t a.names.items a.relations a.places a.flight a.roster a.ending c.self.invariant refl
+
+pub returns-clause-closed : goal.returns-clause-closed
+returns-clause-closed g c =
+    let a = c.self.inside in
+    let s : Bool → State = λ closed. state_with a.checked a.blanks a.sessions a.loads a.slots.items a.requests a.flight a.ended closed in
+    let open_before : a.closed ≡ false = open_where (s a.closed) (rw (← c.self.view_is) at c.requires) in
+    rw (← c.self.view_is) (c.close_all.ensures.left (s a.closed) ∙ ap close_effect (ap s (sym open_before)))
+
+pub returns-clause-told : goal.returns-clause-told
+returns-clause-told g c =
+    let a = c.self.inside in
+    let s : Bool → State = λ closed. state_with a.checked a.blanks a.sessions a.loads a.slots.items a.requests a.flight a.ended closed in
+    let open_before : a.closed ≡ false = open_where (s a.closed) (rw (← c.self.view_is) at c.requires) in
+    rw (← c.self.view_is) (c.close_all.ensures.told (s a.closed) ∙ ap close_reply (ap s (sym open_before)))

@@ -1,0 +1,81 @@
+use Rattle.std.proofs.Common.{◌≡◌, ◌<◌, true, false, sym, ◌∙◌}
+use Rattle.std.specs.Prelude.{length}
+use Rattle.cm_model.specs.Kinds.{takes, takes_none}
+use Rattle.cm_model.specs.State.{is_active, is_chained}
+use Rattle.cm_model.specs.Steady.{IsSteady}
+use Rattle.cm_desk.specs.Works.{state_with}
+use Rattle.cm_desk.proofs.SendLemmas.{refused_idle, refused_chained, refused_none, refused_count, not_refused}
+use Rattle.cm_desk.proofs.WorksLemmas.{stands_here}
+use Rattle.cm_desk.proofs.works.Works.mail_refusal.Goals as goal
+
+-- one that is not active is refused as such
+pub returns-then-not-is_active : goal.returns-then-not-is_active
+returns-then-not-is_active g c =
+    let a = c.self.inside in
+    let s = state_with a.checked a.blanks a.sessions a.loads a.slots.items a.requests a.flight a.ended a.closed in
+    let l = c.index-slot.result.now in
+    let within : c.args.index < length a.slots.items = rw (← c.self.view_is) at c.requires.within in
+    let here = stands_here a.checked a.slots.items c.args.index l c.self.invariant.described within c.index-slot.ensures in
+    let idle : is_active l ≡ false = sym c.is_active.ensures.active ∙ c.if-not-is_active.true in
+    rw (← c.self.view_is) (refused_idle s c.args.index l c.args.mail.now here.0 idle)
+
+-- of one that is active, what its description refuses is left
+pub returns-then-is_chained : goal.returns-then-is_chained
+returns-then-is_chained g c =
+    let a = c.self.inside in
+    let s = state_with a.checked a.blanks a.sessions a.loads a.slots.items a.requests a.flight a.ended a.closed in
+    let l = c.index-slot.result.now in
+    let d = c.described-controller.result.now in
+    let within : c.args.index < length a.slots.items = rw (← c.self.view_is) at c.requires.within in
+    let here = stands_here a.checked a.slots.items c.args.index l c.self.invariant.described within c.index-slot.ensures in
+    let runs : is_active l ≡ true = sym c.is_active.ensures.active ∙ c.if-not-is_active.false in
+    let steady : IsSteady s = rw (← c.self.view_is) at c.requires.steady in
+    let chained : c.is_chained.result ≡ is_chained s d = rw (← c.self.view_is) at c.is_chained.ensures in
+    rw (← c.self.view_is)
+    (refused_chained s c.args.index l d c.args.mail.now steady here.0 c.described-controller.ensures.same runs (sym chained ∙ c.if-is_chained.true))
+
+pub returns-then-takes_none : goal.returns-then-takes_none
+returns-then-takes_none g c =
+    let a = c.self.inside in
+    let s = state_with a.checked a.blanks a.sessions a.loads a.slots.items a.requests a.flight a.ended a.closed in
+    let l = c.index-slot.result.now in
+    let d = c.described-controller.result.now in
+    let within : c.args.index < length a.slots.items = rw (← c.self.view_is) at c.requires.within in
+    let here = stands_here a.checked a.slots.items c.args.index l c.self.invariant.described within c.index-slot.ensures in
+    let runs : is_active l ≡ true = sym c.is_active.ensures.active ∙ c.if-not-is_active.false in
+    let steady : IsSteady s = rw (← c.self.view_is) at c.requires.steady in
+    let chained : c.is_chained.result ≡ is_chained s d = rw (← c.self.view_is) at c.is_chained.ensures in
+    rw (← c.self.view_is)
+    (refused_none s c.args.index l d c.args.mail.now steady here.0 c.described-controller.ensures.same runs (sym chained ∙ c.if-is_chained.false)
+    (sym c.takes_none.ensures ∙ c.if-takes_none.true))
+
+pub returns-then-not-takes : goal.returns-then-not-takes
+returns-then-not-takes g c =
+    let a = c.self.inside in
+    let s = state_with a.checked a.blanks a.sessions a.loads a.slots.items a.requests a.flight a.ended a.closed in
+    let l = c.index-slot.result.now in
+    let d = c.described-controller.result.now in
+    let within : c.args.index < length a.slots.items = rw (← c.self.view_is) at c.requires.within in
+    let here = stands_here a.checked a.slots.items c.args.index l c.self.invariant.described within c.index-slot.ensures in
+    let runs : is_active l ≡ true = sym c.is_active.ensures.active ∙ c.if-not-is_active.false in
+    let steady : IsSteady s = rw (← c.self.view_is) at c.requires.steady in
+    let chained : c.is_chained.result ≡ is_chained s d = rw (← c.self.view_is) at c.is_chained.ensures in
+    rw (← c.self.view_is)
+    (refused_count s c.args.index l d c.args.mail.now steady here.0 c.described-controller.ensures.same runs (sym chained ∙ c.if-is_chained.false)
+    (sym c.takes_none.ensures ∙ c.if-takes_none.false) (sym c.takes.ensures ∙ c.if-not-takes.true))
+
+-- and nothing else
+pub returns : goal.returns
+returns g c =
+    let a = c.self.inside in
+    let s = state_with a.checked a.blanks a.sessions a.loads a.slots.items a.requests a.flight a.ended a.closed in
+    let l = c.index-slot.result.now in
+    let d = c.described-controller.result.now in
+    let within : c.args.index < length a.slots.items = rw (← c.self.view_is) at c.requires.within in
+    let here = stands_here a.checked a.slots.items c.args.index l c.self.invariant.described within c.index-slot.ensures in
+    let runs : is_active l ≡ true = sym c.is_active.ensures.active ∙ c.if-not-is_active.false in
+    let steady : IsSteady s = rw (← c.self.view_is) at c.requires.steady in
+    let chained : c.is_chained.result ≡ is_chained s d = rw (← c.self.view_is) at c.is_chained.ensures in
+    rw (← c.self.view_is)
+    (not_refused s c.args.index l d c.args.mail.now steady here.0 c.described-controller.ensures.same runs (sym chained ∙ c.if-is_chained.false)
+    (sym c.takes_none.ensures ∙ c.if-takes_none.false) (sym c.takes.ensures ∙ c.if-not-takes.false))

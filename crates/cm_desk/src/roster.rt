@@ -1,0 +1,181 @@
+//! Who is active, as it is looked up.
+
+ghost use Rattle.std.specs.Prelude.{◌≡◌, ◌<◌, ◌≤◌, ◌^◌, ◌==◌, true, false, [], length, position, slice_get, slice_index_or, vec_capacity, All, IfOk, IfSome, None, Some};
+ghost use Rattle.cm_desk.specs.Roster.{TellsActive, AreAt, serials_of, has_serial, noted};
+
+use cm_model::{Member, Memory};
+use ctl_slots::Slot;
+use ctl_trait::Controller;
+use std::alloc::Global;
+use std::marker::Model;
+
+/// Who is active, as it is looked up: by place in the description, and in the order of updates.
+#[derive(Debug, Drop)]
+pub(crate) struct Roster {
+    /// By place in the description, the serial of the controller that is active there.
+    active: Vec<Option<u32>>,
+    /// The active controllers in the order of their updates.
+    order: Vec<Member>,
+    /// Where they stand among the loaded ones.
+    run: Vec<u32>,
+    /// Whether the order is the one of now.
+    fresh: bool,
+}
+
+impl Model for Roster {
+    ghost use Rattle.cm_desk.specs.Roster.{Listed};
+
+    ghost Value = { Listed };
+
+    ghost view = { λ r. record {
+      active = r.active.items;
+      order = r.order.items;
+      run = r.run.items;
+      fresh = r.fresh;
+    } };
+}
+
+impl Roster {
+    /// Nobody is active, of so many that are described.
+    pub(crate) fn none(alloc: Global, count: usize) -> Result<Roster, Memory>
+        ensures counted { IfOk result (λ roster. length roster.active ≡ count) }
+        ensures nobody { IfOk result (λ roster. (p : _) → slice_index_or roster.active p None ≡ None) }
+        ensures order { IfOk result (λ roster. (roster.order ≡ []) × (roster.run ≡ [])) }
+        ensures fresh { IfOk result (λ roster. roster.fresh ≡ true) }
+    {
+        Ok(Roster {
+            active: vec![in alloc; None; count]?,
+            order: Vec::new(alloc),
+            run: Vec::new(alloc),
+            fresh: true,
+        })
+    }
+
+    /// By place in the description, the serial of the controller that is active there.
+    pub(crate) fn active(&self) -> &[Option<u32>]
+        ensures { result.now ≡ self.now.active }
+    {
+        &self.active
+    }
+
+    /// The active controllers in the order of their updates, where it is the one of now.
+    pub(crate) fn order(&self) -> &[Member]
+        ensures { result.now ≡ self.now.order }
+    {
+        &self.order
+    }
+
+    /// Where they stand among the loaded ones.
+    pub(crate) fn run(&self) -> &[u32]
+        ensures { result.now ≡ self.now.run }
+    {
+        &self.run
+    }
+
+    /// Whether the order is the one of now.
+    pub(crate) fn is_fresh(&self) -> bool
+        ensures { result ≡ self.now.fresh }
+    {
+        self.fresh
+    }
+
+    /// Others may be active now: who is active is looked at anew, and the order is not the one of now. It takes no memory.
+    pub(crate) fn look<C: Controller>(&mut self, slots: &[Slot<C>])
+        requires { All (λ l. l.place < length self.old.active) slots.now }
+        ensures active { TellsActive (length self.old.active) slots.now self.new.active }
+        ensures stale { self.new.fresh ≡ false }
+        ensures same { (self.new.order ≡ self.old.order) × (self.new.run ≡ self.old.run) }
+    {
+        self.fresh = false;
+        look_at(&mut self.active, slots);
+    }
+
+    /// This is the order from now on, of controllers that are loaded. There is room to say where they stand.
+    pub(crate) fn put<C: Controller>(
+        &mut self,
+        order: Vec<Member>,
+        room: Vec<u32>,
+        slots: &[Slot<C>],
+    )
+        requires loaded { All (λ m. has_serial (serials_of slots.now) m.serial ≡ true) order.items }
+        requires room { length order.items ≤ vec_capacity room }
+        requires few { length slots.now < 2 ^ 32 }
+        ensures active { self.new.active ≡ self.old.active }
+        ensures order { self.new.order ≡ order.items }
+        ensures run { AreAt (serials_of slots.now) order.items self.new.run }
+        ensures fresh { self.new.fresh ≡ true }
+    {
+        self.run = room;
+        index_all(&mut self.run, &order, slots);
+        self.order = order;
+        self.fresh = true;
+    }
+
+    /// Others may be loaded now, though the same are active: where these stand is looked up anew. It takes no memory.
+    pub(crate) fn reindex<C: Controller>(&mut self, slots: &[Slot<C>])
+        requires loaded { self.old.fresh ≡ true
+            → All (λ m. has_serial (serials_of slots.now) m.serial ≡ true) self.old.order }
+        requires room { self.old.fresh ≡ true → length self.old.order ≤ length self.old.run }
+        requires few { length slots.now < 2 ^ 32 }
+        ensures active { self.new.active ≡ self.old.active }
+        ensures order { self.new.order ≡ self.old.order }
+        ensures run { self.old.fresh ≡ true → AreAt (serials_of slots.now) self.old.order self.new.run }
+        ensures fresh { self.new.fresh ≡ self.old.fresh }
+    {
+        if self.fresh {
+            index_all(&mut self.run, &self.order, slots);
+        }
+    }
+}
+
+/// For each described place, which of these controllers is active there.
+fn look_at<C: Controller>(active: &mut [Option<u32>], slots: &[Slot<C>])
+    requires { All (λ l. l.place < length active.old) slots.now }
+    ensures { TellsActive (length active.old) slots.now active.new }
+{
+    active.fill(None);
+    for slot in slots {
+        note(active, slot);
+    }
+}
+
+/// The controller is noted at its place, where it is active and nobody is noted there.
+fn note<C: Controller>(active: &mut [Option<u32>], slot: &Slot<C>)
+    requires { slot.now.place < length active.old }
+    ensures { active.new ≡ noted slot.now active.old }
+{
+    let place = slot.place();
+    if slot.is_active() && active[place].is_none() {
+        active[place] = Some(slot.serial());
+    }
+}
+
+/// Where these stand among the loaded controllers, within this room.
+fn index_all<C: Controller>(run: &mut Vec<u32>, order: &[Member], slots: &[Slot<C>])
+    requires loaded { All (λ m. has_serial (serials_of slots.now) m.serial ≡ true) order.now }
+    requires room { length order.now ≤ vec_capacity run.old }
+    requires few { length slots.now < 2 ^ 32 }
+    ensures { AreAt (serials_of slots.now) order.now run.new.items }
+{
+    run.clear();
+    for member in order {
+        run.push_reserved(index_of(slots, member.serial));
+    }
+}
+
+/// Where the controller of this serial stands among the loaded ones.
+fn index_of<C: Controller>(slots: &[Slot<C>], serial: u32) -> u32
+    requires loaded { has_serial (serials_of slots.now) serial ≡ true }
+    requires few { length slots.now < 2 ^ 32 }
+    ensures { slice_get (serials_of slots.now) result ≡ Some serial }
+{
+    position_of(slots, serial).unwrap_or(0) as u32
+}
+
+/// The place of the controller of this serial among these, where it is one of them.
+fn position_of<C: Controller>(slots: &[Slot<C>], serial: u32) -> Option<usize>
+    ensures found { result ≡ position (λ l. l.serial == serial) slots.now }
+    ensures within { IfSome result (λ index. index < length slots.now) }
+{
+    slots.iter().position(|slot| slot.serial() == serial)
+}
