@@ -1,24 +1,53 @@
 -- What a call of a session or of the loop makes of a job.
-use Rattle.std.proofs.Common.{◌≡◌, ℕ, true, false, List, ◌∷◌, Option, Some, None, refl, sym, ◌∙◌, arith}
+use Rattle.std.proofs.Common.{◌≡◌, ℕ, true, false, List, ◌∷◌, Some, None, refl, sym, ap, ◌∙◌, arith}
 use Rattle.std.specs.Prelude.{not, ◌==◌, ◌&&◌, nat_lt}
 use Rattle.std.proofs.lemmas.Bool.{and_parts}
+use Rattle.std.proofs.lemmas.Option.{same_Some}
 use Rattle.std.proofs.lemmas.Bool.Decides.{nat_tests}
 use Rattle.cm_document.specs.declared.call.Call.{Call}
-use Rattle.cm_document.specs.declared.call.Call.TheVariants.{Begin, End, Close}
+use Rattle.cm_document.specs.ScriptLaws.{CanBeWritten}
+use Rattle.cm_document.specs.declared.call.Call.TheVariants.{Load, Configure, Cleanup, Unload, Rate, Send, Switch, Hardware, Await, ListControllers, ListInterfaces, ListComponents, Begin, End, Close}
 use Rattle.cm_model.specs.Machine.{can_begin, can_end, can_close, step}
-use Rattle.cm_model.specs.Scheduled.{Session, Progress, with_entry, advance, looped}
+use Rattle.cm_model.specs.Scheduled.{Session, Progress, with_entry, ticket_in, advance, looped}
 use Rattle.cm_model.specs.State.{State}
 use Rattle.cm_model.specs.declared.entry.Entry.{Entry}
 use Rattle.cm_model.specs.declared.reply.Reply.{Reply}
-use Rattle.cm_desk.specs.Desk.{History, now_of, Grows}
-use Rattle.cm_top.specs.Session.{at, IsMade, Standing, progress_of, GoesOn}
+use Rattle.cm_desk.specs.Desk.{History, now_of, Grows, CanBeCalled}
+use Rattle.cm_top.specs.Session.{at, awaited, Makes, Standing, progress_of, GoesOn}
 use Rattle.cm_model.proofs.HistoryLemmas.{sessions_stay}
 
 -- a session whose next line was made has advanced
-pub line_made : (who : ℕ) (h next : History) (call : Call) (lines : List Call) (ticket : Option ℕ) → IsMade h next who call ticket
-    → advance who (at h (record { lines = call ∷ lines; ticket = None })) ≡ Some (at next (record { lines = lines; ticket = ticket }))
+pub line_made : (who : ℕ) (h next : History) (call : Call) (lines : List Call) (r : Reply) → Makes h next who call (Some r)
+    → advance who (at h (record { lines = call ∷ lines; ticket = None })) ≡ Some (at next (record { lines = lines; ticket = ticket_in r }))
 unfolding advance
-line_made who h next call lines ticket made = rw (made.grows.stepped, made.grows.made, made.queued) refl
+line_made who h next call lines r made = rw (made.stepped, made.made) refl
+
+-- one whose next line waits has not
+pub line_waits : (who : ℕ) (h : History) (call : Call) (lines : List Call) → step (now_of h) who call ≡ None
+    → advance who (at h (record { lines = call ∷ lines; ticket = None })) ≡ None
+unfolding advance
+line_waits who h call lines waits = rw waits refl
+
+-- a line that waits for so many cycles is the await of them
+pub await_is : (call : Call) (cycles : ℕ) → awaited call ≡ Some cycles → call ≡ Await cycles
+await_is (Await n) cycles same = ap Await (same_Some n cycles same)
+await_is _ cycles same = cc
+
+-- any other line is a call that the desk answers
+pub written_called : (call : Call) → CanBeWritten call → awaited call ≡ None → CanBeCalled call
+written_called (Load name) written no_await = tt
+written_called (Configure name) written no_await = tt
+written_called (Cleanup name) written no_await = tt
+written_called (Unload name) written no_await = tt
+written_called (Rate name hz) written no_await = tt
+written_called (Send name mail) written no_await = tt
+written_called (Switch asked) written no_await = tt
+written_called (Hardware component target) written no_await = tt
+written_called ListControllers written no_await = tt
+written_called ListInterfaces written no_await = tt
+written_called ListComponents written no_await = tt
+written_called (Await cycles) written no_await = cc
+written_called _ written no_await = absurd written
 
 -- ---- The loop
 

@@ -1,6 +1,6 @@
 -- From the parts of a run to what it promises.
 use Rattle.std.proofs.Common.{◌≡◌, ℕ, ◌+◌, ◌<◌, ◌≤◌, ◌^◌, List, [], ◌∷◌, length, map, Option, Some, None, Ok, true, false, refl, ap, ◌∙◌, inl, inr, ◌⊎◌, arith}
-use Rattle.std.specs.Prelude.{IfSome, IsSome, IsTrue, nat_lt}
+use Rattle.std.specs.Prelude.{IfSome, IsSome, nat_lt}
 use Rattle.std.specs.List.{All, AllByRecursion}
 use Rattle.std.proofs.lemmas.Bool.Decides.{nat_tests}
 use Rattle.std.proofs.lemmas.List.Elements.{All-from_recursion}
@@ -12,15 +12,13 @@ use Rattle.cm_document.specs.declared.limits.TheConstants.{LONGEST_DOCUMENT}
 use Rattle.script_text.specs.Built.{built}
 use Rattle.cm_document.specs.Document.{accepted_script, document}
 use Rattle.cm_document.specs.Lines.{parts_of}
-use Rattle.cm_document.specs.ScriptLaws.{MeetsRules, allows, UsesGrammar}
+use Rattle.cm_document.specs.ScriptLaws.{IsSession, MeetsRules, UsesGrammar}
 use Rattle.cm_model.specs.Machine.{IsLegal}
 use Rattle.cm_model.specs.Scheduled.{Progress, cycles, finish, start, scheduled}
 use Rattle.cm_model.specs.Sessions.{IsWhole}
 use Rattle.cm_model.specs.Sound.{moments, AreSound}
 use Rattle.cm_model.specs.State.{Loaded, boot}
 use Rattle.cm_model.specs.Trace.{output}
-use Rattle.cm_document.specs.declared.call.Call.{Call}
-use Rattle.cm_document.specs.declared.call.Call.TheVariants.{Load, Configure, Cleanup, Unload, Rate, Send, ListControllers, ListInterfaces, ListComponents}
 use Rattle.cm_document.specs.declared.document.Document.{Document}
 use Rattle.cm_document.specs.declared.script.Script.{Script}
 use Rattle.cm_document.specs.declared.script.SessionText.{SessionText}
@@ -29,8 +27,8 @@ use Rattle.cm_document.proofs.DocumentLemmas.{document-AcceptedParts}
 use Rattle.cm_model.proofs.LegalLemmas.{scheduled-IsLegal}
 use Rattle.cm_model.proofs.WholeLemmas.{scheduled-IsWhole}
 use Rattle.script_text.proofs.ReadScriptLemmas.{read_script_meets, read_script_uses}
-use Rattle.cm_desk.specs.Desk.{History, now_of, CanBeCalled}
-use Rattle.cm_top.specs.Session.{CanAllBeCalled, Standing, progress_of}
+use Rattle.cm_desk.specs.Desk.{History, now_of}
+use Rattle.cm_top.specs.Session.{CanAllBeWritten, Standing, progress_of}
 use Rattle.cm_top.specs.Book.{BookFacts, Histories, IsBookOf, IsBook, HandsOut}
 use Rattle.cm_top.specs.Status.{Written, EndedWith, Wrote, RanDocument, IsPlain, ComesOfBytes, status_of, status_of_document}
 use Rattle.cm_model.proofs.HistoryLemmas.{whole-closed}
@@ -41,31 +39,13 @@ use Rattle.cm_top.specs.declared.status.Status.TheVariants as status
 pub rules_few : (s : Script) → MeetsRules s → length s.sessions < 2 ^ 32
 rules_few s rules = omega (arith, rules.few_sessions)
 
--- a call that is built is one that the desk answers
-built_call : (c : Call) → IsTrue (allows built c) → CanBeCalled c
-built_call (Load name) uses = tt
-built_call (Configure name) uses = tt
-built_call (Cleanup name) uses = tt
-built_call (Unload name) uses = tt
-built_call (Rate name hz) uses = tt
-built_call (Send name mail) uses = tt
-built_call ListControllers uses = tt
-built_call ListInterfaces uses = tt
-built_call ListComponents uses = tt
-built_call _ uses = let no : false ≡ true = uses in cc
+-- its sessions have lines that a script can say
+written_sessions : (sessions : List SessionText) → AllByRecursion IsSession sessions → AllByRecursion (λ t. CanAllBeWritten t.lines) sessions
+written_sessions [] rules = tt
+written_sessions (t ∷ sessions) rules = (rules.0.written, written_sessions sessions rules.1)
 
-built_calls : (calls : List Call) → AllByRecursion (λ c. IsTrue (allows built c)) calls → CanAllBeCalled calls
-built_calls [] uses = tt
-built_calls (c ∷ calls) uses = (built_call c uses.0, built_calls calls uses.1)
-
-built_sessions : (sessions : List SessionText) → AllByRecursion (λ t. AllByRecursion (λ c. IsTrue (allows built c)) t.lines) sessions
-    → AllByRecursion (λ t. CanAllBeCalled t.lines) sessions
-built_sessions [] uses = tt
-built_sessions (t ∷ sessions) uses = (built_calls t.lines uses.0, built_sessions sessions uses.1)
-
--- a script with built lines alone has none that the desk does not answer
-pub built_called : (s : Script) → UsesGrammar built s → All (λ t. CanAllBeCalled t.lines) s.sessions
-built_called s uses = All-from_recursion (λ (t : SessionText). CanAllBeCalled t.lines) s.sessions (built_sessions s.sessions uses.calls)
+pub rules_written : (s : Script) → MeetsRules s → All (λ t. CanAllBeWritten t.lines) s.sessions
+rules_written s rules = All-from_recursion (λ (t : SessionText). CanAllBeWritten t.lines) s.sessions (written_sessions s.sessions rules.sessions)
 
 -- what an accepted script is
 accepted_script-Rules : (lines : ℕ) (text : Option (List ℕ)) (s : Script) → accepted_script built lines text ≡ Ok s → MeetsRules s × UsesGrammar built s

@@ -1,24 +1,30 @@
 -- What one advance of a session comes to, and a move of the whole job.
 use Rattle.std.specs.Prelude.{◌≡◌, ℕ, Bool, true, false, List, Option, Some, None}
 use Rattle.std.specs.List.{AllByRecursion}
+use Rattle.cm_document.specs.ScriptLaws.{CanBeWritten}
 use Rattle.cm_document.specs.declared.call.Call.{Call}
-use Rattle.cm_model.specs.Scheduled.{Session, Advanced, Progress, ticket_in}
+use Rattle.cm_document.specs.declared.call.Call.TheVariants.{Await}
+use Rattle.cm_model.specs.Scheduled.{Session, Advanced, Progress}
 use Rattle.cm_model.specs.declared.reply.Reply.{Reply}
-use Rattle.cm_desk.specs.Desk.{History, now_of, Grows, CanBeCalled}
+use Rattle.cm_desk.specs.Desk.{History, now_of, Grows, Waits}
 
--- Lines of which each is a call that the desk answers, as those of accepted scripts are.
-abbrev pub CanAllBeCalled : List Call → Type 0
-CanAllBeCalled lines = AllByRecursion CanBeCalled lines
+-- lines that a script can say
+abbrev pub CanAllBeWritten : List Call → Type 0
+CanAllBeWritten lines = AllByRecursion CanBeWritten lines
+
+-- how many cycles a line waits for, where it is an await
+abbrev pub awaited : Call → Option ℕ
+awaited (Await cycles) = Some cycles
+awaited _ = None
 
 -- how far the run has come where this session advances over a desk of this history
 abbrev pub at : History → Session → Advanced
 at h x = record { state = now_of h; made = h.made; session = x }
 
--- A session's call that was made: its reply, its entry and step, and the ticket that it was given.
-pub record IsMade (old new : History) (who : ℕ) (call : Call) (ticket : Option ℕ) : Type 0 where
-  pub answer : Reply
-  pub grows : Grows old new who call answer
-  pub queued : ticket ≡ ticket_in answer
+-- A session's line was made, with this reply; or it waits, and nothing changed.
+abbrev pub Makes : History → History → ℕ → Call → Option Reply → Type 0
+Makes old new who call (Some r) = Grows old new who call r
+Makes old new who call None = Waits old new who call
 
 -- an advance was made, or there is none and nothing changes
 abbrev pub Advances : Option Advanced → Advanced → Advanced → Bool → Type 0

@@ -2,12 +2,14 @@
 
 ghost use Rattle.std.specs.Prelude.{◌≡◌, ◌<◌, ◌^◌, [], None, true, length, map, IfOk, OnOk};
 ghost use Rattle.std.specs.List.{All};
+ghost use Rattle.cm_document.specs.ScriptLaws.{CanBeWritten};
+ghost use Rattle.cm_document.specs.declared.call.Call.TheVariants as call;
 ghost use Rattle.cm_document.specs.declared.document.Document.{Document};
 ghost use Rattle.cm_model.specs.Scheduled.{advance, settle, settle_from, start, cycles, finish, ticket_in};
 ghost use Rattle.cm_model.specs.Sound.{moments, AreSound};
 ghost use Rattle.cm_model.specs.State.{boot};
-ghost use Rattle.cm_desk.specs.Desk.{now_of, CanBeCalled};
-ghost use Rattle.cm_top.specs.Session.{at, Advances, IsMade, CanAllBeCalled, progress_of};
+ghost use Rattle.cm_desk.specs.Desk.{now_of};
+ghost use Rattle.cm_top.specs.Session.{at, awaited, Advances, Makes, CanAllBeWritten, progress_of};
 
 use cm_desk::{Book, Desk, Stock};
 use cm_model::{Call, Checked, Entry, Memory, Reply, Script, SessionText};
@@ -15,7 +17,7 @@ use ctl_trait::Controller;
 use std::alloc::Global;
 use std::marker::Model;
 
-/// Where a session stands: the lines that it has left, each of which the desk answers, and the ticket that it has still to be told of.
+/// Where a session stands: the lines that it has left, each of which a script can say, and the ticket that it has still to be told of.
 #[derive(Debug, Drop)]
 pub struct Session<'a> {
     lines: &'a [Call],
@@ -27,11 +29,11 @@ impl<'a> Model for Session<'a> {
 
     ghost Value = { WrittenSession };
 
-    ghost use Rattle.cm_top.specs.Session.{CanAllBeCalled};
+    ghost use Rattle.cm_top.specs.Session.{CanAllBeWritten};
 
     ghost view = { λ s. record { lines = s.lines.now; ticket = s.ticket } };
 
-    ghost invariant = { λ s. CanAllBeCalled s.lines.now };
+    ghost invariant = { λ s. CanAllBeWritten s.lines.now };
 }
 
 /// How far a run has come: its desk, with the history, and where each session stands.
@@ -55,7 +57,6 @@ impl<'a, C: Controller> Model for Job<'a, C> {
 impl<'a, C: Controller> Job<'a, C> {
     ghost use Rattle.cm_model.specs.Machine.{can_begin, can_end, can_close};
     ghost use Rattle.cm_model.specs.Scheduled.{settle_all, looped, with_cycle};
-    ghost use Rattle.cm_document.specs.declared.call.Call.TheVariants as call;
     ghost use Rattle.cm_top.specs.Session.{GoesOn};
 
     /// No session has made a line yet.
@@ -67,7 +68,7 @@ impl<'a, C: Controller> Job<'a, C> {
         stock: Stock<C>,
     ) -> Result<Job<'a, C>, Memory>
         requires few { length script.now.sessions < 2 ^ 32 }
-        requires called { All (λ s. CanAllBeCalled s.lines) script.now.sessions }
+        requires written { All (λ s. CanAllBeWritten s.lines) script.now.sessions }
         ensures opening { IfOk result
             (λ job. job.desk.opening ≡ boot checked stock (length script.now.sessions)) }
         ensures started { IfOk result
@@ -201,6 +202,14 @@ impl<'a, C: Controller> Job<'a, C> {
         self.close();
         self.settle_all(alloc)
     }
+
+    /// So many cycles, and then the end.
+    fn run(&mut self, alloc: Global, count: u64) -> Result<(), Memory>
+        ensures { OnOk result (GoesOn (λ p. finish (cycles count p)) self.old self.new) }
+    {
+        self.cycles(alloc, count)?;
+        self.finish(alloc)
+    }
 }
 
 /// The job `run` over a checked description and a script, made to its end.
@@ -211,7 +220,7 @@ pub fn run_job<'a, C: Controller>(
     stock: Stock<C>,
 ) -> Result<Job<'a, C>, Memory>
     requires few { length script.now.sessions < 2 ^ 32 }
-    requires called { All (λ s. CanAllBeCalled s.lines) script.now.sessions }
+    requires written { All (λ s. CanAllBeWritten s.lines) script.now.sessions }
     ensures opening { IfOk result
         (λ job. job.desk.opening ≡ boot checked stock (length script.now.sessions)) }
     ensures scheduled { IfOk result
@@ -220,14 +229,18 @@ pub fn run_job<'a, C: Controller>(
 {
     let count = checked.description().cycles;
     let mut job = Job::start(alloc, checked, script, stock)?;
-    job.cycles(alloc, count)?;
-    job.finish(alloc)?;
-    Ok(job)
+    match job.run(alloc, count) {
+        Ok(()) => Ok(job),
+        Err(Memory) => {
+            drop(job);
+            Err(Memory)
+        }
+    }
 }
 
 /// The sessions of a script, each before its lines.
 fn waiting<'a>(alloc: Global, texts: &'a [SessionText]) -> Result<Vec<Session<'a>>, Memory>
-    requires { All (λ s. CanAllBeCalled s.lines) texts.now }
+    requires { All (λ s. CanAllBeWritten s.lines) texts.now }
     ensures { IfOk result
         (λ sessions. sessions.items ≡ map (λ s. record { lines = s.lines; ticket = None }) texts.now) }
 {
@@ -274,8 +287,9 @@ fn settle<C: Controller>(
     Ok(())
 }
 
-/// A session advances by one call, where it has one that is enabled: it is told of its ticket, or makes its next line.
-#[tactic(auto, unfolding(cm_model::specs::Scheduled::advance), using(crate::proofs::JobLemmas::line_made))]
+/// A session advances by one call, where it has one that is enabled: it is told of its ticket, or makes its next line. It waits where
+/// its request is not decided, and where the cycles that its line awaits have not ended.
+#[tactic(auto, unfolding(cm_model::specs::Scheduled::advance), using(crate::proofs::JobLemmas::line_made, crate::proofs::JobLemmas::line_waits))]
 fn advance<C: Controller>(
     alloc: Global,
     who: u32,
@@ -297,26 +311,59 @@ fn advance<C: Controller>(
     let Some((call, rest)) = session.lines.split_first() else {
         return Ok(false);
     };
-    let ticket = ask(alloc, who, call, desk)?;
+    let Some(reply) = ask(alloc, who, call, desk)? else {
+        return Ok(false);
+    };
     session.lines = rest;
-    session.ticket = ticket;
+    session.ticket = ticket_in(&reply);
     Ok(true)
 }
 
-/// Makes a session's call, and gives the ticket that it was given. A box that is handed out is dropped.
+/// Makes a line of a session, where it is enabled: its reply, or None where it waits. A box that is handed out is dropped.
+#[tactic(auto, using(crate::proofs::JobLemmas::await_is, crate::proofs::JobLemmas::written_called))]
 fn ask<C: Controller>(
     alloc: Global,
     who: u32,
     call: &Call,
     desk: &mut Desk<C>,
-) -> Result<Option<u32>, Memory>
+) -> Result<Option<Reply>, Memory>
     requires session { who < desk.old.opening.sessions }
-    requires called { CanBeCalled call.now }
-    ensures made { IfOk result (IsMade desk.old desk.new who call.now) }
+    requires written { CanBeWritten call.now }
+    ensures made { IfOk result (Makes desk.old desk.new who call.now) }
     ensures opening { desk.new.opening ≡ desk.old.opening }
 {
+    if let Some(cycles) = awaited(call) {
+        return await_cycles(alloc, who, cycles, desk);
+    }
     let (reply, _) = desk.call(alloc, who, copy_of(call)?)?;
-    Ok(ticket_in(&reply))
+    Ok(Some(reply))
+}
+
+/// How many cycles a line waits for, where it is an await.
+fn awaited(call: &Call) -> Option<u64>
+    ensures { result ≡ awaited call.now }
+{
+    match call {
+        Call::Await(cycles) => Some(*cycles),
+        _ => None,
+    }
+}
+
+/// Goes on where so many cycles have ended or the loop is closed, and else waits.
+fn await_cycles<C: Controller>(
+    alloc: Global,
+    who: u32,
+    cycles: u64,
+    desk: &mut Desk<C>,
+) -> Result<Option<Reply>, Memory>
+    requires { who < desk.old.opening.sessions }
+    ensures made { IfOk result (Makes desk.old desk.new who (call.Await cycles)) }
+    ensures opening { desk.new.opening ≡ desk.old.opening }
+{
+    if desk.reached(alloc, who, cycles)? {
+        return Ok(Some(Reply::Done));
+    }
+    Ok(None)
 }
 
 /// A copy of a call, which the session's script keeps.

@@ -6,8 +6,7 @@ ghost use Rattle.outside_io.specs.Bytes.{AllFlushed};
 ghost use Rattle.outside_io.specs.Faults.{Rose};
 ghost use Rattle.cm_model.specs.Words.{is_asked};
 ghost use Rattle.cm_document.specs.declared.limits.TheConstants.{LONGEST_DOCUMENT};
-ghost use Rattle.script_text.specs.Built.{built};
-ghost use Rattle.cm_document.specs.ScriptLaws.{MeetsRules, UsesGrammar};
+ghost use Rattle.cm_document.specs.ScriptLaws.{MeetsRules};
 ghost use Rattle.cm_model.specs.Scheduled.{scheduled};
 ghost use Rattle.cm_model.specs.Trace.{trace};
 ghost use Rattle.cm_top.specs.Book.{book_facts};
@@ -127,7 +126,6 @@ fn run_document<K: Sink, C: Controller>(
     stock: Stock<C>,
 ) -> (Status, Option<Book<C>>)
     requires rules { MeetsRules document.script }
-    requires grammar { UsesGrammar built document.script }
     ensures ran { RanDocument (λ d. scheduled d stock) document stock
         (record { old = K.taken sink.old; new = K.taken sink.new; flushed = K.flushed sink.new })
         result.0 (option_map (book_facts C.meaning) result.1) }

@@ -1,4 +1,4 @@
--- Which lines a script may have today: the first session, the calls on one controller, and the lists of controllers, interfaces and components.
+-- Which lines a script may have today: the first session, each call that it can make, and no schedule.
 use Rattle.std.specs.Prelude.{true, false}
 use Rattle.cm_document.specs.declared.script.Grammar.{Grammar}
 
@@ -13,9 +13,9 @@ built = record {
   unload = true;
   rate = true;
   send = true;
-  switch = false;
-  hardware = false;
-  await_cycles = false;
+  switch = true;
+  hardware = true;
+  await_cycles = true;
   list_controllers = true;
   list_interfaces = true;
   list_components = true;

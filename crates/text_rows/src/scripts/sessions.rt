@@ -207,29 +207,37 @@ unload mk
 rate mk 5
 send mk 1 -0.5
 send mk @1 1 @2 -0.5
+switch strict +mk
+switch best -mk
+hw arm active
+await 1
 list controllers
 list interfaces
 list components
 => |a|load mk|configure mk|cleanup mk|unload mk|rate mk 5|send mk 1.000000 -0.500000\
-|send mk @1 1.000000 @2 -0.500000|list controllers|list interfaces|list components
+|send mk @1 1.000000 @2 -0.500000|switch strict +mk|switch best -mk|hw arm active|await 1\
+|list controllers|list interfaces|list components
 
 session a
 session b
 => bad_line 21
 
-session a
-switch strict +mk
-=> bad_line 21
-
-session a
-hw arm active
-=> bad_line 21
-
-session a
-await 1
-=> bad_line 21
-
 schedule
+=> bad_line 20
+
+session a
+load mk
+schedule
+=> bad_line 22
+
+session a
+step a
+=> bad_line 21
+
+begin
+=> bad_line 20
+
+end
 => bad_line 20
 
 load mk
@@ -242,7 +250,13 @@ send mk<0..33 * \s1>
 => no_session 20
 
 await 1
-=> bad_line 20
+=> no_session 20
+
+switch strict +mk
+=> no_session 20
+
+hw arm active
+=> no_session 20
 
 session a
 configure 1a

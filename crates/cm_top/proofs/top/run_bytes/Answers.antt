@@ -4,9 +4,6 @@ use Rattle.cm_top.proofs.top.run_bytes.Goals as goal
 pub run_document-requires-clause-rules : goal.run_document-requires-clause-rules
 run_document-requires-clause-rules g c = λ _ _. (document-Rules _ _ c.in-Ok.ensures.reads).0
 
-pub run_document-requires-clause-grammar : goal.run_document-requires-clause-grammar
-run_document-requires-clause-grammar g c = λ _ _. (document-Rules _ _ c.in-Ok.ensures.reads).1
-
 pub returns-in-Ok-clause-runs : goal.returns-in-Ok-clause-runs
 returns-in-Ok-clause-runs g c =
     let ran = c.run_document.ensures.ran in

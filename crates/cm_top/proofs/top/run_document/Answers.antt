@@ -1,14 +1,14 @@
 use Rattle.cm_model.specs.Trace.{output}
-use Rattle.cm_top.proofs.TopLemmas.{rules_few, built_called, job_done, book_done}
+use Rattle.cm_top.proofs.TopLemmas.{rules_few, rules_written, job_done, book_done}
 use Rattle.cm_top.proofs.top.run_document.Goals as goal
 
 -- a script that meets the rules leaves room for the numbers of its sessions
 pub run_job-requires-clause-few : goal.run_job-requires-clause-few
 run_job-requires-clause-few g c = λ _ _. rules_few _ c.requires.rules
 
--- with built lines alone it has calls that the desk answers
-pub run_job-requires-clause-called : goal.run_job-requires-clause-called
-run_job-requires-clause-called g c = λ _ _. built_called _ c.requires.grammar
+-- and has lines that a script can say
+pub run_job-requires-clause-written : goal.run_job-requires-clause-written
+run_job-requires-clause-written g c = λ _ _. rules_written _ c.requires.rules
 
 -- the job has closed its loop
 pub into_book-requires-clause-closed : goal.into_book-requires-clause-closed
