@@ -9,9 +9,13 @@ mod boards;
 #[cfg(test)]
 mod failures;
 #[cfg(test)]
+mod managed;
+#[cfg(test)]
 mod modes;
 #[cfg(test)]
 mod moves;
+#[cfg(test)]
+mod places;
 #[cfg(test)]
 mod starts;
 #[cfg(test)]

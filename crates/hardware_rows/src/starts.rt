@@ -59,7 +59,8 @@ impl Teller for Counts {
     }
 }
 
-fn push_components(
+/// Appends each component with its kind and its lifecycle state.
+pub(crate) fn push_components(
     told: &mut String,
     description: &Description,
     lines: &[CompLine],
@@ -77,7 +78,12 @@ fn push_components(
     Ok(())
 }
 
-fn push_interfaces(told: &mut String, names: &[String], lines: &[IfaceLine]) -> Result<(), Fail> {
+/// Appends each interface with what it holds.
+pub(crate) fn push_interfaces(
+    told: &mut String,
+    names: &[String],
+    lines: &[IfaceLine],
+) -> Result<(), Fail> {
     if lines.is_empty() {
         told.push_str("none")?;
     }
@@ -110,7 +116,7 @@ fn push_held(told: &mut String, line: &IfaceLine) -> Result<(), Fail> {
 }
 
 /// What the interfaces are called, by place.
-fn names_of(alloc: Global, description: &Description) -> Result<Vec<String>, Fail> {
+pub(crate) fn names_of(alloc: Global, description: &Description) -> Result<Vec<String>, Fail> {
     let mut names = Vec::new(alloc);
     let components = description.components.as_slice();
     for component in components {

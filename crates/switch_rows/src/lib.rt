@@ -1,5 +1,5 @@
 //! Tests of switch plans, scene by scene: a page has for each case the loaded controllers, and line by line a request with
-//! what must be told of its plan; and of the order of updates.
+//! what must be told of its plan; and of the order of updates, and of ends of cycles.
 #![tactic(auto)]
 
 #[cfg(test)]
@@ -7,9 +7,13 @@ mod causes;
 #[cfg(test)]
 mod efforts;
 #[cfg(test)]
+mod ends;
+#[cfg(test)]
 mod largest;
 #[cfg(test)]
 mod orders;
+#[cfg(test)]
+mod planned;
 #[cfg(test)]
 mod restarts;
 #[cfg(test)]

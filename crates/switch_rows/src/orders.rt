@@ -56,14 +56,18 @@ fn order_of(alloc: Global, checked: &Checked, active: &[Member]) -> Result<Strin
 }
 
 /// Whether each of these has its place below the count.
-fn are_below(members: &[Member], count: usize) -> bool
+pub(crate) fn are_below(members: &[Member], count: usize) -> bool
     ensures { IsTrue result → All (λ m. m.place < count) members.now }
 {
     members.iter().all(|member| (member.place as usize) < count)
 }
 
 /// Those with words `SERIAL:NAME`; `nobody` stands for none.
-fn members_of(alloc: Global, checked: &Checked, words: &str) -> Result<Vec<Member>, Fail> {
+pub(crate) fn members_of(
+    alloc: Global,
+    checked: &Checked,
+    words: &str,
+) -> Result<Vec<Member>, Fail> {
     let mut members = Vec::new(alloc);
     for word in words.split_whitespace() {
         if word != "nobody" {
@@ -82,7 +86,7 @@ fn member_of(checked: &Checked, word: &str) -> Result<Member, Fail> {
 }
 
 /// Numbers with spaces between them, or `none`.
-fn listed(alloc: Global, numbers: &[u32]) -> Result<String, Fail> {
+pub(crate) fn listed(alloc: Global, numbers: &[u32]) -> Result<String, Fail> {
     let mut told = String::new(alloc);
     for number in numbers {
         push_parted(&mut told, " ", "")?;

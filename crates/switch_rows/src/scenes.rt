@@ -29,10 +29,10 @@ fn requests_have_their_plans(rt: HostRuntime) -> Result<(), Fail> {
 
 /// A description with what is loaded of it; its components are active where nothing else is said.
 #[derive(Drop)]
-struct Scene {
-    checked: Checked,
-    loaded: Vec<Seen>,
-    components: Vec<Life>,
+pub(crate) struct Scene {
+    pub(crate) checked: Checked,
+    pub(crate) loaded: Vec<Seen>,
+    pub(crate) components: Vec<Life>,
 }
 
 impl Player for Scene {
@@ -137,7 +137,7 @@ impl Scene {
     }
 
     /// The name of the controller with this serial.
-    fn name_of(&self, serial: u32) -> Result<&str, Fail> {
+    pub(crate) fn name_of(&self, serial: u32) -> Result<&str, Fail> {
         let seen = self.loaded.iter().find(|seen| seen.serial == serial);
         let place = seen.ok_or("no such serial")?.place;
         let controllers = self.checked.description().controllers.as_slice();
@@ -156,14 +156,14 @@ pub fn place_of(checked: &Checked, name: &str) -> Result<u32, Fail> {
 }
 
 /// Whether each of these has its place below the count.
-fn are_below(loaded: &[Seen], count: usize) -> bool
+pub(crate) fn are_below(loaded: &[Seen], count: usize) -> bool
     ensures { IsTrue result → All (λ l. l.place < count) loaded.now }
 {
     loaded.iter().all(|seen| (seen.place as usize) < count)
 }
 
 /// `strict` or `best`, and names behind `-` to deactivate and behind `+` to activate.
-fn request_of(alloc: Global, words: &str) -> Result<SwitchRequest, Fail> {
+pub(crate) fn request_of(alloc: Global, words: &str) -> Result<SwitchRequest, Fail> {
     let mut request = SwitchRequest {
         on: Seq::new(alloc),
         off: Seq::new(alloc),

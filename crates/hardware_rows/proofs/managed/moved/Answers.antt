@@ -1,0 +1,16 @@
+use Rattle.std.proofs.Common.{◌≡◌, length, ap, ◌∙◌, arith}
+use Rattle.std.proofs.lemmas.List.{length-map}
+use Rattle.cm_document.specs.declared.description.Description.{Description}
+use Rattle.cm_model.specs.declared.blanks.Blanks.{Blanks}
+use Rattle.cm_hardware.specs.Wiring.{Mounted}
+use Rattle.hardware_rows.proofs.managed.moved.Goals as goal
+
+-- the hardware has the described components
+pub move_component-requires : goal.move_component-requires
+move_component-requires c =
+    let nothing : Blanks = record { forward = 0; passthrough = 0; pid = 0; trajectory = 0; broadcaster = 0; mock = 0 } in
+    let ms = c.in_ok-hardware.hardware.components in
+    let cs : c.as_slice.result.now ≡ c.args.checked.now.components = c.as_slice.ensures ∙ ap (λ (d : Description). d.components) c.description.ensures.same in
+    let as_many : length c.args.checked.now.components ≡ length ms =
+    ap length (c.in_ok-hardware.ensures nothing 0).wired.components ∙ length-map ms (λ (m : Mounted). m.hardware.description) in
+    omega (arith, c.if-place-as_slice.false, ap length cs, as_many)

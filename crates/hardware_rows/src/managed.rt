@@ -1,0 +1,168 @@
+//! The hardware of a description at work: its components moved, and run for a cycle in which no controller is active.
+
+ghost use Rattle.std.specs.Prelude.{◌<◌, length};
+
+use crate::starts::{names_of, push_components, push_interfaces};
+use case_pages::acts::{Player, hold_acts};
+use case_pages::pages::{halves, joined, push_parted};
+use cm_hardware::ResourceManager;
+use cm_model::{BodyState, Checked, FailedPart, Life, ListRoom};
+use desc_check::check;
+use desc_text::read_description;
+use std::alloc::Global;
+use std::test::Fail;
+
+#[test]
+fn hardware_moves_and_runs(rt: HostRuntime) -> Result<(), Fail> {
+    hold_acts::<Robot>(rt.alloc(), TOP, ACTS)
+}
+
+/// What stands before the components of a case.
+const TOP: &str = "version = 1\nupdate_rate = 100\ncycles = 1\n";
+
+/// How long a cycle takes: ten milliseconds.
+const CYCLE_US: u32 = 10_000;
+
+/// A described robot, each of whose acts begins at its start: `move PLACE STATE` of a component, or `cycle N`. Behind what became of it
+/// stand the components and what their interfaces hold then.
+#[derive(Drop)]
+struct Robot {
+    checked: Checked,
+}
+
+impl Player for Robot {
+    fn begin(alloc: Global, before: &str, head: &str) -> Result<Robot, Fail> {
+        let text = joined(alloc, before, head)?;
+        let description = read_description(alloc, text.as_str().as_bytes())?;
+        Ok(Robot {
+            checked: check(alloc, description)?,
+        })
+    }
+
+    fn told(&mut self, alloc: Global, act: &str) -> Result<String, Fail> {
+        let mut told = String::new(alloc);
+        match act.strip_prefix("move ") {
+            Some(rest) => moved(alloc, &mut told, &self.checked, rest)?,
+            None => run(alloc, &mut told, &self.checked, act)?,
+        }
+        Ok(told)
+    }
+}
+
+/// `PLACE STATE`: whether the component moved, and what stands then.
+fn moved(alloc: Global, told: &mut String, checked: &Checked, rest: &str) -> Result<(), Fail> {
+    let (place, state) = halves(rest, " ")?;
+    let place = place.parse()?;
+    if place as usize >= checked.description().components.as_slice().len() {
+        return Err(Fail::new("no such component"));
+    }
+    let mut hardware = ResourceManager::make(alloc, checked)?;
+    match hardware.move_component(place, life_of(state)) {
+        Ok(()) => told.push_str("ok")?,
+        Err(fault) => write!(told, "{fault}")?,
+    }
+    push_lists(alloc, told, checked, &hardware)
+}
+
+/// `cycle N`: what failed, the bodies, and what stands then.
+fn run(alloc: Global, told: &mut String, checked: &Checked, act: &str) -> Result<(), Fail> {
+    let (_, number) = halves(act, " ")?;
+    let mut hardware = ResourceManager::make(alloc, checked)?;
+    let mut failed = ListRoom::with_room(alloc, hardware.most_failures())?;
+    let mut bodies = ListRoom::with_room(alloc, hardware.joints())?;
+    hardware.cycle(number.parse()?, CYCLE_US, &mut failed, &mut bodies);
+    push_failed(told, failed.as_slice())?;
+    push_bodies(told, bodies.as_slice())?;
+    push_lists(alloc, told, checked, &hardware)
+}
+
+fn life_of(word: &str) -> Life {
+    match word {
+        "unconfigured" => Life::Unconfigured,
+        "inactive" => Life::Inactive,
+        "finalized" => Life::Finalized,
+        _ => Life::Active,
+    }
+}
+
+/// Appends each failure, a read or a write, with the place of its component.
+fn push_failed(told: &mut String, failed: &[FailedPart]) -> Result<(), Fail> {
+    for part in failed {
+        push_parted(told, ", ", if part.reading { "read" } else { "write" })?;
+        write!(told, " {}", part.place)?;
+    }
+    Ok(())
+}
+
+/// Appends where the body of each joint is.
+fn push_bodies(told: &mut String, bodies: &[BodyState]) -> Result<(), Fail> {
+    for BodyState { x, v, f } in bodies {
+        push_parted(told, ", ", "")?;
+        write!(told, "{x} {v} {f}")?;
+    }
+    Ok(())
+}
+
+/// Appends the two lists, behind a bar each.
+fn push_lists(
+    alloc: Global,
+    told: &mut String,
+    checked: &Checked,
+    hardware: &ResourceManager,
+) -> Result<(), Fail> {
+    told.push_str(" | ")?;
+    let components = hardware.component_lines(alloc)?;
+    push_components(told, checked.description(), components.as_slice())?;
+    told.push_str(" | ")?;
+    let interfaces = hardware.interface_lines(alloc)?;
+    push_interfaces(
+        told,
+        &names_of(alloc, checked.description())?,
+        interfaces.as_slice(),
+    )
+}
+
+/// A component moves from each state to each, but that one which is finalized stays so; while it can be read its state interfaces hold
+/// numbers. A cycle reads those that are inactive or active, writes those that are active, and lets every body go on that nobody commands:
+/// it stands. Who fails has its state on error then.
+const ACTS: &str = r#"component = [
+  { name = "arm", kind = "actuator", initial = "unconfigured", joint = [
+    { name = "j", vmax = 1, position = 1, velocity = 3, command = ["position"], state = ["position", "velocity"] }] }]
+move 0 unconfigured => ok | arm actuator unconfigured | state j/position unavailable; state j/velocity unavailable; \
+command j/position unavailable
+move 0 inactive => ok | arm actuator inactive | state j/position 1.000000; state j/velocity 3.000000; \
+command j/position unset free
+move 0 active => ok | arm actuator active | state j/position 1.000000; state j/velocity 3.000000; \
+command j/position unset free
+move 0 finalized => ok | arm actuator finalized | state j/position unavailable; state j/velocity unavailable; \
+command j/position unavailable
+cycle 0 => 1.000000 0.000000 0.000000 | arm actuator unconfigured | state j/position unavailable; \
+state j/velocity unavailable; command j/position unavailable
+
+component = [
+  { name = "arm", kind = "actuator", fail_write = [4], joint = [
+    { name = "j", vmax = 1, position = 1, velocity = 3, command = ["position"] }] },
+  { name = "imu", kind = "sensor", on_error = "finalized", fail_read = [3, 4], joint = [
+    { name = "k", vmax = 1, position = 2, state = ["position"] }] }]
+move 0 inactive => ok | arm actuator inactive; imu sensor active | state k/position 2.000000; \
+command j/position unset free
+move 1 inactive => ok | arm actuator active; imu sensor inactive | state k/position 2.000000; \
+command j/position unset free
+move 1 active => ok | arm actuator active; imu sensor active | state k/position 2.000000; command j/position unset free
+move 1 unconfigured => ok | arm actuator active; imu sensor unconfigured | state k/position unavailable; \
+command j/position unset free
+cycle 2 => 1.000000 0.000000 0.000000, 2.000000 0.000000 0.000000 | arm actuator active; imu sensor active | \
+state k/position 2.000000; command j/position unset free
+cycle 3 => read 1, 1.000000 0.000000 0.000000, 2.000000 0.000000 0.000000 | arm actuator active; \
+imu sensor finalized | state k/position unavailable; command j/position unset free
+cycle 4 => read 1, write 0, 1.000000 0.000000 0.000000, 2.000000 0.000000 0.000000 | \
+arm actuator unconfigured; imu sensor finalized | state k/position unavailable; command j/position unavailable
+
+component = [
+  { name = "gone", kind = "system", initial = "finalized", fail_read = [0], fail_write = [0], joint = [
+    { name = "j", vmax = 1, state = ["effort"] }] }]
+move 0 finalized => ok | gone system finalized | state j/effort unavailable
+move 0 unconfigured => no_such_move | gone system finalized | state j/effort unavailable
+move 0 inactive => no_such_move | gone system finalized | state j/effort unavailable
+move 0 active => no_such_move | gone system finalized | state j/effort unavailable
+cycle 0 => 0.000000 0.000000 0.000000 | gone system finalized | state j/effort unavailable"#;
