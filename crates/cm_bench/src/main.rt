@@ -2,7 +2,9 @@
 #![tactic(auto)]
 
 use bodies::{FastMul, FastOver, FastText, PlainMul, PlainOver, PlainText};
+use cm_document::MOST_POINTS;
 use plan::Plan;
+use points::{SEGMENT_US, UnderWay};
 use reading::{DescriptionChecker, DescriptionReader, ScriptReader, TomlReader};
 use std::process::ExitCode;
 use std::rt::{Clock, Env};
@@ -18,6 +20,7 @@ mod cases;
 mod described;
 mod plain;
 mod plan;
+mod points;
 mod reading;
 mod steps;
 mod switches;
@@ -62,10 +65,12 @@ where
     )?;
     tell(rt, plan, "turn", "answers", &turn)?;
     let stepped = compare_steps(rt, plan)?;
+    let led = compare_ways(rt, plan)?;
     let switched = compare_switches(rt, plan)?;
     let checked = compare_checks(rt, plan)?;
     let read = compare_readers(rt, plan)?;
-    Ok(mul.same && over.same && text.same && turn.same && stepped && switched && checked && read)
+    let of_numbers = mul.same && over.same && text.same && stepped && led;
+    Ok(of_numbers && turn.same && switched && checked && read)
 }
 
 /// Prints the line of a body's step.
@@ -82,6 +87,29 @@ where
     tell(rt, plan, "step", "answers", &step)?;
     Ok(step.same)
 }
+
+/// Prints the line of a trajectory: on the last of its segments, which it has alone, and behind all others that there may be.
+fn compare_ways<R>(rt: &R, plan: Plan) -> anyhow::Result<bool>
+where
+    R: Clock + Print + AllocGlobal,
+{
+    let alloc = rt.alloc();
+    let values = cases::values(alloc, plan.seed, MOST_POINTS)?;
+    let moments = cases::moments(alloc, plan.seed, LAST_US)?;
+    let course = Course {
+        cases: moments.as_slice(),
+        turns: plan.turns,
+    };
+    let two = LAST_US - 2 * SEGMENT_US;
+    let mut last = UnderWay::make(alloc, values.as_slice(), two)?;
+    let mut all = UnderWay::make(alloc, values.as_slice(), 0)?;
+    let pair = course.compare(rt, &mut last, &mut all)?;
+    tell(rt, plan, "points", "answers", &pair)?;
+    Ok(pair.same)
+}
+
+/// When the last point is, in microseconds.
+const LAST_US: u64 = MOST_POINTS as u64 * SEGMENT_US;
 
 /// Prints the line of a switch.
 fn compare_switches<R>(rt: &R, plan: Plan) -> anyhow::Result<bool>

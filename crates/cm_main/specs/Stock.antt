@@ -6,9 +6,9 @@ use Rattle.cm_model.specs.declared.blanks.Blanks.{Blanks}
 use Rattle.cm_model.specs.declared.data.CtlData.{CtlData}
 use Rattle.ctl_rack.specs.Stocks.{counts_of, total}
 
--- so many of each kind that is built: forward, passthrough and mock
+-- so many of each kind
 abbrev pub blanks_of_each : ℕ → Blanks
-blanks_of_each n = record { forward = n; passthrough = n; pid = 0; trajectory = 0; broadcaster = 0; mock = n }
+blanks_of_each n = record { forward = n; passthrough = n; pid = n; trajectory = n; broadcaster = n; mock = n }
 
 -- These boxes are blank, and so many of each kind.
 pub record AreBlanks {C : Type 0} (meaning : C → CtlData) (boxes : List C) (b : Blanks) : Type 0 where

@@ -10,9 +10,12 @@ ghost use Rattle.cm_main.specs.Stock.{AreBlanks, blanks_of_each};
 
 use cm_model::Memory;
 use cm_top::{Status, Stock, run};
+use ctl_bcast::Broadcaster;
 use ctl_forward::{Forward, Passthrough};
 use ctl_mock::Mock;
+use ctl_pid::PidCtl;
 use ctl_trait::{Controller, CtlKind};
+use ctl_traj::TrajCtl;
 use outside_io::{NoPace, OpenGate, Sink, Source, StdSink, StdSource};
 use std::alloc::Global;
 use std::io::Eprint;
@@ -25,7 +28,7 @@ use std::{env, fmt, io};
 #[cfg(test)]
 mod tests;
 
-/// How many blanks of each kind that is built the program has in stock.
+/// How many blanks of each kind the program has in stock.
 pub const BLANKS: u32 = 32;
 
 fn main(rt: HostRuntime) -> ExitCode {
@@ -84,12 +87,23 @@ where
             CtlKind::Passthrough,
             Box::new(alloc, Passthrough::blank())?,
         )?;
+        add(&mut blanks, CtlKind::Pid, Box::new(alloc, PidCtl::blank())?)?;
+        add(
+            &mut blanks,
+            CtlKind::Trajectory,
+            Box::new(alloc, TrajCtl::blank())?,
+        )?;
+        add(
+            &mut blanks,
+            CtlKind::Broadcaster,
+            Box::new(alloc, Broadcaster::blank())?,
+        )?;
         add(&mut blanks, CtlKind::Mock, Box::new(alloc, Mock::blank())?)?;
     }
     Ok(run_over(rt, words, source, sink, blanks))
 }
 
-/// Runs the words over a stock of these blanks, so many of each kind that is built and none of another, and drops the book.
+/// Runs the words over a stock of these blanks, so many of each kind, and drops the book.
 fn run_over<R, S, K, C>(
     rt: &R,
     words: &[String],

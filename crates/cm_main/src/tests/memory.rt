@@ -10,29 +10,64 @@ use std::process::Abort;
 use std::sync::Wait;
 use std::thread::Threads;
 
-/// A mock that is loaded and listed, and one that is not described.
+/// An arm that cannot be read in cycle 1, a forward that commands it, and a mock whose update fails in cycle 2: they are switched on
+/// together, both are stopped, and the forward is refused while the arm is down. The last request waits until the loop closes.
 const DOCUMENT: &str = r#"version = 1
 update_rate = 100
-cycles = 2
+cycles = 3
+[[component]]
+name = "arm"
+kind = "actuator"
+fail_read = [1]
+[[component.joint]]
+name = "j1"
+vmax = 1
+command = ["position"]
+state = ["position"]
+[[controller]]
+name = "fwd"
+type = "forward"
+claims = ["j1/position"]
 [[controller]]
 name = "mk"
 type = "mock"
+fail_update = [2]
 --- script ---
 session a
+load fwd
 load mk
-list controllers
-load nosuch
+configure fwd
+configure mk
+switch strict +fwd +mk
+send fwd 0.5
+hw arm active
+list interfaces
+switch strict +fwd
+hw arm inactive
 "#;
 
 /// What a run of it prints.
-const TRACE: &str = "a load mk: ok 0
-a list controllers: mk mock unconfigured 0
-a load nosuch: not_described
-loop begin 0: none
-loop end 0: none
-loop begin 1: none
-loop end 1: none
-loop close: none
+const TRACE: &str = "a load fwd: ok 0
+a load mk: ok 1
+a configure fwd: ok
+a configure mk: ok
+a switch strict +fwd +mk: queued 0
+loop begin 0: 0 done
+loop end 0: run fwd ok unset; run mk ok; joint j1 0.000000 0.000000 0.000000
+a told 0: done
+a send fwd 0.500000: ok
+a hw arm active: queued 1
+loop begin 1: 1 done
+loop end 1: fail arm read; run mk ok; joint j1 0.000000 0.000000 0.000000; stop fwd
+a told 1: done
+a list interfaces: state j1/position unavailable; command j1/position unavailable
+a switch strict +fwd: queued 2
+loop begin 2: 2 refused fwd unavailable j1/position
+loop end 2: run mk error; joint j1 0.000000 0.000000 0.000000; stop mk
+a told 2: refused fwd unavailable j1/position
+a hw arm inactive: queued 3
+loop close: 3 loop_ended
+a told 3: loop_ended
 ";
 
 /// Where at most one allocation is refused, at most one of two runs may want memory: that one has printed a front of the trace, and
@@ -71,5 +106,5 @@ fn source(alloc: Global) -> Result<MemSource, AllocError> {
 }
 
 fn sink(alloc: Global) -> Result<MemSink, Memory> {
-    MemSink::make(alloc, 1000, 1000, vec![in alloc]?)
+    MemSink::make(alloc, 2000, 1000, vec![in alloc]?)
 }
