@@ -35,6 +35,13 @@ fn a_run_of_the_largest_description(rt: HostRuntime) -> Result<(), Fail> {
 }
 
 #[test]
+fn a_run_in_which_many_controllers_run(rt: HostRuntime) -> Result<(), Fail> {
+    let alloc = rt.alloc();
+    let description = AT_ALL_LIMITS.replace(alloc, "cycles = 100000", "cycles = 2000")?;
+    hold(alloc, &RUNS, description.as_str(), SWITCHED)
+}
+
+#[test]
 fn the_largest_read(rt: HostRuntime) -> Result<(), Fail> {
     let alloc = rt.alloc();
     let mut source = MemSource::make(many_bytes(alloc)?, LONGEST, vec![in alloc]?);
@@ -124,3 +131,21 @@ list components
 <0..100 * list interfaces
 >\
 => 16887 bytes: 13242110 9fd4f7c6";
+
+/// Behind the description at all limits, but for its cycles: its 50 mocks, its passthroughs and its forwards are loaded and configured, and
+/// a best effort of 128 names brings on the mocks and one passthrough of 32 claims, which is sent 32 values; then 2,000 cycles tell of 51
+/// updates and of 32 joints that move.
+const SWITCHED: &str = r"--- script ---
+session a
+<0..50 * load m#
+configure m#
+>\
+<0..3 * load p#
+configure p#
+load f#
+configure f#
+>\
+switch best<0..72 *  -n#> +p0<0..50 *  +m#><0..3 *  +f#> +p1 +p2
+send p0<0..32 *  0.5>
+list interfaces
+=> 16721 bytes: 4254010 a39bf168";

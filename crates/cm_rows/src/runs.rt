@@ -7,8 +7,10 @@ ghost use Rattle.cm_model.specs.Controllers.{IsBlank};
 mod books;
 mod console;
 mod hardware;
+mod kinds;
 mod outside;
 mod pages;
+mod switches;
 mod words;
 
 use crate::pages::{Teller, hold, joined};
@@ -53,11 +55,11 @@ loop close: none
 /// More bytes than any trace of these tests has.
 pub const AMPLE: usize = 16 * 1_048_576;
 
-/// How many forwards, passthroughs and mocks each the program has in stock.
+/// How many blanks of each kind the program has in stock.
 pub const IN_STOCK: u32 = 32;
 
 /// Tells how the run of a document ends, and what it prints, behind one another. The source gives so many bytes a
-/// read, and the stock has so many forwards, passthroughs and mocks each.
+/// read, and the stock has so many blanks of each kind.
 #[derive(Clone, Copy)]
 pub struct Runs {
     pub step: usize,

@@ -195,7 +195,7 @@ no book
 --- script ---
 session a
 load mk
-await 1
+schedule
 => script: bad_line 35
 no book
 

@@ -7,7 +7,7 @@ use super::OF_PROGRAM;
 use crate::pages::{Teller, hold};
 use case_pages::acts::{Player, hold_acts};
 use documents::DOCUMENTS;
-use replies::{ARM, BY_LIFECYCLE, BY_RATE, BY_SERIAL, BY_STOCK, WORKED};
+use replies::{ARM, BY_KIND, BY_LIFECYCLE, BY_RATE, BY_SERIAL, WORKED};
 use std::alloc::Global;
 use std::test::Fail;
 
@@ -48,7 +48,7 @@ fn reply_in(line: &str) -> Option<&str> {
 
 #[test]
 fn each_call_of_a_session_gets_the_first_reply_that_applies(rt: HostRuntime) -> Result<(), Fail> {
-    for page in [WORKED, BY_LIFECYCLE, BY_SERIAL, BY_RATE, BY_STOCK] {
+    for page in [WORKED, BY_LIFECYCLE, BY_SERIAL, BY_RATE, BY_KIND] {
         hold_acts::<Console>(rt.alloc(), ARM, page)?;
     }
     Ok(())

@@ -161,7 +161,7 @@ reads = "all"
 session a
 load mk
 => ok
-a load mk: stock_empty
+a load mk: ok 0
 loop close: none
 
 version = 1

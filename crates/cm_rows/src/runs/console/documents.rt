@@ -1,7 +1,7 @@
 //! Whole documents whose session calls for controllers, each with what is printed of its run.
 
-/// A controller from its load to its unload; as many loads as there are blanks of a kind, and one more; all blanks of each
-/// kind at once; and calls before cycles, which go on as if they had not been made: an inactive controller commands
+/// A controller from its load to its unload; as many loads as there are blanks of a kind, and one more; all blanks of two
+/// kinds at once; and calls before cycles, which go on as if they had not been made: an inactive controller commands
 /// nothing, is not updated, and stays where its hardware fails.
 pub const DOCUMENTS: &str = r#"version = 1
 update_rate = 100
@@ -120,6 +120,60 @@ loop close: none
 
 version = 1
 update_rate = 100
+cycles = 0
+[[component]]
+name = "arm"
+kind = "actuator"
+[[component.joint]]
+name = "j1"
+vmax = 1
+command = ["position"]
+state = ["position"]
+[[controller]]
+name = "servo"
+type = "pid"
+claims = ["j1/position"]
+reads = ["j1/position"]
+[[controller]]
+name = "way"
+type = "trajectory"
+claims = ["j1/position"]
+reads = ["j1/position"]
+[[controller]]
+name = "eye"
+type = "broadcaster"
+reads = "all"
+--- script ---
+session a
+<0..32 * load servo
+unload servo
+>\
+<0..32 * load way
+unload way
+>\
+<0..32 * load eye
+unload eye
+>\
+load servo
+load way
+load eye
+=> ok
+<0..32 * a load servo: ok #
+a unload servo: ok
+>\
+<32..64 * a load way: ok #
+a unload way: ok
+>\
+<64..96 * a load eye: ok #
+a unload eye: ok
+>\
+a load servo: stock_empty
+a load way: stock_empty
+a load eye: stock_empty
+loop close: none
+
+version = 1
+update_rate = 100
 cycles = 2
 [[component]]
 name = "arm"
@@ -227,7 +281,7 @@ type = "mock"
 session a
 load mk
 configure mk
-switch strict +mk
+session b
 => script: bad_line 11
 
 version = 1

@@ -1,7 +1,7 @@
-//! What is told of each call, in each lifecycle state of its controller but active, in which none can be yet.
+//! What is told of each call, in each lifecycle state of its controller but active; what is told while it is active stands with the switches.
 
-/// A forward of two joints, a passthrough with a rate of its own, a forward above it, a controller of each kind of which
-/// the program has no blank, a mock that is never ready and fails always, and one that refuses to be configured.
+/// A forward of two joints, a passthrough with a rate of its own, a forward above it, a pid, a trajectory, a broadcaster,
+/// a mock that is never ready and fails always, and one that refuses to be configured.
 pub const ARM: &str = r#"version = 1
 update_rate = 100
 cycles = 0
@@ -163,7 +163,7 @@ pub const BY_SERIAL: &str = r"load mk => ok 0
 load nosuch => not_described
 load mk => loaded
 load above => ok 1
-load servo => stock_empty
+load nosuch => not_described
 load relay => ok 2
 load fwd => ok 3
 list controllers => mk mock unconfigured 0; above forward unconfigured 1; relay passthrough unconfigured 2; \
@@ -246,17 +246,28 @@ rate fwd 1 => ok
 configure fwd => ok
 list controllers => fwd forward inactive 0 every 100";
 
-/// Of a pid, a trajectory and a broadcaster the program has no blank.
-pub const BY_STOCK: &str = r"load servo => stock_empty
-load way => stock_empty
-load eye => stock_empty
-configure servo => not_loaded
-cleanup way => not_loaded
-unload eye => not_loaded
-rate servo 25 => not_loaded
-send servo 1 => not_loaded
-send way @1 1 => not_loaded
-list controllers => none
-load relay => ok 0
-load servo => stock_empty
-list controllers => relay passthrough unconfigured 0";
+/// A pid, a trajectory and a broadcaster go through their lifecycle as the others do. Of a broadcaster that is not active
+/// it is not told that it takes nothing.
+pub const BY_KIND: &str = r"load servo => ok 0
+load way => ok 1
+load eye => ok 2
+list controllers => servo pid unconfigured 0; way trajectory unconfigured 1; eye broadcaster unconfigured 2
+configure servo => ok
+rate way 20 => ok
+configure way => ok
+configure eye => ok
+list controllers => servo pid inactive 0 every 1; way trajectory inactive 1 every 5; eye broadcaster inactive 2 every 1
+send servo 1 => not_active
+send servo 1 2 => not_active
+send way @1 1 => not_active
+send eye 1 => not_active
+configure servo => ok
+cleanup way => ok
+cleanup way => not_inactive
+load eye => loaded
+list controllers => servo pid inactive 0 every 1; way trajectory unconfigured 1; eye broadcaster inactive 2 every 1
+unload eye => ok
+unload servo => ok
+unload way => ok
+load way => ok 3
+list controllers => way trajectory unconfigured 3";

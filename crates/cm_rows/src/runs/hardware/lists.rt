@@ -224,10 +224,11 @@ list interfaces
 => ok
 a load mk: ok 0
 a load relay: ok 1
-a load servo: stock_empty
-a load way: stock_empty
-a load eye: stock_empty
-a list controllers: mk mock unconfigured 0; relay passthrough unconfigured 1
+a load servo: ok 2
+a load way: ok 3
+a load eye: ok 4
+a list controllers: mk mock unconfigured 0; relay passthrough unconfigured 1; servo pid unconfigured 2; \
+way trajectory unconfigured 3; eye broadcaster unconfigured 4
 a list interfaces: state j1/position 0.000000; command j1/position unset free; command j1/velocity unset free; \
 command relay/j1/position unavailable; command servo/j1/position unavailable
 loop begin 0: none
