@@ -4,6 +4,7 @@ ghost use Rattle.std.specs.Prelude.{◌≡◌, ◌≤◌, [], map, length, vec_c
 
 use crate::works::Works;
 use cm_model::Entry;
+use ctl_slots::Slot;
 use ctl_trait::Controller;
 
 /// What a desk leaves behind: all that it did, and the boxes that are loaded.
@@ -22,10 +23,19 @@ impl<C: Controller> Works<C> {
         requires places { length self.loaded ≤ vec_capacity room }
         ensures { map C.meaning result.items ≡ map (λ l. l.ctl) self.loaded }
     {
-        let mut boxes = room;
-        for slot in self.slots {
-            boxes.push_reserved(slot.into_ctl());
-        }
-        boxes
+        boxes_of(self.slots, room)
     }
+}
+
+/// The boxes of these controllers, in order, in this room. It takes no memory.
+fn boxes_of<C: Controller>(slots: Vec<Slot<C>>, room: Vec<C>) -> Vec<C>
+    requires empty { room.items ≡ [] }
+    requires places { length slots.items ≤ vec_capacity room }
+    ensures { map C.meaning result.items ≡ map (λ l. l.ctl) slots.items }
+{
+    let mut boxes = room;
+    for slot in slots {
+        boxes.push_reserved(slot.into_ctl());
+    }
+    boxes
 }
