@@ -20,6 +20,7 @@ ghost use Rattle.cm_desk.specs.Begin.{IsNext, CanAct, none_waits};
 use crate::commits::commit;
 use crate::flight::{Flight, record_for};
 use crate::roster::Roster;
+use crate::supplies::supplies_for;
 use crate::works::{Works, described_at};
 use cm_model::{CtlDesc, Decision, Life, Memory, Rare, RecordRoom, Seen};
 use ctl_slots::{Slot, send_off};
@@ -68,22 +69,20 @@ impl<C: Controller> Works<C> {
     {
         let plan = self.plan(alloc)?;
         let left_over = self.flight.left_over.take();
-        let room = record_for(
+        let supplies = supplies_for(
             alloc,
             &self.checked,
             &self.places,
             &self.flight.hardware,
+            self.slots.len(),
             &plan.order,
             left_over,
         )?;
-        let mails = Vec::with_capacity(alloc, self.slots.len())?;
-        let erred = Vec::with_capacity(alloc, plan.order.len())?;
-        let run = Vec::with_capacity(alloc, plan.order.len())?;
         self.carry_out(plan.conclusions);
-        self.roster.put(plan.order, run, &self.slots);
-        self.flight.mails = mails;
-        self.flight.erred = erred;
-        fly(&mut self.slots, &mut self.flight, self.ended, room);
+        self.roster.put(plan.order, supplies.run, &self.slots);
+        self.flight.mails = supplies.mails;
+        self.flight.erred = supplies.erred;
+        fly(&mut self.slots, &mut self.flight, self.ended, supplies.room);
         Ok(plan.decisions)
     }
 

@@ -25,4 +25,5 @@ mod flight;
 mod lines;
 mod roster;
 mod start;
+mod supplies;
 mod works;
