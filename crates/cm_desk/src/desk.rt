@@ -79,9 +79,9 @@ impl<C: Controller> Desk<C> {
             (λ answer. option_map C.meaning answer.1 ≡ hands_out (now_of self.old) call answer.0) }
         ensures kept { OnErr result (self.new ≡ self.old) }
     {
+        let kept = KeptCall::copy_of(alloc, &call)?;
         self.history.reserve(ENTRIES_AHEAD)?;
         self.boxes.reserve(self.works.slots().len() + 1)?;
-        let kept = KeptCall::copy_of(alloc, &call)?;
         let answer = self.works.answer(alloc, call)?;
         self.history.push_reserved(Entry {
             who,
@@ -105,14 +105,9 @@ impl<C: Controller> Desk<C> {
             return Ok(None);
         };
         let told = copy_of(outcome)?;
-        let noted = Boxed::new(alloc, copy_of(outcome)?)?;
+        let entry = told_entry(alloc, who, ticket, outcome)?;
         self.history.reserve(ENTRIES_AHEAD)?;
-        let kept = KeptCall::of(alloc, Call::Told(ticket))?;
-        self.history.push_reserved(Entry {
-            who,
-            call: kept,
-            reply: Reply::Outcome(noted),
-        });
+        self.history.push_reserved(entry);
         Ok(Some(told))
     }
 
@@ -127,8 +122,8 @@ impl<C: Controller> Desk<C> {
         if !self.works.is_reached(cycles) {
             return Ok(false);
         }
-        self.history.reserve(ENTRIES_AHEAD)?;
         let kept = KeptCall::of(alloc, Call::Await(cycles))?;
+        self.history.reserve(ENTRIES_AHEAD)?;
         self.history.push_reserved(Entry {
             who,
             call: kept,
@@ -257,6 +252,18 @@ impl<C: Controller> Desk<C> {
             boxes: works.into_boxes(boxes),
         }
     }
+}
+
+/// The entry of a session that is told what became of the request of this ticket.
+fn told_entry(alloc: Global, who: u32, ticket: u32, outcome: &Outcome) -> Result<Entry, Memory>
+    ensures { IfOk result
+        (λ entry. entry ≡ record { who = who; call = call.Told ticket; reply = Reply.Outcome outcome.now }) }
+{
+    Ok(Entry {
+        who,
+        call: KeptCall::of(alloc, Call::Told(ticket))?,
+        reply: Reply::Outcome(Boxed::new(alloc, copy_of(outcome)?)?),
+    })
 }
 
 /// An outcome once more.

@@ -18,7 +18,7 @@ entry g c =
     let call = Told c.args.ticket in
     let told : slice_get a.works.outcomes c.args.ticket ≡ Some o = sym c.in-Some.ensures in
     let grown : c.push_reserved.new.self.items ≡ with_entry a.history.items c.args.who call (Outcome o) =
-    rw (c.push_reserved.ensures.items, c.reserve.ensures.items, c.in_ok-kept.ensures, c.in_ok-noted.ensures, c.in_ok-copy_of.ensures) refl in
+    rw (c.push_reserved.ensures.items, c.reserve.ensures.items, c.in_ok-entry.ensures) refl in
     let stepped = told_step a.works c.args.who c.args.ticket o (rw (← c.self.view_is) at c.requires.session) told in
     let room : length a.history.items + 3 ≤ vec_capacity c.push_reserved.new.self = omega (arith, c.push_reserved.ensures.capacity, c.in_ok-reserve.ensures.ok) in
     recorded _ _ _ _ _ _ _ _ _ _ _ _ c.self.invariant.0 stepped grown (room_after a.works a.history.items _ c.args.who call (Outcome o) _ room grown) c.self.invariant.0.places
