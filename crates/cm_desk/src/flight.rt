@@ -17,7 +17,7 @@ use std::alloc::Global;
 
 /// What a cycle needs, and while one is aloft its record, with room for all that it can tell, and the mail that went with it. It
 /// borrows nothing, so a cycle can be made wherever this is moved to.
-#[derive(Debug, Drop)]
+#[derive(Drop)]
 pub(crate) struct Flight {
     pub(crate) hardware: ResourceManager,
     /// The time from one cycle to the next, in microseconds.

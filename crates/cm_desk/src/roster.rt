@@ -10,7 +10,7 @@ use std::alloc::Global;
 use std::marker::Model;
 
 /// Who is active, as it is looked up: by place in the description, and in the order of updates.
-#[derive(Debug, Drop)]
+#[derive(Drop)]
 pub(crate) struct Roster {
     /// By place in the description, the serial of the controller that is active there.
     active: Vec<Option<u32>>,
