@@ -1,5 +1,5 @@
 -- The desk at boot.
-use Rattle.std.proofs.Common.{◌≡◌, ℕ, zero, suc, ◌+◌, ◌<◌, ◌^◌, true, false, List, [], ◌++◌, length, refl, sym, ap, ◌∙◌, arith}
+use Rattle.std.proofs.Common.{◌≡◌, ℕ, zero, suc, ◌<◌, ◌^◌, true, false, List, [], ◌++◌, length, refl, sym, ap, ◌∙◌, arith}
 use Rattle.cm_document.specs.declared.description.Description.{Description}
 use Rattle.cm_model.specs.Order.{by_rank, depth}
 use Rattle.cm_model.specs.State.{Loaded, boot, active}

@@ -1,6 +1,5 @@
 use Rattle.std.proofs.Common.{◌≡◌, ◌<◌, true, false, sym, ◌∙◌}
 use Rattle.std.specs.Prelude.{length}
-use Rattle.cm_model.specs.Kinds.{takes, takes_none}
 use Rattle.cm_model.specs.State.{is_active, is_chained}
 use Rattle.cm_model.specs.Steady.{IsSteady}
 use Rattle.cm_desk.specs.Works.{state_with}
