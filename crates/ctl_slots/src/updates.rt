@@ -1,16 +1,14 @@
 //! The updates of a cycle, one controller after the other.
 
-ghost use Rattle.std.specs.Prelude.{◌≡◌, ◌∷◌, ◌++◌, [], ◌+◌, ◌-◌, ◌<◌, ◌≤◌, length, vec_len, vec_capacity, All, IfSome};
+ghost use Rattle.std.specs.Prelude.{◌≡◌, ◌∷◌, ◌++◌, [], ◌+◌, ◌-◌, ◌<◌, ◌≤◌, length, vec_len, vec_capacity, All};
 ghost use Rattle.std.specs.List.{AllByRecursion};
-ghost use Rattle.cm_model.specs.Controllers.{IsRunning};
-ghost use Rattle.cm_model.specs.Cycle.{ran_by};
 ghost use Rattle.cm_model.specs.State.{State};
 ghost use Rattle.chain_order.specs.Links.{linked};
-ghost use Rattle.ctl_trait.specs.Taking.{CanTake};
+ghost use Rattle.ctl_slots.specs.Calls.Updates.{CanStep, HasStepped};
 ghost use Rattle.ctl_slots.specs.Cycles.{IsUpdatedFrom, IsUpdated};
 ghost use Rattle.ctl_slots.specs.Lives.{publishes, published_by};
-ghost use Rattle.ctl_slots.specs.Seats.{IsSeated, HasRoom};
-ghost use Rattle.ctl_slots.specs.Updates.{step_in, put_on, board_after, with_erred, working, after_update, after_updates, outs_of, numbers_of, HasTime, IsInTime, CanRun, CanTell, CanBeTold, IsLeft, IsTimely};
+ghost use Rattle.ctl_slots.specs.Seats.{HasRoom};
+ghost use Rattle.ctl_slots.specs.Updates.{put_on, working, after_update, after_updates, outs_of, numbers_of, CanRun, CanTell, CanBeTold, IsLeft, IsTimely};
 
 use crate::cycle::CycleAloft;
 use crate::mails::{MailAloft, take_mail};
@@ -141,25 +139,11 @@ fn update_slot<C: Controller>(
     room: &mut Room,
 )
     requires timely { IsTimely cycle.now }
-    requires active { IsRunning slot.old.ctl }
-    requires seated { IsSeated cycle.now.placed (length hardware.old.loans) slot.old }
+    requires can { CanStep cycle.now (length hardware.old.loans) mail slot.old ran.old }
     requires wide { HasRoom cycle.now.placed room.old slot.old }
-    requires time { HasTime slot.old }
-    requires in_time { IsInTime cycle.now.period_us slot.old }
-    requires taking { IfSome mail (CanTake slot.old.ctl) }
-    requires told { CanBeTold cycle.now.placed slot.old ran.old }
     requires erred { vec_len erred.old + 1 ≤ vec_capacity erred.old }
-    ensures slot { slot.new ≡ record slot.old { ctl = (step_in cycle.now hardware.old.loans mail slot.old).after } }
-    ensures hardware { hardware.new
-        ≡ record hardware.old {
-          loans = board_after (linked cycle.now.placed.claims slot.old.place)
-              (step_in cycle.now hardware.old.loans mail slot.old) hardware.old.loans;
-        } }
-    ensures ran { ran.new.rans
-        ≡ ran.old.rans ++ ran_by slot.old (step_in cycle.now hardware.old.loans mail slot.old) ∷ [] }
-    ensures left { IsLeft cycle.now.placed slot.old ran.old ran.new }
-    ensures erred { erred.new.items
-        ≡ with_erred slot.old.serial (step_in cycle.now hardware.old.loans mail slot.old) erred.old.items }
+    ensures stepped { HasStepped cycle.now mail slot.old slot.new hardware.old hardware.new ran.old ran.new
+        erred.old.items erred.new.items }
     ensures within { vec_len erred.new ≤ vec_len erred.old + 1 }
     ensures capacity { vec_capacity erred.new ≡ vec_capacity erred.old }
     ensures room { room.new ≡ room.old }
@@ -190,27 +174,13 @@ fn update_in<C: Controller>(
     outs: &mut Vec<Value>,
 )
     requires timely { IsTimely cycle.now }
-    requires active { IsRunning slot.old.ctl }
-    requires seated { IsSeated cycle.now.placed (length hardware.old.loans) slot.old }
+    requires can { CanStep cycle.now (length hardware.old.loans) mail slot.old ran.old }
     requires states { length (linked cycle.now.placed.reads slot.old.place) ≤ length states.old.items }
     requires references { length (linked cycle.now.placed.references slot.old.place) ≤ length refs.old.items }
     requires claims { length (linked cycle.now.placed.claims slot.old.place) ≤ length outs.old.items }
-    requires time { HasTime slot.old }
-    requires in_time { IsInTime cycle.now.period_us slot.old }
-    requires taking { IfSome mail (CanTake slot.old.ctl) }
-    requires told { CanBeTold cycle.now.placed slot.old ran.old }
     requires erred { vec_len erred.old + 1 ≤ vec_capacity erred.old }
-    ensures slot { slot.new ≡ record slot.old { ctl = (step_in cycle.now hardware.old.loans mail slot.old).after } }
-    ensures hardware { hardware.new
-        ≡ record hardware.old {
-          loans = board_after (linked cycle.now.placed.claims slot.old.place)
-              (step_in cycle.now hardware.old.loans mail slot.old) hardware.old.loans;
-        } }
-    ensures ran { ran.new.rans
-        ≡ ran.old.rans ++ ran_by slot.old (step_in cycle.now hardware.old.loans mail slot.old) ∷ [] }
-    ensures left { IsLeft cycle.now.placed slot.old ran.old ran.new }
-    ensures erred { erred.new.items
-        ≡ with_erred slot.old.serial (step_in cycle.now hardware.old.loans mail slot.old) erred.old.items }
+    ensures stepped { HasStepped cycle.now mail slot.old slot.new hardware.old hardware.new ran.old ran.new
+        erred.old.items erred.new.items }
     ensures within { vec_len erred.new ≤ vec_len erred.old + 1 }
     ensures capacity { vec_capacity erred.new ≡ vec_capacity erred.old }
     ensures states { length states.new.items ≡ length states.old.items }
@@ -247,27 +217,13 @@ fn update_with<C: Controller>(
     outs: &mut [Value],
 )
     requires timely { IsTimely cycle.now }
-    requires active { IsRunning slot.old.ctl }
-    requires seated { IsSeated cycle.now.placed (length hardware.old.loans) slot.old }
+    requires can { CanStep cycle.now (length hardware.old.loans) mail slot.old ran.old }
     requires states { length states.old ≡ length (linked cycle.now.placed.reads slot.old.place) }
     requires references { length refs.old ≡ length (linked cycle.now.placed.references slot.old.place) }
     requires claims { length outs.old ≡ length (linked cycle.now.placed.claims slot.old.place) }
-    requires time { HasTime slot.old }
-    requires in_time { IsInTime cycle.now.period_us slot.old }
-    requires taking { IfSome mail (CanTake slot.old.ctl) }
-    requires told { CanBeTold cycle.now.placed slot.old ran.old }
     requires erred { vec_len erred.old + 1 ≤ vec_capacity erred.old }
-    ensures slot { slot.new ≡ record slot.old { ctl = (step_in cycle.now hardware.old.loans mail slot.old).after } }
-    ensures hardware { hardware.new
-        ≡ record hardware.old {
-          loans = board_after (linked cycle.now.placed.claims slot.old.place)
-              (step_in cycle.now hardware.old.loans mail slot.old) hardware.old.loans;
-        } }
-    ensures ran { ran.new.rans
-        ≡ ran.old.rans ++ ran_by slot.old (step_in cycle.now hardware.old.loans mail slot.old) ∷ [] }
-    ensures left { IsLeft cycle.now.placed slot.old ran.old ran.new }
-    ensures erred { erred.new.items
-        ≡ with_erred slot.old.serial (step_in cycle.now hardware.old.loans mail slot.old) erred.old.items }
+    ensures stepped { HasStepped cycle.now mail slot.old slot.new hardware.old hardware.new ran.old ran.new
+        erred.old.items erred.new.items }
     ensures within { vec_len erred.new ≤ vec_len erred.old + 1 }
     ensures capacity { vec_capacity erred.new ≡ vec_capacity erred.old }
 {
