@@ -2,13 +2,13 @@
 use Rattle.std.specs.Prelude.{◌≡◌, ℕ, ◌+◌, true, false, if◌then◌else◌, List, [], ◌∷◌, ◌++◌, map, filter, slice_set, Option, None, Result, MatchResult}
 use Rattle.std.specs.List.{AllByRecursion}
 use Rattle.fixed_num.specs.declared.value.BodyState.{BodyState}
-use Rattle.fixed_num.specs.declared.value.Value.TheVariants.{Unset}
 use Rattle.cm_document.specs.Places.{Interface, interfaces_of}
 use Rattle.cm_document.specs.declared.life.Life.{Life}
 use Rattle.cm_model.specs.Boundary.{life_at}
 use Rattle.cm_model.specs.Components.{has_move, claimed_by, read_succeeds, read_fails, write_fails}
 use Rattle.cm_model.specs.Cycle.{commands_at, claims_in, component_is, components_where, failed_in, updates, cycle, moved, landed, after_cycle}
 use Rattle.cm_model.specs.Order.{Places}
+use Rattle.cm_model.specs.Sound.{IsEmptyUnless}
 use Rattle.cm_model.specs.State.{State, Loaded, is_active, owner, active, available, available_in}
 pub use Rattle.cm_model.specs.State.{IsStill}
 use Rattle.cm_model.specs.Values.{InterfaceValue, after_reads}
@@ -30,7 +30,7 @@ pub record IsAtRest (m : Mounted) : Type 0 where
 
 -- an interface that is not available holds nothing
 abbrev pub IsEmptyUnlessAvailable : State → InterfaceValue → Type 0
-IsEmptyUnlessAvailable s v = available s v.interface ≡ false → v.value ≡ Unset
+IsEmptyUnlessAvailable s = IsEmptyUnless (available_in s.lives (active s))
 
 -- This is the hardware of the state, between two cycles.
 pub record IsHardwareOf (s : State) (w : Wired) : Type 0 where
@@ -104,7 +104,7 @@ pub record IsLentBy (s : State) (has : Interface → Option ℕ) (exporters : Pl
   pub loans : w.loans ≡ map (loan_of has (λ i. available_in s.lives exporters i.whose)) s.values
   pub places : w.places ≡ map (λ i. component_of i.whose) (interfaces_of s.description)
   pub rest : AllByRecursion IsAtRest w.components
-  pub empty : AllByRecursion (λ v. available_in s.lives exporters v.interface.whose ≡ false → v.value ≡ Unset) s.values
+  pub empty : AllByRecursion (IsEmptyUnless (available_in s.lives exporters)) s.values
 
 -- So it is, where the owner of each interface has it while it is available, and nobody else.
 abbrev pub IsLent : State → Wired → Type 0
