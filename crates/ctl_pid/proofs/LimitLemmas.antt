@@ -1,9 +1,10 @@
 -- What an update of a pid leaves stays within its limits.
 use Rattle.std.proofs.Common.{ℕ, ℤ, pos, ◌≤ℤ◌, Bool, List, [], ◌∷◌, Option, arith}
-use Rattle.std.proofs.lemmas.Int.{ints, clamps}
-use Rattle.fixed_num.specs.Arithmetic.{IsWithin, within}
+use Rattle.std.proofs.lemmas.Int.{ints}
+use Rattle.fixed_num.specs.Arithmetic.{IsWithin}
 use Rattle.fixed_num.specs.declared.value.Value.{Value}
 use Rattle.fixed_num.specs.declared.value.Value.TheVariants.{Unset, Num}
+use Rattle.fixed_num.proofs.ArithmeticLemmas.{limit_holds}
 use Rattle.cm_model.specs.Pids.{Tuning}
 use Rattle.cm_model.specs.Controllers.{wanted, pid_update, updated}
 use Rattle.cm_model.specs.declared.data.RunData.{RunData}
@@ -11,11 +12,6 @@ use Rattle.cm_model.specs.declared.data.RunData.TheVariants as run
 use Rattle.cm_model.specs.declared.tick.Tick.{Tick}
 use Rattle.ctl_pid.specs.Limits.{HasLimits, GivesWithin, IntegralIsWithin}
 use Rattle.ctl_pid.specs.Loops.{params_of}
-
--- what is brought within a limit is within it
-limit_holds : (limit z : ℤ) → pos 0 ≤ℤ limit → IsWithin limit (within limit z)
-unfolding within
-limit_holds limit z some = (omega (arith, ints, clamps), omega (arith, ints, clamps))
 
 -- the outputs, by what is wanted and what is read
 step_gives_within : (tuning : Tuning) (chained : Bool) (set : Value) (integral : ℤ) (last : Option ℤ) (dt_us : ℕ) (targets : List Value) (states : List ℤ) → HasLimits tuning

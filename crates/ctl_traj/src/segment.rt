@@ -1,7 +1,6 @@
 //! The segment from one value to the next, straight, exact on whole micro-units and rounded down.
 
-ghost use Rattle.std.specs.Prelude.{◌≡◌, ◌<◌, ◌≤◌, ◌-◌, ◌*◌, ◌*ℤ◌, ◌+ℤ◌, ◌-ℤ◌, ◌<ℤ◌, pos, nat_abs, IfSome};
-ghost use Rattle.fixed_num.specs.Micro.{clamped};
+ghost use Rattle.std.specs.Prelude.{◌≡◌, ◌<◌, ◌≤◌, ◌*◌, ◌*ℤ◌, ◌<ℤ◌, pos, nat_abs, IfSome};
 ghost use Rattle.fixed_num.specs.Arithmetic.{floor_div};
 ghost use Rattle.cm_model.specs.Ways.{on_segment};
 
@@ -15,23 +14,7 @@ pub(crate) fn on_segment(t: u64, t0: u64, t1: u64, from: Fx, to: Fx) -> Fx
     requires ahead { t < t1 }
     ensures { result ≡ on_segment t t0 t1 (from, to) }
 {
-    shifted(from, share(difference(to, from), t - t0, t1 - t0))
-}
-
-/// A number and a change of it, in the range.
-fn shifted(number: Fx, change: i64) -> Fx
-    requires { nat_abs change ≤ 2 * LARGEST }
-    ensures { result ≡ clamped (number +ℤ change) }
-{
-    Fx::from_micro(number.micro() + change)
-}
-
-/// How much more the one number is than the other.
-fn difference(more: Fx, less: Fx) -> i64
-    ensures value { result ≡ more -ℤ less }
-    ensures small { nat_abs result ≤ 2 * LARGEST }
-{
-    more.micro() - less.micro()
+    from.shifted(share(Fx::difference(to, from), t - t0, t1 - t0))
 }
 
 /// The part of a way that is gone in a part of its time. Nearly always the product fits 64 bits, which divide far faster than 128.

@@ -107,6 +107,11 @@ rate_within change m dt_us some near =
     let product = product_within change (m * dt_us / MICRO) MICRO MICRO near (omega arith) in
     floor_within (change *ℤ pos MICRO) m dt_us some (omega (arith, ints, product.0), omega (arith, ints, product.1))
 
+-- what is brought within a limit is within it
+pub limit_holds : (limit z : ℤ) → pos 0 ≤ℤ limit → IsWithin limit (within limit z)
+unfolding within
+limit_holds limit z some = (omega (arith, ints, clamps), omega (arith, ints, clamps))
+
 -- a number in the range is the nearest one to itself
 pub clamped_in_range : (n : ℤ) → nat_abs n ≤ 1000000000000000 → clamped n ≡ n
 unfolding clamped

@@ -1,6 +1,6 @@
 //! `Fx`: a number with six decimals, from minus to plus a thousand million.
 
-ghost use Rattle.std.specs.Prelude.{◌≡◌, pos, ◌*ℤ◌, ◌<ℤ◌, ◌≤ℤ◌};
+ghost use Rattle.std.specs.Prelude.{◌≡◌, ◌≤◌, ◌*◌, pos, nat_abs, ◌+ℤ◌, ◌-ℤ◌, ◌*ℤ◌, ◌<ℤ◌, ◌≤ℤ◌};
 ghost use Rattle.fixed_num.specs.Micro.{IsInRange, clamped, units};
 ghost use Rattle.fixed_num.specs.Arithmetic.{added, subtracted, multiplied, ratio, within, floor_div};
 
@@ -85,6 +85,24 @@ impl Fx {
         ensures { result ≡ subtracted self other }
     {
         Fx::from_micro(self.micro - other.micro)
+    }
+
+    /// How many micro-units the one number is more than the other: exactly, also where that is past an end of the range.
+    pub fn difference(more: Fx, less: Fx) -> i64
+        ensures value { result ≡ more -ℤ less }
+        ensures small { nat_abs result ≤ 2 * LARGEST }
+    {
+        more.micro - less.micro
+    }
+
+    /// The number that is `change` micro-units more; past either end of the range it is that end.
+    #[tactic(auto, unfolding(crate::specs::Micro::clamped))]
+    pub fn shifted(self, change: i64) -> Fx
+        requires small { nat_abs change ≤ 2 * LARGEST }
+        ensures value { result ≡ clamped (self +ℤ change) }
+        ensures no_further { nat_abs (result -ℤ self) ≤ nat_abs change }
+    {
+        Fx::from_micro(self.micro + change)
     }
 
     /// The product, rounded down to whole micro-units; past either end of the range it is that end.

@@ -10,14 +10,9 @@ use Rattle.fixed_num.specs.declared.value.JointMode.{JointMode}
 use Rattle.fixed_num.specs.declared.value.JointMode.TheVariants.{Idle, Position, Velocity, Effort}
 use Rattle.fixed_num.specs.declared.value.Value.{Value}
 use Rattle.fixed_num.specs.declared.value.Value.TheVariants.{Unset, Num}
-use Rattle.fixed_num.proofs.ArithmeticLemmas.{change_not_negative, rate_within}
+use Rattle.fixed_num.proofs.ArithmeticLemmas.{limit_holds, change_not_negative, rate_within}
 
 -- ---- Limits
-
--- what is brought within a limit is within it
-limit_holds : (limit z : ℤ) → pos 0 ≤ℤ limit → IsWithin limit (within limit z)
-unfolding within
-limit_holds limit z some = (omega (arith, ints, clamps), omega (arith, ints, clamps))
 
 -- and stays so where it is brought into the range
 range_keeps_limit : (limit z : ℤ) → pos 0 ≤ℤ limit → IsWithin limit z → IsWithin limit (clamped z)

@@ -5,7 +5,7 @@ ghost use Rattle.joint_body.specs.Simulated.{after};
 ghost use Rattle.fixed_num.specs.Bodies.{IsPlant, stopped, approached, positioned, moving, driven, accelerated, pushed};
 
 use crate::LONGEST_STEP;
-use crate::exact::{change_at, difference, limited, shifted, within};
+use crate::exact::{change_at, limited, within};
 use fixed_num::{BodyState, Fx, JointMode, LARGEST, MICRO, Value};
 use std::marker::Model;
 
@@ -105,8 +105,8 @@ impl Body {
         ensures near { nat_abs (result -ℤ self.now.state.x) ≤ LARGEST }
     {
         let reach = change_at(self.vmax.micro(), dt_us);
-        let missing = difference(command, self.state.x);
-        shifted(self.state.x, within(missing, reach))
+        let missing = Fx::difference(command, self.state.x);
+        self.state.x.shifted(within(missing, reach))
     }
 
     fn driven(&self, command: Fx, dt_us: u32) -> BodyState
@@ -132,7 +132,7 @@ impl Body {
     {
         let push = command.mul(self.gain);
         let drag = self.damping.mul(self.state.v);
-        let change = change_at(difference(push, drag), dt_us);
+        let change = change_at(Fx::difference(push, drag), dt_us);
         limited(self.state.v, change, self.vmax)
     }
 
@@ -141,7 +141,7 @@ impl Body {
         ensures { result ≡ moving velocity effort dt_us self.now.state }
     {
         BodyState {
-            x: shifted(self.state.x, change_at(velocity.micro(), dt_us)),
+            x: self.state.x.shifted(change_at(velocity.micro(), dt_us)),
             v: velocity,
             f: effort,
         }

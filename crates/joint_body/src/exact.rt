@@ -1,29 +1,10 @@
 //! The arithmetic of a step, on whole micro-units. It is exact: a number is brought into the range or within a limit where the name says so.
 
-ghost use Rattle.std.specs.Prelude.{◌≡◌, ◌≤◌, ◌≤ℤ◌, ◌+ℤ◌, ◌-ℤ◌, ◌*◌, pos, nat_abs};
-ghost use Rattle.fixed_num.specs.Micro.{clamped};
+ghost use Rattle.std.specs.Prelude.{◌≡◌, ◌≤◌, ◌≤ℤ◌, ◌+ℤ◌, ◌*◌, pos, nat_abs};
 ghost use Rattle.fixed_num.specs.Arithmetic.{floor_div, within, change_at};
 
 use crate::LONGEST_STEP;
 use fixed_num::{Fx, LARGEST, MICRO};
-
-/// How much more the one number is than the other.
-pub(crate) fn difference(more: Fx, less: Fx) -> i64
-    ensures value { result ≡ more -ℤ less }
-    ensures small { nat_abs result ≤ 2 * LARGEST }
-{
-    more.micro() - less.micro()
-}
-
-/// A number and a change of it, in the range.
-#[tactic(auto, unfolding(fixed_num::specs::Micro::clamped))]
-pub(crate) fn shifted(number: Fx, change: i64) -> Fx
-    requires { nat_abs change ≤ 2 * LARGEST }
-    ensures value { result ≡ clamped (number +ℤ change) }
-    ensures no_further { nat_abs (result -ℤ number) ≤ nat_abs change }
-{
-    Fx::from_micro(number.micro() + change)
-}
 
 /// A number and a change of it, within a limit.
 #[tactic(auto, using(crate::proofs::StepLemmas::ends))]
@@ -32,7 +13,7 @@ pub(crate) fn limited(number: Fx, change: i64, limit: Fx) -> Fx
     requires not_negative { pos 0 ≤ℤ limit }
     ensures { result ≡ within limit (number +ℤ change) }
 {
-    shifted(number, change).clamp(limit)
+    number.shifted(change).clamp(limit)
 }
 
 /// The nearest number from `-limit` to `limit`.
