@@ -1,5 +1,6 @@
-use Rattle.std.proofs.Common.{ℕ, ap, ◌∙◌}
-use Rattle.std.specs.Prelude.{unwrap_or, slice_get}
+use Rattle.std.proofs.Common.{◌≡◌, ℕ, ap, ◌∙◌}
+use Rattle.std.specs.Prelude.{◌==◌, position, unwrap_or, slice_get}
+use Rattle.cm_model.specs.State.{Loaded}
 use Rattle.cm_desk.specs.Roster.{serials_of}
 use Rattle.cm_desk.proofs.RosterLemmas.{stands_at}
 use Rattle.cm_desk.proofs.roster.index_of.Goals as goal
@@ -8,5 +9,5 @@ use Rattle.cm_desk.proofs.roster.index_of.Goals as goal
 pub returns : goal.returns
 returns g c =
     let ls = c.args.slots.now in
-    ap (λ (k : ℕ). slice_get (serials_of ls) k) (c.unwrap_or.ensures ∙ ap (λ o. unwrap_or o 0) c.position_of.ensures.found)
-    ∙ stands_at ls c.args.serial c.requires.loaded
+    let found : c.unwrap_or.result ≡ unwrap_or (position (λ (l : Loaded). l.serial == c.args.serial) ls) 0 = c.unwrap_or.ensures ∙ ap (λ o. unwrap_or o 0) c.position_of.ensures.found in
+    ap (λ (k : ℕ). slice_get (serials_of ls) k) found ∙ stands_at ls c.args.serial c.requires.loaded
