@@ -31,7 +31,9 @@ impl<C: Controller> Works<C> {
         ensures kept { OnErr result (self.new ≡ self.old) }
     {
         if is_list(&call) {
-            return self.told_list(alloc, &call);
+            let told = self.told_list(alloc, &call);
+            drop(call);
+            return told;
         }
         let (reply, given) = self.change(alloc, call)?;
         let noted = copied(&reply);

@@ -43,6 +43,8 @@ impl<C: Controller> Works<C> {
         if !is_settled(&self.roster, &self.requests) {
             return self.begin_anew(alloc);
         }
+        self.flight.mails.reserve(self.slots.len())?;
+        self.flight.erred.reserve(self.roster.order().len())?;
         let left_over = self.flight.left_over.take();
         let room = record_for(
             alloc,
@@ -52,8 +54,6 @@ impl<C: Controller> Works<C> {
             self.roster.order(),
             left_over,
         )?;
-        self.flight.mails.reserve(self.slots.len())?;
-        self.flight.erred.reserve(self.roster.order().len())?;
         fly(&mut self.slots, &mut self.flight, self.ended, room);
         Ok(Rare::none())
     }

@@ -1,6 +1,6 @@
 //! The desk: the manager at work, with the history of all that it did.
 
-ghost use Rattle.std.specs.Prelude.{◌≡◌, ◌<◌, true, [], map, length, option_map, IfOk, OnOk, OnErr, MatchOption};
+ghost use Rattle.std.specs.Prelude.{◌≡◌, ◌<◌, ◌≤◌, ◌+◌, true, [], map, length, vec_capacity, option_map, IfOk, OnOk, OnErr, MatchOption};
 ghost use Rattle.cm_document.specs.declared.call.Call.TheVariants as call;
 ghost use Rattle.cm_model.specs.Boundary.{begin_reply, close_reply};
 ghost use Rattle.cm_model.specs.Cycle.{cycle};
@@ -56,11 +56,12 @@ impl<C: Controller> Desk<C> {
         ensures { IfOk result (λ desk. desk ≡ record { opening = boot checked stock sessions; made = [] }) }
     {
         let at_boot = stock.blanks();
+        let history = Vec::with_capacity(alloc, ENTRIES_AHEAD)?;
         let works = Works::boot(alloc, checked, stock, sessions)?;
         Ok(Desk {
             works,
             at_boot,
-            history: Vec::with_capacity(alloc, ENTRIES_AHEAD)?,
+            history,
             boxes: Vec::new(alloc),
         })
     }
@@ -79,9 +80,18 @@ impl<C: Controller> Desk<C> {
             (λ answer. option_map C.meaning answer.1 ≡ hands_out (now_of self.old) call answer.0) }
         ensures kept { OnErr result (self.new ≡ self.old) }
     {
-        let kept = KeptCall::copy_of(alloc, &call)?;
-        self.history.reserve(ENTRIES_AHEAD)?;
-        self.boxes.reserve(self.works.slots().len() + 1)?;
+        let places = self.works.slots().len() + 1;
+        let Ok(kept) = ready(
+            alloc,
+            &call,
+            &mut self.history,
+            ENTRIES_AHEAD,
+            &mut self.boxes,
+            places,
+        ) else {
+            drop(call);
+            return Err(Memory);
+        };
         let answer = self.works.answer(alloc, call)?;
         self.history.push_reserved(Entry {
             who,
@@ -104,9 +114,9 @@ impl<C: Controller> Desk<C> {
         let Some(outcome) = self.works.told(ticket) else {
             return Ok(None);
         };
+        self.history.reserve(ENTRIES_AHEAD)?;
         let told = copy_of(outcome)?;
         let entry = told_entry(alloc, who, ticket, outcome)?;
-        self.history.reserve(ENTRIES_AHEAD)?;
         self.history.push_reserved(entry);
         Ok(Some(told))
     }
@@ -252,6 +262,27 @@ impl<C: Controller> Desk<C> {
             boxes: works.into_boxes(boxes),
         }
     }
+}
+
+/// A call as it is kept, and room for so many more entries and so many more boxes.
+fn ready<C: Controller>(
+    alloc: Global,
+    call: &Call,
+    history: &mut Vec<Entry>,
+    entries: usize,
+    boxes: &mut Vec<C>,
+    places: usize,
+) -> Result<KeptCall, Memory>
+    ensures kept { IfOk result (λ kept. kept ≡ call.now) }
+    ensures entries { OnOk result (length history.old.items + entries ≤ vec_capacity history.new) }
+    ensures places { OnOk result (length boxes.old.items + places ≤ vec_capacity boxes.new) }
+    ensures history { (history.new.items ≡ history.old.items)
+        × (vec_capacity history.old ≤ vec_capacity history.new) }
+    ensures boxes { (boxes.new.items ≡ boxes.old.items) × (vec_capacity boxes.old ≤ vec_capacity boxes.new) }
+{
+    history.reserve(entries)?;
+    boxes.reserve(places)?;
+    Ok(KeptCall::copy_of(alloc, call)?)
 }
 
 /// The entry of a session that is told what became of the request of this ticket.

@@ -38,6 +38,7 @@ impl Flight {
     pub(crate) fn make(alloc: Global, checked: &Checked) -> Result<Flight, Memory>
         ensures { IfOk result (IsAtStart checked.now) }
     {
+        let room = Room::make(alloc)?;
         Ok(Flight {
             hardware: ResourceManager::make(alloc, checked)?,
             period_us: period_us(checked),
@@ -45,7 +46,7 @@ impl Flight {
             left_over: None,
             mails: Vec::new(alloc),
             erred: Vec::new(alloc),
-            room: Room::make(alloc)?,
+            room,
         })
     }
 }

@@ -48,10 +48,12 @@ pub(crate) fn at_start(alloc: Global, checked: &Checked) -> Result<AtStart, Memo
     ensures ending { IfOk result (λ all. HasFlags (length checked.now.controllers) all.ending) }
 {
     let count = checked.description().controllers.as_slice().len();
+    let ending = Ending::make(alloc, count)?;
+    let roster = Roster::none(alloc, count)?;
     Ok(AtStart {
         flight: Flight::make(alloc, checked)?,
-        roster: Roster::none(alloc, count)?,
-        ending: Ending::make(alloc, count)?,
+        roster,
+        ending,
     })
 }
 

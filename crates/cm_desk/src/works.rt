@@ -76,9 +76,9 @@ impl<C: Controller> Works<C> {
         ensures booted { IfOk result (λ works. works ≡ boot checked stock sessions) }
         ensures valid { OnOk result (IsValid checked) }
     {
+        let blanks = stock.sorted(alloc)?;
         let worked_out = worked_out(alloc, &checked)?;
         let start = at_start(alloc, &checked)?;
-        let blanks = stock.sorted(alloc)?;
         Ok(Works {
             checked,
             names: worked_out.names,

@@ -4,8 +4,8 @@ use Rattle.cm_desk.proofs.start.at_start.Goals as goal
 
 pub returns-clause-roster : goal.returns-clause-roster
 returns-clause-roster c = record {
-  counted = c.in_ok-none.ensures.counted ∙ ap length c.as_slice-count.ensures ∙ ap (λ (d : Description). length d.controllers) c.description.ensures.same;
-  nobody = c.in_ok-none.ensures.nobody;
-  order = c.in_ok-none.ensures.order.0;
-  run = c.in_ok-none.ensures.order.1;
+  counted = c.in_ok-roster.ensures.counted ∙ ap length c.as_slice-count.ensures ∙ ap (λ (d : Description). length d.controllers) c.description.ensures.same;
+  nobody = c.in_ok-roster.ensures.nobody;
+  order = c.in_ok-roster.ensures.order.0;
+  run = c.in_ok-roster.ensures.order.1;
 }

@@ -14,16 +14,16 @@ pub invariant_of-result : goal.invariant_of-result
 invariant_of-result g c = (
   record {
     valid = rw (c.in_ok-works.ensures.booted) c.in_ok-works.ensures.valid;
-    legal = rw (c.in_ok-with_capacity.ensures.items) tt;
-    sound = rw (c.in_ok-with_capacity.ensures.items) (record { loans = tt; updates = tt; configurations = tt; requests = record { tickets = tt; whole = tt }; unloads = tt });
-    ends = rw (c.in_ok-with_capacity.ensures.items, c.in_ok-works.ensures.booted, c.blanks-at_boot.ensures) refl;
+    legal = rw (c.in_ok-history.ensures.items) tt;
+    sound = rw (c.in_ok-history.ensures.items) (record { loans = tt; updates = tt; configurations = tt; requests = record { tickets = tt; whole = tt }; unloads = tt });
+    ends = rw (c.in_ok-history.ensures.items, c.in_ok-works.ensures.booted, c.blanks-at_boot.ensures) refl;
     steady = rw (c.in_ok-works.ensures.booted) (boot_steady c.args.checked (c.args.stock) c.args.sessions);
     numbered = rw (c.in_ok-works.ensures.booted) (record { once = none_twice; below = tt });
-    room = rw (c.in_ok-with_capacity.ensures.items, c.in_ok-works.ensures.booted) (omega (arith, c.in_ok-with_capacity.ensures.capacity));
+    room = rw (c.in_ok-history.ensures.items, c.in_ok-works.ensures.booted) (omega (arith, c.in_ok-history.ensures.capacity));
     places = rw (c.in_ok-works.ensures.booted) (omega arith);
   },
   c.new.ensures.items,
 )
 
 pub returns : goal.returns
-returns g c = rw (c.in_ok-with_capacity.ensures.items, c.in_ok-works.ensures.booted, c.blanks-at_boot.ensures) refl
+returns g c = rw (c.in_ok-history.ensures.items, c.in_ok-works.ensures.booted, c.blanks-at_boot.ensures) refl

@@ -1,4 +1,4 @@
-use Rattle.std.proofs.Common.{◌≡◌, ◌+◌, ◌≤◌, length, vec_capacity, refl, ◌∙◌, arith}
+use Rattle.std.proofs.Common.{◌≡◌, ◌+◌, ◌≤◌, length, vec_capacity, refl, ap, ◌∙◌, arith}
 use Rattle.cm_model.specs.Scheduled.{with_entry}
 use Rattle.cm_desk.proofs.RecordLemmas.{Recorded, recorded, room_after, effect-few, called_step}
 use Rattle.cm_desk.proofs.desk.Desk.call.Given.{Over}
@@ -7,22 +7,22 @@ use Rattle.cm_desk.proofs.desk.Desk.call.Goals as goal
 -- the call is a step, and has one entry
 entry : (g : Over) (c : goal.After-push_reserved g)
     → Recorded c.self.inside.at_boot c.self.inside.works c.answer.new.self c.self.inside.history.items c.push_reserved.new.self.items c.args.who c.args.call c.in_ok-answer.answer.reply
-    (vec_capacity c.push_reserved.new.self) (vec_capacity c.reserve-2.new.self)
+    (vec_capacity c.push_reserved.new.self) (vec_capacity c.ready.new.boxes)
 entry g c =
     let a = c.self.inside in
     let answer = c.in_ok-answer.answer in
     let made = c.in_ok-answer.ensures.made in
     let grown : c.push_reserved.new.self.items ≡ with_entry a.history.items c.args.who c.args.call answer.reply =
-    rw (c.push_reserved.ensures.items, c.reserve.ensures.items, c.in_ok-kept.ensures, c.in_ok-answer.ensures.twice) refl in
+    rw (c.push_reserved.ensures.items, c.ready.ensures.history.0, c.in-Ok.ensures.kept, c.in_ok-answer.ensures.twice) refl in
     let stepped = called_step a.works c.answer.new.self c.args.who c.args.call answer.reply (rw (← c.self.view_is) at c.requires.session) c.requires.called made.replied made.next in
-    let room : length a.history.items + 3 ≤ vec_capacity c.push_reserved.new.self = omega (arith, c.push_reserved.ensures.capacity, c.in_ok-reserve.ensures.ok) in
+    let room : length a.history.items + 3 ≤ vec_capacity c.push_reserved.new.self = omega (arith, c.push_reserved.ensures.capacity, c.in-Ok.ensures.entries) in
     let few : length c.answer.new.self.loaded ≤ length a.works.loaded + 1 = rw made.next (effect-few a.works c.args.call answer.reply c.requires.called) in
-    let places : length a.works.loaded + 1 ≤ vec_capacity c.reserve-2.new.self = omega (arith, rw (c.slots.ensures) at c.in_ok-reserve-2.ensures.ok) in
+    let places : length a.works.loaded + 1 ≤ vec_capacity c.ready.new.boxes = omega (arith, c.in-Ok.ensures.places, ap length c.slots.ensures, ap length c.self.invariant.1) in
     recorded _ _ _ _ _ _ _ _ _ _ _ _ c.self.invariant.0 stepped grown
     (room_after c.answer.new.self a.history.items _ c.args.who c.args.call answer.reply _ room grown) (omega (arith, few, places))
 
 pub invariant_of-self-2 : goal.invariant_of-self-2
-invariant_of-self-2 g c = ((entry g c).keeps, c.reserve-2.ensures.items ∙ c.self.invariant.1)
+invariant_of-self-2 g c = ((entry g c).keeps, c.ready.ensures.boxes.0 ∙ c.self.invariant.1)
 
 pub returns-clause-made : goal.returns-clause-made
 returns-clause-made g c = rw (← c.self.view_is) (entry g c).grows

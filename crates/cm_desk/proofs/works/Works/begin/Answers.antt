@@ -31,7 +31,7 @@ record_for-requires-clause-within g c =
     let a = c.self.inside in
     let s = state_with a.checked a.blanks a.sessions a.loads a.slots.items a.requests a.flight a.ended a.closed in
     let settled = and_parts a.roster.fresh (none_waits a.requests.requests a.requests.outcomes) (sym c.is_settled.ensures ∙ c.if-not-is_settled.false) in
-    rw (c.order.ensures, c.self.invariant.listed.order settled.0) (order_within s c.self.invariant.described)
+    rw (c.order-2.ensures, c.self.invariant.listed.order settled.0) (order_within s c.self.invariant.described)
 
 -- where memory ran out the state is as before
 pub invariant_of-self : goal.invariant_of-self
@@ -39,15 +39,7 @@ invariant_of-self g c =
     let a = c.self.inside in
     let s = state_with a.checked a.blanks a.sessions a.loads a.slots.items a.requests a.flight a.ended a.closed in
     let down : is_some a.flight.begun ≡ false = begins_down s (rw (← c.self.view_is) at c.requires.can) in
-    kept_still s s a.names.items a.relations a.places a.flight (record a.flight { left_over = c.take-left_over.new.self }) a.roster a.ending c.self.invariant refl down
-    refl refl refl refl c.self.invariant.roomy.none_erred
-
-pub invariant_of-self-in_err-reserve : goal.invariant_of-self-in_err-reserve
-invariant_of-self-in_err-reserve g c =
-    let a = c.self.inside in
-    let s = state_with a.checked a.blanks a.sessions a.loads a.slots.items a.requests a.flight a.ended a.closed in
-    let down : is_some a.flight.begun ≡ false = begins_down s (rw (← c.self.view_is) at c.requires.can) in
-    let after = record a.flight { left_over = c.take-left_over.new.self; mails = c.reserve.new.self } in
+    let after = record a.flight { mails = c.reserve.new.self } in
     let same = ap (λ (ms : List MailAloft). record s { mails = ms }) c.reserve.ensures.items in
     kept_still s (record s { mails = c.reserve.new.self.items }) a.names.items a.relations a.places a.flight after a.roster a.ending c.self.invariant same down
     refl refl refl refl c.self.invariant.roomy.none_erred
@@ -57,7 +49,17 @@ invariant_of-self-in_err-reserve-2 g c =
     let a = c.self.inside in
     let s = state_with a.checked a.blanks a.sessions a.loads a.slots.items a.requests a.flight a.ended a.closed in
     let down : is_some a.flight.begun ≡ false = begins_down s (rw (← c.self.view_is) at c.requires.can) in
-    let after = record a.flight { left_over = c.take-left_over.new.self; mails = c.reserve.new.self; erred = c.reserve-2.new.self } in
+    let after = record a.flight { mails = c.reserve.new.self; erred = c.reserve-2.new.self } in
+    let same = ap (λ (ms : List MailAloft). record s { mails = ms }) c.reserve.ensures.items in
+    kept_still s (record s { mails = c.reserve.new.self.items }) a.names.items a.relations a.places a.flight after a.roster a.ending c.self.invariant same down
+    refl refl refl refl (c.reserve-2.ensures.items ∙ c.self.invariant.roomy.none_erred)
+
+pub invariant_of-self-in_err-room : goal.invariant_of-self-in_err-room
+invariant_of-self-in_err-room g c =
+    let a = c.self.inside in
+    let s = state_with a.checked a.blanks a.sessions a.loads a.slots.items a.requests a.flight a.ended a.closed in
+    let down : is_some a.flight.begun ≡ false = begins_down s (rw (← c.self.view_is) at c.requires.can) in
+    let after = record a.flight { mails = c.reserve.new.self; erred = c.reserve-2.new.self; left_over = c.take-left_over.new.self } in
     let same = ap (λ (ms : List MailAloft). record s { mails = ms }) c.reserve.ensures.items in
     kept_still s (record s { mails = c.reserve.new.self.items }) a.names.items a.relations a.places a.flight after a.roster a.ending c.self.invariant same down
     refl refl refl refl (c.reserve-2.ensures.items ∙ c.self.invariant.roomy.none_erred)
@@ -86,10 +88,10 @@ invariant_of-self-2 g c =
     let room = c.in_ok-room.room in
     let slots = with_items_is a.slots c.fly.new.slots (omega arith) ∙ c.fly.ensures.slots s refl ∙ ap (map (without_mail_off s)) c.deref_mut.ensures.value in
     let mails = c.fly.ensures.mails s refl ∙ ap (filter_map (mail_off s)) c.deref_mut.ensures.value in
-    let erred : length a.roster.order ≤ vec_capacity c.reserve-2.new.self = omega (arith, c.in_ok-reserve-2.ensures.ok, ap length c.order-2.ensures) in
+    let erred : length a.roster.order ≤ vec_capacity c.reserve-2.new.self = omega (arith, c.in_ok-reserve-2.ensures.ok, ap length c.order.ensures) in
     let kept = kept_flown s a.names.items a.relations a.places a.flight mid c.fly.new.flight a.roster a.roster a.ending room c.self.invariant (rw (← c.self.view_is) at c.requires.numbered)
     (begins_down s can) (begins_within s can) c.self.invariant.listed settled.0 refl refl refl (c.reserve-2.ensures.items ∙ c.self.invariant.roomy.none_erred) erred
-    (rw (c.order.ensures) at c.in_ok-room.ensures) c.fly.ensures.flight in
+    (rw (c.order-2.ensures) at c.in_ok-room.ensures) c.fly.ensures.flight in
     subst (λ (t : State). IsKept t a.names.items a.relations a.places c.fly.new.flight a.roster a.ending)
     (sym (view_flown a.checked a.blanks a.sessions a.loads a.slots.items _ a.requests a.flight mid c.fly.new.flight a.ended a.closed room slots mails refl c.fly.ensures.flight)) kept
 
