@@ -11,7 +11,7 @@ use Rattle.cm_document.specs.declared.life.Life.{Life}
 use Rattle.cm_model.specs.BestEffort.{decided}
 use Rattle.cm_model.specs.Boundary.{waiting, with_switch, with_move_unless, with_move, component_place, move_fault, concluded, with_outcome, all_concluded, boundary, decisions_from, decisions_between, begin_effect}
 use Rattle.cm_model.specs.Commit.{scene_of, commit}
-use Rattle.cm_model.specs.Cycle.{active_order, begun, mail_off, without_mail_off, is_due_now}
+use Rattle.cm_model.specs.Cycle.{begun, mail_off, without_mail_off, is_due_now}
 use Rattle.cm_model.specs.Machine.{can_begin, effect}
 use Rattle.cm_model.specs.State.{State, Loaded, MailAloft, is_active}
 use Rattle.cm_model.specs.Steady.{IsSteady}
@@ -19,7 +19,6 @@ use Rattle.cm_model.specs.Switches.{Decided, refused, done}
 use Rattle.cm_model.specs.declared.cause.Cause.{Cause}
 use Rattle.cm_model.specs.declared.blanks.Blanks.{Blanks}
 use Rattle.cm_model.specs.declared.cause.Outcome.{Outcome}
-use Rattle.cm_model.specs.declared.member.Member.{Member}
 use Rattle.cm_model.specs.declared.record_room.RecordRoom.{RecordRoom}
 use Rattle.cm_model.specs.declared.reply.Reply.TheVariants as reply
 use Rattle.cm_model.specs.declared.request.Request.{Request}
@@ -31,9 +30,8 @@ use Rattle.ctl_places.specs.Placed.{Placed}
 use Rattle.request_plan.specs.Plans.{AreConclusionsOf, IsPlanOf}
 use Rattle.request_plan.specs.Requests.{Asked}
 use Rattle.request_plan.specs.declared.acts.Conclusion.{Conclusion}
-use Rattle.request_plan.specs.Stands as planned
 use Rattle.request_plan.specs.declared.plans.Plan.{Plan}
-use Rattle.stop_plan.specs.Ending.{member_of, members_in_order}
+use Rattle.stop_plan.specs.Ending.{members_in_order}
 use Rattle.stop_plan.specs.declared.ending.Ending.{Ending}
 use Rattle.sound_laws.proofs.BoundaryLemmas.{concluded_steady, outcome_steady}
 use Rattle.sound_laws.proofs.SerialLemmas.{AreNumbered, IsNumbered, renumbered_numbered, effect_renumbered}
@@ -235,13 +233,9 @@ has_decided s t is can numbered =
       counted = count_stays s.loaded (boundary s).loaded (boundary_stays s (waiting s));
     })
 
-same_members : (ls : List Loaded) → map planned.member_of ls ≡ map member_of ls
-same_members [] = refl
-same_members (l ∷ ls) = ap (λ (ms : List Member). member_of l ∷ ms) (same_members ls)
-
 -- in it is updated in the order that was planned who is active in it
 pub planned_order : (s : State) (plan : Plan) → IsPlanOf s (waiting s) plan → plan.order.items ≡ members_in_order (boundary s)
-planned_order s plan is = is.order ∙ same_members (active_order (boundary s))
+planned_order s plan is = is.order
 
 -- who is active in it is described
 pub order_decided : (s : State) → All (IsAsDescribed s.description) s.loaded → All (λ m. m.place < length s.description.controllers) (members_in_order (boundary s))

@@ -1,6 +1,5 @@
 -- The end of a cycle, with the parts of the desk.
 use Rattle.std.proofs.Common.{◌≡◌, ℕ, suc, ◌+◌, ◌<◌, Bool, true, false, cond, List, [], ◌∷◌, ◌++◌, length, map, get_or, drop, Option, Some, None, refl, sym, ap, ap₂, subst, ◌∙◌, arith}
-use Rattle.std.proofs.Math.Path.{fun_ext}
 use Rattle.std.specs.Prelude.{◌&&◌, not, filter, option_map, is_some, slice_get, sum_by, if◌then◌else◌, IfSome}
 use Rattle.std.specs.List.{All, AllByRecursion}
 use Rattle.std.proofs.lemmas.List.{length-map}
@@ -19,7 +18,6 @@ use Rattle.cm_model.specs.State.{State, Loaded, is_active, active}
 use Rattle.cm_model.specs.Steady.{IsSteady}
 use Rattle.cm_model.specs.Values.{InterfaceValue, after_reads}
 use Rattle.cm_model.specs.declared.member.Member.{Member}
-use Rattle.cm_model.specs.declared.ran.Done.{Done}
 use Rattle.cm_model.specs.declared.ran.Done.TheVariants as done
 use Rattle.cm_model.specs.declared.record_room.RecordRoom.{RecordRoom}
 use Rattle.cm_model.specs.Ran.{Ran}
@@ -30,7 +28,6 @@ use Rattle.cm_hardware.proofs.LentLemmas.{moved_is_held}
 use Rattle.cm_hardware.proofs.PresentLemmas.{owned_is_available}
 use Rattle.ctl_places.specs.Placed.{Placed}
 use Rattle.sound_laws.proofs.CycleLemmas.{after_steady}
-use Rattle.ctl_slots.specs.Cycles as cycles
 use Rattle.sound_laws.proofs.SerialLemmas.{IsNumbered}
 use Rattle.chain_order.specs.Links.{linked, places_below}
 use Rattle.cm_document.specs.Params.{kind_of}
@@ -43,7 +40,7 @@ use Rattle.cm_desk.specs.Flight.{HasRoom, outs_at, numbers_at}
 use Rattle.cm_desk.proofs.OrderLemmas.{all_filter, all_ranked, run_is}
 use Rattle.cm_desk.proofs.WorksLemmas.{described_there}
 use Rattle.std.specs.Option.{option_map_or}
-use Rattle.stop_plan.specs.Ending.{HasFlags, IsEndingOf, nobody_again, told_in, erred_in, is_error, members_in_order, member_of}
+use Rattle.stop_plan.specs.Ending.{HasFlags, IsEndingOf, nobody_again, told_in, erred_in, members_in_order, member_of}
 use Rattle.stop_plan.specs.declared.ending.Ending.{Ending}
 use Rattle.stop_plan.proofs.EndingLemmas.{stays_committed}
 use Rattle.stop_plan.proofs.QuietLemmas.{quiet_end, none_stop}
@@ -153,13 +150,6 @@ same_writes number (m ∷ ms) (k ∷ ks) read other described lives =
     ap₂ (λ (b : Bool) (n : ℕ). one_if b + n)
     (fails_alike number m k read.0 other.0 (head_same m.hardware.description _ _ _ _ described) (head_same m.hardware.life _ _ _ _ lives))
     (same_writes number ms ks read.1 other.1 (tail_same _ _ _ _ described) (tail_same _ _ _ _ lives))
-
-error_same : (d : Done) → cycles.is_error d ≡ is_error d
-error_same done.Ok = refl
-error_same done.Error = refl
-
-pub same_erred : (ran : List Ran) → cycles.erred_in ran ≡ erred_in ran
-same_erred ran = ap (λ (test : Ran → Bool). map (λ (each : Ran). each.serial) (filter test ran)) (fun_ext (λ each. error_same each.done))
 
 -- each controller can be updated in the cycle that is aloft
 pub can_run_each : (s : State) (a : Aloft) (board : ℕ) (width : Width) → IsValid s.description → IsSteady s → AreFit s → All (IsAsDescribed s.description) s.loaded
@@ -418,7 +408,7 @@ was_made s before after read finished none first all nothing states ran erred no
   failed = done.failed ∙ ap (λ parts. parts ++ writes_failed_in s) (is.failed ∙ ap (λ parts. parts ++ reads_failed_in s) no_part);
   ran = updated.ran ∙ ap (λ rans. rans ++ told_in s) ran;
   bodies = done.bodies ∙ ap (λ bodies. bodies ++ (cycle s).happened.bodies) no_body;
-  erred = updated.erred ∙ ap (λ serials. serials ++ cycles.erred_in (told_in s)) erred ∙ same_erred (told_in s);
+  erred = updated.erred ∙ ap (λ serials. serials ++ erred_in (told_in s)) erred;
 }
 
 -- after the reads of the cycle its controllers are updated

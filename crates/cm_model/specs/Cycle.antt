@@ -17,6 +17,8 @@ use Rattle.cm_model.specs.Ran.{Ran}
 use Rattle.cm_model.specs.State.{State, Loaded, MailAloft, is_active, active, owner}
 use Rattle.cm_model.specs.Values.{InterfaceValue, belongs_to, after_reads, after_moves}
 use Rattle.cm_model.specs.declared.TheConstants.{SECOND_US}
+use Rattle.cm_model.specs.declared.member.Member.{Member}
+use Rattle.cm_model.specs.declared.ran.Done.{Done}
 use Rattle.cm_model.specs.declared.ran.Done.TheVariants as done
 use Rattle.cm_model.specs.declared.record.FailedPart.{FailedPart}
 use Rattle.cm_model.specs.declared.tick.Tick.{Tick}
@@ -47,6 +49,14 @@ failed_in s =
 abbrev pub active_order : State → List Loaded
 active_order s =
     by_rank (λ l. depth s.description.controllers (active s) l.place) (suc (length s.description.controllers)) (filter is_active s.loaded)
+
+-- a loaded controller by its serial and place
+abbrev pub member_of : Loaded → Member
+member_of l = record { serial = l.serial; place = l.place }
+
+-- the active controllers so, in the order of their updates
+abbrev pub members_in_order : State → List Member
+members_in_order s = map member_of (active_order s)
 
 -- In the cycle that is aloft it is due: the cycle is one of those in which it is updated.
 abbrev pub is_due_now : State → Loaded → Bool
@@ -134,6 +144,15 @@ must_stop s ran p =
 -- the others stay active
 abbrev pub stays_active : State → List Ran → Places
 stays_active s ran p = active s p && not (must_stop s ran p)
+
+-- an update that went so failed
+abbrev pub is_error : Done → Bool
+is_error done.Ok = false
+is_error done.Error = true
+
+-- the serials of the controllers whose update failed, in order
+abbrev pub erred_in : List Ran → List ℕ
+erred_in ran = map (λ each. each.serial) (filter (λ each. is_error each.done) ran)
 
 -- The controllers that the end of the cycle stops, by serial, in the order of updates.
 abbrev pub stops : State → List Ran → List ℕ

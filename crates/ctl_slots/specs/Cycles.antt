@@ -1,13 +1,11 @@
 -- When the updates of a cycle are those of a state, and what they then come to.
-use Rattle.std.specs.Prelude.{◌≡◌, ℕ, ◌==◌, Bool, true, false, List, ◌++◌, map, filter, slice_get, Some}
+use Rattle.std.specs.Prelude.{◌≡◌, ℕ, ◌==◌, List, ◌++◌, map, slice_get, Some}
 use Rattle.std.specs.List.{IsDistinct}
 use Rattle.cm_document.specs.Valid.{IsValid}
 use Rattle.cm_model.specs.Cycle.{period, active_order, updates}
-use Rattle.cm_model.specs.Ran.{Ran}
+pub use Rattle.cm_model.specs.Cycle.{is_error, erred_in}
 use Rattle.cm_model.specs.State.{State}
 use Rattle.cm_model.specs.Steady.{IsSteady}
-use Rattle.cm_model.specs.declared.ran.Done.{Done}
-use Rattle.cm_model.specs.declared.ran.Done.TheVariants as done
 use Rattle.cm_hardware.specs.Holding.{IsInCycle, values_read, values_updated, reads_failed_in}
 use Rattle.ctl_places.specs.Placed.{placed_of}
 use Rattle.switch_plan.specs.Relations.{relations_of}
@@ -20,15 +18,6 @@ pub record IsAloftOf (s : State) (a : Aloft) : Type 0 where
   pub placed : a.placed ≡ placed_of s.description
   pub related : a.related ≡ relations_of s.description
   pub failed : a.failed ≡ reads_failed_in s
-
--- it ended in an error
-abbrev pub is_error : Done → Bool
-is_error done.Ok = false
-is_error done.Error = true
-
--- the serials of those whose update failed, in order
-abbrev pub erred_in : List Ran → List ℕ
-erred_in ran = map (λ each. each.serial) (filter (λ each. is_error each.done) ran)
 
 -- The updates begin in this state, of a valid description, which is steady and in which serials differ: its controllers and mails are
 -- those worked on, the hardware is that after its reads, and at these indices stand its active controllers in the order of updates.

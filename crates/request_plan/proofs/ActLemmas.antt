@@ -16,7 +16,7 @@ use Rattle.cm_model.specs.Components.{has_move}
 use Rattle.cm_model.specs.Faults.{cause_if}
 use Rattle.cm_model.specs.Boundary.{component_place, life_at, move_fault, with_switch, with_move_unless, with_move, Concluded, concluded}
 use Rattle.cm_model.specs.Commit.{seen, scene_of, commit}
-use Rattle.cm_model.specs.Cycle.{active_order, moved}
+use Rattle.cm_model.specs.Cycle.{active_order, member_of, moved}
 use Rattle.cm_model.specs.Order.{Places, set_of, depth, in_order}
 use Rattle.cm_model.specs.Scene.{Scene, is_running, is_chained_in, member}
 use Rattle.cm_model.specs.Sound.{CanRunTogether}
@@ -43,7 +43,7 @@ use Rattle.request_plan.proofs.SetLemmas.{stopped_of, started_of, set_between}
 use Rattle.request_plan.proofs.StandLemmas.{runs_in_scene, loaded_shown}
 use Rattle.request_plan.specs.Acts.{HaveFlags, AreSetsOf, is_carried_out, IsPlannedAct, IsSwitchOf, IsActOf, IsConclusionOf, seen_after, loaded_after, lives_after, IsActWithin}
 use Rattle.request_plan.specs.Moves.{IsMoveFault}
-use Rattle.request_plan.specs.Stands.{scene_with, IsStand, IsSeenOf, of_serials, running, member_of}
+use Rattle.request_plan.specs.Stands.{scene_with, IsStand, IsSeenOf, of_serials, running}
 use Rattle.request_plan.specs.declared.acts.Act.{Act}
 use Rattle.request_plan.specs.declared.acts.Act.TheVariants as act
 use Rattle.request_plan.specs.declared.acts.Conclusion.{Conclusion}

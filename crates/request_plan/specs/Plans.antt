@@ -1,12 +1,12 @@
 -- The plan for all requests that wait.
-use Rattle.std.specs.Prelude.{◌≡◌, List, [], ◌∷◌, map}
+use Rattle.std.specs.Prelude.{◌≡◌, List, [], ◌∷◌}
 use Rattle.cm_document.specs.declared.description.Description.{Description}
 use Rattle.cm_model.specs.Boundary.{concluded, with_outcome, all_concluded, decisions_between}
-use Rattle.cm_model.specs.Cycle.{active_order}
+use Rattle.cm_model.specs.Cycle.{members_in_order}
 use Rattle.cm_model.specs.State.{State}
 use Rattle.cm_model.specs.declared.request.Request.{Request}
 use Rattle.request_plan.specs.Acts.{IsConclusionOf}
-use Rattle.request_plan.specs.Stands.{member_of, IsSeenOf}
+use Rattle.request_plan.specs.Stands.{IsSeenOf}
 use Rattle.request_plan.specs.declared.acts.Conclusion.{Conclusion}
 use Rattle.request_plan.specs.declared.plans.Plan.{Plan}
 use Rattle.request_plan.specs.declared.stand.Stand.{Stand}
@@ -22,7 +22,7 @@ AreConclusionsOf s (asked ∷ later) (c ∷ cs) = IsConclusionOf s asked c × Ar
 -- serial and place; and what was decided, by ticket.
 pub record IsPlanOf (s : State) (asked : List Request) (plan : Plan) : Type 0 where
   pub conclusions : AreConclusionsOf s asked plan.conclusions.items
-  pub order : plan.order.items ≡ map member_of (active_order (all_concluded s asked))
+  pub order : plan.order.items ≡ members_in_order (all_concluded s asked)
   pub decisions : plan.decisions ≡ decisions_between s (all_concluded s asked)
 
 -- These are concluded of requests in a state, and this is seen of the state after all of them.

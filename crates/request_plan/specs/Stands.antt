@@ -7,9 +7,8 @@ use Rattle.cm_model.specs.Commit.{scene_of}
 use Rattle.cm_model.specs.Components.{is_listed}
 use Rattle.cm_model.specs.Order.{Places}
 use Rattle.cm_model.specs.Scene.{Scene, has_seen, is_running}
-use Rattle.cm_model.specs.State.{State, Loaded}
+use Rattle.cm_model.specs.State.{State}
 use Rattle.cm_model.specs.Steady.{IsSteady}
-use Rattle.cm_model.specs.declared.member.Member.{Member}
 use Rattle.cm_model.specs.declared.seen.Seen.{Seen}
 use Rattle.request_plan.specs.declared.stand.Stand.{Stand}
 
@@ -35,7 +34,3 @@ of_serials loaded serials = has_seen (λ l. is_listed serials l.serial) loaded
 -- the active ones
 abbrev pub running : List Seen → Places
 running loaded = has_seen (λ l. is_running l.life) loaded
-
--- a loaded controller by its serial and place
-abbrev pub member_of : Loaded → Member
-member_of l = record { serial = l.serial; place = l.place }

@@ -1,39 +1,20 @@
 -- The end of a cycle: of what it is told, and which controllers the commit that follows stops and starts.
-use Rattle.std.specs.Prelude.{◌≡◌, ℕ, Bool, false, true, List, length, map, filter}
+use Rattle.std.specs.Prelude.{◌≡◌, ℕ, false, List, length}
 use Rattle.cm_model.specs.Commit.{scene_of}
-use Rattle.cm_model.specs.Cycle.{active_order, failed_in, stays_active, cycle, landed}
+use Rattle.cm_model.specs.Cycle.{failed_in, stays_active, cycle, landed}
+pub use Rattle.cm_model.specs.Cycle.{member_of, members_in_order, is_error, erred_in}
 use Rattle.cm_model.specs.Order.{Places, set_of}
 use Rattle.cm_model.specs.Ran.{Ran}
 use Rattle.cm_model.specs.Scene.{is_chained_in}
 use Rattle.cm_model.specs.Sound.{CanRunTogether}
-use Rattle.cm_model.specs.State.{State, Loaded}
+use Rattle.cm_model.specs.State.{State}
 use Rattle.cm_model.specs.Steady.{AreLoaded, AreConfigured, IsInOrder}
 use Rattle.cm_model.specs.Switches.{is_stopped, is_started}
-use Rattle.cm_model.specs.declared.member.Member.{Member}
-use Rattle.cm_model.specs.declared.ran.Done.{Done}
-use Rattle.cm_model.specs.declared.ran.Done.TheVariants as done
 use Rattle.switch_plan.specs.Relations.{relations_of}
 use Rattle.stop_plan.specs.declared.ending.Ending.{Ending}
 use Rattle.stop_plan.specs.declared.report.Report.{Report}
 
 -- ---- What it is told of
-
--- a loaded controller by its serial and place
-abbrev pub member_of : Loaded → Member
-member_of l = record { serial = l.serial; place = l.place }
-
--- the active controllers in the order of their updates
-abbrev pub members_in_order : State → List Member
-members_in_order s = map member_of (active_order s)
-
--- it ended in an error
-abbrev pub is_error : Done → Bool
-is_error done.Ok = false
-is_error done.Error = true
-
--- the serials of the controllers whose update failed, in order
-abbrev pub erred_in : List Ran → List ℕ
-erred_in ran = map (λ each. each.serial) (filter (λ each. is_error each.done) ran)
 
 -- what the updates of the cycle tell
 abbrev pub told_in : State → List Ran
