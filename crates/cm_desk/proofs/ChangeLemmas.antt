@@ -1,8 +1,7 @@
 -- What the console's calls on one controller leave of what fits.
-use Rattle.std.proofs.Common.{◌≡◌, ℕ, zero, suc, Bool, true, false, Result, Ok, Err, List, [], ◌∷◌, Option, Some, None, refl, sym, ap, subst, ◌∙◌}
+use Rattle.std.proofs.Common.{◌≡◌, ℕ, Bool, true, false, Result, Ok, Err, Option, Some, None, refl, sym, ap, subst, ◌∙◌}
 use Rattle.std.specs.Prelude.{◌&&◌, not, is_some, slice_get, slice_set, IfSome, OnOk, OnErr}
-use Rattle.std.specs.List.{AllByRecursion}
-use Rattle.std.proofs.lemmas.Option.{same_Some}
+use Rattle.sequence.proofs.ListLemmas.{all_at}
 use Rattle.cm_document.specs.Valid.{IsValid}
 use Rattle.cm_document.specs.declared.call.Mail.{Mail}
 use Rattle.cm_document.specs.declared.description.CtlDesc.{CtlDesc}
@@ -14,12 +13,6 @@ use Rattle.ctl_trait.specs.Taking.{CanTake}
 use Rattle.ctl_trait.specs.declared.fault.CfgFault.{CfgFault}
 use Rattle.ctl_slots.specs.Fit.{IsTimedIn, IsWaiting, IsFor, AreFit}
 use Rattle.ctl_slots.proofs.FitLemmas.{fit_changed, timed_configured}
-
--- what holds of all holds of the one that stands somewhere
-pub all_at : {A : Type 0} (P : A → Type 0) (xs : List A) (i : ℕ) (x : A) → AllByRecursion P xs → slice_get xs i ≡ Some x → P x
-all_at P [] i x all there = cc
-all_at P (y ∷ ys) zero x all there = subst P (same_Some y x there) all.0
-all_at P (y ∷ ys) (suc i) x all there = all_at P ys i x all.1 there
 
 -- no mail waits for one that is not active
 no_mail : (l : Loaded) (mail : Option Mail) → is_active l ≡ false → IfSome mail (λ m. (is_active l ≡ true) × CanTake l.ctl m) → mail ≡ None

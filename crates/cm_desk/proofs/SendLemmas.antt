@@ -19,7 +19,7 @@ use Rattle.cm_model.proofs.SteadyLemmas.{not_first}
 use Rattle.ctl_trait.specs.Taking.{CanTake}
 use Rattle.ctl_slots.proofs.FitLemmas.{sent_fits}
 use Rattle.request_plan.proofs.StandLemmas.{chained_among}
-use Rattle.cm_desk.proofs.ChangeLemmas.{all_at}
+use Rattle.sequence.proofs.ListLemmas.{all_at}
 
 -- ---- Parameters
 

@@ -7,7 +7,7 @@ use Rattle.std.proofs.lemmas.List.{length-map}
 use Rattle.std.proofs.lemmas.List.Folds.{list_any-append}
 use Rattle.std.proofs.lemmas.Option.{slice_get-map}
 use Rattle.std.proofs.lemmas.Simd.{map-map}
-use Rattle.sequence.proofs.ListLemmas.{all_append}
+use Rattle.sequence.proofs.ListLemmas.{all_append, all_at}
 use Rattle.fixed_num.specs.declared.value.BodyState.{BodyState}
 use Rattle.fixed_num.specs.declared.value.Value.{Value}
 use Rattle.fixed_num.specs.declared.value.Value.TheVariants.{Unset}
@@ -68,12 +68,6 @@ each_by change before after pre (x ∷ xs) each =
     ap₂ (λ (n : ℕ) (loans : List Loan). each_changed change n (length xs) loans) next board
     ∙ each_by change before after (pre ++ after x ∷ []) xs (λ k y found. ap (λ n. change n (before y)) (later k) ∙ each (suc k) y found)
     ∙ append_assoc pre (after x ∷ []) (map after xs)
-
--- what holds of each item holds of one that is found
-of_found : {A : Type 0} (P : A → Type 0) (xs : List A) (k : ℕ) (x : A) → AllByRecursion P xs → slice_get xs k ≡ Some x → P x
-of_found P [] k x all found = cc
-of_found P (y ∷ xs) zero x all found = let same : y ≡ x = cc in subst P same all.0
-of_found P (y ∷ xs) (suc k) x all found = of_found P xs k x all.1 found
 
 -- what is given to the item that is found
 given_to : {A B : Type 0} (f : A → B) (xs : List A) (k : ℕ) (x : A) (default : B) → slice_get xs k ≡ Some x → slice_index_or (map f xs) k default ≡ f x
@@ -263,9 +257,9 @@ module _ (s : State) (loaded : List Loaded) (off : Places) (serials : List (Opti
           ap (λ n. relent (placed_of d) serials flags n (loan_of has (available s) v)) at
           ∙ ap₂ (λ (ps : List ℕ) (e : Option ℕ). relent_by serials flags ps e (loan_of has (available s) v)) claimers exporter
           ∙ one_place has v
-          (of_found (λ (v : InterfaceValue). InPlace (length cs) v.interface) s.values k v placed found)
-          (of_found (λ (v : InterfaceValue). available s v.interface ≡ false → v.value ≡ Unset) s.values k v empty found)
-          (of_found (λ (v : InterfaceValue). available t v.interface ≡ false → owner t v.interface ≡ None) s.values k v told.owned found)
+          (all_at (λ (v : InterfaceValue). InPlace (length cs) v.interface) s.values k v placed found)
+          (all_at (λ (v : InterfaceValue). available s v.interface ≡ false → v.value ≡ Unset) s.values k v empty found)
+          (all_at (λ (v : InterfaceValue). available t v.interface ≡ false → owner t v.interface ≡ None) s.values k v told.owned found)
 
   -- what is not available then is Unset
   freed_keeps : (v : InterfaceValue) → (freed_of s off v).interface ≡ v.interface

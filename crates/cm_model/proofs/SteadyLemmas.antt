@@ -9,7 +9,7 @@ use Rattle.cm_document.proofs.DistinctLemmas.{all_of, all_so, all_map}
 use Rattle.cm_document.specs.Params.{kind_of}
 use Rattle.cm_document.specs.declared.call.Mail.{Mail}
 use Rattle.cm_document.specs.declared.description.CtlDesc.{CtlDesc}
-use Rattle.sequence.proofs.ListLemmas.{any_map, all_push}
+use Rattle.sequence.proofs.ListLemmas.{any_map, all_push, all_at, all_set}
 use Rattle.cm_model.proofs.LoadedLemmas.{any_same}
 use Rattle.std.proofs.lemmas.Option.{none-some, same_Some, get_or_from_slice_get}
 use Rattle.cm_model.proofs.CommitLemmas.{none_marked, places_stay}
@@ -50,17 +50,6 @@ close_steady s steady = record { in_order = steady.in_order; together = steady.t
 
 -- ---- One controller that is changed
 
--- what holds of all holds of the one that stands there
-all_at : {A : Type 0} (P : A → Type 0) (xs : List A) (i : ℕ) (x : A) → slice_get xs i ≡ Some x → AllByRecursion P xs → P x
-all_at P [] i x at all = absurd (none-some x at)
-all_at P (y ∷ ys) zero x at all = subst P (same_Some y x at) all.0
-all_at P (y ∷ ys) (suc i) x at all = all_at P ys i x at all.1
-
-all_set : {A : Type 0} (P : A → Type 0) (xs : List A) (i : ℕ) (y : A) → AllByRecursion P xs → P y → AllByRecursion P (slice_set xs i y)
-all_set P [] i y all one = tt
-all_set P (x ∷ xs) zero y all one = (one, all.1)
-all_set P (x ∷ xs) (suc i) y all one = (all.0, all_set P xs i y all.1 one)
-
 -- what an item is mapped to stays where the new one is mapped to the same
 map_set : {A B : Type 0} (f : A → B) (xs : List A) (i : ℕ) (x y : A) → slice_get xs i ≡ Some x → f y ≡ f x → map f (slice_set xs i y) ≡ map f xs
 map_set f [] i x y at same = refl
@@ -90,8 +79,8 @@ slot_steady s i l new at keeps steady =
     record {
       in_order = record {
         once = rw (map_set (λ each. each.place) s.loaded i l new at keeps.place) kept.once;
-        own = all_set _ s.loaded i new kept.own (keeps.own (all_at _ s.loaded i l at kept.own));
-        marked = rw alike (all_set _ s.loaded i new kept.marked (keeps.marked _ (all_at _ s.loaded i l at kept.marked)));
+        own = all_set _ s.loaded i new kept.own (keeps.own (all_at _ s.loaded i l kept.own at));
+        marked = rw alike (all_set _ s.loaded i new kept.marked (keeps.marked _ (all_at _ s.loaded i l kept.marked at)));
         counted = kept.counted;
         described = kept.described;
         embodied = kept.embodied;

@@ -6,7 +6,8 @@ use Rattle.std.specs.Option.{option_map_or}
 use Rattle.std.proofs.Math.Nat.{div-le_self, mul-div-le, mul-le-mul_right}
 use Rattle.std.proofs.lemmas.Bool.{cases_Bool, eq-eqb, leb-false}
 use Rattle.std.proofs.lemmas.Nat.{le-div}
-use Rattle.sequence.proofs.ListLemmas.{all_push}
+use Rattle.sequence.proofs.ListLemmas.{all_push, all_set}
+use Rattle.sequence.proofs.ListLemmas as items
 use Rattle.cm_document.proofs.DistinctLemmas.{all_so, all_map}
 use Rattle.cm_document.specs.Valid.{IsValid}
 use Rattle.cm_document.specs.declared.call.Mail.{Mail}
@@ -43,14 +44,8 @@ use Rattle.sound_laws.proofs.UpdatedLemmas.{updates_all}
 use Rattle.ctl_slots.specs.Fit.{IsTimedIn, IsWaiting, IsFor, AreFit}
 use Rattle.ctl_slots.specs.Updates.{HasTime, IsInTime}
 use Rattle.ctl_slots.proofs.UpdateLemmas.{still_takes}
-use Rattle.ctl_slots.proofs.UpdateLemmas as update
 
 -- ---- Lists
-
-all_set : {A : Type 0} (P : A → Type 0) (xs : List A) (i : ℕ) (y : A) → AllByRecursion P xs → P y → AllByRecursion P (slice_set xs i y)
-all_set P [] i y all one = tt
-all_set P (x ∷ xs) zero y all one = (one, all.1)
-all_set P (x ∷ xs) (suc i) y all one = (all.0, all_set P xs i y all.1 one)
 
 all_remove : {A : Type 0} (P : A → Type 0) (xs : List A) (i : ℕ) → AllByRecursion P xs → AllByRecursion P (remove xs i)
 all_remove P [] zero all = tt
@@ -82,7 +77,7 @@ fit_changed s i l after there timed waiting aloft fit = record {
   timed = all_set (IsTimedIn s.description) s.loaded i after fit.timed timed;
   waiting = all_set IsWaiting s.loaded i after fit.waiting waiting;
   aloft = all_so (λ m. (m.serial < s.loads) × AllByRecursion (λ l. IsFor l m) s.loaded) (λ m. (m.serial < s.loads) × AllByRecursion (λ l. IsFor l m) (slice_set s.loaded i after))
-      (λ m each. (each.0, all_set (λ l. IsFor l m) s.loaded i after each.1 (aloft m (update.all_at (λ l. IsFor l m) s.loaded i l each.1 there)))) s.mails fit.aloft;
+      (λ m each. (each.0, all_set (λ l. IsFor l m) s.loaded i after each.1 (aloft m (items.all_at (λ l. IsFor l m) s.loaded i l each.1 there)))) s.mails fit.aloft;
 }
 
 pub fit_removed : (s : State) (i : ℕ) → AreFit s → AreFit (record s { loaded = remove s.loaded i })
@@ -158,7 +153,7 @@ pub sent_fits : (s : State) (i : ℕ) (l : Loaded) (mail : Mail) → IsSteady s 
 sent_fits s i l mail steady there runs free fits =
     can_take_as l.ctl.kind l.ctl mail (record {
       configured = takes_there l.ctl.params mail fits;
-      running = marked_there l.ctl.run (is_chained_in s.description.controllers (active s) l.place) runs (update.all_at _ s.loaded i l steady.in_order.marked there) free;
+      running = marked_there l.ctl.run (is_chained_in s.description.controllers (active s) l.place) runs (items.all_at _ s.loaded i l steady.in_order.marked there) free;
     })
 
 -- ---- A commit

@@ -6,6 +6,7 @@ use Rattle.std.specs.Option.{option_map_or}
 use Rattle.std.proofs.lemmas.Bool.{eqb-true}
 use Rattle.std.proofs.lemmas.Option.{same_Some, get_or_from_slice_get}
 use Rattle.std.proofs.lemmas.List.{drop_more, length-set, set-get_or}
+use Rattle.sequence.proofs.ListLemmas.{all_at, all_set}
 use Rattle.fixed_num.specs.declared.value.Value.{Value}
 use Rattle.cm_document.proofs.DistinctLemmas.{all_so}
 use Rattle.cm_document.specs.declared.call.Mail.{Mail}
@@ -35,16 +36,6 @@ use Rattle.ctl_slots.specs.Updates.{Aloft, Working, working, with_erred, tick_in
 use Rattle.ctl_slots.proofs.StepLemmas.{params_stepped, kind_stepped, params_once_taken, kind_once_taken, step_is}
 
 -- ---- Lists
-
-all_set : {A : Type 0} (P : A → Type 0) (xs : List A) (i : ℕ) (y : A) → AllByRecursion P xs → P y → AllByRecursion P (slice_set xs i y)
-all_set P [] i y all one = tt
-all_set P (x ∷ xs) zero y all one = (one, all.1)
-all_set P (x ∷ xs) (suc i) y all one = (all.0, all_set P xs i y all.1 one)
-
-pub all_at : {A : Type 0} (P : A → Type 0) (xs : List A) (i : ℕ) (x : A) → AllByRecursion P xs → slice_get xs i ≡ Some x → P x
-all_at P [] i x all at = cc
-all_at P (y ∷ ys) zero x all at = rw (← same_Some y x at) all.0
-all_at P (y ∷ ys) (suc i) x all at = all_at P ys i x all.1 at
 
 all_without : (P : MailAloft → Type 0) (serial : ℕ) (ms : List MailAloft) → AllByRecursion P ms → AllByRecursion P (without_mail serial ms)
 all_without P serial [] all = tt

@@ -1,8 +1,9 @@
 -- Every place of a board is sound, and stays so where one is changed.
-use Rattle.std.proofs.Common.{◌≡◌, ℕ, zero, suc, ◌<◌, ◌^◌, Bool, false, List, [], ◌∷◌, None, map, length, get_or, slice_set}
+use Rattle.std.proofs.Common.{◌≡◌, ℕ, zero, suc, ◌<◌, ◌^◌, Bool, false, List, [], ◌∷◌, None, map, length, get_or}
 use Rattle.std.proofs.lemmas.List.{length-set, length-map}
 use Rattle.cm_document.specs.Places.{Interface}
 use Rattle.std.specs.List.{AllByRecursion}
+use Rattle.sequence.proofs.ListLemmas.{all_set}
 use Rattle.fixed_num.specs.declared.value.Value.{Value}
 use Rattle.loan_board.specs.Loans.{IsSound, IsBoard, CanBeClaimed, idle, idle_of, loan_at, with_loan, set, claimed}
 use Rattle.loan_board.specs.declared.board.Loan.{Loan}
@@ -14,12 +15,6 @@ all_at : {A : Type 0} (P : A → Type 0) (xs : List A) (i : ℕ) (d : A) → All
 all_at P [] i d all default = default
 all_at P (x ∷ xs) zero d all default = all.0
 all_at P (x ∷ xs) (suc i) d all default = all_at P xs i d all.1 default
-
--- what holds of each item still does where one is set of which it holds
-all_set : {A : Type 0} (P : A → Type 0) (xs : List A) (i : ℕ) (y : A) → AllByRecursion P xs → P y → AllByRecursion P (slice_set xs i y)
-all_set P [] i y all one = tt
-all_set P (x ∷ xs) zero y all one = (one, all.1)
-all_set P (x ∷ xs) (suc i) y all one = (all.0, all_set P xs i y all.1 one)
 
 -- ---- Loans
 

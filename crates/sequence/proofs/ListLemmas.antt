@@ -1,10 +1,11 @@
 -- Lemmas on lists, for whoever reasons about them.
-use Rattle.std.proofs.Common.{◌≡◌, ℕ, zero, suc, ◌+◌, ◌<◌, ◌≤◌, List, [], ◌∷◌, ◌++◌, map, length, get_or, set, take, drop, Bool, false, ◌||◌, refl, ap, ◌∙◌, add-one, arith, length-append}
-use Rattle.std.specs.Prelude.{◌==◌, flat_map}
+use Rattle.std.proofs.Common.{◌≡◌, ℕ, zero, suc, ◌+◌, ◌<◌, ◌≤◌, List, [], ◌∷◌, ◌++◌, map, length, get_or, set, take, drop, Bool, false, ◌||◌, Some, refl, ap, subst, ◌∙◌, add-one, arith, length-append}
+use Rattle.std.specs.Prelude.{◌==◌, flat_map, slice_get, slice_set}
 use Rattle.std.specs.List.{list_any, AllByRecursion}
 use Rattle.std.proofs.lemmas.Bool.Decides.{nat_tests}
 use Rattle.std.proofs.lemmas.List.{take_all, drop_all, append-nil}
 use Rattle.std.proofs.lemmas.List.Folds.{list_any-append}
+use Rattle.std.proofs.lemmas.Option.{same_Some}
 use Rattle.sequence.specs.Last.{in_last}
 
 -- ---- Whether some item passes a test
@@ -32,6 +33,18 @@ all_append P (x ∷ xs) ys all others = (all.0, all_append P xs ys all.1 others)
 -- and of one item more
 pub all_push : {A : Type 0} (P : A → Type 0) (xs : List A) (x : A) → AllByRecursion P xs → P x → AllByRecursion P (xs ++ x ∷ [])
 all_push P xs x all one = all_append P xs (x ∷ []) all (one, tt)
+
+-- so of the one that stands somewhere
+pub all_at : {A : Type 0} (P : A → Type 0) (xs : List A) (i : ℕ) (x : A) → AllByRecursion P xs → slice_get xs i ≡ Some x → P x
+all_at P [] i x all there = cc
+all_at P (y ∷ ys) zero x all there = subst P (same_Some y x there) all.0
+all_at P (y ∷ ys) (suc i) x all there = all_at P ys i x all.1 there
+
+-- and of each where another stands there, of which it holds too
+pub all_set : {A : Type 0} (P : A → Type 0) (xs : List A) (i : ℕ) (y : A) → AllByRecursion P xs → P y → AllByRecursion P (slice_set xs i y)
+all_set P [] i y all one = tt
+all_set P (x ∷ xs) zero y all one = (one, all.1)
+all_set P (x ∷ xs) (suc i) y all one = (all.0, all_set P xs i y all.1 one)
 
 -- ---- The last item
 

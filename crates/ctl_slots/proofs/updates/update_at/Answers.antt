@@ -1,9 +1,10 @@
 use Rattle.std.proofs.Common.{◌≡◌, [], ◌∷◌, Some, sym, ap, subst, ◌∙◌, arith}
 use Rattle.std.specs.Prelude.{slice_get}
 use Rattle.std.proofs.lemmas.Option.{slice_get-get_or}
+use Rattle.sequence.proofs.ListLemmas.{all_at}
 use Rattle.cm_model.specs.State.{Loaded}
 use Rattle.ctl_slots.specs.Updates.{working, after_update, CanRun}
-use Rattle.ctl_slots.proofs.UpdateLemmas.{all_at, among_others}
+use Rattle.ctl_slots.proofs.UpdateLemmas.{among_others}
 use Rattle.ctl_slots.proofs.updates.update_at.Goals as goal
 
 pub update_one-requires-clause-can : goal.update_one-requires-clause-can
