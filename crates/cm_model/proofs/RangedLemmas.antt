@@ -3,6 +3,8 @@ use Rattle.std.proofs.Common.{◌≡◌, ℕ, zero, suc, ◌+◌, ◌≤◌, ◌
 use Rattle.std.specs.Prelude.{IfOk, codes, nat_le, ◌==◌, ◌&&◌, slice_get}
 use Rattle.std.specs.List.{AllByRecursion}
 use Rattle.std.proofs.lemmas.Bool.{leb-true, and_parts}
+use Rattle.std.proofs.lemmas.Option.{same_Some}
+use Rattle.sequence.proofs.ListLemmas.{all_at}
 use Rattle.iface_names.specs.declared.interface.IfaceName.{IfaceName}
 use Rattle.cm_document.specs.Forms.{item_path, inside, tables_of}
 use Rattle.cm_document.specs.Described.{count, a_description, claiming_table, pid_table, trajectory_table, broadcaster_table, mock_table, controller_table, controller_form, type_of, top_table, described_states, description_form}
@@ -19,45 +21,46 @@ use Rattle.cm_document.proofs.GivenLemmas.{Gives, filled_gives, next_key, any_ke
 use Rattle.cm_document.proofs.ReadingLemmas.{bind_keeps, bind_Ok}
 use Rattle.cm_model.specs.Kinds.{are_ranged}
 
--- ---- Parameters count the claims
+-- ---- Parameters count the links
 
--- these parameters are of so many claims, where they tell of any
-abbrev IsCountOf : Params → ℕ → Type 0
-IsCountOf (Forward outs) n = outs ≡ n
-IsCountOf (Passthrough outs) n = outs ≡ n
-IsCountOf (Trajectory outs) n = outs ≡ n
-IsCountOf (Mock outs refuse_config not_ready fail_update) n = outs ≡ n
-IsCountOf _ n = Unit {0}
+-- these parameters are of these claims and these reads, where they tell of any
+abbrev pub IsShapeOf : Params → List IfaceName → List IfaceName → Type 0
+IsShapeOf (Forward outs) claims reads = (outs ≡ count claims) × (reads ≡ [])
+IsShapeOf (Passthrough outs) claims reads = (outs ≡ count claims) × (reads ≡ [])
+IsShapeOf (Pid kp ki kd imax omax) claims reads = Unit {0}
+IsShapeOf (Trajectory outs) claims reads = outs ≡ count claims
+IsShapeOf (Broadcaster ins) claims reads = (ins ≡ count reads) × (claims ≡ [])
+IsShapeOf (Mock outs refuse_config not_ready fail_update) claims reads = outs ≡ count claims
 
--- the parameters of a described controller are of as many claims as it has
-abbrev Counts : CtlDesc → Type 0
-Counts c = IsCountOf c.params (count c.claims)
+-- so are those of a described controller
+abbrev pub IsShaped : CtlDesc → Type 0
+IsShaped c = IsShapeOf c.params c.claims c.reads
 
-claiming_gives : (make : ℕ → Params) → ((n : ℕ) → IsCountOf (make n) n) → Gives (claiming_table make).form.read Counts
+claiming_gives : (make : ℕ → Params) → ((claims : List IfaceName) → IsShapeOf (make (count claims)) claims []) → Gives (claiming_table make).form.read IsShaped
 claiming_gives make holds =
     any_key {A = List IfaceName} _ _ _ (any_key {A = ℕ} _ _ _ (any_key {A = CtlKind} _ _ _ (any_key {A = List ℕ} _ _ _ (filled_gives _ _
-    (λ name type rate claims. holds (count claims))))))
+    (λ name type rate claims. holds claims)))))
 
-pid_gives : Gives pid_table.form.read Counts
+pid_gives : Gives pid_table.form.read IsShaped
 pid_gives =
     any_key {A = ℤ} _ _ _ (any_key {A = ℤ} _ _ _ (any_key {A = ℤ} _ _ _ (any_key {A = ℤ} _ _ _ (any_key {A = ℤ} _ _ _
     (any_key {A = List IfaceName} _ _ _ (any_key {A = List IfaceName} _ _ _
     (any_key {A = ℕ} _ _ _ (any_key {A = CtlKind} _ _ _ (any_key {A = List ℕ} _ _ _ (filled_gives _ _
     (λ name type rate claims reads kp ki kd imax omax. tt)))))))))))
 
-trajectory_gives : Gives trajectory_table.form.read Counts
+trajectory_gives : Gives trajectory_table.form.read IsShaped
 trajectory_gives =
     any_key {A = List IfaceName} _ _ _ (any_key {A = List IfaceName} _ _ _
     (any_key {A = ℕ} _ _ _ (any_key {A = CtlKind} _ _ _ (any_key {A = List ℕ} _ _ _ (filled_gives _ _
     (λ name type rate claims reads. refl))))))
 
-broadcaster_gives : (states : List IfaceName) → Gives (broadcaster_table states).form.read Counts
+broadcaster_gives : (states : List IfaceName) → Gives (broadcaster_table states).form.read IsShaped
 broadcaster_gives states =
     any_key {A = List IfaceName} _ _ _
     (any_key {A = ℕ} _ _ _ (any_key {A = CtlKind} _ _ _ (any_key {A = List ℕ} _ _ _ (filled_gives _ _
-    (λ name type rate reads. tt)))))
+    (λ name type rate reads. (refl, refl))))))
 
-mock_gives : Gives mock_table.form.read Counts
+mock_gives : Gives mock_table.form.read IsShaped
 mock_gives =
     any_key {A = List ℕ} _ _ _ (any_key {A = List ℕ} _ _ _ (any_key {A = Bool} _ _ _
     (any_key {A = List IfaceName} _ _ _ (any_key {A = List IfaceName} _ _ _
@@ -65,10 +68,10 @@ mock_gives =
     (λ name type rate claims reads refuse_config not_ready fail_update. refl)))))))))
 
 -- a controller of each type is read so
-table_gives : (states : List IfaceName) (kind : CtlKind) → Gives (controller_table states kind).form.read Counts
+table_gives : (states : List IfaceName) (kind : CtlKind) → Gives (controller_table states kind).form.read IsShaped
 unfolding controller_table
-table_gives states kind.Forward = claiming_gives Forward (λ n. refl)
-table_gives states kind.Passthrough = claiming_gives Passthrough (λ n. refl)
+table_gives states kind.Forward = claiming_gives Forward (λ claims. (refl, refl))
+table_gives states kind.Passthrough = claiming_gives Passthrough (λ claims. (refl, refl))
 table_gives states kind.Pid = pid_gives
 table_gives states kind.Trajectory = trajectory_gives
 table_gives states kind.Broadcaster = broadcaster_gives states
@@ -79,28 +82,32 @@ anything : {A E : Type 0} (read : Result A E) → IfOk read (λ _. Unit {0})
 anything (Ok x) = tt
 anything (Err fault) = tt
 
-controller_gives : (states : List IfaceName) → Gives (controller_form states).read Counts
+controller_gives : (states : List IfaceName) → Gives (controller_form states).read IsShaped
 controller_gives states = record {
-  given = λ prefix ms. bind_keeps (λ _. Unit {0}) Counts (type_of prefix ms) _ (anything _)
-      (λ kind _. (walk_gives (controller_table states kind) Counts (table_gives states kind)).given prefix ms);
+  given = λ prefix ms. bind_keeps (λ _. Unit {0}) IsShaped (type_of prefix ms) _ (anything _)
+      (λ kind _. (walk_gives (controller_table states kind) IsShaped (table_gives states kind)).given prefix ms);
 }
 
 -- and so is each of a description
-abbrev AllCount : Description → Type 0
-AllCount d = AllByRecursion Counts d.controllers
+abbrev AllShaped : Description → Type 0
+AllShaped d = AllByRecursion IsShaped d.controllers
 
-top_gives : (states : List IfaceName) → Gives (top_table states).form.read AllCount
+top_gives : (states : List IfaceName) → Gives (top_table states).form.read AllShaped
 unfolding top_table
 top_gives states =
-    next_key _ _ (AllByRecursion Counts) AllCount
+    next_key _ _ (AllByRecursion IsShaped) AllShaped
     (any_key {A = List CompDesc} _ _ _ (any_key {A = ℕ} _ _ _ (any_key {A = ℕ} _ _ _ (any_key {A = ℕ} _ _ _ (filled_gives a_description _
-    (λ version update_rate cycles components controllers counted. counted))))))
-    (defaulted_gives (codes "controller") (tables_of (controller_form states)) [] _ (tables_give (controller_form states) Counts (controller_gives states)) tt)
+    (λ version update_rate cycles components controllers shaped. shaped))))))
+    (defaulted_gives (codes "controller") (tables_of (controller_form states)) [] _ (tables_give (controller_form states) IsShaped (controller_gives states)) tt)
 
-IsDescribed-AllCount : (d : Description) → IsDescribed d → AllCount d
+IsDescribed-AllShaped : (d : Description) → IsDescribed d → AllShaped d
 unfolding description_form
-IsDescribed-AllCount d (ms, same) =
-    subst (λ read. IfOk read AllCount) same ((walk_gives (top_table (described_states ms)) AllCount (top_gives (described_states ms))).given [] ms)
+IsDescribed-AllShaped d (ms, same) =
+    subst (λ read. IfOk read AllShaped) same ((walk_gives (top_table (described_states ms)) AllShaped (top_gives (described_states ms))).given [] ms)
+
+-- the parameters of each controller of a description tell of its claims and its reads
+pub described_shapes : (d : Description) → IsDescribed d → (place : ℕ) (c : CtlDesc) → slice_get d.controllers place ≡ Some c → IsShaped c
+described_shapes d described place c there = all_at IsShaped d.controllers place c (IsDescribed-AllShaped d described) there
 
 -- ---- Ranges
 
@@ -108,6 +115,35 @@ IsDescribed-AllCount d (ms, same) =
 pub ranged_so : (fits : Bool) (path : List ℕ) (unit : Unit {0}) → ranged fits path ≡ Ok unit → fits ≡ true
 ranged_so true path unit passes = refl
 ranged_so false path unit passes = cc
+
+-- A controller was found within its ranges, under some path.
+pub record IsRanged (c : CtlDesc) : Type 0 where
+  pub path : List ℕ
+  pub unit : Unit {0}
+  pub passes : controller_ranged path c ≡ Ok unit
+
+in_range_at : (key : List ℕ) (k : ℕ) (cs : List CtlDesc) (unit : Unit {0}) → each_ranged controller_ranged key k cs ≡ Ok unit
+    → (place : ℕ) (c : CtlDesc) → slice_get cs place ≡ Some c → IsRanged c
+in_range_at key k [] unit passes place c there = cc
+in_range_at key k (first ∷ later) unit passes zero c there =
+    let here = bind_Ok (controller_ranged (inside (item_path key k)) first) _ unit passes in
+    subst IsRanged (same_Some first c there) (record { path = inside (item_path key k); unit = here.0; passes = here.1 })
+in_range_at key k (first ∷ later) unit passes (suc place) c there =
+    let here = bind_Ok (controller_ranged (inside (item_path key k)) first) _ unit passes in
+    in_range_at key (k + 1) later unit here.2 place c there
+
+-- so was each of a valid description
+pub controller_in_range : (d : Description) → IsValid d → (place : ℕ) (c : CtlDesc) → slice_get d.controllers place ≡ Some c → IsRanged c
+unfolding valid
+controller_in_range d sound =
+    let few = bind_Ok (few_enough d) _ d sound.no_fault in
+    let named = bind_Ok (named_apart d) _ d few.2 in
+    let ranges = bind_Ok (in_range d) _ d named.2 in
+    let version = bind_Ok (ranged (d.version == VERSION) (codes "version")) _ ranges.0 ranges.1 in
+    let rate = bind_Ok (ranged (nat_le 1 d.update_rate && nat_le d.update_rate HIGHEST_RATE) (codes "update_rate")) _ ranges.0 version.2 in
+    let cycles = bind_Ok (ranged (nat_le d.cycles MOST_CYCLES) (codes "cycles")) _ ranges.0 rate.2 in
+    let components = bind_Ok (each_ranged component_ranged (codes "component") 0 d.components) _ ranges.0 cycles.2 in
+    in_range_at (codes "controller") 0 d.controllers ranges.0 components.2
 
 -- at most 32 claims are counted
 few : (n : ℕ) → n ≤ 32 → min n (2 ^ 32 - 1) ≡ n
@@ -129,47 +165,29 @@ not_many outs n counted fits =
 both_true : (first b : Bool) → first ≡ true → b ≡ true → (first && b) ≡ true
 both_true first b one other = rw (one, other) refl
 
-params_so : (path : List ℕ) (params : Params) (n : ℕ) (unit : Unit {0}) → IsCountOf params (min n (2 ^ 32 - 1)) → claims_fit params n ≡ true → limits_ranged path params ≡ Ok unit → are_ranged params ≡ true
-params_so path (Forward outs) n unit counted fits limits = some_few outs n counted fits
-params_so path (Passthrough outs) n unit counted fits limits = some_few outs n counted fits
-params_so path (Trajectory outs) n unit counted fits limits = some_few outs n counted fits
-params_so path (Mock outs refuse_config not_ready fail_update) n unit counted fits limits = not_many outs n counted fits
-params_so path (Broadcaster ins) n unit counted fits limits = refl
-params_so path (Pid kp ki kd imax omax) n unit counted fits limits =
+params_so : (path : List ℕ) (params : Params) (claims reads : List IfaceName) (unit : Unit {0}) → IsShapeOf params claims reads → claims_fit params (length claims) ≡ true
+    → limits_ranged path params ≡ Ok unit → are_ranged params ≡ true
+params_so path (Forward outs) claims reads unit shape fits limits = some_few outs (length claims) shape.0 fits
+params_so path (Passthrough outs) claims reads unit shape fits limits = some_few outs (length claims) shape.0 fits
+params_so path (Trajectory outs) claims reads unit shape fits limits = some_few outs (length claims) shape fits
+params_so path (Mock outs refuse_config not_ready fail_update) claims reads unit shape fits limits = not_many outs (length claims) shape fits
+params_so path (Broadcaster ins) claims reads unit shape fits limits = refl
+params_so path (Pid kp ki kd imax omax) claims reads unit shape fits limits =
     let integral = bind_Ok (ranged (not_negative imax) _) _ unit limits in
     both_true (not_negative imax) (not_negative omax) (ranged_so _ _ integral.0 integral.1) (ranged_so _ _ unit integral.2)
 
-controller_so : (path : List ℕ) (c : CtlDesc) (unit : Unit {0}) → Counts c → controller_ranged path c ≡ Ok unit → are_ranged c.params ≡ true
-controller_so path c unit counted passes =
+controller_so : (path : List ℕ) (c : CtlDesc) (unit : Unit {0}) → IsShaped c → controller_ranged path c ≡ Ok unit → are_ranged c.params ≡ true
+controller_so path c unit shaped passes =
     let rate = bind_Ok (ranged (nat_le c.rate HIGHEST_RATE) _) _ unit passes in
     let claims = bind_Ok (ranged (claims_fit c.params (length c.claims)) _) _ unit rate.2 in
     let reads = bind_Ok (ranged (reads_fit c.params (length c.claims) (length c.reads)) _) _ unit claims.2 in
-    params_so _ c.params (length c.claims) unit counted (ranged_so _ _ claims.0 claims.1) reads.2
-
--- each controller of a list whose items are within their ranges
-controllers_so : (key : List ℕ) (k : ℕ) (cs : List CtlDesc) (unit : Unit {0}) → AllByRecursion Counts cs → each_ranged controller_ranged key k cs ≡ Ok unit
-    → (place : ℕ) (c : CtlDesc) → slice_get cs place ≡ Some c → are_ranged c.params ≡ true
-controllers_so key k [] unit counted passes place c at = cc
-controllers_so key k (first ∷ later) unit counted passes zero c at =
-    let here = bind_Ok (controller_ranged (inside (item_path key k)) first) _ unit passes in
-    let ranged = controller_so _ first here.0 counted.0 here.1 in
-    cc
-controllers_so key k (first ∷ later) unit counted passes (suc place) c at =
-    let here = bind_Ok (controller_ranged (inside (item_path key k)) first) _ unit passes in
-    controllers_so key (k + 1) later unit counted.1 here.2 place c at
+    params_so _ c.params c.claims c.reads unit shaped (ranged_so _ _ claims.0 claims.1) reads.2
 
 -- The parameters of each controller of a valid description are in their ranges.
 pub described_params_are_ranged : (d : Description) → IsValid d → (place : ℕ) (c : CtlDesc) → slice_get d.controllers place ≡ Some c → are_ranged c.params ≡ true
-unfolding valid
-described_params_are_ranged d sound =
-    let few = bind_Ok (few_enough d) _ d sound.no_fault in
-    let named = bind_Ok (named_apart d) _ d few.2 in
-    let ranges = bind_Ok (in_range d) _ d named.2 in
-    let version = bind_Ok (ranged (d.version == VERSION) (codes "version")) _ ranges.0 ranges.1 in
-    let rate = bind_Ok (ranged (nat_le 1 d.update_rate && nat_le d.update_rate HIGHEST_RATE) (codes "update_rate")) _ ranges.0 version.2 in
-    let cycles = bind_Ok (ranged (nat_le d.cycles MOST_CYCLES) (codes "cycles")) _ ranges.0 rate.2 in
-    let components = bind_Ok (each_ranged component_ranged (codes "component") 0 d.components) _ ranges.0 cycles.2 in
-    controllers_so (codes "controller") 0 d.controllers ranges.0 (IsDescribed-AllCount d sound.described) components.2
+described_params_are_ranged d sound place c there =
+    let range = controller_in_range d sound place c there in
+    controller_so range.path c range.unit (described_shapes d sound.described place c there) range.passes
 
 -- the update rate of a valid description is one that is allowed
 pub described_rate_fits : (d : Description) → IsValid d → (1 ≤ d.update_rate) × (d.update_rate ≤ HIGHEST_RATE)
