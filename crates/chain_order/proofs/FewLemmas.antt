@@ -1,4 +1,4 @@
--- A valid description has few controllers.
+-- A valid description has few controllers and few components.
 use Rattle.std.proofs.Common.{◌≡◌, ℕ, ◌<◌, ◌≤◌, ◌^◌, length, Ok, arith, inl, inr}
 use Rattle.std.specs.Prelude.{nat_lt}
 use Rattle.std.proofs.lemmas.Bool.{cases_Bool, ltb-false}
@@ -27,8 +27,17 @@ few_enough-controllers d u e =
     let controllers = bind_Ok (limited Controllers (length d.controllers) 64) _ u commands.2 in
     within_limit Controllers (length d.controllers) 64 controllers.0 controllers.1
 
+-- the place of a controller has 32 bits
 pub few_controllers : (d : Description) → IsValid d → length d.controllers < 2 ^ 32
 unfolding valid
 few_controllers d ok =
     let counted = bind_Ok (few_enough d) _ d ok.no_fault in
     omega (arith, few_enough-controllers d counted.0 counted.1)
+
+-- the place of a component has 32 bits
+pub few_components : (d : Description) → IsValid d → length d.components < 2 ^ 32
+unfolding valid
+few_components d ok =
+    let counted = bind_Ok (few_enough d) _ d ok.no_fault in
+    let components = bind_Ok (limited Components (length d.components) 16) _ counted.0 counted.1 in
+    omega (arith, within_limit Components (length d.components) 16 components.0 components.1)
