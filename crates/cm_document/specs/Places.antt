@@ -35,6 +35,11 @@ pub record Interface : Type 0 where
 
 -- ---- Of joints
 
+-- the kinds of a joint's command interfaces, or else of its state interfaces
+abbrev pub kinds_of : Bool → JointDesc → List Kind
+kinds_of true j = j.commands
+kinds_of false j = j.states
+
 -- the interfaces of the joint at this place, of the component at that one: one of each of these kinds, in their order
 abbrev pub at_joint : (IfaceName → Called) → (JointDesc → List Kind) → ℕ → ℕ → JointDesc → List Interface
 at_joint call kinds component place j = map (λ kind. record { called = call (Joint j.name kind); whose = of_joint component place }) (kinds j)

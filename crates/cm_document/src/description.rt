@@ -1,13 +1,15 @@
 //! The description of a robot: its components with their joints, and its controllers.
 
-ghost use Rattle.std.specs.Prelude.{◌≡◌, take};
-ghost use Rattle.cm_document.specs.Links.{exported_for};
+ghost use Rattle.std.specs.Prelude.{◌≡◌, take, IfOk};
+ghost use Rattle.cm_document.specs.Links.{exported_for, reference_for};
 ghost use Rattle.cm_document.specs.Params.{kind_of};
+ghost use Rattle.cm_document.specs.Places.{kinds_of};
 
 use crate::life::Life;
 use fixed_num::Fx;
 use iface_names::{IfaceName, Kind, Name};
 use sequence::{Seq, Shared};
+use std::alloc::AllocError;
 
 /// What is described: the manager's rate, how long it runs, the components and the controllers.
 #[derive(Clone, Debug, PartialEq, Eq, Drop)]
@@ -75,6 +77,19 @@ pub struct JointDesc {
     pub states: Seq<Kind>,
 }
 
+impl JointDesc {
+    /// The kinds of its command interfaces, or else of its state interfaces.
+    pub fn kinds(&self, is_command: bool) -> &[Kind]
+        ensures { result.now ≡ kinds_of is_command self.now }
+    {
+        if is_command {
+            self.commands.as_slice()
+        } else {
+            self.states.as_slice()
+        }
+    }
+}
+
 /// What a controller computes.
 #[derive(Clone, Copy, Debug, PartialEq, Eq)]
 pub enum CtlKind {
@@ -124,6 +139,18 @@ impl CtlDesc {
             Params::Pid { .. } => first(self.reads()),
             _ => &[],
         }
+    }
+
+    /// The reference that it exports for one of these.
+    pub fn reference_for(&self, own: &IfaceName) -> Result<IfaceName, AllocError>
+        ensures { IfOk result (λ reference. reference ≡ reference_for self.now.name own.now) }
+    {
+        let (IfaceName::Joint { joint, kind } | IfaceName::Reference { joint, kind, .. }) = own;
+        Ok(IfaceName::Reference {
+            controller: self.name.clone()?,
+            joint: joint.clone()?,
+            kind: *kind,
+        })
     }
 }
 

@@ -4,7 +4,7 @@ use Rattle.iface_names.specs.declared.interface.IfaceName.{IfaceName}
 use Rattle.iface_names.specs.declared.interface.IfaceName.TheVariants.{Joint}
 use Rattle.cm_document.specs.declared.description.CompDesc.{CompDesc}
 use Rattle.cm_document.specs.declared.description.JointDesc.{JointDesc}
-use Rattle.loan_board.specs.Loans.{kinds_of}
+use Rattle.cm_document.specs.Places.{kinds_of}
 
 -- the command interfaces of a joint, or else its state interfaces
 abbrev pub names_on : Bool → JointDesc → List IfaceName

@@ -4,8 +4,7 @@ ghost use Rattle.std.specs.Prelude.{◌≡◌, ◌++◌, map, flat_map, IfOk, On
 ghost use Rattle.iface_names.specs.Interfaces.{interface_text};
 ghost use Rattle.iface_names.specs.declared.interface.IfaceName.TheVariants as interface;
 ghost use Rattle.cm_document.specs.Links.{references_of, refs_of, reference_for};
-ghost use Rattle.cm_document.specs.Places.{interfaces_of};
-ghost use Rattle.loan_board.specs.Loans.{kinds_of};
+ghost use Rattle.cm_document.specs.Places.{interfaces_of, kinds_of};
 ghost use Rattle.cm_top.specs.Sides.{names_on, names_in};
 
 use cm_model::{CompDesc, CtlDesc, Description, IfaceName, JointDesc, Kind, Memory, Name};
@@ -56,20 +55,9 @@ fn push_joints(
         ≡ map string_bytes texts.old.items ++ map interface_text (flat_map (names_on is_command) joints.now)) }
 {
     for joint in joints {
-        push_kinds(alloc, texts, &joint.name, kinds_of(joint, is_command))?;
+        push_kinds(alloc, texts, &joint.name, joint.kinds(is_command))?;
     }
     Ok(())
-}
-
-/// The kinds of the command interfaces of a joint, or else of its state interfaces.
-fn kinds_of(joint: &JointDesc, is_command: bool) -> &[Kind]
-    ensures { result.now ≡ kinds_of is_command joint.now }
-{
-    if is_command {
-        joint.commands.as_slice()
-    } else {
-        joint.states.as_slice()
-    }
 }
 
 /// The interfaces of these kinds on a joint.

@@ -9,13 +9,12 @@ use Rattle.iface_names.specs.declared.interface.IfaceName.{IfaceName}
 use Rattle.iface_names.specs.declared.interface.IfaceName.TheVariants.{Joint}
 use Rattle.iface_names.specs.declared.kind.Kind.{Kind}
 use Rattle.cm_document.specs.Links.{refs_of, exported_for, reference_for}
-use Rattle.cm_document.specs.Places.{Called, a_state, a_command, of_joint, of_controller, at_joint, at_joints, at_components, at_controllers, interfaces_of}
+use Rattle.cm_document.specs.Places.{Called, a_state, a_command, of_joint, of_controller, at_joint, at_joints, at_components, at_controllers, interfaces_of, kinds_of}
 use Rattle.cm_document.specs.Valid.{IsValid}
 use Rattle.cm_document.specs.declared.description.CompDesc.{CompDesc}
 use Rattle.cm_document.specs.declared.description.CtlDesc.{CtlDesc}
 use Rattle.cm_document.specs.declared.description.Description.{Description}
 use Rattle.cm_document.specs.declared.description.JointDesc.{JointDesc}
-use Rattle.loan_board.specs.Loans.{kinds_of}
 use Rattle.loan_board.proofs.MakingLemmas.{interfaces_few}
 use Rattle.ctl_places.specs.Listing.{listed_of, listed_at, listed_joint, listed_joints, referring, listed_controllers, state_in, command_in, claimers_in}
 use Rattle.ctl_places.specs.Placed.{Placed, state_place, command_place, placed_of}

@@ -5,13 +5,12 @@ use Rattle.iface_names.specs.declared.interface.IfaceName.{IfaceName}
 use Rattle.iface_names.specs.declared.interface.IfaceName.TheVariants.{Joint}
 use Rattle.iface_names.specs.declared.kind.Kind.{Kind}
 use Rattle.cm_document.specs.Links.{reference_for, exported_for}
-use Rattle.cm_document.specs.Places.{Interface}
+use Rattle.cm_document.specs.Places.{Interface, kinds_of}
 use Rattle.cm_document.specs.declared.description.CompDesc.{CompDesc}
 use Rattle.cm_document.specs.declared.description.CtlDesc.{CtlDesc}
 use Rattle.cm_document.specs.declared.description.JointDesc.{JointDesc}
 use Rattle.cm_model.specs.Scene.{claims_at}
 use Rattle.chain_order.specs.Links.{places_below}
-use Rattle.loan_board.specs.Loans.{kinds_of}
 use Rattle.ctl_places.specs.Placed.{exporter_of}
 use Rattle.ctl_places.specs.declared.listed.Listed.{Listed}
 

@@ -1,11 +1,9 @@
 //! The interfaces of a description, listed once by their names.
 
 ghost use Rattle.std.specs.Prelude.{◌≡◌, ◌<◌, ◌^◌, ◌++◌, map, flat_map, length, IfOk, OnOk};
-ghost use Rattle.cm_document.specs.Places.{interfaces_of};
-ghost use Rattle.loan_board.specs.Loans.{kinds_of};
+ghost use Rattle.cm_document.specs.Places.{interfaces_of, kinds_of};
 ghost use Rattle.ctl_places.specs.Listing.{listed_of, listed_at, listed_joint, listed_joints, listed_references, listed_controllers};
 
-use crate::names::reference_for;
 use cm_model::{Checked, CompDesc, CtlDesc, IfaceName, JointDesc, Kind, Memory, Name};
 use std::alloc::Global;
 
@@ -53,20 +51,9 @@ fn push_joints(
     ensures { OnOk result (listed.new.items ≡ listed.old.items ++ flat_map (listed_joint is_command) joints.now) }
 {
     for joint in joints {
-        push_kinds(listed, &joint.name, kinds_of(joint, is_command), is_command)?;
+        push_kinds(listed, &joint.name, joint.kinds(is_command), is_command)?;
     }
     Ok(())
-}
-
-/// The kinds of the command interfaces of a joint, or else of its state interfaces.
-fn kinds_of(joint: &JointDesc, is_command: bool) -> &[Kind]
-    ensures { result.now ≡ kinds_of is_command joint.now }
-{
-    if is_command {
-        joint.commands.as_slice()
-    } else {
-        joint.states.as_slice()
-    }
 }
 
 /// An interface of each of these kinds, of the joint of this name.
@@ -114,7 +101,7 @@ fn push_references(listed: &mut Vec<Listed>, controller: &CtlDesc, place: u32) -
     for interface in controller.exported_for() {
         listed.push(Listed {
             is_command: true,
-            name: reference_for(&controller.name, interface)?,
+            name: controller.reference_for(interface)?,
             exporter: Some(place),
         })?;
     }

@@ -1,25 +1,12 @@
 //! Names of interfaces, and where they stand among those that are listed.
 
-ghost use Rattle.std.specs.Prelude.{◌≡◌, ◌<◌, ◌^◌, length, IfOk, IfSome};
+ghost use Rattle.std.specs.Prelude.{◌≡◌, ◌<◌, ◌^◌, length, IfSome};
 ghost use Rattle.std.specs.List.{list_any};
 ghost use Rattle.iface_names.specs.Interfaces.{same_interface};
-ghost use Rattle.cm_document.specs.Links.{reference_for};
 ghost use Rattle.ctl_places.specs.Listing.{state_in, command_in};
 
 use crate::listed::Listed;
-use cm_model::{CtlDesc, IfaceName, Memory, Name};
-
-/// The reference of the controller of this name that stands for the interface.
-pub(crate) fn reference_for(controller: &Name, interface: &IfaceName) -> Result<IfaceName, Memory>
-    ensures { IfOk result (λ reference. reference ≡ reference_for controller.now interface.now) }
-{
-    let (IfaceName::Joint { joint, kind } | IfaceName::Reference { joint, kind, .. }) = interface;
-    Ok(IfaceName::Reference {
-        controller: controller.clone()?,
-        joint: joint.clone()?,
-        kind: *kind,
-    })
-}
+use cm_model::{CtlDesc, IfaceName};
 
 /// The place of the state interface of this name.
 pub(crate) fn state_place(listed: &[Listed], name: &IfaceName) -> Option<u32>

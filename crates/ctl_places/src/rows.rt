@@ -8,7 +8,7 @@ ghost use Rattle.chain_order.specs.Links.{places_below};
 ghost use Rattle.ctl_places.specs.Listing.{state_in, command_in, claimers_in};
 
 use crate::listed::Listed;
-use crate::names::{claims, command_place, reference_for, state_place};
+use crate::names::{claims, command_place, state_place};
 use cm_model::{CtlDesc, IfaceName, Memory, Seq};
 use std::alloc::Global;
 
@@ -72,7 +72,7 @@ fn reference_places(
 {
     let mut places = Seq::new(alloc);
     for interface in controller.exported_for() {
-        let name = reference_for(&controller.name, interface)?;
+        let name = controller.reference_for(interface)?;
         if let Some(place) = command_place(listed, &name) {
             places.push(place)?;
         }

@@ -1,9 +1,9 @@
 //! The references that controllers export.
 
 ghost use Rattle.std.specs.Prelude.{◌≡◌, ◌++◌, IfOk, OnOk};
-ghost use Rattle.cm_document.specs.Links.{refs_of, references_of, reference_for};
+ghost use Rattle.cm_document.specs.Links.{refs_of, references_of};
 
-use cm_document::{CtlDesc, IfaceName, Name, Seq};
+use cm_document::{CtlDesc, IfaceName, Seq};
 use std::alloc::{AllocError, Global};
 
 /// Every reference, controller by controller.
@@ -23,19 +23,7 @@ fn push_references(references: &mut Seq<IfaceName>, controller: &CtlDesc) -> Res
 {
     let interfaces = controller.exported_for();
     for interface in interfaces {
-        references.push(reference_for(&controller.name, interface)?)?;
+        references.push(controller.reference_for(interface)?)?;
     }
     Ok(())
-}
-
-/// The reference of this controller that stands for the interface.
-fn reference_for(controller: &Name, interface: &IfaceName) -> Result<IfaceName, AllocError>
-    ensures { IfOk result (λ reference. reference ≡ reference_for controller.now interface.now) }
-{
-    let (IfaceName::Joint { joint, kind } | IfaceName::Reference { joint, kind, .. }) = interface;
-    Ok(IfaceName::Reference {
-        controller: controller.clone()?,
-        joint: joint.clone()?,
-        kind: *kind,
-    })
 }

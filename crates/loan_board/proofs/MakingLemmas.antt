@@ -8,7 +8,7 @@ use Rattle.iface_names.specs.declared.interface.IfaceName.TheVariants.{Joint}
 use Rattle.iface_names.specs.declared.kind.Kind.{Kind}
 use Rattle.cm_document.specs.Described.{states_of}
 use Rattle.cm_document.specs.Links.{joints_of, commands_of, exported_for, refs_of, references_of, reference_for}
-use Rattle.cm_document.specs.Places.{Called, Interface, a_state, a_command, of_joint, of_controller, at_joint, at_joints, at_components, at_controllers, interfaces_of}
+use Rattle.cm_document.specs.Places.{Called, Interface, a_state, a_command, of_joint, of_controller, at_joint, at_joints, at_components, at_controllers, interfaces_of, kinds_of}
 use Rattle.cm_document.specs.Valid.{limited, few_enough, valid}
 use Rattle.cm_document.specs.declared.description.CompDesc.{CompDesc}
 use Rattle.cm_document.specs.declared.description.CtlDesc.{CtlDesc}
@@ -19,7 +19,7 @@ use Rattle.cm_document.specs.declared.faults.What.TheVariants.{Components, Joint
 use Rattle.cm_document.specs.declared.limits.TheConstants.{MOST_COMPONENTS, MOST_JOINTS, MOST_STATES, MOST_COMMANDS, MOST_CONTROLLERS, MOST_REFERENCES}
 use Rattle.cm_document.proofs.PlaceLemmas.{called_by_names}
 use Rattle.cm_document.proofs.ReadingLemmas.{bind_Ok}
-use Rattle.loan_board.specs.Loans.{idle, idle_of, kinds_of}
+use Rattle.loan_board.specs.Loans.{idle, idle_of}
 use Rattle.loan_board.specs.declared.board.Loan.{Loan}
 
 -- an idle loan for each of these

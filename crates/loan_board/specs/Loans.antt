@@ -3,9 +3,7 @@ use Rattle.std.specs.Prelude.{◌≡◌, ℕ, ◌<◌, ◌^◌, Bool, true, fals
 use Rattle.std.specs.List.{AllByRecursion}
 use Rattle.fixed_num.specs.declared.value.Value.{Value}
 use Rattle.fixed_num.specs.declared.value.Value.TheVariants.{Unset}
-use Rattle.iface_names.specs.declared.kind.Kind.{Kind}
 use Rattle.cm_document.specs.Places.{Interface}
-use Rattle.cm_document.specs.declared.description.JointDesc.{JointDesc}
 use Rattle.loan_board.specs.declared.board.Loan.{Loan}
 
 -- of a state interface, or of a command interface or reference, that is free, unavailable and Unset
@@ -62,10 +60,3 @@ lent owner is_available keeps loan =
 -- One place changes so, and every other place stays as it was.
 abbrev pub with_loan : List Loan → ℕ → (Loan → Loan) → List Loan
 with_loan loans place change = slice_set loans place (change (loan_at loans place))
-
--- ---- Sides
-
--- the kinds of a joint's command interfaces, or else of its state interfaces
-abbrev pub kinds_of : Bool → JointDesc → List Kind
-kinds_of true j = j.commands
-kinds_of false j = j.states

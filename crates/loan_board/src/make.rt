@@ -2,8 +2,8 @@
 
 ghost use Rattle.std.specs.Prelude.{◌≡◌, ◌++◌, true, map, flat_map, IfOk, OnOk};
 ghost use Rattle.cm_document.specs.Links.{exported_for};
-ghost use Rattle.cm_document.specs.Places.{interfaces_of};
-ghost use Rattle.loan_board.specs.Loans.{idle, idle_of, kinds_of};
+ghost use Rattle.cm_document.specs.Places.{interfaces_of, kinds_of};
+ghost use Rattle.loan_board.specs.Loans.{idle, idle_of};
 
 use crate::board::{Board, Loan};
 use cm_document::{Checked, CompDesc, CtlDesc, IfaceName, JointDesc, Kind, Memory};
@@ -46,20 +46,9 @@ fn push_joints(loans: &mut Vec<Loan>, joints: &[JointDesc], is_command: bool) ->
         ++ map (λ _. idle is_command) (flat_map (kinds_of is_command) joints.now)) }
 {
     for joint in joints {
-        push_kinds(loans, kinds_of(joint, is_command), is_command)?;
+        push_kinds(loans, joint.kinds(is_command), is_command)?;
     }
     Ok(())
-}
-
-/// The kinds of the command interfaces of a joint, or else of its state interfaces.
-fn kinds_of(joint: &JointDesc, is_command: bool) -> &[Kind]
-    ensures { result.now ≡ kinds_of is_command joint.now }
-{
-    if is_command {
-        joint.commands.as_slice()
-    } else {
-        joint.states.as_slice()
-    }
 }
 
 /// An interface of each of these kinds.

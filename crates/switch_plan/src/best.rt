@@ -1,7 +1,7 @@
 //! Switches of which is done what can be done.
 
 ghost use Rattle.std.specs.Prelude.{◌≡◌, ◌<◌, ◌++◌, ◌&&◌, ◌||◌, length, find, filter_map, option_map, IfOk, OnOk, All};
-ghost use Rattle.cm_document.specs.Links.{refs_of, reference_for};
+ghost use Rattle.cm_document.specs.Links.{refs_of};
 ghost use Rattle.cm_model.specs.Order.{set_of};
 ghost use Rattle.cm_model.specs.Scene.{controllers_in, claims_at, is_claimed_by};
 ghost use Rattle.cm_model.specs.Switches.{planned};
@@ -185,24 +185,12 @@ fn needed_reference(
         ≡ find (is_claimed_by (controllers_in (scene_of view.now)) (set_of staying.now)) (refs_of controller.now)) }
 {
     for own in controller.exported_for() {
-        let reference = reference_for(controller, own)?;
+        let reference = controller.reference_for(own)?;
         if is_claimed(controllers(view), staying, &reference) {
             return Ok(Some(reference));
         }
     }
     Ok(None)
-}
-
-/// The reference of a controller that stands for one of its own interfaces.
-fn reference_for(controller: &CtlDesc, own: &IfaceName) -> Result<IfaceName, Memory>
-    ensures { IfOk result (λ reference. reference ≡ reference_for controller.now.name own.now) }
-{
-    let (IfaceName::Joint { joint, kind } | IfaceName::Reference { joint, kind, .. }) = own;
-    Ok(IfaceName::Reference {
-        controller: controller.name.clone()?,
-        joint: joint.clone()?,
-        kind: *kind,
-    })
 }
 
 /// Whether a member of a set claims an interface.

@@ -1,6 +1,7 @@
 use Rattle.std.proofs.Common.{◌≡◌, ◌++◌, drop, map}
 use Rattle.std.specs.Prelude.{flat_map}
-use Rattle.loan_board.specs.Loans.{idle, kinds_of}
+use Rattle.cm_document.specs.Places.{kinds_of}
+use Rattle.loan_board.specs.Loans.{idle}
 use Rattle.loan_board.proofs.make.push_joints.Given as goal
 
 -- the loans so far, and those of what is left, are all
