@@ -3,6 +3,7 @@ use Rattle.std.proofs.Common.{◌≡◌, ℕ, Bool, true, false, List, [], ◌�
 use Rattle.std.specs.Prelude.{not, is_some, slice_get, IfSome}
 use Rattle.std.specs.Option.{option_map_or}
 use Rattle.std.proofs.lemmas.Option.{get_or_from_slice_get}
+use Rattle.std.proofs.lemmas.Bool.{not-false}
 use Rattle.cm_document.specs.declared.call.Mail.{Mail}
 use Rattle.cm_document.specs.declared.description.CtlDesc.{CtlDesc}
 use Rattle.cm_document.specs.declared.description.Params.{Params}
@@ -43,10 +44,6 @@ rest_after applies reason others done =
     let none = not_first applies reason others done in
     (none, subst (λ b. unless_refused ((b, reason) ∷ others) reply.Done ≡ reply.Done) none done)
 
-not_false : (b : Bool) → not b ≡ false → b ≡ true
-not_false true is = refl
-not_false false is = cc
-
 -- what was not refused fits
 pub allowed_fits : (s : State) (i : ℕ) (l : Loaded) (c : CtlDesc) (mail : Mail) → IsSteady s → slice_get s.loaded i ≡ Some l → slice_get s.description.controllers l.place ≡ Some c
     → reply_on (send_refusals s mail) (Some l) ≡ reply.Done → (is_active l ≡ true) × CanTake l.ctl mail
@@ -57,12 +54,12 @@ allowed_fits s i l c mail steady there described done =
     let second = rest_after (option_map_or (is_chained s) (description_of s l) false) why.Chained others first.1 in
     let third = rest_after (option_map_or takes_none l.ctl.params false) why.TakesNone last second.1 in
     let fourth = rest_after (not (option_map_or (λ params. takes params mail) l.ctl.params false)) why.WrongCount [] third.1 in
-    let runs : is_active l ≡ true = not_false (is_active l) first.0 in
+    let runs : is_active l ≡ true = not-false (is_active l) first.0 in
     let free : is_chained s c ≡ false = subst (λ o. option_map_or (is_chained s) o false ≡ false) described second.0 in
     let unchained : is_chained_in s.description.controllers (active s) l.place ≡ false =
     sym (chained_among s.description.controllers s.loaded l.place)
     ∙ subst (λ d. is_chained s d ≡ false) (sym (get_or_from_slice_get s.description.controllers l.place c nobody described)) free in
-    (runs, sent_fits s i l mail steady there runs unchained (not_false (option_map_or (λ params. takes params mail) l.ctl.params false) fourth.0))
+    (runs, sent_fits s i l mail steady there runs unchained (not-false (option_map_or (λ params. takes params mail) l.ctl.params false) fourth.0))
 
 -- what is left to refuse of one that is active, by its description
 pub refusal_is : (s : State) (i : ℕ) (l : Loaded) (c : CtlDesc) (mail : Mail) → IsSteady s → slice_get s.loaded i ≡ Some l → slice_get s.description.controllers l.place ≡ Some c → is_active l ≡ true

@@ -4,6 +4,7 @@ use Rattle.std.specs.Prelude.{not, ◌&&◌, is_some, slice_get, zip, if◌then�
 use Rattle.std.specs.List.{AllByRecursion}
 use Rattle.std.specs.Option.{option_map_or}
 use Rattle.std.proofs.lemmas.Simd.{map-map}
+use Rattle.std.proofs.Math.Bool.{and-false}
 use Rattle.fixed_num.specs.declared.value.BodyState.{BodyState}
 use Rattle.fixed_num.specs.declared.value.Value.{Value}
 use Rattle.fixed_num.specs.declared.value.Value.TheVariants.{Unset}
@@ -64,10 +65,6 @@ places_change own own' there there' test change next pre vs all =
 
 -- ---- One interface
 
-no_more : (a : Bool) → (a && false) ≡ false
-no_more true = refl
-no_more false = refl
-
 not_both : (a : Bool) → (a && not a) ≡ false
 not_both true = refl
 not_both false = refl
@@ -93,13 +90,13 @@ module _ (before after : List Life) (bodies : List BodyState) (called : Called) 
   -- a reference stays as it is
   moved_reference : (place : ℕ) (value : Value) → moved_of before after bodies (of_parts called (of_controller place) value) ≡ of_parts called (of_controller place) value
   moved_reference place value =
-      not_read (λ c. running after c && not (running before c)) bodies (of_parts called (of_controller place) value) (no_more (not called.is_command))
+      not_read (λ c. running after c && not (running before c)) bodies (of_parts called (of_controller place) value) (and-false (not called.is_command))
 
   -- what is not available after is Unset
   moved_off : (c j : ℕ) (value : Value) → running after c ≡ false → moved_of before after bodies (of_parts called (of_joint c j) value) ≡ of_parts called (of_joint c j) Unset
   moved_off c j value there =
       let unread : (not called.is_command && (running after c && not (running before c))) ≡ false =
-      ap (λ (b : Bool). not called.is_command && (b && not (running before c))) there ∙ no_more (not called.is_command) in
+      ap (λ (b : Bool). not called.is_command && (b && not (running before c))) there ∙ and-false (not called.is_command) in
       ap (λ (b : Bool). read_of (λ c. running after c && not (running before c)) bodies (if not b then of_parts called (of_joint c j) Unset else of_parts called (of_joint c j) value)) there
       ∙ not_read (λ c. running after c && not (running before c)) bodies (of_parts called (of_joint c j) Unset) unread
 
@@ -107,7 +104,7 @@ module _ (before after : List Life) (bodies : List BodyState) (called : Called) 
   moved_on : (c j : ℕ) (value : Value) → running after c ≡ true → running before c ≡ true → moved_of before after bodies (of_parts called (of_joint c j) value) ≡ of_parts called (of_joint c j) value
   moved_on c j value there was =
       let unread : (not called.is_command && (running after c && not (running before c))) ≡ false =
-      ap₂ (λ (a b : Bool). not called.is_command && (a && not b)) there was ∙ no_more (not called.is_command) in
+      ap₂ (λ (a b : Bool). not called.is_command && (a && not b)) there was ∙ and-false (not called.is_command) in
       ap (λ (b : Bool). read_of (λ c. running after c && not (running before c)) bodies (if not b then of_parts called (of_joint c j) Unset else of_parts called (of_joint c j) value)) there
       ∙ not_read (λ c. running after c && not (running before c)) bodies (of_parts called (of_joint c j) value) unread
 
@@ -230,7 +227,7 @@ module _ (lives : List Life) (controllers : ℕ → Bool) (test : ℕ → Bool) 
   -- what is not available is not read
   unread_part : (called : Called) (whose : Whose) (value : Value) → ((c : ℕ) → test c ≡ true → running lives c ≡ true)
       → IsEmpty lives controllers (of_parts called whose value) → IsEmpty lives controllers (read_of test bodies (of_parts called whose value))
-  unread_part called (of_controller place) value runs empty = rw (no_more (not called.is_command)) empty
+  unread_part called (of_controller place) value runs empty = rw (and-false (not called.is_command)) empty
   unread_part called (of_joint c j) value runs empty = unread_case (not called.is_command && test c) refl
     where
       unread_case : (here : Bool) → (not called.is_command && test c) ≡ here → IsEmpty lives controllers (read_of test bodies (of_parts called (of_joint c j) value))

@@ -3,6 +3,7 @@ use Rattle.std.proofs.Common.{◌≡◌, ℕ, List, [], ◌∷◌, ◌++◌, Boo
 use Rattle.std.specs.Prelude.{cond, ◌||◌, ◌==◌}
 use Rattle.std.specs.List.{list_any}
 use Rattle.std.proofs.lemmas.Bool.{cases_Bool}
+use Rattle.std.proofs.Math.Bool.{or-true}
 use Rattle.cm_document.proofs.ReadingLemmas.{cases_Option}
 use Rattle.cm_document.specs.declared.call.Call.{Call}
 use Rattle.cm_document.specs.declared.call.Call.TheVariants.{Load, Configure, Cleanup, Unload, Rate, Send, Switch, Hardware, Begin, Close}
@@ -89,13 +90,9 @@ closes (e ∷ made) s legal close =
 
 -- ---- A whole history has one
 
-or_true : (b : Bool) → (b || true) ≡ true
-or_true true = refl
-or_true false = refl
-
 last_close : (calls : List Call) → has_close (calls ++ Close ∷ []) ≡ true
 last_close [] = refl
-last_close (c ∷ calls) = rw (last_close calls) (or_true (is_close c))
+last_close (c ∷ calls) = rw (last_close calls) (or-true (is_close c))
 
 -- a close among some of two lists is one among all
 or_same : (b x y : Bool) → (x ≡ true → y ≡ true) → (b || x) ≡ true → (b || y) ≡ true
@@ -105,7 +102,7 @@ or_same false x y more close = more close
 kept_or_not : (kept : Bool) (e : Entry) (some all : List Entry) → (has_close (calls_of some) ≡ true → has_close (calls_of all) ≡ true)
     → has_close (calls_of (cond kept (e ∷ some) some)) ≡ true → has_close (calls_of (e ∷ all)) ≡ true
 kept_or_not true e some all more close = or_same (is_close e.call) (has_close (calls_of some)) (has_close (calls_of all)) more close
-kept_or_not false e some all more close = rw (more close) (or_true (is_close e.call))
+kept_or_not false e some all more close = rw (more close) (or-true (is_close e.call))
 
 -- a close of one caller is a close of all
 one_of_all : (who : ℕ) (made : List Entry) → has_close (calls_of (entries_by who made)) ≡ true → has_close (calls_of made) ≡ true

@@ -12,6 +12,7 @@ use Rattle.cm_document.specs.declared.description.CtlDesc.{CtlDesc}
 use Rattle.sequence.proofs.ListLemmas.{any_map, all_push, all_at, all_set}
 use Rattle.cm_model.proofs.LoadedLemmas.{any_same}
 use Rattle.std.proofs.lemmas.Option.{none-some, same_Some, get_or_from_slice_get}
+use Rattle.std.proofs.lemmas.Bool.{or_parts}
 use Rattle.cm_model.proofs.CommitLemmas.{none_marked, places_stay}
 use Rattle.cm_model.specs.Boundary.{request_effect, close_effect}
 use Rattle.cm_model.specs.Console.{unless_refused, place_of, slot_of, controller_in, controller_of, description_of, is_inactive, cleanup_refusals, unload_refusals, reply_on, configure_reply, cleanup_reply, unload_reply, configured_with, after_configure, after_cleanup, after_rate, after_send, where_done, with_slot, with_changed, without_slot, configure_effect, cleanup_effect, unload_effect, rate_effect, send_effect}
@@ -251,10 +252,6 @@ unload_steady s name steady =
     done_only IsSteady (unload_reply s name) _ s (λ done. unload_at s (slot_of s name) (controller_of s name) refl done steady) steady
 
 -- ---- One controller more
-
-or_parts : (first b : Bool) → (first || b) ≡ false → (first ≡ false) × (b ≡ false)
-or_parts true b none = absurd (true≢false none)
-or_parts false b none = (refl, none)
 
 distinct_push : (ls : List Loaded) (l : Loaded) → list_any (λ other. other.place == l.place) ls ≡ false → IsDistinct (λ p q. p == q) (map (λ other. other.place) ls)
     → IsDistinct (λ p q. p == q) (map (λ other. other.place) (ls ++ l ∷ []))

@@ -1,10 +1,11 @@
 -- What a step makes of the requests, and that a written call of a session is answered where the loop is closed.
 use Rattle.std.proofs.Common.{◌≡◌, ℕ, ◌+◌, ◌-◌, ◌<◌, ◌≤◌, List, [], ◌∷◌, ◌++◌, length, map, Option, Some, None, Bool, true, false, nat_lt, refl, ◌∙◌, ◌⊎◌, inl, inr, arith}
-use Rattle.std.specs.Prelude.{slice_get, not, ◌||◌, IfSome, if◌then◌else◌, option_map}
+use Rattle.std.specs.Prelude.{slice_get, not, IfSome, if◌then◌else◌, option_map}
 use Rattle.std.proofs.lemmas.List.{length-append, length-map, length-drop}
 use Rattle.std.proofs.lemmas.Bool.{cases_Bool}
 use Rattle.std.proofs.lemmas.Option.{same_Some, slice_get_cases}
 use Rattle.std.proofs.lemmas.Bool.Decides.{nat_tests}
+use Rattle.std.proofs.Math.Bool.{or-true}
 use Rattle.cm_document.proofs.ReadingLemmas.{cases_Option, chosen}
 use Rattle.cm_document.specs.ScriptLaws.{CanBeWritten}
 use Rattle.cm_document.specs.declared.call.Call.{Call}
@@ -198,14 +199,10 @@ never_unanswered s ListInterfaces written none = cc
 never_unanswered s ListComponents written none = cc
 never_unanswered s _ written none = absurd written
 
-or_true : (b : Bool) → (b || true) ≡ true
-or_true true = refl
-or_true false = refl
-
 -- each is enabled there
 closed_enabled : (s : State) (who : ℕ) (call : Call) → s.closed ≡ true → nat_lt who s.sessions ≡ true → CanBeWritten call → is_enabled s who call ≡ true
 closed_enabled s who (Told ticket) closed known written = absurd written
-closed_enabled s who (Await cycles) closed known written = rw (known, closed) (or_true (not (nat_lt s.ended cycles)))
+closed_enabled s who (Await cycles) closed known written = rw (known, closed) (or-true (not (nat_lt s.ended cycles)))
 closed_enabled s who (Begin _) closed known written = absurd written
 closed_enabled s who (End _) closed known written = absurd written
 closed_enabled s who Close closed known written = absurd written

@@ -10,6 +10,7 @@ use Rattle.std.proofs.lemmas.List.{map-append, append-nil, get_or_past}
 use Rattle.std.proofs.lemmas.List.Elements.{filter-append, Contains-get_or}
 use Rattle.std.proofs.lemmas.List.FromFn.{get_or-range_with_len, length-range_with_len}
 use Rattle.std.proofs.lemmas.List.Folds.{list_any-append}
+use Rattle.std.specs.Cmp.{both_ways}
 use Rattle.fixed_num.specs.declared.value.Value.{Value}
 use Rattle.cm_document.specs.Places.{interfaces_of}
 use Rattle.cm_document.specs.Valid.{IsValid}
@@ -181,11 +182,6 @@ used_by d test p =
 any_part : (places : List ℕ) (k : ℕ) → list_any (λ (part : FailedPart). part.place == k) (map (λ (place : ℕ). record { place = place; reading = true }) places) ≡ list_any (λ (place : ℕ). place == k) places
 any_part [] k = refl
 any_part (place ∷ places) k = ap (λ b. place == k || b) (any_part places k)
-
-both_ways : (a b : Bool) → (a ≡ true → b ≡ true) → (b ≡ true → a ≡ true) → a ≡ b
-both_ways true b there back = sym (there refl)
-both_ways false true there back = back refl
-both_ways false false there back = refl
 
 in_range : (n k : ℕ) → k < n → Contains (range_with_len 0 n) k
 in_range n k below =

@@ -1,11 +1,12 @@
 -- A part of a way is no more than the way.
-use Rattle.std.proofs.Common.{◌≡◌, ℕ, ◌-◌, ◌<◌, ◌≤◌, ℤ, pos, ◌*ℤ◌, nat_abs, List, [], true, false, ◌∷◌, length, Some, None, refl, sym, ap, ◌∙◌, arith}
+use Rattle.std.proofs.Common.{◌≡◌, ℕ, ◌-◌, ◌<◌, ◌≤◌, ℤ, pos, ◌*ℤ◌, nat_abs, List, [], true, false, ◌∷◌, length, Some, refl, sym, ◌∙◌, arith}
 use Rattle.std.specs.Prelude.{nat_le}
 use Rattle.std.specs.List.{slice_get, zip}
 use Rattle.std.proofs.lemmas.Bool.Decides.{nat_tests}
 use Rattle.std.proofs.lemmas.List.{length-map}
 use Rattle.std.proofs.lemmas.Slice.Zip.{length-zip}
 use Rattle.std.proofs.lemmas.Int.{ints, to_z-of_z}
+use Rattle.std.proofs.lemmas.Option.{same_Some}
 use Rattle.cm_document.specs.declared.call.Point2.{Point2}
 use Rattle.cm_model.specs.Ways.{on_segment, towards, last_point, on_way, led}
 use Rattle.fixed_num.specs.Arithmetic.{IsWithin, floor_div}
@@ -28,15 +29,12 @@ last_at : (p : Point2) (ps : List Point2) → slice_get (p ∷ ps) (length ps) �
 last_at p [] = refl
 last_at p (q ∷ qs) = last_at q qs
 
-some_same : {A : Type 0} (x y : A) → Some x ≡ Some y → x ≡ y
-some_same x y same = ap (λ o. elim o [ None ↦ x | Some z ↦ z ]) same
-
 -- the last point is the one at the last index
 last_is : (p : Point2) (ps : List Point2) (last : Point2) → slice_get (p ∷ ps) (length (p ∷ ps) - 1) ≡ Some last → last_point p ps ≡ last
 last_is p ps last is =
     let n : length (p ∷ ps) - 1 ≡ length ps = omega arith in
     let found : slice_get (p ∷ ps) (length ps) ≡ Some last = rw n at is in
-    some_same (last_point p ps) last (sym (last_at p ps) ∙ found)
+    same_Some (last_point p ps) last (sym (last_at p ps) ∙ found)
 
 -- from the last point's time on its values are given
 pub led_at_end : (t : ℕ) (hold from : List ℤ) (points : List Point2) (last : Point2) → slice_get points (length points - 1) ≡ Some last → last.at_us ≤ t →

@@ -6,6 +6,7 @@ use Rattle.std.proofs.Math.Path.{fun_ext}
 use Rattle.std.proofs.lemmas.Bool.{and_parts, and_from, eqb-true, eq-eqb}
 use Rattle.std.proofs.lemmas.List.Elements.{All-filter, All-map}
 use Rattle.std.proofs.lemmas.List.Sorted.{list_any-IsPermutation, IsPermutation-reverse}
+use Rattle.std.specs.Cmp.{both_ways}
 use Rattle.cm_document.specs.declared.description.Description.{Description}
 use Rattle.cm_model.proofs.LoadedLemmas.{and_true, and_false}
 use Rattle.cm_model.specs.Components.{is_listed}
@@ -63,11 +64,6 @@ leaders_long w d is =
     ∙ length-each_below (λ p. places_below (λ q. precedes_at d.controllers q p) (length d.controllers)) (length d.controllers)
 
 -- ---- Serials
-
-pub both_ways : (a b : Bool) → (a ≡ true → b ≡ true) → (b ≡ true → a ≡ true) → a ≡ b
-both_ways true b there back = sym (there refl)
-both_ways false true there back = back refl
-both_ways false false there back = refl
 
 module _ (scene : Scene) (once : IsDistinct (λ m n. m == n) (map (λ l. l.serial) scene.loaded)) where
   -- of a set whose members are loaded, those that move are told by their serials

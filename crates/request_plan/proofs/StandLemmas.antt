@@ -6,6 +6,7 @@ use Rattle.std.specs.Option.{option_map_or}
 use Rattle.std.proofs.lemmas.Bool.{and_parts, and_from, or_cases, cases_lt, eqb-true, eq-eqb}
 use Rattle.std.proofs.lemmas.Option.{slice_get-get_or, slice_get_past}
 use Rattle.std.proofs.lemmas.List.{get_or_past}
+use Rattle.std.specs.Cmp.{both_ways}
 use Rattle.cm_document.proofs.DistinctLemmas.{all_so}
 use Rattle.iface_names.specs.declared.interface.IfaceName.{IfaceName}
 use Rattle.cm_document.specs.Links.{is_among, precedes}
@@ -29,7 +30,6 @@ use Rattle.cm_model.specs.declared.data.RunData.{RunData}
 use Rattle.cm_model.specs.declared.seen.Seen.{Seen}
 use Rattle.switch_plan.proofs.ElementLemmas.{some_of, any_from}
 use Rattle.switch_plan.proofs.TestLemmas.{some_below-from}
-use Rattle.request_plan.proofs.SetLemmas.{both_ways}
 
 -- ---- Who is chained
 

@@ -1,8 +1,8 @@
 -- A script that is read meets the rules and uses accepted forms alone.
 use Rattle.std.proofs.Common.{◌≡◌, ℕ, ◌<◌, ◌+◌, Bool, true, false, List, [], ◌∷◌, ◌++◌, length, Option, Some, None, Result, Ok, Err, refl, ap, subst, arith, length-append, ltb-true}
-use Rattle.std.specs.Prelude.{◌==◌, IfOk, IfSome, IsTrue, is_some, position, sum_by, nat_le, nat_lt, not, ◌&&◌, ◌||◌, if◌then◌else◌, codes}
+use Rattle.std.specs.Prelude.{◌==◌, IfOk, IfSome, IsTrue, is_some, position, sum_by, nat_le, nat_lt, not, ◌&&◌, if◌then◌else◌, codes}
 use Rattle.std.specs.List.{AllByRecursion, list_any}
-use Rattle.std.proofs.lemmas.Bool.{and_parts, cond_both}
+use Rattle.std.proofs.lemmas.Bool.{and_parts, cond_both, or_parts, not-true, not-false}
 use Rattle.std.proofs.lemmas.Bool.Decides.{nat_tests}
 use Rattle.std.proofs.lemmas.List.Sums.{sum_by_push}
 use Rattle.std.proofs.lemmas.List.Quantifiers.{position-Some}
@@ -31,10 +31,6 @@ use Rattle.script_text.proofs.RuleLemmas.{count_calling}
 -- ---- Sessions
 
 -- a new session is apart from those that are there
-or_parts : (x y : Bool) → (x || y) ≡ false → (x ≡ false) × (y ≡ false)
-or_parts true y h = cc
-or_parts false y h = (refl, h)
-
 apart_push : (xs : List SessionText) (s : SessionText) → AreApart xs → list_any (λ x. same_name s.name x.name) xs ≡ false → AreApart (xs ++ s ∷ [])
 apart_push [] s apart new = (tt, tt)
 apart_push (x ∷ xs) s apart new =
@@ -101,21 +97,13 @@ session_added grammar sessions name keeps new =
     }
 
 -- a session's line
-not_true : (b : Bool) → not b ≡ true → b ≡ false
-not_true true h = cc
-not_true false h = refl
-
-not_false : (b : Bool) → not b ≡ false → b ≡ true
-not_false true h = refl
-not_false false h = cc
-
 with_session_keeps : (grammar : Grammar) (n : ℕ) (sessions : List SessionText) (turns : Option (List Turn)) (name : List ℕ)
     → Keeps grammar (record { sessions = sessions; turns = turns }) → IsName name
     → IfOk (with_session grammar n (record { sessions = sessions; turns = turns }) name) (Keeps grammar)
 with_session_keeps grammar n sessions (Some ts) name keeps named =
     cond_both (not (is_session_line grammar (record { sessions = sessions; turns = Some ts }) name)) _ _ (λ r. IfOk r (Keeps grammar)) (λ _. tt)
     (λ line.
-    let a = and_parts _ _ (not_false _ line) in
+    let a = and_parts _ _ (not-false _ line) in
     let b = and_parts _ _ a.0 in
     let c = and_parts (session_accepted grammar (record { sessions = sessions; turns = Some ts })) _ b.0 in
     let no = c.1 in cc)
@@ -123,11 +111,11 @@ with_session_keeps grammar n sessions None name keeps named =
     cond_both (not (is_session_line grammar (record { sessions = sessions; turns = None }) name)) _ _ (λ r. IfOk r (Keeps grammar)) (λ _. tt)
     (λ line. cond_both (nat_le MOST_SESSIONS (length sessions)) _ _ (λ r. IfOk r (Keeps grammar)) (λ _. tt)
     (λ room.
-    let a = and_parts _ _ (not_false _ line) in
+    let a = and_parts _ _ (not-false _ line) in
     let b = and_parts _ _ a.0 in
     let c = and_parts (session_accepted grammar (record { sessions = sessions; turns = None })) _ b.0 in
     session_added grammar sessions name keeps
-    (record { accepted = c.0; named = named; not_loop = not_true _ b.1; new = not_true _ a.1; few = grind (arith, nat_tests) })))
+    (record { accepted = c.0; named = named; not_loop = not-true _ b.1; new = not-true _ a.1; few = grind (arith, nat_tests) })))
 
 -- ---- Calls
 

@@ -23,7 +23,6 @@ use Rattle.cm_model.specs.declared.reply.Reply.{Reply}
 use Rattle.cm_model.specs.declared.reply.Reply.TheVariants as reply
 use Rattle.cm_model.specs.declared.reply.Why.{Why}
 use Rattle.cm_model.specs.declared.reply.Why.TheVariants as why
-use Rattle.switch_plan.proofs.ElementLemmas.{some_is}
 use Rattle.sound_laws.proofs.MomentLemmas.{moment_of, legal_step}
 use Rattle.sound_laws.proofs.CoreLemmas.{bare, running_ones, core, core_configuration, core_cycle}
 
@@ -149,9 +148,9 @@ request_core s asked _ = refl
 
 effect_core : (s : State) (call : Call) (r : Reply) → IsConsole call → reply_of s call ≡ Some r → core (effect s call r) ≡ core s
 effect_core s (Load name) r between told = load_core s name r
-effect_core s (Configure name) r between told = where_done_core s _ r (λ done. configure_core s name (some_is (configure_reply s name) r told ∙ done))
-effect_core s (Cleanup name) r between told = where_done_core s _ r (λ done. cleanup_core s name (some_is (cleanup_reply s name) r told ∙ done))
-effect_core s (Unload name) r between told = where_done_core s _ r (λ done. unload_core s name (some_is (unload_reply s name) r told ∙ done))
+effect_core s (Configure name) r between told = where_done_core s _ r (λ done. configure_core s name (same_Some (configure_reply s name) r told ∙ done))
+effect_core s (Cleanup name) r between told = where_done_core s _ r (λ done. cleanup_core s name (same_Some (cleanup_reply s name) r told ∙ done))
+effect_core s (Unload name) r between told = where_done_core s _ r (λ done. unload_core s name (same_Some (unload_reply s name) r told ∙ done))
 effect_core s (Rate name hz) r between told = where_done_core s _ r (λ done. changed_core s (slot_of s name) (after_rate hz) (λ l at. same_bare l (after_rate hz l) refl refl))
 effect_core s (Send name mail) r between told = where_done_core s _ r (λ done. changed_core s (slot_of s name) (after_send mail) (λ l at. same_bare l (after_send mail l) refl refl))
 effect_core s (Switch asked) r between told = request_core s (request.Switch asked) r
@@ -203,7 +202,7 @@ module _ (s : State) (who : ℕ) (made : State × Reply) where
   as_begun begun before (Begin number) is enabled = absurd (none_begins (is_loop s who) s.aloft s.closed (s.ended == number) (nat_lt number s.description.cycles) before.aloft enabled)
   as_begun begun before Close is enabled = absurd (none_closes (is_loop s who) s.aloft s.closed before.aloft enabled)
   as_begun begun before (End number) is enabled =
-      sym (some_is (reply.Cycle (cycle s).happened) made.1 is.replied) ∙ ap (λ happened. reply.Cycle happened) (same_cycle s begun before.same)
+      sym (same_Some (reply.Cycle (cycle s).happened) made.1 is.replied) ∙ ap (λ happened. reply.Cycle happened) (same_cycle s begun before.same)
   as_begun begun before call is enabled = between_begun begun before call tt is
 
   where_begun : (begun : Option State) → HasBegun begun s → (call : Call) → IsStep s call made → is_enabled s who call ≡ true

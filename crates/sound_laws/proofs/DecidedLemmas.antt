@@ -6,6 +6,7 @@ use Rattle.std.proofs.lemmas.Bool.{and_from}
 use Rattle.std.proofs.lemmas.List.{get_or-set_same}
 use Rattle.std.proofs.lemmas.List.Quantifiers.{position-Some}
 use Rattle.std.proofs.lemmas.Slice.Eq.{bytes_eq-Decides}
+use Rattle.std.proofs.lemmas.Option.{same_Some}
 use Rattle.iface_names.specs.Names.{same_name}
 use Rattle.cm_document.specs.declared.call.Call.{Call}
 use Rattle.cm_document.specs.declared.call.Call.TheVariants.{Begin}
@@ -34,7 +35,7 @@ use Rattle.cm_model.specs.declared.request.Request.{Request}
 use Rattle.cm_model.specs.declared.request.Request.TheVariants as request
 use Rattle.switch_plan.proofs.CauseLemmas.{counts_true}
 use Rattle.switch_plan.proofs.DecisionLemmas.{strict_done, strict_refused}
-use Rattle.switch_plan.proofs.ElementLemmas.{some_is, or_some, map_some, any_from, found}
+use Rattle.switch_plan.proofs.ElementLemmas.{or_some, map_some, any_from, found}
 use Rattle.sound_laws.proofs.ActiveLemmas.{from_active_order}
 use Rattle.sound_laws.proofs.BoundaryLemmas.{concluded_steady, outcome_steady}
 use Rattle.sound_laws.proofs.ParamsLemmas.{params_loaded, params_configured}
@@ -86,7 +87,7 @@ user_uses s component name told =
 
 -- a cause that is given passes its test
 given : (b : Bool) (c d : Cause) → cause_if b c ≡ Some d → (b ≡ true) × (c ≡ d)
-given true c d e = (refl, some_is c d e)
+given true c d e = (refl, same_Some c d e)
 given false c d e = cc
 
 given_unless : (b : Bool) (o : Option Cause) (d : Cause) → (if b then None else o) ≡ Some d → (b ≡ false) × (o ≡ Some d)

@@ -27,7 +27,7 @@ use Rattle.cm_model.specs.declared.lines.IfaceLine.{IfaceLine}
 use Rattle.cm_model.specs.declared.reply.Reply.{Reply}
 use Rattle.cm_model.specs.declared.reply.Reply.TheVariants as reply
 use Rattle.cm_model.specs.declared.reply.Why.TheVariants as why
-use Rattle.switch_plan.proofs.ElementLemmas.{some_is, map_some, some_of, any_from, found, filter_back}
+use Rattle.switch_plan.proofs.ElementLemmas.{map_some, some_of, any_from, found, filter_back}
 use Rattle.sound_laws.proofs.ActiveLemmas.{from_active_order}
 use Rattle.sound_laws.proofs.MomentLemmas.{moment_of, legal_step, along}
 use Rattle.sound_laws.proofs.ReplyLemmas.{of_reply}
@@ -206,7 +206,7 @@ module _ (s : State) (numbered : IsNumbered s) (made : State × Reply) (es : Lis
 
   unload_right : (call : Call) → IsStep s call made → IfUnload (moment_of s call made) call (moments made.0 es)
   unload_right (Unload name) is = record {
-    done = ap is_done (sym (some_is (unload_reply s name) made.1 is.replied)) ∙ unload_done (controller_of s name);
+    done = ap is_done (sym (same_Some (unload_reply s name) made.1 is.replied)) ∙ unload_done (controller_of s name);
     gone = λ done. gone_after name is done (controller_of s name) refl;
   }
   unload_right _ is = tt

@@ -2,6 +2,7 @@
 -- leaves nothing behind.
 use Rattle.std.proofs.Common.{◌≡◌, ℕ, List, [], Some, None, refl, sym, ◌∙◌, subst, ap}
 use Rattle.std.specs.List.{AllByRecursion, IsDistinct}
+use Rattle.std.proofs.lemmas.Option.{same_Some}
 use Rattle.cm_document.specs.Valid.{IsValid}
 use Rattle.cm_document.specs.declared.call.Call.{Call}
 use Rattle.cm_document.specs.declared.call.Call.TheVariants.{Load, Configure, Cleanup, Unload, Rate, Send, Switch, Hardware, Begin, End, Close}
@@ -18,7 +19,6 @@ use Rattle.cm_model.specs.declared.entry.Entry.{Entry}
 use Rattle.cm_model.specs.declared.reply.Reply.{Reply}
 use Rattle.cm_model.specs.declared.reply.Reply.TheVariants as reply
 use Rattle.cm_model.specs.declared.request.Request.TheVariants as request
-use Rattle.switch_plan.proofs.ElementLemmas.{some_is}
 use Rattle.sound_laws.proofs.MomentLemmas.{along}
 use Rattle.sound_laws.proofs.BetweenLemmas.{configuration_from}
 use Rattle.sound_laws.proofs.BootLemmas.{boot_steady}
@@ -36,13 +36,13 @@ use Rattle.sound_laws.proofs.ValidLemmas.{valid-IsChecked}
 -- what each call leaves that was answered so
 effect_steady : (s : State) (call : Call) (r : Reply) → IsValid s.description → IsSteady s → reply_of s call ≡ Some r → IsSteady (effect s call r)
 effect_steady s (Load name) r valid steady replied =
-    subst (λ answer. IsSteady (load_effect s name answer)) (some_is (unless_refused (load_refusals s (place_of s name)) (reply.Serial s.loads)) r replied) (load_steady s name steady)
+    subst (λ answer. IsSteady (load_effect s name answer)) (same_Some (unless_refused (load_refusals s (place_of s name)) (reply.Serial s.loads)) r replied) (load_steady s name steady)
 effect_steady s (Configure name) r valid steady replied =
-    subst (λ answer. IsSteady (configure_effect s name answer)) (some_is (configure_reply s name) r replied) (configure_steady s name steady)
+    subst (λ answer. IsSteady (configure_effect s name answer)) (same_Some (configure_reply s name) r replied) (configure_steady s name steady)
 effect_steady s (Cleanup name) r valid steady replied =
-    subst (λ answer. IsSteady (cleanup_effect s name answer)) (some_is (cleanup_reply s name) r replied) (cleanup_steady s name steady)
+    subst (λ answer. IsSteady (cleanup_effect s name answer)) (same_Some (cleanup_reply s name) r replied) (cleanup_steady s name steady)
 effect_steady s (Unload name) r valid steady replied =
-    subst (λ answer. IsSteady (unload_effect s name answer)) (some_is (unload_reply s name) r replied) (unload_steady s name steady)
+    subst (λ answer. IsSteady (unload_effect s name answer)) (same_Some (unload_reply s name) r replied) (unload_steady s name steady)
 effect_steady s (Rate name hz) r valid steady replied = rate_steady s name hz r steady
 effect_steady s (Send name mail) r valid steady replied = send_steady s name mail r steady
 effect_steady s (Switch asked) r valid steady replied = request_steady s (request.Switch asked) r steady

@@ -1,10 +1,11 @@
 -- In a cycle each due controller runs once, predecessors first.
-use Rattle.std.proofs.Common.{◌≡◌, ℕ, suc, ◌<◌, ◌≤◌, Bool, true, false, List, [], ◌∷◌, length, get_or, map, None, inl, inr, refl, sym, ◌∙◌, subst, ap, true≢false, arith}
+use Rattle.std.proofs.Common.{◌≡◌, ℕ, suc, ◌<◌, ◌≤◌, true, false, List, [], ◌∷◌, length, get_or, map, None, inl, inr, refl, sym, ◌∙◌, subst, ap, true≢false, arith}
 use Rattle.std.specs.Prelude.{◌==◌, ◌&&◌, not, filter, AllPairs}
 use Rattle.std.specs.List.{All, AllByRecursion, IsDistinct, Contains, list_any}
 use Rattle.std.proofs.lemmas.Bool.{and_parts, and_from, eqb-true, eq-eqb, ne_eqb, false_from_ne_true}
 use Rattle.std.proofs.lemmas.List.Elements.{All-nil, All-cons, All-head, All-tail, Contains-get_or}
 use Rattle.std.proofs.lemmas.List.Kept.{AllPairs-cons, AllPairs-filter}
+use Rattle.std.specs.Cmp.{both_ways}
 use Rattle.sequence.proofs.ListLemmas.{any_map}
 use Rattle.cm_document.proofs.DistinctLemmas.{all_map}
 use Rattle.cm_document.specs.Links.{first_in_loop}
@@ -24,11 +25,6 @@ use Rattle.sound_laws.proofs.ParamsLemmas.{all_at}
 use Rattle.sound_laws.proofs.SerialLemmas.{serials_of}
 
 -- ---- Lists
-
-both_ways : (a b : Bool) → (a ≡ true → b ≡ true) → (b ≡ true → a ≡ true) → a ≡ b
-both_ways true b there back = sym (there refl)
-both_ways false true there back = back refl
-both_ways false false there back = refl
 
 by_index : {A : Type 0} (P : A → Type 0) (xs : List A) → AllByRecursion P xs → All P xs
 by_index P [] all = All-nil P

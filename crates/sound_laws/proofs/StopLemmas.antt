@@ -3,6 +3,7 @@ use Rattle.std.proofs.Common.{◌≡◌, ℕ, zero, suc, ◌<◌, ◌≤◌, Boo
 use Rattle.std.specs.Prelude.{◌==◌, ◌&&◌, ◌||◌, not, if◌then◌else◌, zip, slice_get, slice_index_or}
 use Rattle.std.specs.Option.{option_map_or}
 use Rattle.std.proofs.lemmas.Bool.{and_parts, and_from, or_left, or_right, not-true, eqb-true, cases_Bool}
+use Rattle.std.proofs.Math.Bool.{or-false}
 use Rattle.iface_names.specs.declared.interface.IfaceName.{IfaceName}
 use Rattle.cm_document.specs.Links.{first_in_loop}
 use Rattle.cm_document.specs.declared.description.CompDesc.{CompDesc}
@@ -30,10 +31,6 @@ pub same_below : (f g : ℕ → Bool) (n : ℕ) → ((interface : ℕ) → f int
 same_below f g zero same = refl
 same_below f g (suc n) same = ap₂ (λ a b. a || b) (same_below f g n same) (same n)
 
-or_false : (b : Bool) → (b || false) ≡ b
-or_false true = refl
-or_false false = refl
-
 -- ---- Over links
 
 module _ (linked : ℕ → ℕ → Bool) (hit : ℕ → Bool) (count : ℕ) where
@@ -58,7 +55,7 @@ module _ (linked : ℕ → ℕ → Bool) (hit : ℕ → Bool) (count : ℕ) wher
         elim (cases_Bool (linked p q)) [
           | inl leads ↦ absurd (omega (arith, small, falls p q leads))
           | inr not_linked ↦ ap (λ b. b && hit q) not_linked
-        ])) ∙ or_false (hit p)
+        ])) ∙ or-false (hit p)
     settled (suc n) p small =
         ap (λ b. hit p || b) (same_below (λ q. linked p q && reaches linked hit count (suc n) q) (λ q. linked p q && reaches linked hit count n q) count (λ q.
         elim (cases_Bool (linked p q)) [

@@ -1,6 +1,7 @@
 -- Along each legal history what was told so far are, by ticket, the outcomes of all requests that have one.
 use Rattle.std.proofs.Common.{◌≡◌, ◌⊎◌, ℕ, List, [], ◌∷◌, ◌++◌, Option, Some, None, option_map, append-nil, inl, inr, refl, sym, ◌∙◌, subst, ap}
 use Rattle.std.specs.Prelude.{slice_get}
+use Rattle.std.proofs.lemmas.Option.{same_Some}
 use Rattle.cm_document.specs.declared.call.Call.{Call}
 use Rattle.cm_document.specs.declared.call.Call.TheVariants.{Load, Configure, Cleanup, Unload, Rate, Send, Switch, Hardware, Told, Begin, End, Close}
 use Rattle.cm_document.specs.declared.description.CtlDesc.{CtlDesc}
@@ -18,7 +19,6 @@ use Rattle.cm_model.specs.declared.reply.Reply.{Reply}
 use Rattle.cm_model.specs.declared.reply.Reply.TheVariants as reply
 use Rattle.cm_model.specs.declared.request.Request.{Request}
 use Rattle.cm_model.specs.declared.request.Request.TheVariants as request
-use Rattle.switch_plan.proofs.ElementLemmas.{some_is}
 use Rattle.sound_laws.proofs.MomentLemmas.{moment_of, legal_step}
 use Rattle.sound_laws.proofs.ReplyLemmas.{Decides, of_reply}
 use Rattle.sound_laws.proofs.TicketLemmas.{begin_tells, close_tells, told_rightly}
@@ -111,8 +111,8 @@ module _ (s : State) (made : State × Reply) where
   deciding _ = inr (λ never. never)
 
   decided_tells : (call : Call) → IsStep s call made → Decides call → TellsRest
-  decided_tells (Begin number) is decides = as_made (begin_reply s) (begin_effect s) (some_is (begin_reply s) made.1 is.replied) is.next (begin_tells s)
-  decided_tells Close is decides = as_made (close_reply s) (close_effect s) (some_is (close_reply s) made.1 is.replied) is.next (close_tells s)
+  decided_tells (Begin number) is decides = as_made (begin_reply s) (begin_effect s) (same_Some (begin_reply s) made.1 is.replied) is.next (begin_tells s)
+  decided_tells Close is decides = as_made (close_reply s) (close_effect s) (same_Some (close_reply s) made.1 is.replied) is.next (close_tells s)
   decided_tells _ is decides = absurd decides
 
   tells : (call : Call) → IsStep s call made → TellsRest

@@ -5,6 +5,7 @@ use Rattle.std.specs.List.{AllByRecursion, list_any}
 use Rattle.std.proofs.lemmas.Bool.{cases_lt}
 use Rattle.std.proofs.lemmas.List.{length-append, length-map, length-take, length-drop}
 use Rattle.std.proofs.lemmas.List.FromFn.{length-map-range_with_len}
+use Rattle.std.proofs.lemmas.Option.{same_Some}
 use Rattle.fixed_num.specs.Bodies.{stopped}
 use Rattle.fixed_num.specs.declared.value.BodyState.{BodyState}
 use Rattle.fixed_num.specs.declared.value.Value.{Value}
@@ -37,7 +38,6 @@ use Rattle.cm_model.specs.declared.data.RunData.{RunData}
 use Rattle.cm_model.specs.declared.ran.Done.{Done}
 use Rattle.cm_model.specs.declared.ran.Done.TheVariants as done
 use Rattle.cm_model.specs.declared.tick.Tick.{Tick}
-use Rattle.switch_plan.proofs.ElementLemmas.{some_is}
 
 -- ---- Controllers
 
@@ -82,7 +82,7 @@ same_mark : (old new : Option RunData) (chained : Bool) → option_map runs_chai
     → IfSome new (λ r. runs_chained r ≡ chained)
 same_mark old None chained same mark = tt
 same_mark None (Some r) chained same mark = cc
-same_mark (Some r) (Some r') chained same mark = some_is (runs_chained r') (runs_chained r) same ∙ mark
+same_mark (Some r) (Some r') chained same mark = same_Some (runs_chained r') (runs_chained r) same ∙ mark
 
 -- of one place, with the same parameters and running as before it is as described as before
 same_own : (controllers : List CtlDesc) (old new : Loaded) → new.place ≡ old.place → new.ctl.params ≡ old.ctl.params → is_active new ≡ is_active old

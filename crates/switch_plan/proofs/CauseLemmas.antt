@@ -8,6 +8,7 @@ use Rattle.std.proofs.lemmas.List.{get_or-take, length-take, get_or_default}
 use Rattle.std.proofs.lemmas.List.Elements.{Contains-get_or, Contains-append_cases}
 use Rattle.std.proofs.lemmas.List.Sorted.{IsPermutation-sym, Contains-permutation}
 use Rattle.std.proofs.lemmas.Slice.Eq.{bytes_eq-Decides}
+use Rattle.std.proofs.lemmas.Option.{same_Some}
 use Rattle.iface_names.specs.Names.{same_name}
 use Rattle.iface_names.specs.Interfaces.{same_kind, same_interface}
 use Rattle.iface_names.specs.Sameness.{same_kind-Decides, same_interface-Decides}
@@ -30,7 +31,7 @@ use Rattle.cm_model.specs.declared.member.Member.{Member}
 use Rattle.cm_model.specs.declared.seen.Seen.{Seen}
 use Rattle.chain_order.proofs.OrderLemmas.{in_order-once}
 use Rattle.switch_plan.specs.Laws.{IsFaulty, CountsOfMember, CountsAgainst, IsCalled, StandsTwice, IsTrueOf, strict_set}
-use Rattle.switch_plan.proofs.ElementLemmas.{some_is, map_some, here, later, none_inside, first_or_later, some_of, each_fails, found, not_found, filter_back, filter_from, Contains-map, Contains-map_back, first_of-some}
+use Rattle.switch_plan.proofs.ElementLemmas.{map_some, here, later, none_inside, first_or_later, some_of, each_fails, found, not_found, filter_back, filter_from, Contains-map, Contains-map_back, first_of-some}
 
 -- ---- Names and interfaces
 
@@ -66,31 +67,31 @@ beside_parts (Reference c j k) (Reference c' j' k') beside = cc
 
 module _ (P : Cause → Type 0) where
   given_if : (b : Bool) (c d : Cause) → (b ≡ true → P c) → cause_if b c ≡ Some d → P d
-  given_if true c d holds e = subst P (some_is c d e) (holds refl)
+  given_if true c d holds e = subst P (same_Some c d e) (holds refl)
   given_if false c d holds e = cc
 
   given_unless : (b : Bool) (c d : Cause) → (b ≡ false → P c) → (if b then None else Some c) ≡ Some d → P d
   given_unless true c d holds e = cc
-  given_unless false c d holds e = subst P (some_is c d e) (holds refl)
+  given_unless false c d holds e = subst P (same_Some c d e) (holds refl)
 
   off_given : (twice : Bool) (l : Seen) (d : Cause) → (twice ≡ true → P cause.Twice) → (is_running l.life ≡ false → P cause.NotActive) → off_cause twice l ≡ Some d → P d
-  off_given true l d repeated idle e = subst P (some_is cause.Twice d e) (repeated refl)
+  off_given true l d repeated idle e = subst P (same_Some cause.Twice d e) (repeated refl)
   off_given false l d repeated idle e = given_unless (is_running l.life) cause.NotActive d idle e
 
   on_given_then : (configured active : Bool) (d : Cause) → (configured ≡ false → P cause.NotConfigured) → (active ≡ true → P cause.AlreadyActive)
       → (if configured then (if active then Some cause.AlreadyActive else None) else Some cause.NotConfigured) ≡ Some d → P d
-  on_given_then true true d bare runs e = subst P (some_is cause.AlreadyActive d e) (runs refl)
+  on_given_then true true d bare runs e = subst P (same_Some cause.AlreadyActive d e) (runs refl)
   on_given_then true false d bare runs e = cc
-  on_given_then false active d bare runs e = subst P (some_is cause.NotConfigured d e) (bare refl)
+  on_given_then false active d bare runs e = subst P (same_Some cause.NotConfigured d e) (bare refl)
 
   on_given : (leaving : Places) (twice : Bool) (l : Seen) (d : Cause) → (twice ≡ true → P cause.Twice) → (is_configured l.life ≡ false → P cause.NotConfigured)
       → ((is_running l.life && not (leaving l.place)) ≡ true → P cause.AlreadyActive) → on_cause leaving twice l ≡ Some d → P d
-  on_given leaving true l d repeated bare runs e = subst P (some_is cause.Twice d e) (repeated refl)
+  on_given leaving true l d repeated bare runs e = subst P (same_Some cause.Twice d e) (repeated refl)
   on_given leaving false l d repeated bare runs e = on_given_then (is_configured l.life) (is_running l.life && not (leaving l.place)) d bare runs e
 
   loaded_given : (cause_of : Seen → Option Cause) (o : Option Seen) (d : Cause) → (o ≡ None → P cause.Unknown) → ((l : Seen) → o ≡ Some l → cause_of l ≡ Some d → P d)
       → option_map_or cause_of o (Some cause.Unknown) ≡ Some d → P d
-  loaded_given cause_of None d unknown known e = subst P (some_is cause.Unknown d e) (unknown refl)
+  loaded_given cause_of None d unknown known e = subst P (same_Some cause.Unknown d e) (unknown refl)
   loaded_given cause_of (Some l) d unknown known e = known l refl e
 
 -- what a test says of what was found
@@ -145,7 +146,7 @@ module _ (scene : Scene) where
   named_first : (o : Option Seen) (ms : List Member) (l : Seen) → o ≡ Some l → list_any (λ m. m.place == l.place) (cons_option (option_map member o) ms) ≡ true
   named_first None ms l is = cc
   named_first (Some other) ms l is =
-      or_left (other.place == l.place) (list_any (λ m. m.place == l.place) ms) (eq-eqb other.place l.place (ap (λ (s : Seen). s.place) (some_is other l is)))
+      or_left (other.place == l.place) (list_any (λ m. m.place == l.place) ms) (eq-eqb other.place l.place (ap (λ (s : Seen). s.place) (same_Some other l is)))
 
   named_from : (names : List (List ℕ)) (name : List ℕ) (l : Seen) → Contains names name → loaded_of scene name ≡ Some l → named scene names l.place ≡ true
   named_from [] name l inside is = absurd (none_inside name inside)

@@ -3,6 +3,7 @@ use Rattle.std.proofs.Common.{◌≡◌, ℕ, zero, suc, Bool, true, false, List
 use Rattle.std.specs.Prelude.{◌&&◌, ◌||◌, ◌==◌}
 use Rattle.std.specs.List.{filter}
 use Rattle.std.proofs.lemmas.Bool.{cases_Bool, true≢false}
+use Rattle.std.proofs.Math.Bool.{and-false, and-true}
 use Rattle.cm_document.specs.declared.description.CtlDesc.{CtlDesc}
 use Rattle.cm_model.specs.Order.{Places, depth, by_rank, in_order, places_of}
 use Rattle.cm_model.specs.Scene.{has_seen, is_running, member}
@@ -65,14 +66,6 @@ moved_in_order cs set moves within ls =
 
 -- ---- Active ones
 
-and_true : (a : Bool) → (a && true) ≡ a
-and_true true = refl
-and_true false = refl
-
-and_false : (a : Bool) → (a && false) ≡ false
-and_false true = refl
-and_false false = refl
-
 -- the places of the active ones
 pub running_places : (ls : List Seen) (p : ℕ) → places_of (map member (filter (λ (l : Seen). is_running l.life) ls)) p ≡ has_seen (λ l. is_running l.life) ls p
 running_places [] p = refl
@@ -81,5 +74,5 @@ running_places (l ∷ ls) p = one (is_running l.life) (running_places ls p)
     one : (b : Bool) → places_of (map member (filter (λ (l : Seen). is_running l.life) ls)) p ≡ has_seen (λ l. is_running l.life) ls p
         → places_of (map member (cond b (l ∷ filter (λ (l : Seen). is_running l.life) ls) (filter (λ (l : Seen). is_running l.life) ls))) p
         ≡ ((l.place == p && b) || has_seen (λ l. is_running l.life) ls p)
-    one true rest = ap₂ (λ a c. a || c) (sym (and_true (l.place == p))) rest
-    one false rest = rest ∙ sym (ap (λ a. a || has_seen (λ l. is_running l.life) ls p) (and_false (l.place == p)))
+    one true rest = ap₂ (λ a c. a || c) (sym (and-true (l.place == p))) rest
+    one false rest = rest ∙ sym (ap (λ a. a || has_seen (λ l. is_running l.life) ls p) (and-false (l.place == p)))

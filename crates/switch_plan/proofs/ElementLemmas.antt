@@ -6,6 +6,7 @@ use Rattle.std.specs.Option.{option_or}
 use Rattle.std.proofs.lemmas.Bool.{false_from_ne_true, true≢false}
 use Rattle.std.proofs.lemmas.List.Elements.{Contains-push, Contains-push_cases, Contains-append_left, Contains-append_right, Contains-append_cases}
 use Rattle.std.proofs.lemmas.List.Folds.{list_any_at, Any-from_list_any}
+use Rattle.std.proofs.lemmas.Option.{same_Some}
 use Rattle.cm_model.specs.Faults.{first_of}
 
 -- ---- Options
@@ -14,9 +15,6 @@ use Rattle.cm_model.specs.Faults.{first_of}
 abbrev pub held : {A : Type 0} → Option A → A → A
 held None other = other
 held (Some x) other = x
-
-pub some_is : {A : Type 0} (x y : A) → Some x ≡ Some y → x ≡ y
-some_is x y e = ap (λ o. held o x) e
 
 pub or_none : {A : Type 0} (a b : Option A) → option_or a b ≡ None → (a ≡ None) × (b ≡ None)
 or_none None b e = (refl, e)
@@ -32,7 +30,7 @@ map_none f (Some x) e = cc
 
 pub map_some : {A B : Type 0} (f : A → B) (o : Option A) (y : B) → option_map f o ≡ Some y → (x : A) × (o ≡ Some x) × (f x ≡ y)
 map_some f None y e = cc
-map_some f (Some x) y e = (x, refl, some_is (f x) y e)
+map_some f (Some x) y e = (x, refl, same_Some (f x) y e)
 
 -- ---- Elements
 
@@ -98,7 +96,7 @@ module _ {A : Type 0} (test : A → Bool) where
 
   -- what is found
   found_one : (b : Bool) (x y : A) (rest : Option A) → cond b (Some x) rest ≡ Some y → ((b ≡ true) × (x ≡ y)) ⊎ (rest ≡ Some y)
-  found_one true x y rest e = inl (refl, some_is x y e)
+  found_one true x y rest e = inl (refl, same_Some x y e)
   found_one false x y rest e = inr e
 
   pub found : (xs : List A) (y : A) → find test xs ≡ Some y → Contains xs y × (test y ≡ true)

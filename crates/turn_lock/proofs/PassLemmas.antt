@@ -2,6 +2,7 @@
 use Rattle.std.proofs.Common.{◌≡◌, ℕ, ◌+◌, ◌%◌, ◌^◌, ◌<◌, ◌==◌, Bool, true, false, not, ◌&&◌, cond, List, [], ◌∷◌, length, Contains, Option, Some, None, is_none, refl, sym, ap, ◌∙◌, subst, arith, true≢false, eqb-true}
 use mathlib.Core.Option.{none}
 use Rattle.std.specs.declared.snapshot.Snapshot.{Snapshot}
+use Rattle.std.proofs.lemmas.Bool.{not-true}
 use Rattle.atomic_table.specs.Table.{Me, step, Allows, rest}
 use Rattle.turn_lock.specs.declared.kept.Kept.{Ghosts}
 use Rattle.turn_lock.specs.declared.kept.Shown.{Shown}
@@ -23,10 +24,6 @@ use Rattle.turn_lock.proofs.StepLemmas.{some_step, draws, looks, counts_one, pub
 both : (a b : Bool) → (a && b) ≡ true → (a ≡ true) × (b ≡ true)
 both true b e = (refl, e)
 both false b e = absurd (true≢false (sym e))
-
-not_true : (b : Bool) → not b ≡ true → b ≡ false
-not_true true e = absurd (true≢false (sym e))
-not_true false e = refl
 
 nil_is : {A : Type 0} (xs : List A) → is_nil xs ≡ true → xs ≡ []
 nil_is [] e = refl
@@ -75,7 +72,7 @@ module _ {K E G : Type 0} where
       let x = both (is_none me.0.number && is_nil me.1 && not me.0.cycles.owes) (not me.0.tickets.owes) i in
       let y = both (is_none me.0.number && is_nil me.1) (not me.0.cycles.owes) x.0 in
       let z = both (is_none me.0.number) (is_nil me.1) y.0 in
-      record { number = none_is me.0.number z.0; slot = nil_is me.1 z.1; cycles = not_true me.0.cycles.owes y.1; tickets = not_true me.0.tickets.owes x.1; absorbed = nil_is me.0.absorbed b.0 }
+      record { number = none_is me.0.number z.0; slot = nil_is me.1 z.1; cycles = not-true me.0.cycles.owes y.1; tickets = not-true me.0.tickets.owes x.1; absorbed = nil_is me.0.absorbed b.0 }
 
   -- the slot can be written, since it is held
   pub slot_held : (me : Me (Spot K) (View E G)) → stands me ≡ true → me.0.holds ≡ true → (old : Spot K) × (me.1 ≡ (0, old) ∷ rest me.1)

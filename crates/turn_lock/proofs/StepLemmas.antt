@@ -8,6 +8,7 @@ use native.Mathlib.Nat.{mod-eq_of_lt}
 use lib.ListN.{get_elem?}
 use Rattle.std.proofs.Math.Nat.{mod-add-mod}
 use Rattle.std.specs.declared.snapshot.Snapshot.{Snapshot}
+use Rattle.std.proofs.lemmas.Option.{same_Some}
 use Rattle.atomic_table.specs.Table.{State, Me, Step, step, keeps, takes, gives, Allows, homes_after, rest}
 use Rattle.atomic_table.proofs.Lists.{one_turn, set_here}
 use Rattle.turn_lock.specs.declared.kept.Shown.{Shown}
@@ -114,9 +115,6 @@ named_in other ((k, Counted named) ∷ xs) = named
 
 served_on : (n k : ℕ) → k ≤ n → n ≢ k → k + 1 ≤ n
 served_on n k le ne = omega arith
-
-some_same : {A : Type 0} (a b : A) → Some a ≡ Some b → a ≡ b
-some_same a b e = cc
 
 -- ---- One ticket out, at most as many as lie between
 
@@ -461,7 +459,7 @@ module _ {K E G : Type 0} (m : Ghosts K E G) (footing : G) (seats : ℕ) where
               kept = kept;
               there = home;
               list = list ∙ turn.1;
-              ground_is = some_same _ _ (sym ground_is ∙ f.ground_is alive);
+              ground_is = same_Some _ _ (sym ground_is ∙ f.ground_is alive);
               current = λ which. subst (λ l. m.shown which l ≤ value which r.at) turn.1 ((f.posted which).current (paid which));
             })),
         ap (λ (l : List (ℕ × Spot K)). (w, rest l)) has,
