@@ -1,6 +1,6 @@
 -- The end of a cycle, with the parts of the desk.
 use Rattle.std.proofs.Common.{◌≡◌, ℕ, suc, ◌+◌, ◌<◌, Bool, true, false, cond, List, [], ◌∷◌, ◌++◌, length, map, get_or, drop, Option, Some, None, refl, sym, ap, ap₂, subst, ◌∙◌, arith}
-use Rattle.std.specs.Prelude.{◌&&◌, not, filter, option_map, is_some, slice_get, sum_by, if◌then◌else◌, IfSome}
+use Rattle.std.specs.Prelude.{◌&&◌, not, filter, is_some, slice_get, sum_by, if◌then◌else◌, IfSome}
 use Rattle.std.specs.List.{All, AllByRecursion}
 use Rattle.std.proofs.lemmas.List.{length-map}
 use Rattle.std.proofs.lemmas.List.Sums.{sum_by-cons}
@@ -20,7 +20,7 @@ use Rattle.cm_model.specs.Values.{InterfaceValue, after_reads}
 use Rattle.cm_model.specs.declared.member.Member.{Member}
 use Rattle.cm_model.specs.declared.record_room.RecordRoom.{RecordRoom}
 use Rattle.cm_model.specs.Ran.{Ran}
-use Rattle.cm_model.proofs.UpdateLemmas.{updates_keep, step_keeps_mark}
+use Rattle.cm_model.proofs.UpdateLemmas.{updates_keep, step_keeps_mark, some_as_mapped}
 use Rattle.cm_hardware.specs.Holding.{IsHardwareOf, IsMoved, IsInCycle, IsRead, ReadInCycle, FinishedCycle, reads_failed_in, writes_failed_in}
 use Rattle.cm_hardware.specs.Wiring.{Wired, Mounted, writes_to_fail, one_if, fails_write}
 use Rattle.cm_hardware.proofs.LentLemmas.{moved_is_held}
@@ -88,10 +88,6 @@ actives_by (l ∷ ls) = one (filter (λ (i : Ident). i.active) (map ident ls)) (
         → map (λ (i : Ident). record { serial = i.serial; place = i.place }) (cond b (ident l ∷ is) is) ≡ map member_of (cond b (l ∷ kept) kept)
     one is kept true same = ap (λ ms. member_of l ∷ ms) same
     one is kept false same = same
-
-some_as_mapped : {A B : Type 0} (f : A → B) (o : Option A) → is_some (option_map f o) ≡ is_some o
-some_as_mapped f None = refl
-some_as_mapped f (Some x) = refl
 
 stepped_ident : (s : State) (values : List InterfaceValue) (serial : ℕ) (l : Loaded) → ident (stepped_at s values serial l) ≡ ident l
 stepped_ident s values serial l =

@@ -4,9 +4,8 @@ use Rattle.std.specs.Prelude.{◌==◌, ◌&&◌, if◌then◌else◌, slice_get
 use Rattle.std.specs.List.{All, AllByRecursion}
 use Rattle.std.proofs.lemmas.List.{length-map}
 use Rattle.std.proofs.lemmas.List.Elements.{All-from_recursion, recursion_from_All}
-use Rattle.fixed_num.specs.declared.value.Value.{Value}
+use Rattle.ctl_slots.proofs.UpdateLemmas.{step_kind}
 use Rattle.cm_document.specs.Params.{kind_of}
-use Rattle.cm_document.specs.declared.call.Mail.{Mail}
 use Rattle.cm_document.specs.declared.description.CtlKind.{CtlKind}
 use Rattle.cm_document.specs.declared.description.Description.{Description}
 use Rattle.cm_document.specs.declared.description.Params.{Params}
@@ -15,7 +14,7 @@ use Rattle.cm_model.specs.Boundary.{with_switch, with_move_unless, with_move, co
 use Rattle.cm_model.specs.Claims.{states_for, refs_for}
 use Rattle.cm_model.specs.Commit.{scene_of, described_of, coming, leaving, committed, commit}
 use Rattle.cm_model.specs.Components.{read_succeeds}
-use Rattle.cm_model.specs.Controllers.{activated, mailed, step_with, ctl_step}
+use Rattle.cm_model.specs.Controllers.{activated}
 use Rattle.cm_model.specs.Cycle.{component_is, tick_of, mail_for, step_of, stepped_at, updated_in, cycle, landed, is_due_now, without_mail_off, begun}
 use Rattle.cm_model.specs.Order.{Places}
 use Rattle.cm_model.specs.State.{State, Loaded, is_active}
@@ -25,10 +24,8 @@ use Rattle.cm_model.specs.Switches.{Decided, refused, done, is_stopped, is_start
 use Rattle.cm_model.specs.Values.{InterfaceValue, after_reads}
 use Rattle.cm_model.specs.declared.cause.Cause.{Cause}
 use Rattle.cm_model.specs.declared.data.CtlData.{CtlData}
-use Rattle.cm_model.specs.declared.data.RunData.{RunData}
 use Rattle.cm_model.specs.declared.request.Request.{Request}
 use Rattle.cm_model.specs.declared.request.Request.TheVariants as request
-use Rattle.cm_model.specs.declared.tick.Tick.{Tick}
 use Rattle.cm_model.proofs.UpdateLemmas.{updates_keep}
 use Rattle.cm_desk.specs.Roster.{serials_of}
 use Rattle.cm_desk.specs.Works.{IsAsDescribed}
@@ -57,26 +54,12 @@ committed_stays s set stopped started l = either (started l.place) (stopped l.pl
     either false true = refl
     either false false = refl
 
-step_with_kind : (ctl : CtlData) (params : Option Params) (part : Option RunData) (tick : Tick) (states : List ℤ) (refs : List Value)
-    → (step_with ctl params part tick states refs).after.kind ≡ ctl.kind
-step_with_kind ctl (Some p) (Some r) tick states refs = refl
-step_with_kind ctl (Some p) None tick states refs = refl
-step_with_kind ctl None part tick states refs = refl
-
-mailed_kind : (ctl : CtlData) (part : Option RunData) (mail : Mail) → ctl.run ≡ part → (mailed ctl mail).kind ≡ ctl.kind
-mailed_kind ctl None mail e = rw e refl
-mailed_kind ctl (Some r) mail e = rw e refl
-
-ctl_step_kind : (ctl : CtlData) (tick : Tick) (states : List ℤ) (refs : List Value) (mail : Option Mail) → (ctl_step ctl tick states refs mail).after.kind ≡ ctl.kind
-ctl_step_kind ctl tick states refs None = step_with_kind ctl ctl.params ctl.run tick states refs
-ctl_step_kind ctl tick states refs (Some mail) = step_with_kind (mailed ctl mail) (mailed ctl mail).params (mailed ctl mail).run tick states refs ∙ mailed_kind ctl ctl.run mail refl
-
 pub stepped_stays : (s : State) (values : List InterfaceValue) (serial : ℕ) (l : Loaded) → staying (stepped_at s values serial l) ≡ staying l
 stepped_stays s values serial l = either (l.serial == serial)
   where
     either : (b : Bool) → staying (if b then record l { ctl = (step_of s values l).after } else l) ≡ staying l
     either true = ap (λ (k : CtlKind). record { serial = l.serial; place = l.place; kind = k })
-        (ctl_step_kind l.ctl (tick_of s l) (states_for values (described_of s l)) (refs_for values (described_of s l)) (mail_for s l.serial))
+        (step_kind l.ctl (tick_of s l) (states_for values (described_of s l)) (refs_for values (described_of s l)) (mail_for s l.serial))
     either false = refl
 
 mail_stays : (s : State) (l : Loaded) → staying (without_mail_off s l) ≡ staying l

@@ -21,7 +21,7 @@ pub record Gives {D A : Type 0} (reads : Reads D A) (P : A → Type 0) : Type 0 
 -- ---- A table, key by key
 
 -- of what is read, nothing need be known
-anything : {A E : Type 0} (r : Result A E) → IfOk r (λ _. Unit {0})
+pub anything : {A E : Type 0} (r : Result A E) → IfOk r (λ _. Unit {0})
 anything (Ok x) = tt
 anything (Err e) = tt
 

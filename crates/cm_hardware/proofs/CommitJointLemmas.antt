@@ -8,14 +8,16 @@ use Rattle.sequence.proofs.ListLemmas.{all_append}
 use Rattle.cm_document.specs.Places.{Interface, a_state, a_command, at_joints, at_components, at_controllers, interfaces_of}
 use Rattle.cm_document.specs.declared.description.CompDesc.{CompDesc}
 use Rattle.cm_document.specs.declared.description.Description.{Description}
+use Rattle.cm_document.proofs.DistinctLemmas.{all_so}
 use Rattle.cm_model.specs.Cycle.{commands_at, claims_in}
 use Rattle.cm_model.specs.State.{State, owner}
 use Rattle.cm_model.specs.Values.{InterfaceValue}
+use Rattle.cm_model.proofs.InterfaceLemmas.{all_map_back}
 use Rattle.loan_board.specs.declared.board.Loan.{Loan}
 use Rattle.cm_hardware.specs.Committed.{numbers_from, claims_on}
 use Rattle.cm_hardware.specs.Wiring.{Mounted, loan_of, all_states, commands_count}
-use Rattle.cm_hardware.proofs.HeldLemmas.{IsBefore, is_command_at, all_then, joints_so, components_so, references_so, same_place, other_place, other_place_after, middle_passes, states_stand}
-use Rattle.cm_hardware.proofs.ReadLemmas.{parted, all_of_map, interfaces_count}
+use Rattle.cm_hardware.proofs.HeldLemmas.{IsBefore, is_command_at, joints_so, components_so, references_so, same_place, other_place, other_place_after, middle_passes, states_stand}
+use Rattle.cm_hardware.proofs.ReadLemmas.{parted, interfaces_count}
 
 -- ---- Where they stand
 
@@ -49,21 +51,21 @@ stand_from component place pre vs (m ∷ ms) others is before none =
     let count : commands_count m ≡ length p.first =
     interfaces_count a_command (λ j. j.commands) component 0 place c.joints ∙ sym (ap length p.front_is) ∙ length-map p.first (λ (v : InterfaceValue). v.interface) in
     let here : AllByRecursion (λ (v : InterfaceValue). is_command_at component v.interface ≡ true) p.first =
-    all_of_map (λ i. is_command_at component i ≡ true) (λ v. v.interface) p.first
+    all_map_back (λ i. is_command_at component i ≡ true) (λ v. v.interface) p.first
     (rw p.front_is (joints_so (λ i. is_command_at component i ≡ true) a_command (λ j. j.commands) component place (λ place name. same_place component) c.joints)) in
     let behind : AllByRecursion (λ (v : InterfaceValue). is_command_at component v.interface ≡ false) p.rest =
-    all_of_map (λ i. is_command_at component i ≡ false) (λ v. v.interface) p.rest
+    all_map_back (λ i. is_command_at component i ≡ false) (λ v. v.interface) p.rest
     (rw p.back_is (all_append (λ i. is_command_at component i ≡ false) (at_components a_command (λ j. j.commands) (component + 1) (place + length c.joints) cs) others
     (components_so (λ i. is_command_at component i ≡ false) a_command (λ j. j.commands) (component + 1) (place + length c.joints) (λ k place name from. other_place component k (omega (arith, from))) cs)
-    (all_then _ _ (λ (i : Interface) (each : (k : ℕ) → is_command_at k i ≡ false). each component) others none))) in
+    (all_so _ _ (λ (i : Interface) (each : (k : ℕ) → is_command_at k i ≡ false). each component) others none))) in
     let passes : filter (λ (v : InterfaceValue). is_command_at component v.interface) (pre ++ (p.first ++ p.rest)) ≡ p.first =
     middle_passes (λ (v : InterfaceValue). is_command_at component v.interface) pre p.first p.rest
-    (all_then (λ (v : InterfaceValue). IsBefore component v.interface) (λ (v : InterfaceValue). is_command_at component v.interface ≡ false) (λ v b. b component (omega arith)) pre before) here behind in
+    (all_so (λ (v : InterfaceValue). IsBefore component v.interface) (λ (v : InterfaceValue). is_command_at component v.interface ≡ false) (λ v b. b component (omega arith)) pre before) here behind in
     let pre' = pre ++ p.first in
     let earlier : AllByRecursion (λ (v : InterfaceValue). IsBefore (component + 1) v.interface) pre' =
     all_append (λ (v : InterfaceValue). IsBefore (component + 1) v.interface) pre p.first
-    (all_then (λ (v : InterfaceValue). IsBefore component v.interface) (λ (v : InterfaceValue). IsBefore (component + 1) v.interface) (λ v b k from. b k (omega (arith, from))) pre before)
-    (all_of_map (IsBefore (component + 1)) (λ v. v.interface) p.first
+    (all_so (λ (v : InterfaceValue). IsBefore component v.interface) (λ (v : InterfaceValue). IsBefore (component + 1) v.interface) (λ v b k from. b k (omega (arith, from))) pre before)
+    (all_map_back (IsBefore (component + 1)) (λ v. v.interface) p.first
     (rw p.front_is (joints_so (IsBefore (component + 1)) a_command (λ j. j.commands) component place (λ place name k from. other_place_after k component (omega (arith, from))) c.joints))) in
     let rest = stand_from (component + 1) (place + length c.joints) pre' p.rest ms others p.back_is earlier none in
     let all = pre ++ (p.first ++ p.rest) in
@@ -88,7 +90,7 @@ stand_all d vs ms components is =
     sym (length-map p.first (λ (v : InterfaceValue). v.interface))
     ∙ ap length (p.front_is ∙ ap (at_components a_state (λ j. j.states) 0 0) components) ∙ states_stand (λ i. None) (λ i. true) 0 0 ms in
     let before : AllByRecursion (λ (v : InterfaceValue). IsBefore 0 v.interface) p.first =
-    all_of_map (IsBefore 0) (λ v. v.interface) p.first (rw p.front_is (components_so (IsBefore 0) a_state (λ j. j.states) 0 0 (λ k place name from n least. refl) d.components)) in
+    all_map_back (IsBefore 0) (λ v. v.interface) p.first (rw p.front_is (components_so (IsBefore 0) a_state (λ j. j.states) 0 0 (λ k place name from n least. refl) d.components)) in
     let none : AllByRecursion (λ (i : Interface). (k : ℕ) → is_command_at k i ≡ false) (at_controllers 0 d.controllers) =
     references_so (λ (i : Interface). (k : ℕ) → is_command_at k i ≡ false) (λ name place k. refl) 0 d.controllers in
     rw (p.whole, sym at)

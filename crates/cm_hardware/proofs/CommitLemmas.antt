@@ -31,6 +31,7 @@ use Rattle.cm_model.specs.Sound.{CanRunTogether}
 use Rattle.cm_model.specs.State.{State, Loaded, is_active, active, claims_name, owner, available, available_in}
 use Rattle.cm_model.specs.Switches.{is_stopped}
 use Rattle.cm_model.specs.Values.{InterfaceValue, unset}
+use Rattle.cm_model.proofs.InterfaceLemmas.{all_map_back}
 use Rattle.chain_order.specs.Links.{places_below}
 use Rattle.ctl_places.specs.Placed.{Placed, claimers_of, exporter_of, placed_of}
 use Rattle.loan_board.specs.Loans.{with_loan}
@@ -45,7 +46,6 @@ use Rattle.cm_hardware.proofs.CommitOwnerLemmas.{found_any, owner_by_place}
 use Rattle.cm_hardware.proofs.HeldLemmas.{components_so}
 use Rattle.cm_hardware.proofs.MoveLemmas.{interfaces_stay}
 use Rattle.cm_hardware.proofs.PresentLemmas.{owned_is_available}
-use Rattle.cm_hardware.proofs.ReadLemmas.{all_of_map}
 
 -- ---- Places one after the other
 
@@ -292,7 +292,7 @@ module _ (s : State) (loaded : List Loaded) (off : Places) (serials : List (Opti
       let ms = w.components in
       let loans : List Loan = all_relent (placed_of s.description) serials flags w.loans in
       let placed : AllByRecursion (λ (v : InterfaceValue). InPlace (length cs) v.interface) s.values =
-      all_of_map (InPlace (length cs)) (λ (v : InterfaceValue). v.interface) s.values (subst (AllByRecursion (InPlace (length cs))) (sym lent.wired.interfaces) (all_placed s.description)) in
+      all_map_back (InPlace (length cs)) (λ (v : InterfaceValue). v.interface) s.values (subst (AllByRecursion (InPlace (length cs))) (sym lent.wired.interfaces) (all_placed s.description)) in
       let board : loans ≡ map (loan_of (owner t) (available t)) t.values =
       ap (all_relent (placed_of s.description) serials flags) lent.loans ∙ named placed has lent.empty lent.wired.interfaces in
       let described : map (λ (v : InterfaceValue). v.interface) t.values ≡ interfaces_of s.description = interfaces_stay (freed_of s off) freed_keeps s.values ∙ lent.wired.interfaces in

@@ -4,6 +4,7 @@ use Rattle.std.specs.Prelude.{◌==◌, ◌&&◌, ◌||◌, if◌then◌else◌,
 use Rattle.std.specs.List.{AllByRecursion, list_any}
 use Rattle.std.specs.Option.{option_map_or, option_or}
 use Rattle.std.proofs.lemmas.Bool.{and_parts, and_from, or_right, eqb-true, eq-eqb, false_from_ne_true, cases_lt}
+use Rattle.ctl_places.proofs.FirstLemmas.{none_found}
 use Rattle.iface_names.specs.Interfaces.{same_interface}
 use Rattle.iface_names.specs.Sameness.{same_interface-IsEquivalence}
 use Rattle.iface_names.specs.declared.interface.IfaceName.{IfaceName}
@@ -33,15 +34,6 @@ find_same f g (x ∷ xs) all = by_test (g x) refl (find_same f g xs all.1)
 pub find_none : {A : Type 0} (f : A → Bool) (xs : List A) → AllByRecursion (λ x. f x ≡ false) xs → find f xs ≡ None
 find_none f [] all = refl
 find_none f (x ∷ xs) all = rw all.0 (find_none f xs all.1)
-
--- and the other way round
-none_found : {A : Type 0} (f : A → Bool) (xs : List A) → find f xs ≡ None → AllByRecursion (λ x. f x ≡ false) xs
-none_found f [] none = tt
-none_found {A = A} f (x ∷ xs) none = by_test (f x) refl (none_found f xs)
-  where
-    by_test : (b : Bool) → f x ≡ b → (find f xs ≡ None → AllByRecursion (λ x. f x ≡ false) xs) → AllByRecursion (λ x. f x ≡ false) (x ∷ xs)
-    by_test true is rest = let bad : Some x ≡ None = rw is at none in cc
-    by_test false is rest = (is, rest (rw is at none))
 
 -- what is found passes, and is one of them
 pub found_passes : {A : Type 0} (f : A → Bool) (xs : List A) (y : A) → find f xs ≡ Some y → (f y ≡ true) × ((g : A → Bool) → g y ≡ true → list_any g xs ≡ true)

@@ -6,6 +6,7 @@ use Rattle.std.specs.Option.{option_map_or}
 use Rattle.std.proofs.lemmas.Bool.{eq-eqb, ne_eqb}
 use Rattle.std.proofs.lemmas.List.{length-map}
 use Rattle.std.proofs.lemmas.Option.{slice_get-map}
+use Rattle.cm_document.proofs.DistinctLemmas.{all_so}
 use Rattle.sequence.proofs.ListLemmas.{all_append}
 use Rattle.fixed_num.specs.declared.value.Value.{Value}
 use Rattle.iface_names.specs.declared.interface.IfaceName.{IfaceName}
@@ -21,11 +22,12 @@ use Rattle.cm_model.specs.Components.{claimed_by}
 use Rattle.cm_model.specs.Cycle.{commands_at, claims_in}
 use Rattle.cm_model.specs.State.{State, owner}
 use Rattle.cm_model.specs.Values.{InterfaceValue, belongs_to}
+use Rattle.cm_model.proofs.InterfaceLemmas.{all_map_back}
 use Rattle.loan_board.specs.declared.board.Loan.{Loan}
 use Rattle.loan_board.specs.Loans.{loan_at}
 use Rattle.cm_hardware.specs.Holding.{AreClaimed}
 use Rattle.cm_hardware.specs.Wiring.{Mounted, loan_of, all_states, commands_count, values_at}
-use Rattle.cm_hardware.proofs.ReadLemmas.{parted, all_of_map, interfaces_count}
+use Rattle.cm_hardware.proofs.ReadLemmas.{parted, interfaces_count}
 use Rattle.cm_hardware.proofs.StepLemmas.{AreHeld}
 
 -- ---- Which interfaces are a component's commands
@@ -99,11 +101,6 @@ middle_passes test [] [] rest before here after = all_false test rest after
 middle_passes test [] (x ∷ mid) rest before here after = rw here.0 (ap (λ l. x ∷ l) (middle_passes test [] mid rest before here.1 after))
 middle_passes test (x ∷ pre) mid rest before here after = rw before.0 (middle_passes test pre mid rest before.1 here after)
 
--- each of what implies something else of each
-pub all_then : {A : Type 0} (P Q : A → Type 0) → ((x : A) → P x → Q x) → (xs : List A) → AllByRecursion P xs → AllByRecursion Q xs
-all_then P Q each [] all = tt
-all_then P Q each (x ∷ xs) all = (each x all.0, all_then P Q each xs all.1)
-
 -- ---- What the board holds
 
 module _ (own : Interface → Option ℕ) (there : Interface → Bool) where
@@ -128,12 +125,12 @@ module _ (own : Interface → Option ℕ) (there : Interface → Bool) where
       → values_at (kept (pre ++ (mid ++ rest))) (length pre) (length mid) ≡ map (λ (v : InterfaceValue). v.value) (commands_at component (pre ++ (mid ++ rest)))
   held_one component place c pre mid rest is before after =
       let here : AllByRecursion (λ (v : InterfaceValue). is_command_at component v.interface ≡ true) mid =
-      all_of_map (λ i. is_command_at component i ≡ true) (λ v. v.interface) mid
+      all_map_back (λ i. is_command_at component i ≡ true) (λ v. v.interface) mid
       (rw is (joints_so (λ i. is_command_at component i ≡ true) a_command (λ j. j.commands) component place (λ place name. same_place component) c.joints)) in
       values_middle pre mid rest
       ∙ ap (map (λ (v : InterfaceValue). v.value))
       (sym (middle_passes (λ (v : InterfaceValue). is_command_at component v.interface) pre mid rest
-      (all_then (λ (v : InterfaceValue). IsBefore component v.interface) (λ (v : InterfaceValue). is_command_at component v.interface ≡ false) (λ v b. b component (omega arith)) pre before) here after))
+      (all_so (λ (v : InterfaceValue). IsBefore component v.interface) (λ (v : InterfaceValue). is_command_at component v.interface ≡ false) (λ v b. b component (omega arith)) pre before) here after))
 
   -- so of all that are left
   held_from : (component place : ℕ) (pre vs : List InterfaceValue) (ms : List Mounted) (others : List Interface)
@@ -151,15 +148,15 @@ module _ (own : Interface → Option ℕ) (there : Interface → Bool) where
       let later : AllByRecursion (λ (i : Interface). is_command_at component i ≡ false) (back ++ others) =
       all_append (λ (i : Interface). is_command_at component i ≡ false) back others
       (components_so (λ i. is_command_at component i ≡ false) a_command (λ j. j.commands) (component + 1) (place + length c.joints) (λ k place name from. other_place component k (omega (arith, from))) cs)
-      (all_then (λ (i : Interface). (k : ℕ) → is_command_at k i ≡ false) (λ (i : Interface). is_command_at component i ≡ false) (λ i n. n component) others none) in
-      let after : AllByRecursion (λ (v : InterfaceValue). is_command_at component v.interface ≡ false) p.rest = all_of_map (λ i. is_command_at component i ≡ false) (λ v. v.interface) p.rest (rw p.back_is later) in
+      (all_so (λ (i : Interface). (k : ℕ) → is_command_at k i ≡ false) (λ (i : Interface). is_command_at component i ≡ false) (λ i n. n component) others none) in
+      let after : AllByRecursion (λ (v : InterfaceValue). is_command_at component v.interface ≡ false) p.rest = all_map_back (λ i. is_command_at component i ≡ false) (λ v. v.interface) p.rest (rw p.back_is later) in
       let one = held_one component place c pre p.first p.rest p.front_is before after in
       let pre' = pre ++ p.first in
       let own_ones : AllByRecursion (λ (v : InterfaceValue). IsBefore (component + 1) v.interface) p.first =
-      all_of_map (IsBefore (component + 1)) (λ v. v.interface) p.first
+      all_map_back (IsBefore (component + 1)) (λ v. v.interface) p.first
       (rw p.front_is (joints_so (IsBefore (component + 1)) a_command (λ j. j.commands) component place (λ place name k from. other_place_after k component (omega (arith, from))) c.joints)) in
       let earlier : AllByRecursion (λ (v : InterfaceValue). IsBefore (component + 1) v.interface) pre =
-      all_then (λ (v : InterfaceValue). IsBefore component v.interface) (λ (v : InterfaceValue). IsBefore (component + 1) v.interface) (λ v b k from. b k (omega (arith, from))) pre before in
+      all_so (λ (v : InterfaceValue). IsBefore component v.interface) (λ (v : InterfaceValue). IsBefore (component + 1) v.interface) (λ v b k from. b k (omega (arith, from))) pre before in
       let rest = held_from (component + 1) (place + length c.joints) pre' p.rest ms others p.back_is (all_append (λ (v : InterfaceValue). IsBefore (component + 1) v.interface) pre p.first earlier own_ones) none in
       let all = pre ++ (p.first ++ p.rest) in
       let front : all ≡ pre' ++ p.rest = sym (append_assoc pre p.first p.rest) in
@@ -187,7 +184,7 @@ module _ (own : Interface → Option ℕ) (there : Interface → Bool) where
       let at : length p.first ≡ all_states ms =
       sym (length-map p.first (λ (v : InterfaceValue). v.interface)) ∙ ap length (p.front_is ∙ ap (at_components a_state (λ j. j.states) 0 0) components) ∙ states_stand 0 0 ms in
       let before : AllByRecursion (λ (v : InterfaceValue). IsBefore 0 v.interface) p.first =
-      all_of_map (IsBefore 0) (λ v. v.interface) p.first (rw p.front_is (components_so (IsBefore 0) a_state (λ j. j.states) 0 0 (λ k place name from n least. refl) d.components)) in
+      all_map_back (IsBefore 0) (λ v. v.interface) p.first (rw p.front_is (components_so (IsBefore 0) a_state (λ j. j.states) 0 0 (λ k place name from n least. refl) d.components)) in
       let none : AllByRecursion (λ (i : Interface). (k : ℕ) → is_command_at k i ≡ false) (at_controllers 0 d.controllers) =
       references_so (λ (i : Interface). (k : ℕ) → is_command_at k i ≡ false) (λ name place k. refl) 0 d.controllers in
       rw (p.whole, sym at)

@@ -7,8 +7,9 @@ use Rattle.cm_document.specs.declared.description.CompDesc.{CompDesc}
 use Rattle.cm_model.specs.Components.{state_interfaces, command_interfaces, measured_states, read_succeeds}
 use Rattle.loan_board.specs.declared.board.Loan.{Loan}
 use Rattle.loan_board.specs.Loans.{IsSound, loan_at, with_loan, set}
+use Rattle.loan_board.proofs.BoardLemmas.{idle-IsSound, set-IsSound}
 use Rattle.cm_hardware.specs.Wiring.{Mounted, Wired, states_count, all_states, commands_count, all_commands, all_joints, AreFew, AreSound, vacated, can_fail, most_failures, one_if, read, all_written, stepped_on, after_failure, with_values, after_read_of, after_reads_of, has_left, changed_where, after_reads_in, components_run, after_run, IsSameBuild, IsManaged}
-use Rattle.cm_hardware.proofs.SoundLemmas.{idle_sound, sound_at, sound_with}
+use Rattle.cm_hardware.proofs.SoundLemmas.{sound_at, sound_with}
 use Rattle.cm_hardware.proofs.StillLemmas.{if_both}
 use Rattle.cm_hardware.proofs.StepLemmas.{written_description, failure_description}
 
@@ -88,12 +89,8 @@ alike_after n dt_us at loans ms =
 
 -- ---- The board
 
--- what holds another value is as sound
-set_sound : (value : Value) (loan : Loan) → IsSound loan → IsSound (set value loan)
-set_sound value loan sound = record { command = sound.command; available = sound.available }
-
 pub sound_set : (loans : List Loan) (place : ℕ) (value : Value) → AreSound loans → AreSound (with_loan loans place (set value))
-sound_set loans place value sound = sound_with loans place (set value) sound (set_sound value (loan_at loans place) (sound_at loans place sound))
+sound_set loans place value sound = sound_with loans place (set value) sound (set-IsSound value (loan_at loans place) (sound_at loans place sound))
 
 pub sound_values : (loans : List Loan) (at : ℕ) (values : List Value) → AreSound loans → AreSound (with_values loans at values)
 sound_values loans at [] sound = sound
@@ -168,4 +165,4 @@ pub managed : (first n dt_us : ℕ) (w : Wired) → IsManaged first w → IsMana
 managed first n dt_us w m =
     let run = components_run n dt_us w in
     managed_so first w (after_run n dt_us w) m (alike_after n dt_us (all_states w.components) w.loans w.components) (length_where (has_left run) vacated 0 w.places w.loans) refl
-    (sound_where (has_left run) vacated 0 w.places w.loans (λ (loan : Loan) (so : IsSound loan). idle_sound loan.is_command) m.sound)
+    (sound_where (has_left run) vacated 0 w.places w.loans (λ (loan : Loan) (so : IsSound loan). idle-IsSound loan.is_command) m.sound)

@@ -14,7 +14,7 @@ use Rattle.cm_model.specs.State.{State, Loaded, is_active, active, claims_name, 
 use Rattle.cm_model.specs.Values.{InterfaceValue}
 use Rattle.cm_model.specs.declared.data.CtlData.{CtlData}
 use Rattle.cm_model.proofs.ControllerLemmas.{ctl_step_keeps_chained}
-use Rattle.cm_model.proofs.UpdateLemmas.{updates_keep}
+use Rattle.cm_model.proofs.UpdateLemmas.{updates_keep, some_as_mapped}
 use Rattle.loan_board.specs.declared.board.Loan.{Loan}
 use Rattle.cm_hardware.specs.Holding.{IsHardwareOf, IsLent, IsMoved, holder}
 use Rattle.cm_hardware.specs.Wiring.{Wired, AreSound, loan_of}
@@ -45,10 +45,6 @@ find_alike test (x ∷ xs) (y ∷ ys) same =
     by_test true tests is serials rest = rw (tests ∙ is, is) (ap (λ (n : ℕ). Some n) serials)
     by_test false tests is serials rest = rw (tests ∙ is, is) rest
 
-some_mapped : {A B : Type 0} (f : A → B) (o : Option A) → is_some (option_map f o) ≡ is_some o
-some_mapped f None = refl
-some_mapped f (Some x) = refl
-
 -- an active controller that claims the interface
 abbrev owns : State → IfaceName → Loaded → Bool
 owns s name l = is_active l && claims_name s.description.controllers name l
@@ -63,7 +59,7 @@ step_owns s values name serial l = either (l.serial == serial)
         let after : CtlData = (step_of s values l).after in
         let chained : option_map runs_chained after.run ≡ option_map runs_chained l.ctl.run =
         ctl_step_keeps_chained l.ctl (tick_of s l) (states_for values (described_of s l)) (refs_for values (described_of s l)) (mail_for s l.serial) in
-        let runs : is_some after.run ≡ is_some l.ctl.run = sym (some_mapped runs_chained after.run) ∙ ap (λ (o : Option Bool). is_some o) chained ∙ some_mapped runs_chained l.ctl.run in
+        let runs : is_some after.run ≡ is_some l.ctl.run = sym (some_as_mapped runs_chained after.run) ∙ ap (λ (o : Option Bool). is_some o) chained ∙ some_as_mapped runs_chained l.ctl.run in
         ap (λ (b : Bool). told (b && claims_name s.description.controllers name l) l.serial) runs
     either false = refl
 

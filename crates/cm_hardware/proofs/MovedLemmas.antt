@@ -8,9 +8,9 @@ use Rattle.hw_component.specs.declared.faults.HwFault.{HwFault}
 use Rattle.hw_component.specs.declared.faults.HwFault.TheVariants.{NoSuchMove}
 use Rattle.loan_board.specs.declared.board.Loan.{Loan}
 use Rattle.loan_board.specs.Loans.{IsSound, made_available}
+use Rattle.loan_board.proofs.BoardLemmas.{idle-IsSound}
 use Rattle.cm_hardware.specs.Wiring.{Mounted, Wired, AreSound, vacated, states_count, all_states, life_in, moved_at, move_answer, is_of, measured_in, measured_of, changed_where, settled, after_move_at, IsSameBuild, IsManaged}
 use Rattle.cm_hardware.proofs.KeepLemmas.{Alike, alike_same, same_build, managed_so, sound_values, sound_where, length_values, length_where}
-use Rattle.cm_hardware.proofs.SoundLemmas.{idle_sound}
 use Rattle.cm_hardware.proofs.StillLemmas.{if_both}
 
 -- ---- The component that moves
@@ -107,7 +107,7 @@ module _ (place : ℕ) (ms : List Mounted) (places : List (Option ℕ)) (loans :
   sound_case true true sound = sound
   sound_case true false sound =
       sound_values opened (all_states (take place ms)) (measured_in place ms) (sound_where (is_of place) (made_available true) 0 places loans opened_sound sound)
-  sound_case false had sound = sound_where (is_of place) vacated 0 places loans (λ loan so. idle_sound loan.is_command) sound
+  sound_case false had sound = sound_where (is_of place) vacated 0 places loans (λ loan so. idle-IsSound loan.is_command) sound
 
   pub sound_settled : (had : Bool) → AreSound loans → AreSound (settled place had ms places loans)
   sound_settled had sound = sound_case (is_available (life_in place ms)) had sound

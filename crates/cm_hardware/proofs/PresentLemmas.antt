@@ -40,10 +40,10 @@ use Rattle.cm_model.specs.Sound.{names_at, CanRunTogether}
 use Rattle.cm_model.specs.State.{State, Loaded, is_active, active, claims_name, owner, available, available_in}
 use Rattle.cm_model.specs.Values.{InterfaceValue, running}
 use Rattle.cm_model.proofs.LoadedLemmas.{any_same}
+use Rattle.cm_model.proofs.InterfaceLemmas.{all_map_back}
 use Rattle.ctl_places.specs.Placed.{command_place}
 use Rattle.cm_hardware.specs.Outputs.{is_there_at}
 use Rattle.cm_hardware.proofs.HeldLemmas.{components_so}
-use Rattle.cm_hardware.proofs.ReadLemmas.{all_of_map}
 
 -- ---- What stands once
 
@@ -317,7 +317,7 @@ module _ (s : State) (valid : IsValid s.description) (together : CanRunTogether 
   pub owned_is_available : map (λ (v : InterfaceValue). v.interface) s.values ≡ interfaces_of s.description
       → AllByRecursion (λ v. available s v.interface ≡ false → owner s v.interface ≡ None) s.values
   owned_is_available described =
-      all_of_map (λ i. available s i ≡ false → owner s i ≡ None) (λ (v : InterfaceValue). v.interface) s.values
+      all_map_back (λ i. available s i ≡ false → owner s i ≡ None) (λ (v : InterfaceValue). v.interface) s.values
       (subst (AllByRecursion (λ i. available s i ≡ false → owner s i ≡ None)) (sym described)
       (all_so (IsPresent s.description s.lives (active s)) (λ (i : Interface). available s i ≡ false → owner s i ≡ None)
       (λ i present. free_case i i.called.is_command refl present) (interfaces_of s.description)

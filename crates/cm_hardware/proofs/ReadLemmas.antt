@@ -4,6 +4,7 @@ use Rattle.std.specs.Prelude.{slice_get, flat_map, if◌then◌else◌, Option}
 use Rattle.std.specs.List.{AllByRecursion}
 use Rattle.std.proofs.lemmas.List.{map-append, length-map}
 use Rattle.std.proofs.lemmas.Simd.{map-map}
+use Rattle.cm_model.proofs.InterfaceLemmas.{all_map_back}
 use Rattle.sequence.proofs.ListLemmas.{all_append}
 use Rattle.fixed_num.specs.declared.value.BodyState.{BodyState}
 use Rattle.fixed_num.specs.declared.value.Value.{Value}
@@ -119,11 +120,6 @@ module _ (test : ℕ → Bool) where
 
 -- ---- Lists of interfaces
 
--- what holds of what each is holds of each
-pub all_of_map : {A B : Type 0} (P : B → Type 0) (f : A → B) (xs : List A) → AllByRecursion P (map f xs) → AllByRecursion (λ x. P (f x)) xs
-all_of_map P f [] all = tt
-all_of_map P f (x ∷ xs) all = (all.0, all_of_map P f xs all.1)
-
 -- a list whose map is two lists is two lists
 pub record Parted {A B : Type 0} (f : A → B) (xs : List A) (front back : List B) : Type 0 where
   pub first : List A
@@ -178,7 +174,7 @@ module _ (own : Interface → Option ℕ) (there : Interface → Bool) (test : �
   one_read true component before bodies after c pre mid rest is fits at =
       let all = before ++ (bodies ++ after) in
       let here : AllByRecursion (λ (v : InterfaceValue). is_state_of test v.interface ≡ test component) mid =
-      all_of_map _ (λ v. v.interface) mid (rw at (of_joints test component (length before) c.joints)) in
+      all_map_back _ (λ v. v.interface) mid (rw at (of_joints test component (length before) c.joints)) in
       let measured : measured_states c bodies ≡ map (λ (v : InterfaceValue). shown_of all v.interface) mid =
       measured_joints before bodies after component 0 (length before) c.joints (omega arith) (omega (arith, fits))
       ∙ ap (map (shown_of all)) (sym at) ∙ map-map (shown_of all) (λ v. v.interface) mid in
@@ -186,14 +182,14 @@ module _ (own : Interface → Option ℕ) (there : Interface → Bool) (test : �
   one_read false component before bodies after c pre mid rest is fits at =
       let all = before ++ (bodies ++ after) in
       let here : AllByRecursion (λ (v : InterfaceValue). is_state_of test v.interface ≡ test component) mid =
-      all_of_map _ (λ v. v.interface) mid (rw at (of_joints test component (length before) c.joints)) in
+      all_map_back _ (λ v. v.interface) mid (rw at (of_joints test component (length before) c.joints)) in
       rw (read_none test all (test component) mid is here) refl
 
   -- all at once
   pub reads_at_once : (component : ℕ) (before : List BodyState) (ms : List Mounted) (pre vs : List InterfaceValue) (others : List Interface) → Left test n component before ms vs others
       → after_reads_of n (length pre) (kept own there (pre ++ vs)) ms ≡ kept own there (pre ++ map (read_of test (before ++ flat_map (λ (m : Mounted). m.hardware.bodies) ms)) vs)
   reads_at_once component before [] pre vs others left =
-      ap (λ l. kept own there (pre ++ l)) (sym (read_none test _ false vs refl (all_of_map _ (λ v. v.interface) vs (rw left.interfaces left.unread))))
+      ap (λ l. kept own there (pre ++ l)) (sym (read_none test _ false vs refl (all_map_back _ (λ v. v.interface) vs (rw left.interfaces left.unread))))
   reads_at_once component before (m ∷ ms) pre vs others left =
       let h = m.hardware in
       let c = h.description in

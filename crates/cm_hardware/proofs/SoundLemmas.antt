@@ -4,7 +4,8 @@ use Rattle.std.proofs.Common.{◌≡◌, ℕ, zero, suc, ◌+◌, ◌<◌, Bool,
 use Rattle.std.specs.Prelude.{◌||◌, slice_get, is_some}
 use Rattle.std.specs.List.{list_any}
 use Rattle.std.specs.Option.{option_map_or}
-use Rattle.loan_board.specs.Loans.{IsSound, idle, loan_at, with_loan, released, made_available}
+use Rattle.loan_board.proofs.BoardLemmas.{idle-IsSound}
+use Rattle.loan_board.specs.Loans.{IsSound, loan_at, with_loan, released, made_available}
 use Rattle.loan_board.specs.declared.board.Loan.{Loan}
 use Rattle.cm_hardware.specs.Wiring.{Mounted, AreSound, vacated, leaves, has_left, after_failure, after_failures_of}
 
@@ -63,13 +64,9 @@ pub ruleset offering = (offered_claimed)
 
 -- ---- All places
 
--- nobody has an idle one
-pub idle_sound : (is_command : Bool) → IsSound (idle is_command)
-idle_sound is_command = record { command = λ e. cc; available = λ e. cc }
-
 -- so each place is sound, those past the end too
 pub sound_at : (loans : List Loan) (place : ℕ) → AreSound loans → IsSound (loan_at loans place)
-sound_at [] place sound = idle_sound false
+sound_at [] place sound = idle-IsSound false
 sound_at (l ∷ loans) zero sound = sound.0
 sound_at (l ∷ loans) (suc place) sound = sound_at loans place sound.1
 

@@ -6,6 +6,7 @@ use Rattle.std.specs.Option.{option_map_or}
 use Rattle.std.proofs.lemmas.List.{map-append, length-map, length-replicate, replicate-append-replicate, take_all, drop_all, append-nil, map-id}
 use Rattle.std.proofs.lemmas.List.Elements.{recursion_from_All}
 use Rattle.std.proofs.lemmas.Simd.{map-map}
+use Rattle.loan_board.proofs.BoardLemmas.{free-IsSound}
 use mathlib.Core.Path.{fun_ext}
 use Rattle.fixed_num.specs.declared.value.BodyState.{BodyState}
 use Rattle.fixed_num.specs.declared.value.Value.TheVariants.{Unset}
@@ -24,7 +25,7 @@ use Rattle.cm_model.specs.State.{State, boot, lives_at_start, all_bodies_at_star
 use Rattle.cm_model.specs.Values.{InterfaceValue, unset, running, read_of, after_reads}
 use Rattle.cm_model.specs.declared.blanks.Blanks.{Blanks}
 use Rattle.hw_component.specs.Hardware.{CanBeMade}
-use Rattle.loan_board.specs.Loans.{IsSound, idle_of, made_available}
+use Rattle.loan_board.specs.Loans.{idle_of, made_available}
 use Rattle.loan_board.specs.declared.board.Loan.{Loan}
 use Rattle.cm_hardware.specs.Holding.{IsHardwareOf, IsAtRest, IsEmptyUnlessAvailable}
 use Rattle.cm_hardware.specs.Starting.{mounted, places_from, places_of, all_places, is_up, opened, after_measure_of, after_measures_of}
@@ -364,13 +365,9 @@ pub free_idle : (is : List Interface) → AreFree (map idle_of is)
 free_idle [] = tt
 free_idle (i ∷ is) = (refl, free_idle is)
 
--- what nobody claims is sound
-free_sound : (loan : Loan) → loan.owner ≡ None → IsSound loan
-free_sound loan free = record { command = λ e. let bad = rw free at e in cc; available = λ e. let bad = rw free at e in cc }
-
 sound_loans : (own : Interface → Option ℕ) (there : Interface → Bool) → ((i : Interface) → own i ≡ None) → (vs : List InterfaceValue) → AreSound (map (loan_of own there) vs)
 sound_loans own there none [] = tt
-sound_loans own there none (v ∷ vs) = (free_sound (loan_of own there v) (none v.interface), sound_loans own there none vs)
+sound_loans own there none (v ∷ vs) = (free-IsSound (loan_of own there v) (none v.interface), sound_loans own there none vs)
 
 few_joints : (cs : List CompDesc) → AllByRecursion CanBeMade cs → AreFew (map mounted cs)
 few_joints [] all = tt

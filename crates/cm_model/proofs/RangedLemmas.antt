@@ -1,5 +1,5 @@
 -- A controller of a valid description has parameters with which it can be configured.
-use Rattle.std.proofs.Common.{◌≡◌, ℕ, zero, suc, ◌+◌, ◌≤◌, ◌^◌, ◌-◌, ℤ, Bool, true, false, List, [], ◌∷◌, length, min, Some, Result, Ok, Err, refl, subst, ◌∙◌, arith}
+use Rattle.std.proofs.Common.{◌≡◌, ℕ, zero, suc, ◌+◌, ◌≤◌, ◌^◌, ◌-◌, ℤ, Bool, true, false, List, [], ◌∷◌, length, min, Some, Ok, refl, subst, ◌∙◌, arith}
 use Rattle.std.specs.Prelude.{IfOk, codes, nat_le, ◌==◌, ◌&&◌, slice_get}
 use Rattle.std.specs.List.{AllByRecursion}
 use Rattle.std.proofs.lemmas.Bool.{leb-true, and_parts}
@@ -17,7 +17,7 @@ use Rattle.cm_document.specs.declared.description.Description.{Description}
 use Rattle.cm_document.specs.declared.description.Params.{Params}
 use Rattle.cm_document.specs.declared.description.Params.TheVariants.{Forward, Passthrough, Pid, Trajectory, Broadcaster, Mock}
 use Rattle.cm_document.specs.declared.limits.TheConstants.{VERSION, HIGHEST_RATE, MOST_CYCLES}
-use Rattle.cm_document.proofs.GivenLemmas.{Gives, filled_gives, next_key, any_key, defaulted_gives, walk_gives, tables_give}
+use Rattle.cm_document.proofs.GivenLemmas.{Gives, filled_gives, next_key, any_key, defaulted_gives, walk_gives, tables_give, anything}
 use Rattle.cm_document.proofs.ReadingLemmas.{bind_keeps, bind_Ok}
 use Rattle.cm_model.specs.Kinds.{are_ranged}
 
@@ -76,11 +76,6 @@ table_gives states kind.Pid = pid_gives
 table_gives states kind.Trajectory = trajectory_gives
 table_gives states kind.Broadcaster = broadcaster_gives states
 table_gives states kind.Mock = mock_gives
-
--- of what is read, nothing need be known
-anything : {A E : Type 0} (read : Result A E) → IfOk read (λ _. Unit {0})
-anything (Ok x) = tt
-anything (Err fault) = tt
 
 controller_gives : (states : List IfaceName) → Gives (controller_form states).read IsShaped
 controller_gives states = record {

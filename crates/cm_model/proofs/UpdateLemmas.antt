@@ -47,14 +47,14 @@ step_keeps_mark s values serial l = either (l.serial == serial)
     either false = refl
 
 -- nor does it change the place
-step_keeps_place : (s : State) (values : List InterfaceValue) (serial : ℕ) (l : Loaded) → (stepped_at s values serial l).place ≡ l.place
+pub step_keeps_place : (s : State) (values : List InterfaceValue) (serial : ℕ) (l : Loaded) → (stepped_at s values serial l).place ≡ l.place
 step_keeps_place s values serial l = either (l.serial == serial)
   where
     either : (b : Bool) → (if b then record l { ctl = (step_of s values l).after } else l).place ≡ l.place
     either true = refl
     either false = refl
 
-some_as_mapped : {A B : Type 0} (f : A → B) (o : Option A) → is_some (option_map f o) ≡ is_some o
+pub some_as_mapped : {A B : Type 0} (f : A → B) (o : Option A) → is_some (option_map f o) ≡ is_some o
 some_as_mapped f None = refl
 some_as_mapped f (Some x) = refl
 

@@ -6,14 +6,15 @@ use Rattle.std.specs.Option.{option_map_or}
 use Rattle.std.proofs.Math.Nat.{div-le_self, mul-div-le, mul-le-mul_right}
 use Rattle.std.proofs.lemmas.Bool.{cases_Bool, eq-eqb, leb-false}
 use Rattle.std.proofs.lemmas.Nat.{le-div}
+use Rattle.cm_model.proofs.SteadyLemmas.{all_remove}
+use Rattle.ctl_trait.proofs.TakingLemmas.{can_take_as}
+use Rattle.cm_model.proofs.UpdateLemmas.{some_as_mapped}
 use Rattle.sequence.proofs.ListLemmas.{all_push, all_set}
 use Rattle.sequence.proofs.ListLemmas as items
 use Rattle.cm_document.proofs.DistinctLemmas.{all_so, all_map}
 use Rattle.cm_document.specs.Valid.{IsValid}
 use Rattle.cm_document.specs.declared.call.Mail.{Mail}
 use Rattle.cm_document.specs.declared.description.CtlDesc.{CtlDesc}
-use Rattle.cm_document.specs.declared.description.CtlKind.{CtlKind}
-use Rattle.cm_document.specs.declared.description.CtlKind.TheVariants as kind
 use Rattle.cm_document.specs.declared.description.Description.{Description}
 use Rattle.cm_document.specs.declared.description.Params.{Params}
 use Rattle.cm_model.proofs.ControllerLemmas.{ctl_step_keeps_chained}
@@ -21,7 +22,7 @@ use Rattle.cm_model.proofs.RangedLemmas.{described_rate_is_some}
 use Rattle.cm_model.specs.Claims.{states_for, refs_for}
 use Rattle.cm_model.specs.Commit.{described_of, coming, leaving, committed, scene_of, commit}
 use Rattle.cm_model.specs.Components.{read_succeeds}
-use Rattle.cm_model.specs.Controllers.{configured, runs_chained, CanBeMailed}
+use Rattle.cm_model.specs.Controllers.{configured, runs_chained}
 use Rattle.cm_model.specs.Cycle.{period, component_is, is_due_now, mail_off, without_mail_off, tick_of, mail_for, step_of, stepped_at, Updates, updated_in, cycle, landed, begun}
 use Rattle.cm_model.specs.Kinds.{takes}
 use Rattle.cm_model.specs.Order.{Places, divisor}
@@ -32,12 +33,11 @@ use Rattle.cm_model.specs.Switches.{is_stopped, is_started}
 use Rattle.cm_model.specs.Values.{InterfaceValue, after_reads}
 use Rattle.cm_model.specs.declared.TheConstants.{SECOND_US}
 use Rattle.cm_model.specs.declared.blanks.Blanks.{Blanks}
-use Rattle.cm_model.specs.declared.data.CtlData.{CtlData}
 use Rattle.cm_model.specs.declared.data.RunData.{RunData}
-use Rattle.ctl_trait.specs.Taking.{CanTake, CanTakeAs}
+use Rattle.ctl_trait.specs.Taking.{CanTake}
 use Rattle.switch_plan.proofs.ElementLemmas.{here, later}
 use Rattle.cm_model.proofs.InterfaceLemmas.{all_map_back}
-use Rattle.sound_laws.proofs.ParamsLemmas.{all_at}
+use Rattle.sound_laws.proofs.ParamsLemmas.{all_at, all_each}
 use Rattle.sound_laws.proofs.RunLemmas.{one_of_serial}
 use Rattle.sound_laws.proofs.SerialLemmas.{IsNumbered}
 use Rattle.sound_laws.proofs.UpdatedLemmas.{updates_all}
@@ -47,12 +47,6 @@ use Rattle.ctl_slots.proofs.UpdateLemmas.{still_takes}
 
 -- ---- Lists
 
-all_remove : {A : Type 0} (P : A → Type 0) (xs : List A) (i : ℕ) → AllByRecursion P xs → AllByRecursion P (remove xs i)
-all_remove P [] zero all = tt
-all_remove P [] (suc i) all = tt
-all_remove P (x ∷ xs) zero all = all.1
-all_remove P (x ∷ xs) (suc i) all = (all.0, all_remove P xs i all.1)
-
 all_found : {A B : Type 0} (P : B → Type 0) (f : A → Option B) (xs : List A) → ((x : A) → Contains xs x → IfSome (f x) P) → AllByRecursion P (filter_map f xs)
 all_found P f [] holds = tt
 all_found {A} {B} P f (x ∷ xs) holds = one (f x) (holds x (here x xs)) (all_found P f xs (λ y inside. holds y (later x xs y inside)))
@@ -60,10 +54,6 @@ all_found {A} {B} P f (x ∷ xs) holds = one (f x) (holds x (here x xs)) (all_fo
     one : (o : Option B) → IfSome o P → AllByRecursion P (filter_map f xs) → AllByRecursion P (cons_option o (filter_map f xs))
     one None holds rest = rest
     one (Some y) holds rest = (holds, rest)
-
-each_inside : {A : Type 0} (P : A → Type 0) (xs : List A) → ((x : A) → Contains xs x → P x) → AllByRecursion P xs
-each_inside P [] holds = tt
-each_inside P (x ∷ xs) holds = (holds x (here x xs), each_inside P xs (λ y inside. holds y (later x xs y inside)))
 
 some_so : {A : Type 0} (P Q : A → Type 0) → ((x : A) → P x → Q x) → (o : Option A) → IfSome o P → IfSome o Q
 some_so P Q follows None holds = tt
@@ -139,14 +129,6 @@ marked_there : (o : Option RunData) (chained : Bool) → is_some o ≡ true → 
 marked_there None chained runs marked free = cc
 marked_there (Some part) chained runs marked free = marked ∙ free
 
-can_take_as : (k : CtlKind) (ctl : CtlData) (mail : Mail) → CanBeMailed ctl mail → CanTakeAs k ctl mail
-can_take_as kind.Forward ctl mail can = can
-can_take_as kind.Passthrough ctl mail can = can
-can_take_as kind.Pid ctl mail can = can
-can_take_as kind.Trajectory ctl mail can = can
-can_take_as kind.Broadcaster ctl mail can = tt
-can_take_as kind.Mock ctl mail can = can
-
 -- An active controller of a steady state that no active one commands can take mail that fits its parameters.
 pub sent_fits : (s : State) (i : ℕ) (l : Loaded) (mail : Mail) → IsSteady s → slice_get s.loaded i ≡ Some l → is_active l ≡ true
     → is_chained_in s.description.controllers (active s) l.place ≡ false → option_map_or (λ params. takes params mail) l.ctl.params false ≡ true → CanTake l.ctl mail
@@ -212,7 +194,7 @@ module _ (s : State) where
         → AllByRecursion (λ other. IsFor other (record { serial = l.serial; mail = mail })) (map (without_mail_off s) s.loaded)
     sent_for l inside mail fits =
         all_map (λ other. IsFor other (record { serial = l.serial; mail = mail })) (without_mail_off s) s.loaded
-        (each_inside (λ other. IsFor (without_mail_off s other) (record { serial = l.serial; mail = mail })) s.loaded (λ other also same.
+        (all_each (λ other. IsFor (without_mail_off s other) (record { serial = l.serial; mail = mail })) s.loaded (λ other also same.
         let kept = sent_keeps other in
         let one : l ≡ other = one_of_serial s.loaded numbered.once l other inside also (same ∙ kept.0) in
         let ctl : (without_mail_off s other).ctl ≡ l.ctl = kept.1 ∙ ap (λ (m : Loaded). m.ctl) (sym one) in
@@ -244,10 +226,6 @@ module _ (s : State) where
       }
 
 -- ---- The updates of a cycle
-
-some_as_mapped : {A B : Type 0} (f : A → B) (o : Option A) → is_some (option_map f o) ≡ is_some o
-some_as_mapped f None = refl
-some_as_mapped f (Some x) = refl
 
 module _ (s : State) (values : List InterfaceValue) (serial : ℕ) (l : Loaded) where
   step_timed : IsTimedIn s.description l → IsTimedIn s.description (stepped_at s values serial l)
@@ -288,7 +266,7 @@ fit_landed s fit =
 pub can_run : (s : State) → AreFit s
     → AllByRecursion (λ l. HasTime l × (IsInTime (period s.description) l × AllByRecursion (λ m. m.serial ≡ l.serial → CanTake l.ctl m.mail) s.mails)) s.loaded
 can_run s fit =
-    each_inside (λ l. HasTime l × (IsInTime (period s.description) l × AllByRecursion (λ m. m.serial ≡ l.serial → CanTake l.ctl m.mail) s.mails)) s.loaded (λ l inside.
+    all_each (λ l. HasTime l × (IsInTime (period s.description) l × AllByRecursion (λ m. m.serial ≡ l.serial → CanTake l.ctl m.mail) s.mails)) s.loaded (λ l inside.
     let timed = all_at (IsTimedIn s.description) s.loaded fit.timed l inside in (
       timed.0,
       (

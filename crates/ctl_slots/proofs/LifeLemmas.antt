@@ -12,7 +12,7 @@ use Rattle.cm_model.specs.declared.data.CtlData.{CtlData}
 use Rattle.cm_model.specs.declared.data.RunData.{RunData}
 use Rattle.ctl_slots.specs.Lives.{IsIn, IsKept}
 
-some_is : {A : Type 0} (P : A → Type 0) (o : Option A) → IsSomeAnd o P → is_some o ≡ true
+pub some_is : {A : Type 0} (P : A → Type 0) (o : Option A) → IsSomeAnd o P → is_some o ≡ true
 some_is P None h = absurd h
 some_is P (Some x) h = refl
 

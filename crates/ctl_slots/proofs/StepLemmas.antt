@@ -1,6 +1,6 @@
 -- What the calls of a switch and of a cycle make of what is kept of a loaded controller.
 use Rattle.std.proofs.Common.{◌≡◌, ℕ, ℤ, Bool, true, false, List, [], ◌∷◌, Option, Some, None, refl, ap, ◌∙◌}
-use Rattle.std.specs.Prelude.{is_some, IsSomeAnd, IfSome, if◌then◌else◌}
+use Rattle.std.specs.Prelude.{IsSomeAnd, IfSome, if◌then◌else◌}
 use Rattle.fixed_num.specs.declared.value.Value.{Value}
 use Rattle.fixed_num.specs.declared.value.Value.TheVariants.{Unset, Num}
 use Rattle.cm_document.specs.Params.{kind_of}
@@ -22,15 +22,11 @@ use Rattle.cm_model.specs.declared.data.RunData.TheVariants as run
 use Rattle.cm_model.specs.declared.ran.Done.TheVariants as done
 use Rattle.cm_model.specs.declared.tick.Tick.{Tick}
 use Rattle.ctl_slots.specs.Lives.{IsIn, IsKept, RunsAs, once_taken, published_by}
-use Rattle.ctl_slots.proofs.LifeLemmas.{active_in}
+use Rattle.ctl_slots.proofs.LifeLemmas.{active_in, some_is}
 
 some_there : {A : Type 0} (P : A → Type 0) (o : Option A) → IsSomeAnd o P → IsSomeAnd o (λ x. Unit {0})
 some_there P None h = absurd h
 some_there P (Some x) h = tt
-
-some_so : {A : Type 0} (P : A → Type 0) (o : Option A) → IsSomeAnd o P → is_some o ≡ true
-some_so P None h = absurd h
-some_so P (Some x) h = refl
 
 -- ---- It comes and leaves
 
@@ -144,7 +140,7 @@ step_is ctl tick states refs (Some mail) = refl
 in_once_stepped : (life : Life) (ctl : CtlData) (tick : Tick) (states : List ℤ) (refs : List Value) (mail : Option Mail) (n m k : ℕ)
     → IsIn life ctl → CanBeUpdated ctl tick n m k → IsIn life (update_step (once_taken ctl mail) tick states refs).after
 in_once_stepped life ctl tick states refs mail n m k h can =
-    in_active life _ (active_in life ctl h ∙ some_so _ ctl.run can.counts.running)
+    in_active life _ (active_in life ctl h ∙ some_is _ ctl.run can.counts.running)
     (runs_once_updated (once_taken ctl mail) tick states refs n m k (can_be_updated_once_taken ctl mail tick n m k can))
 
 own_stepped : (ctl : CtlData) (p : Option Params) (r : Option RunData) (tick : Tick) (states : List ℤ) (refs : List Value) → ctl.params ≡ p → ctl.run ≡ r

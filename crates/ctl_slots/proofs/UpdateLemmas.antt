@@ -6,6 +6,7 @@ use Rattle.std.specs.Option.{option_map_or}
 use Rattle.std.proofs.lemmas.Bool.{eqb-true}
 use Rattle.std.proofs.lemmas.Option.{same_Some, get_or_from_slice_get}
 use Rattle.std.proofs.lemmas.List.{drop_more, length-set, set-get_or}
+use Rattle.sound_laws.proofs.UpdatedLemmas.{ctl_step_params}
 use Rattle.sequence.proofs.ListLemmas.{all_at, all_set}
 use Rattle.fixed_num.specs.declared.value.Value.{Value}
 use Rattle.cm_document.proofs.DistinctLemmas.{all_so}
@@ -33,7 +34,7 @@ use Rattle.ctl_slots.specs.Lives.{publishes, once_taken}
 use Rattle.ctl_slots.specs.Mails.{mail_in, without_mail}
 use Rattle.ctl_slots.specs.Seats.{Width, held_at, numbers_at}
 use Rattle.ctl_slots.specs.Updates.{Aloft, Working, working, with_erred, tick_in, step_in, runs_in, put_on, board_after, after_step, after_update, after_update_of, outs_of, numbers_of, total, CanRun, CanTell}
-use Rattle.ctl_slots.proofs.StepLemmas.{params_stepped, kind_stepped, params_once_taken, kind_once_taken, step_is}
+use Rattle.ctl_slots.proofs.StepLemmas.{kind_stepped, kind_once_taken, step_is}
 
 -- ---- Lists
 
@@ -83,12 +84,7 @@ board_count claims step loans = by_end step.done
 
 -- ---- A step
 
-step_params : (ctl : CtlData) (tick : Tick) (states : List ℤ) (refs : List Value) (mail : Option Mail) → (ctl_step ctl tick states refs mail).after.params ≡ ctl.params
-step_params ctl tick states refs mail =
-    ap (λ (step : Stepped). step.after.params) (step_is ctl tick states refs mail)
-    ∙ params_stepped (once_taken ctl mail) (once_taken ctl mail).params (once_taken ctl mail).run tick states refs ∙ params_once_taken ctl mail
-
-step_kind : (ctl : CtlData) (tick : Tick) (states : List ℤ) (refs : List Value) (mail : Option Mail) → (ctl_step ctl tick states refs mail).after.kind ≡ ctl.kind
+pub step_kind : (ctl : CtlData) (tick : Tick) (states : List ℤ) (refs : List Value) (mail : Option Mail) → (ctl_step ctl tick states refs mail).after.kind ≡ ctl.kind
 step_kind ctl tick states refs mail =
     ap (λ (step : Stepped). step.after.kind) (step_is ctl tick states refs mail)
     ∙ kind_stepped (once_taken ctl mail) (once_taken ctl mail).params (once_taken ctl mail).run tick states refs ∙ kind_once_taken ctl mail
@@ -118,7 +114,7 @@ pub still_takes : (ctl : CtlData) (tick : Tick) (states : List ℤ) (refs : List
     → CanTake (ctl_step ctl tick states refs aloft).after mail
 still_takes ctl tick states refs aloft mail can =
     rw (step_kind ctl tick states refs aloft)
-    (still_takes_as ctl.kind ctl (ctl_step ctl tick states refs aloft).after mail (step_params ctl tick states refs aloft)
+    (still_takes_as ctl.kind ctl (ctl_step ctl tick states refs aloft).after mail (ctl_step_params ctl tick states refs aloft)
     (ctl_step_keeps_chained ctl tick states refs aloft) can)
 
 -- ---- What is asked of each
@@ -149,7 +145,7 @@ once_stepped a board width ms loans mail l can = record {
     read_there = can.seated.read_there;
     referred_there = can.seated.referred_there;
     claimed_there = can.seated.claimed_there;
-    counts = rw (step_params l.ctl (tick_in a l) (numbers_at loans (linked a.placed.reads l.place)) (held_at loans (linked a.placed.references l.place)) mail) can.seated.counts;
+    counts = rw (ctl_step_params l.ctl (tick_in a l) (numbers_at loans (linked a.placed.reads l.place)) (held_at loans (linked a.placed.references l.place)) mail) can.seated.counts;
   };
   related = can.related;
   room = record { states = can.room.states; references = can.room.references; outs = can.room.outs };

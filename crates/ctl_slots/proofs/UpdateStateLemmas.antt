@@ -11,6 +11,8 @@ use Rattle.std.proofs.lemmas.List.Elements.{filter-append, Contains-get_or}
 use Rattle.std.proofs.lemmas.List.FromFn.{get_or-range_with_len, length-range_with_len}
 use Rattle.std.proofs.lemmas.List.Folds.{list_any-append}
 use Rattle.std.specs.Cmp.{both_ways}
+use Rattle.sound_laws.proofs.SerialLemmas.{step_keeps_serial}
+use Rattle.sound_laws.proofs.ParamsLemmas.{all_each}
 use Rattle.fixed_num.specs.declared.value.Value.{Value}
 use Rattle.cm_document.specs.Places.{interfaces_of}
 use Rattle.cm_document.specs.Valid.{IsValid}
@@ -117,17 +119,10 @@ stepped_there s values (m ∷ ms) (suc k) l once at =
     let one : stepped_at s values l.serial m ≡ m = rw differ refl in
     ap₂ (λ (x : Loaded) (xs : List Loaded). x ∷ xs) one (stepped_there s values ms k l once.1 at)
 
-step_serial : (s : State) (values : List InterfaceValue) (serial : ℕ) (l : Loaded) → (stepped_at s values serial l).serial ≡ l.serial
-step_serial s values serial l = either (l.serial == serial)
-  where
-    either : (b : Bool) → (if b then record l { ctl = (step_of s values l).after } else l).serial ≡ l.serial
-    either true = refl
-    either false = refl
-
 serials_stepped : (s : State) (values : List InterfaceValue) (serial : ℕ) (ls : List Loaded)
     → map (λ (l : Loaded). l.serial) (map (stepped_at s values serial) ls) ≡ map (λ (l : Loaded). l.serial) ls
 serials_stepped s values serial [] = refl
-serials_stepped s values serial (l ∷ ls) = ap₂ (λ (n : ℕ) (ns : List ℕ). n ∷ ns) (step_serial s values serial l) (serials_stepped s values serial ls)
+serials_stepped s values serial (l ∷ ls) = ap₂ (λ (n : ℕ) (ns : List ℕ). n ∷ ns) (step_keeps_serial s values serial l) (serials_stepped s values serial ls)
 
 -- at these indices stand these
 abbrev AreAt : List Loaded → List ℕ → List Loaded → Type 0
@@ -374,11 +369,6 @@ at_from loaded (k ∷ order) (l ∷ ls) same =
     let others : map (slice_get loaded) order ≡ map Some ls = cc in
     (first, at_from loaded order ls others)
 
--- what holds of what is inside holds of each
-each_inside : {A : Type 0} (P : A → Type 0) (xs : List A) → ((x : A) → Contains xs x → P x) → AllByRecursion P xs
-each_inside P [] holds = tt
-each_inside P (x ∷ xs) holds = (holds x (here x xs), each_inside P xs (λ y inside. holds y (later x xs y inside)))
-
 -- So the updates by place come to those of the state.
 pub updated_of : (s : State) (a : Aloft) (order : List ℕ) (w : Working) → IsUpdatedFrom s a order w → IsUpdated s w (after_updates a order w)
 updated_of s a order w from =
@@ -392,10 +382,10 @@ updated_of s a order w from =
     } in
     let left : AreLeft s s.loaded w.mails order (active_order s) = record {
       there = at_from s.loaded order (active_order s) from.order;
-      running = each_inside (λ l. (is_active l ≡ true) × (active s l.place ≡ true)) (active_order s) (λ l inside.
+      running = all_each (λ l. (is_active l ≡ true) × (active s l.place ≡ true)) (active_order s) (λ l inside.
           let loaded = from_active_order s l inside in
           (loaded.1, any_from (λ (m : Loaded). is_active m && m.place == l.place) s.loaded l loaded.0 (and_from (is_active l) (l.place == l.place) loaded.1 (eq-eqb l.place l.place refl))));
-      mailed = each_inside (λ l. mail_in w.mails l.serial ≡ mail_for s l.serial) (active_order s) (λ l inside. ap (λ (mails : List MailAloft). mail_in mails l.serial) from.mails);
+      mailed = all_each (λ l. mail_in w.mails l.serial ≡ mail_for s l.serial) (active_order s) (λ l inside. ap (λ (mails : List MailAloft). mail_in mails l.serial) from.mails);
       apart = ordered_once s (valid-IsChecked s.description from.valid.no_fault).free from.once;
     } in
     let done = all_stand s a from.valid from.aloft from.steady w.ran w.erred order (active_order s) begun w stands left in

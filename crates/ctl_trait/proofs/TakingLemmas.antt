@@ -6,7 +6,7 @@ use Rattle.cm_model.specs.Controllers.{CanBeMailed}
 use Rattle.cm_model.specs.declared.data.CtlData.{CtlData}
 use Rattle.ctl_trait.specs.Taking.{CanTakeAs, CanTake}
 
-can_take_as : (kind : CtlKind) (ctl : CtlData) (mail : Mail) → CanBeMailed ctl mail → CanTakeAs kind ctl mail
+pub can_take_as : (kind : CtlKind) (ctl : CtlData) (mail : Mail) → CanBeMailed ctl mail → CanTakeAs kind ctl mail
 can_take_as Broadcaster ctl mail fits = tt
 can_take_as _ ctl mail fits = fits
 

@@ -19,7 +19,7 @@ all_at P (x ∷ xs) (suc i) d all default = all_at P xs i d all.1 default
 -- ---- Loans
 
 -- nobody has an idle one
-idle-IsSound : (is_command : Bool) → IsSound (idle is_command)
+pub idle-IsSound : (is_command : Bool) → IsSound (idle is_command)
 idle-IsSound is_command = record { command = λ e. cc; available = λ e. cc }
 
 -- so each place is sound, those past the end too

@@ -15,7 +15,7 @@ use Rattle.cm_document.specs.declared.life.Life.{Life}
 use Rattle.cm_model.proofs.InterfaceLemmas.{all_map_back}
 use Rattle.cm_model.proofs.LoadedLemmas.{all_from}
 use Rattle.cm_model.proofs.MoveLemmas.{moved_in_order}
-use Rattle.cm_model.proofs.UpdateLemmas.{updates_keep, updates_leave_active, updates_keep_interfaces}
+use Rattle.cm_model.proofs.UpdateLemmas.{updates_keep, updates_leave_active, updates_keep_interfaces, step_keeps_place}
 use Rattle.cm_model.specs.Commit.{commit}
 use Rattle.cm_model.specs.Components.{is_available, is_listed, read_succeeds, life_after}
 use Rattle.cm_model.specs.Cycle.{component_is, updated_in, Updates, updates, components_stepped, CycleResult, cycle_with, cycle, stays_active, lives_after, landed, after_cycle}
@@ -29,7 +29,7 @@ use Rattle.sound_laws.proofs.ClaimedLemmas.{updated_there}
 use Rattle.sound_laws.proofs.ParamsLemmas.{active_params, commit_of}
 use Rattle.sound_laws.proofs.ReadLemmas.{reads_same, reads_hold, reads_empty}
 use Rattle.sound_laws.proofs.StopLemmas.{stays_parts, stays_together}
-use Rattle.sound_laws.proofs.UpdatedLemmas.{step_keeps_place, updates_own, updates_marked, updates_hold, updates_empty, stepped_below}
+use Rattle.sound_laws.proofs.UpdatedLemmas.{updates_own, updates_marked, updates_hold, updates_empty, stepped_below}
 use Rattle.sound_laws.proofs.ValidLemmas.{IsChecked, valid-IsChecked}
 
 -- ---- What the cycle leaves

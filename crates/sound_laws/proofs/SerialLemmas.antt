@@ -130,7 +130,7 @@ configured_serial s l (Some c) = refl
 
 -- ---- The end of a cycle
 
-step_keeps_serial : (s : State) (values : List InterfaceValue) (serial : ℕ) (l : Loaded) → (stepped_at s values serial l).serial ≡ l.serial
+pub step_keeps_serial : (s : State) (values : List InterfaceValue) (serial : ℕ) (l : Loaded) → (stepped_at s values serial l).serial ≡ l.serial
 step_keeps_serial s values serial l = either (l.serial == serial)
   where
     either : (b : Bool) → (if b then record l { ctl = (step_of s values l).after } else l).serial ≡ l.serial

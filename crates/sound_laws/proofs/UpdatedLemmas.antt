@@ -21,7 +21,7 @@ use Rattle.cm_document.specs.declared.description.JointDesc.{JointDesc}
 use Rattle.cm_document.specs.declared.description.Params.{Params}
 use Rattle.cm_model.proofs.InterfaceLemmas.{all_map_back}
 use Rattle.cm_model.proofs.LoadedLemmas.{all_from}
-use Rattle.cm_model.proofs.UpdateLemmas.{step_keeps_mark, given_by_keeps}
+use Rattle.cm_model.proofs.UpdateLemmas.{step_keeps_mark, given_by_keeps, step_keeps_place}
 use Rattle.cm_model.specs.Claims.{states_for, refs_for, output_for, given_of, given, given_by}
 use Rattle.cm_model.specs.Commit.{described_of}
 use Rattle.cm_model.specs.Components.{is_written, command_interfaces, claim_on, claimed_by, driven_bodies, bodies_after_step}
@@ -52,17 +52,10 @@ mailed_params : (ctl : CtlData) (mail : Mail) (run : Option RunData) → ctl.run
 mailed_params ctl mail None is = rw is refl
 mailed_params ctl mail (Some r) is = rw is refl
 
-ctl_step_params : (ctl : CtlData) (tick : Tick) (states : List ℤ) (refs : List Value) (mail : Option Mail) → (ctl_step ctl tick states refs mail).after.params ≡ ctl.params
+pub ctl_step_params : (ctl : CtlData) (tick : Tick) (states : List ℤ) (refs : List Value) (mail : Option Mail) → (ctl_step ctl tick states refs mail).after.params ≡ ctl.params
 ctl_step_params ctl tick states refs None = stepped_params ctl ctl.params ctl.run tick states refs
 ctl_step_params ctl tick states refs (Some mail) =
     stepped_params (mailed ctl mail) (mailed ctl mail).params (mailed ctl mail).run tick states refs ∙ mailed_params ctl mail ctl.run refl
-
-pub step_keeps_place : (s : State) (values : List InterfaceValue) (serial : ℕ) (l : Loaded) → (stepped_at s values serial l).place ≡ l.place
-step_keeps_place s values serial l = either (l.serial == serial)
-  where
-    either : (b : Bool) → (if b then record l { ctl = (step_of s values l).after } else l).place ≡ l.place
-    either true = refl
-    either false = refl
 
 step_keeps_params : (s : State) (values : List InterfaceValue) (serial : ℕ) (l : Loaded) → (stepped_at s values serial l).ctl.params ≡ l.ctl.params
 step_keeps_params s values serial l = either (l.serial == serial)
