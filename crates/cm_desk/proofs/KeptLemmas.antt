@@ -4,7 +4,6 @@ use Rattle.std.specs.Prelude.{slice_get, slice_index_or, slice_set}
 use Rattle.std.specs.List.{All, remove}
 use Rattle.std.proofs.lemmas.List.{length-map, map-append, length_push}
 use Rattle.std.proofs.lemmas.List.Elements.{All-push, All-set}
-use Rattle.std.proofs.lemmas.Option.{same_Some}
 use Rattle.cm_model.specs.State.{State, Loaded, is_active}
 use Rattle.cm_model.specs.declared.blanks.Blanks.{Blanks}
 use Rattle.cm_model.specs.declared.member.Member.{Member}
@@ -12,6 +11,7 @@ use Rattle.ctl_places.specs.Placed.{Placed}
 use Rattle.ctl_rack.specs.Stocks.{total}
 use Rattle.switch_plan.specs.Relations.{Related}
 use Rattle.stop_plan.specs.declared.ending.Ending.{Ending}
+use Rattle.sound_laws.proofs.SerialLemmas.{serials_set}
 use Rattle.ctl_slots.specs.Fit.{AreFit}
 use Rattle.stop_plan.specs.Ending.{members_in_order}
 use Rattle.cm_desk.specs.Roster.{Listed, AreAt, IsListedOf, actives, serials_of, has_serial}
@@ -68,11 +68,6 @@ kept_from s t names related placed flight before after ending kept same describe
 }
 
 -- ---- Where controllers stand
-
-serials_set : (ls : List Loaded) (i : ℕ) (l after : Loaded) → slice_get ls i ≡ Some l → after.serial ≡ l.serial → serials_of (slice_set ls i after) ≡ serials_of ls
-serials_set [] i l after there same = refl
-serials_set (m ∷ ms) zero l after there same = ap (λ n. n ∷ serials_of ms) (same ∙ ap (λ (k : Loaded). k.serial) (same_Some l m (sym there)))
-serials_set (m ∷ ms) (suc i) l after there same = ap (λ ns. m.serial ∷ ns) (serials_set ms i l after there same)
 
 head_same : {A : Type 0} (d x y : A) (xs ys : List A) → x ∷ xs ≡ y ∷ ys → x ≡ y
 head_same {A = A} d x y xs ys same = ap (λ (l : List A). get_or l 0 d) same

@@ -4,6 +4,7 @@ use Rattle.std.specs.List.{list_any}
 use Rattle.cm_model.specs.State.{State, Loaded, is_active}
 use Rattle.cm_model.specs.declared.member.Member.{Member}
 use Rattle.stop_plan.specs.Ending.{member_of, members_in_order}
+pub use Rattle.sound_laws.proofs.SerialLemmas.{serials_of}
 
 -- the serial of the controller that is active at a place of the description among these; none where none is
 abbrev pub serial_in : List Loaded → ℕ → Option ℕ
@@ -32,10 +33,6 @@ pub record IsOfNobody (count : ℕ) (r : Listed) : Type 0 where
 -- the active ones of these, by serial and place
 abbrev pub actives : List Loaded → List Member
 actives loaded = map member_of (filter is_active loaded)
-
--- the serials of loaded controllers
-abbrev pub serials_of : List Loaded → List ℕ
-serials_of loaded = map (λ l. l.serial) loaded
 
 -- this serial is among these
 abbrev pub has_serial : List ℕ → ℕ → Bool

@@ -63,7 +63,7 @@ serials_remove [] (suc i) = refl
 serials_remove (l ∷ ls) zero = refl
 serials_remove (l ∷ ls) (suc i) = ap (λ ns. l.serial ∷ ns) (serials_remove ls i)
 
-serials_set : (ls : List Loaded) (i : ℕ) (l new : Loaded) → slice_get ls i ≡ Some l → new.serial ≡ l.serial → serials_of (slice_set ls i new) ≡ serials_of ls
+pub serials_set : (ls : List Loaded) (i : ℕ) (l new : Loaded) → slice_get ls i ≡ Some l → new.serial ≡ l.serial → serials_of (slice_set ls i new) ≡ serials_of ls
 serials_set [] i l new at same = refl
 serials_set (m ∷ ms) zero l new at same = ap (λ n. n ∷ serials_of ms) (same ∙ ap (λ (k : Loaded). k.serial) (sym (same_Some m l at)))
 serials_set (m ∷ ms) (suc i) l new at same = ap (λ ns. m.serial ∷ ns) (serials_set ms i l new at same)
