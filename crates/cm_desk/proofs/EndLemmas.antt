@@ -1,5 +1,5 @@
 -- The end of a cycle, with the parts of the desk.
-use Rattle.std.proofs.Common.{◌≡◌, ℕ, suc, ◌+◌, ◌<◌, Bool, true, false, cond, List, [], ◌∷◌, ◌++◌, length, map, get_or, drop, Option, Some, None, refl, sym, ap, ap₂, subst, ◌∙◌, arith}
+use Rattle.std.proofs.Common.{◌≡◌, ℕ, suc, ◌+◌, ◌<◌, Bool, true, false, cond, List, [], ◌∷◌, ◌++◌, length, map, Option, Some, None, refl, sym, ap, ap₂, subst, ◌∙◌, arith}
 use Rattle.std.specs.Prelude.{◌&&◌, not, filter, is_some, slice_get, sum_by, if◌then◌else◌, IfSome}
 use Rattle.std.specs.List.{All, AllByRecursion}
 use Rattle.std.proofs.lemmas.List.{length-map}
@@ -39,6 +39,7 @@ use Rattle.cm_desk.specs.Flight.{HasRoom, outs_at, numbers_at}
 use Rattle.cm_desk.proofs.OrderLemmas.{all_filter, all_ranked, run_is}
 use Rattle.cm_desk.proofs.WorksLemmas.{described_there}
 use Rattle.std.specs.Option.{option_map_or}
+use Rattle.sequence.proofs.ListLemmas.{head_same, tail_same}
 use Rattle.stop_plan.specs.Ending.{HasFlags, IsEndingOf, nobody_again, told_in, erred_in, members_in_order, member_of}
 use Rattle.stop_plan.specs.declared.ending.Ending.{Ending}
 use Rattle.stop_plan.proofs.EndingLemmas.{stays_committed}
@@ -107,12 +108,6 @@ landed_actives s =
     ∙ actives_by s.loaded
 
 -- ---- The cycle is made
-
-head_same : {A : Type 0} (d x y : A) (xs ys : List A) → x ∷ xs ≡ y ∷ ys → x ≡ y
-head_same {A = A} d x y xs ys same = ap (λ (l : List A). get_or l 0 d) same
-
-tail_same : {A : Type 0} (x y : A) (xs ys : List A) → x ∷ xs ≡ y ∷ ys → xs ≡ ys
-tail_same {A = A} x y xs ys same = ap (λ (l : List A). drop 1 l) same
 
 each_within : {A : Type 0} (xs : List A) (is : List ℕ) (ys : List A) → map (slice_get xs) is ≡ map Some ys → AllByRecursion (λ i. i < length xs) is
 each_within xs [] ys same = tt

@@ -1,9 +1,10 @@
 -- What the desk keeps of its state, when a call changes no active controller.
-use Rattle.std.proofs.Common.{◌≡◌, ℕ, zero, suc, ◌+◌, ◌<◌, ◌≤◌, ◌^◌, true, false, List, [], ◌∷◌, ◌++◌, length, length-set, length-append, length-take, length-drop, get_or, take, drop, Option, Some, None, refl, sym, ap, ap₂, subst, ◌∙◌, arith}
+use Rattle.std.proofs.Common.{◌≡◌, ℕ, zero, suc, ◌+◌, ◌<◌, ◌≤◌, ◌^◌, true, false, List, [], ◌∷◌, ◌++◌, length, length-set, length-append, length-take, length-drop, take, drop, Option, Some, None, refl, sym, ap, ap₂, subst, ◌∙◌, arith}
 use Rattle.std.specs.Prelude.{slice_get, slice_index_or, slice_set}
 use Rattle.std.specs.List.{All, remove}
 use Rattle.std.proofs.lemmas.List.{length-map, map-append, length_push}
 use Rattle.std.proofs.lemmas.List.Elements.{All-push, All-set}
+use Rattle.sequence.proofs.ListLemmas.{head_same, tail_same}
 use Rattle.cm_model.specs.State.{State, Loaded, is_active}
 use Rattle.cm_model.specs.declared.blanks.Blanks.{Blanks}
 use Rattle.cm_model.specs.declared.member.Member.{Member}
@@ -68,12 +69,6 @@ kept_from s t names related placed flight before after ending kept same describe
 }
 
 -- ---- Where controllers stand
-
-head_same : {A : Type 0} (d x y : A) (xs ys : List A) → x ∷ xs ≡ y ∷ ys → x ≡ y
-head_same {A = A} d x y xs ys same = ap (λ (l : List A). get_or l 0 d) same
-
-tail_same : {A : Type 0} (x y : A) (xs ys : List A) → x ∷ xs ≡ y ∷ ys → xs ≡ ys
-tail_same {A = A} x y xs ys same = ap (λ (l : List A). drop 1 l) same
 
 get_before : (ns more : List ℕ) (i n : ℕ) → slice_get ns i ≡ Some n → slice_get (ns ++ more) i ≡ Some n
 get_before [] more i n there = cc

@@ -1,11 +1,11 @@
 -- The order of updates: where its controllers stand, and what holds of each of them.
-use Rattle.std.proofs.Common.{◌≡◌, ℕ, zero, suc, ◌<◌, Bool, true, false, cond, List, [], ◌∷◌, length, map, get_or, drop, Option, Some, None, refl, sym, ap, ap₂, subst, ◌∙◌, arith}
+use Rattle.std.proofs.Common.{◌≡◌, ℕ, zero, suc, ◌<◌, Bool, true, false, cond, List, [], ◌∷◌, length, map, Option, Some, None, refl, sym, ap, ap₂, subst, ◌∙◌, arith}
 use Rattle.std.specs.Prelude.{◌==◌, filter, slice_get, Contains}
 use Rattle.std.specs.List.{All, AllByRecursion, IsDistinct}
 use Rattle.std.proofs.lemmas.Bool.{eq-eqb, or_right}
 use Rattle.std.proofs.lemmas.List.Elements.{All-from_recursion, recursion_from_All}
 use Rattle.std.proofs.lemmas.Option.{slice_get_within, get_or_from_slice_get}
-use Rattle.sequence.proofs.ListLemmas.{all_append}
+use Rattle.sequence.proofs.ListLemmas.{all_append, head_same, tail_same}
 use Rattle.cm_model.specs.Cycle.{active_order}
 use Rattle.cm_model.specs.Order.{by_rank, depth}
 use Rattle.cm_model.specs.State.{State, Loaded, is_active, active}
@@ -74,12 +74,6 @@ at_serial (l ∷ ls) (suc i) n there = at_serial ls i n there
 
 contains_at : {A : Type 0} (xs : List A) (i : ℕ) (x : A) → slice_get xs i ≡ Some x → Contains xs x
 contains_at xs i x there = (i, slice_get_within xs i x there, get_or_from_slice_get xs i x x there)
-
-head_same : {A : Type 0} (d x y : A) (xs ys : List A) → x ∷ xs ≡ y ∷ ys → x ≡ y
-head_same {A = A} d x y xs ys same = ap (λ (l : List A). get_or l 0 d) same
-
-tail_same : {A : Type 0} (x y : A) (xs ys : List A) → x ∷ xs ≡ y ∷ ys → xs ≡ ys
-tail_same {A = A} x y xs ys same = ap (λ (l : List A). drop 1 l) same
 
 module _ (ls : List Loaded) (once : IsDistinct (λ m n. m == n) (serials_of ls)) where
   stand_there : (xs : List Loaded) (run : List ℕ) → ((l : Loaded) → Contains xs l → Contains ls l) → AreAt (serials_of ls) (map member_of xs) run → map (slice_get ls) run ≡ map Some xs

@@ -46,6 +46,16 @@ all_set P [] i y all one = tt
 all_set P (x ∷ xs) zero y all one = (one, all.1)
 all_set P (x ∷ xs) (suc i) y all one = (all.0, all_set P xs i y all.1 one)
 
+-- ---- The first item
+
+-- lists that are the same have the same first item,
+pub head_same : {A : Type 0} (d x y : A) (xs ys : List A) → x ∷ xs ≡ y ∷ ys → x ≡ y
+head_same {A = A} d x y xs ys same = ap (λ (l : List A). get_or l 0 d) same
+
+-- and the same after it
+pub tail_same : {A : Type 0} (x y : A) (xs ys : List A) → x ∷ xs ≡ y ∷ ys → xs ≡ ys
+tail_same {A = A} x y xs ys same = ap (λ (l : List A). drop 1 l) same
+
 -- ---- The last item
 
 -- a list with an item is not empty
