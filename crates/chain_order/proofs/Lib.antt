@@ -4,7 +4,6 @@ pub mod SearchLemmas
 pub mod PlaceLemmas
 pub mod RankLemmas
 pub mod RunLemmas
-pub mod FewLemmas
 pub mod CountLemmas
 pub mod DepthLemmas
 pub mod StandingLemmas

@@ -9,6 +9,7 @@ pub mod GivenLemmas
 pub mod KindLemmas
 pub mod PlaceLemmas
 pub mod ValidLemmas
+pub mod FewLemmas
 pub mod RouteLemmas
 pub mod ChainLemmas
 mod Rows

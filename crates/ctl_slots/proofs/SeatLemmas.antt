@@ -23,7 +23,7 @@ use Rattle.cm_model.specs.Controllers.{AreItsCounts}
 use Rattle.cm_model.specs.Order.{controller_at, nobody}
 use Rattle.cm_model.specs.State.{Loaded}
 use Rattle.cm_model.specs.Steady.{IsOwn}
-use Rattle.chain_order.proofs.FewLemmas.{within_limit, few_controllers}
+use Rattle.cm_document.proofs.FewLemmas.{within_limit, few_controllers}
 use Rattle.chain_order.specs.Links.{linked}
 use Rattle.sound_laws.proofs.ValidLemmas.{none_told, valid-IsChecked}
 use Rattle.ctl_places.specs.Placed.{placed_of, AreFound}

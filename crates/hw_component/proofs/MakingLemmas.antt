@@ -1,14 +1,14 @@
 -- What can be made of a description: the components of a valid one.
-use Rattle.std.proofs.Common.{◌≡◌, ℕ, ◌+◌, ◌*◌, div-le_self, ◌<◌, ◌≤◌, ◌^◌, ℤ, pos, negsuc, ◌≤ℤ◌, Bool, true, false, List, [], ◌∷◌, length, Result, Ok, Err, refl, arith, length-append}
-use Rattle.std.specs.Prelude.{nat_lt, nat_le, ◌==◌, ◌&&◌, codes, if◌then◌else◌}
+use Rattle.std.proofs.Common.{◌≡◌, ℕ, ◌+◌, ◌*◌, div-le_self, ◌≤◌, ℤ, pos, negsuc, ◌≤ℤ◌, true, List, [], ◌∷◌, length, Result, Ok, arith, length-append}
+use Rattle.std.specs.Prelude.{nat_le, ◌==◌, ◌&&◌, codes}
 use Rattle.std.specs.List.{All}
-use Rattle.std.proofs.lemmas.Bool.{ltb-false}
 use Rattle.std.proofs.lemmas.Nat.{le-div}
 use Rattle.joint_body.specs.declared.TheConstants.{LONGEST_STEP}
 use Rattle.cm_model.specs.Cycle.{period}
 use Rattle.cm_model.specs.declared.TheConstants.{SECOND_US}
 use Rattle.std.proofs.lemmas.Int.{ints}
 use Rattle.std.proofs.lemmas.List.Elements.{All-nil, All-cons}
+use Rattle.cm_document.proofs.FewLemmas.{within_limit}
 use Rattle.fixed_num.specs.Bodies.{IsPlant}
 use Rattle.cm_document.specs.declared.limits.TheConstants.{VERSION, HIGHEST_RATE, MOST_CYCLES, MOST_COMPONENTS, MOST_JOINTS}
 use Rattle.cm_document.specs.Forms.{item_path, inside}
@@ -19,8 +19,6 @@ use Rattle.cm_document.specs.declared.description.CompKind.{CompKind}
 use Rattle.cm_document.specs.declared.description.Description.{Description}
 use Rattle.cm_document.specs.declared.description.JointDesc.{JointDesc}
 use Rattle.cm_document.specs.declared.faults.CheckFault.{CheckFault}
-use Rattle.cm_document.specs.declared.faults.CheckFault.TheVariants.{TooMany}
-use Rattle.cm_document.specs.declared.faults.What.{What}
 use Rattle.cm_document.specs.declared.faults.What.TheVariants.{Components, Joints}
 use Rattle.cm_document.proofs.ReadingLemmas.{bind_Ok}
 use Rattle.cm_model.specs.Components.{plant_of}
@@ -62,15 +60,6 @@ component_so path c u e =
 
 -- ---- Counts
 
--- where no fault is told there are not too many
-not_over : (what : What) (over : Bool) (u : Unit {0}) → ◌≡◌ {A = Result (Unit {0}) CheckFault} (if over then Err (TooMany what) else Ok tt) (Ok u) → over ≡ false
-not_over what true u e = cc
-not_over what false u e = refl
-
--- what was found few enough is so
-limited_so : (what : What) (number limit : ℕ) (u : Unit {0}) → limited what number limit ≡ Ok u → number ≤ limit
-limited_so what number limit u e = ltb-false limit number (not_over what (nat_lt limit number) u e)
-
 -- no component has more joints than all together
 joints_fit : (n : ℕ) (cs : List CompDesc) → length (joints_of cs) ≤ n → All (λ c. length c.joints ≤ n) cs
 joints_fit n [] few = All-nil (λ c. length c.joints ≤ n)
@@ -108,13 +97,4 @@ valid_can_be_made d sound =
     let each = bind_Ok (each_ranged component_ranged (codes "component") 0 d.components) _ ranges.0 cycles.2 in
     both_so d.components
     (each_so (λ c. All (λ joint. IsPlant (plant_of joint)) c.joints) component_ranged component_so (codes "component") 0 d.components each.0 each.1)
-    (joints_fit MOST_JOINTS d.components (limited_so Joints (length (joints_of d.components)) MOST_JOINTS joints.0 joints.1))
-
--- there are few components in a valid description
-pub valid_has_few : (d : Description) → IsValid d → length d.components < 2 ^ 32
-unfolding valid
-valid_has_few d sound =
-    let few = bind_Ok (few_enough d) _ d sound.no_fault in
-    let components = bind_Ok (limited Components (length d.components) MOST_COMPONENTS) _ few.0 few.1 in
-    let so = limited_so Components (length d.components) MOST_COMPONENTS components.0 components.1 in
-    omega (arith, so)
+    (joints_fit MOST_JOINTS d.components (within_limit Joints (length (joints_of d.components)) MOST_JOINTS joints.0 joints.1))

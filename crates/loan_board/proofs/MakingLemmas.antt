@@ -1,8 +1,8 @@
 -- All interfaces of a description, each idle at first.
-use Rattle.std.proofs.Common.{◌≡◌, ℕ, zero, suc, drop, ◌+◌, ◌<◌, ◌≤◌, ◌^◌, Ok, arith, Bool, true, false, List, [], ◌∷◌, ◌++◌, length, map, refl, sym, ap, ap₂, ◌∙◌}
+use Rattle.std.proofs.Common.{◌≡◌, ℕ, zero, suc, drop, ◌+◌, ◌<◌, ◌^◌, Ok, arith, Bool, true, false, List, [], ◌∷◌, ◌++◌, length, map, refl, sym, ap, ap₂, ◌∙◌}
 use Rattle.std.specs.Prelude.{flat_map}
 use Rattle.std.proofs.lemmas.List.{append_assoc, map-append, length-append, length-map}
-use Rattle.std.proofs.lemmas.Bool.Decides.{nat_tests}
+use Rattle.cm_document.proofs.FewLemmas.{within_limit}
 use Rattle.iface_names.specs.declared.interface.IfaceName.{IfaceName}
 use Rattle.iface_names.specs.declared.interface.IfaceName.TheVariants.{Joint}
 use Rattle.iface_names.specs.declared.kind.Kind.{Kind}
@@ -14,7 +14,6 @@ use Rattle.cm_document.specs.declared.description.CompDesc.{CompDesc}
 use Rattle.cm_document.specs.declared.description.CtlDesc.{CtlDesc}
 use Rattle.cm_document.specs.declared.description.Description.{Description}
 use Rattle.cm_document.specs.declared.description.JointDesc.{JointDesc}
-use Rattle.cm_document.specs.declared.faults.What.{What}
 use Rattle.cm_document.specs.declared.faults.What.TheVariants.{Components, Joints, States, Commands, Controllers, References}
 use Rattle.cm_document.specs.declared.limits.TheConstants.{MOST_COMPONENTS, MOST_JOINTS, MOST_STATES, MOST_COMMANDS, MOST_CONTROLLERS, MOST_REFERENCES}
 use Rattle.cm_document.proofs.PlaceLemmas.{called_by_names}
@@ -89,10 +88,6 @@ all_idle d =
 
 -- ---- How many
 
--- what is within its limit
-limited-few : (what : What) (n limit : ℕ) (u : Unit {0}) → limited what n limit ≡ Ok u → n ≤ limit
-limited-few what n limit u e = grind (arith, nat_tests)
-
 -- there are as many interfaces as states, commands and references
 interfaces_count : (d : Description) → length (interfaces_of d) ≡ length (states_of d.components) + (length (commands_of d.components) + length (references_of d.controllers))
 interfaces_count d =
@@ -112,4 +107,4 @@ interfaces_few d e =
     let commands = bind_Ok (limited Commands (length (commands_of d.components)) MOST_COMMANDS) _ counted.0 states.2 in
     let controllers = bind_Ok (limited Controllers (length d.controllers) MOST_CONTROLLERS) _ counted.0 commands.2 in
     let references = bind_Ok (limited References (length (references_of d.controllers)) MOST_REFERENCES) _ counted.0 controllers.2 in
-    omega (arith, interfaces_count d, limited-few States _ MOST_STATES states.0 states.1, limited-few Commands _ MOST_COMMANDS commands.0 commands.1, limited-few References _ MOST_REFERENCES references.0 references.1)
+    omega (arith, interfaces_count d, within_limit States _ MOST_STATES states.0 states.1, within_limit Commands _ MOST_COMMANDS commands.0 commands.1, within_limit References _ MOST_REFERENCES references.0 references.1)

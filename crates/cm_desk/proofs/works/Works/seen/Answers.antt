@@ -1,6 +1,6 @@
 use Rattle.std.proofs.Common.{ap, ◌∙◌, arith}
 use Rattle.std.proofs.lemmas.Option.{slice_get_within}
-use Rattle.chain_order.proofs.FewLemmas.{few_controllers}
+use Rattle.cm_document.proofs.FewLemmas.{few_controllers}
 use Rattle.cm_model.specs.Commit.{seen}
 use Rattle.cm_model.specs.State.{State}
 use Rattle.cm_desk.specs.Works.{state_with}
