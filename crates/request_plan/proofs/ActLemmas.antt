@@ -12,6 +12,7 @@ use Rattle.cm_document.specs.declared.life.Life.TheVariants.{Unconfigured, Inact
 use Rattle.cm_model.proofs.CommitLemmas.{scene_active}
 use Rattle.cm_model.specs.BestEffort.{best, decided, plan_of}
 use Rattle.std.specs.Option.{option_or}
+use Rattle.sequence.proofs.ListLemmas.{filter_map_swapped, map_twice}
 use Rattle.cm_model.specs.Components.{has_move}
 use Rattle.cm_model.specs.Faults.{cause_if}
 use Rattle.cm_model.specs.Boundary.{component_place, life_at, move_fault, with_switch, with_move_unless, with_move, Concluded, concluded}
@@ -35,10 +36,11 @@ use Rattle.sound_laws.proofs.BestLemmas.{best_together, best_params}
 use Rattle.sound_laws.proofs.ParamsLemmas.{HaveParams, params_loaded, params_configured}
 use Rattle.sound_laws.proofs.StrictLemmas as stricts
 use Rattle.sound_laws.proofs.StrictLemmas.{seen_loaded, strict_either, strict_together}
+use Rattle.chain_order.proofs.RunLemmas.{by_rank_map}
 use Rattle.switch_plan.proofs.DecisionLemmas.{strict_done}
 use Rattle.switch_plan.specs.View as views
 use Rattle.switch_plan.specs.declared.view.View.{View}
-use Rattle.request_plan.proofs.ListLemmas.{filter_map_swapped, by_rank_map, map_twice, filter_alike}
+use Rattle.request_plan.proofs.ListLemmas.{filter_alike}
 use Rattle.request_plan.proofs.SetLemmas.{stopped_of, started_of, set_between}
 use Rattle.request_plan.proofs.StandLemmas.{runs_in_scene, loaded_shown}
 use Rattle.request_plan.specs.Acts.{HaveFlags, AreSetsOf, is_carried_out, IsPlannedAct, IsSwitchOf, IsActOf, IsConclusionOf, seen_after, loaded_after, lives_after, IsActWithin}

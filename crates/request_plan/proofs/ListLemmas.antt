@@ -1,36 +1,12 @@
 -- Lists that are read through a function, and items that are told apart by a number.
-use Rattle.std.proofs.Common.{◌≡◌, ℕ, zero, suc, Bool, true, false, List, [], ◌∷◌, ◌++◌, map, cond, inl, inr, refl, sym, ◌∙◌, ap, ap₂, true≢false}
+use Rattle.std.proofs.Common.{◌≡◌, ℕ, Bool, true, false, List, [], ◌∷◌, map, cond, inl, inr, refl, sym, ◌∙◌, ap, ap₂, true≢false}
 use Rattle.std.specs.Prelude.{◌==◌, filter}
 use Rattle.std.specs.List.{AllByRecursion, IsDistinct, Contains}
 use Rattle.std.proofs.lemmas.Bool.{eq-eqb}
-use Rattle.std.proofs.lemmas.List.{map-append}
-use Rattle.cm_model.specs.Order.{by_rank}
 use Rattle.switch_plan.proofs.ElementLemmas.{none_inside, first_or_later}
 use Rattle.sound_laws.proofs.ParamsLemmas.{all_at}
 
--- ---- Filters and ranks
-
--- what is filtered is read as it is
-pub filter_map_swapped : {A B : Type 0} (test : B → Bool) (f : A → B) (xs : List A) → filter test (map f xs) ≡ map f (filter (λ x. test (f x)) xs)
-filter_map_swapped test f [] = refl
-filter_map_swapped {A} {B} test f (x ∷ xs) = one (test (f x)) (filter_map_swapped test f xs)
-  where
-    one : (b : Bool) → filter test (map f xs) ≡ map f (filter (λ x. test (f x)) xs)
-        → cond b (f x ∷ filter test (map f xs)) (filter test (map f xs)) ≡ map f (cond b (x ∷ filter (λ x. test (f x)) xs) (filter (λ x. test (f x)) xs))
-    one true rest = ap (λ ys. f x ∷ ys) rest
-    one false rest = rest
-
--- and what stands by rank
-pub by_rank_map : {A B : Type 0} (ranked : B → ℕ) (f : A → B) (n : ℕ) (xs : List A) → by_rank ranked n (map f xs) ≡ map f (by_rank (λ x. ranked (f x)) n xs)
-by_rank_map ranked f zero xs = refl
-by_rank_map ranked f (suc n) xs =
-    ap₂ (λ ys zs. ys ++ zs) (by_rank_map ranked f n xs) (filter_map_swapped (λ y. ranked y == n) f xs)
-    ∙ sym (map-append f (by_rank (λ x. ranked (f x)) n xs) (filter (λ x. ranked (f x) == n) xs))
-
--- what is read in two steps
-pub map_twice : {A B C : Type 0} (f : A → B) (g : B → C) (xs : List A) → map g (map f xs) ≡ map (λ x. g (f x)) xs
-map_twice f g [] = refl
-map_twice f g (x ∷ xs) = ap (λ ys. g (f x) ∷ ys) (map_twice f g xs)
+-- ---- What is alike of each
 
 -- what is read alike of each
 pub map_alike : {A B : Type 0} (f g : A → B) (xs : List A) → AllByRecursion (λ x. f x ≡ g x) xs → map f xs ≡ map g xs

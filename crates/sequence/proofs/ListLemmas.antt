@@ -1,7 +1,7 @@
 -- Lemmas on lists, for whoever reasons about them.
-use Rattle.std.proofs.Common.{◌≡◌, ℕ, zero, suc, ◌+◌, ◌<◌, ◌≤◌, List, [], ◌∷◌, ◌++◌, map, length, get_or, set, take, drop, Bool, false, ◌||◌, Some, refl, ap, subst, ◌∙◌, add-one, arith, length-append}
+use Rattle.std.proofs.Common.{◌≡◌, ℕ, zero, suc, ◌+◌, ◌<◌, ◌≤◌, List, [], ◌∷◌, ◌++◌, map, length, get_or, set, take, drop, Bool, true, false, cond, ◌||◌, Some, refl, ap, subst, ◌∙◌, add-one, arith, length-append}
 use Rattle.std.specs.Prelude.{◌==◌, flat_map, slice_get, slice_set}
-use Rattle.std.specs.List.{list_any, AllByRecursion}
+use Rattle.std.specs.List.{list_any, filter, AllByRecursion}
 use Rattle.std.proofs.lemmas.Bool.Decides.{nat_tests}
 use Rattle.std.proofs.lemmas.List.{take_all, drop_all, append-nil}
 use Rattle.std.proofs.lemmas.List.Folds.{list_any-append}
@@ -22,6 +22,23 @@ any_flat_map test f (x ∷ xs) = list_any-append test (f x) (flat_map f xs) ∙ 
 
 -- a test of two lists together
 pub ruleset any_append = (list_any-append)
+
+-- ---- What is read of each item
+
+-- what is filtered is read as it is
+pub filter_map_swapped : {A B : Type 0} (test : B → Bool) (f : A → B) (xs : List A) → filter test (map f xs) ≡ map f (filter (λ x. test (f x)) xs)
+filter_map_swapped test f [] = refl
+filter_map_swapped {A} {B} test f (x ∷ xs) = one (test (f x)) (filter_map_swapped test f xs)
+  where
+    one : (b : Bool) → filter test (map f xs) ≡ map f (filter (λ x. test (f x)) xs)
+        → cond b (f x ∷ filter test (map f xs)) (filter test (map f xs)) ≡ map f (cond b (x ∷ filter (λ x. test (f x)) xs) (filter (λ x. test (f x)) xs))
+    one true rest = ap (λ ys. f x ∷ ys) rest
+    one false rest = rest
+
+-- what is read in two steps
+pub map_twice : {A B C : Type 0} (f : A → B) (g : B → C) (xs : List A) → map g (map f xs) ≡ map (λ x. g (f x)) xs
+map_twice f g [] = refl
+map_twice f g (x ∷ xs) = ap (λ ys. g (f x) ∷ ys) (map_twice f g xs)
 
 -- ---- What holds of each item
 

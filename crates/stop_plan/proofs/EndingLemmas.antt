@@ -1,11 +1,12 @@
 -- What is worked out of a report is what the rules say.
-use Rattle.std.proofs.Common.{◌≡◌, ℕ, zero, suc, ◌<◌, Bool, true, false, List, [], ◌∷◌, ◌++◌, length, map, get_or, cond, None, inl, inr, refl, sym, ◌∙◌, ap, ap₂, true≢false, arith}
+use Rattle.std.proofs.Common.{◌≡◌, ℕ, suc, ◌<◌, Bool, true, false, List, [], length, map, get_or, None, inl, inr, refl, sym, ◌∙◌, ap, ap₂, true≢false, arith}
 use Rattle.std.specs.Prelude.{◌==◌, ◌&&◌, ◌||◌, not, filter, AllPairs}
 use Rattle.std.specs.List.{All, list_any}
 use Rattle.std.proofs.Math.Path.{fun_ext}
 use Rattle.std.proofs.lemmas.Bool.{cases_lt, and_parts, and_from, eq-eqb}
-use Rattle.std.proofs.lemmas.List.{get_or_past, map-append}
+use Rattle.std.proofs.lemmas.List.{get_or_past}
 use Rattle.std.proofs.lemmas.List.Elements.{Contains-get_or}
+use Rattle.sequence.proofs.ListLemmas.{filter_map_swapped, map_twice}
 use Rattle.cm_document.specs.Links.{first_in_loop}
 use Rattle.cm_document.specs.Valid.{IsValid}
 use Rattle.cm_document.specs.declared.description.CtlDesc.{CtlDesc}
@@ -14,7 +15,7 @@ use Rattle.cm_model.proofs.UpdateLemmas.{updates_leave_active}
 use Rattle.cm_model.specs.Commit.{scene_of}
 use Rattle.cm_model.specs.Components.{read_succeeds}
 use Rattle.cm_model.specs.Cycle.{component_is, active_order, updated_in, is_struck, struck, must_stop, stays_active, stops, cycle, landed}
-use Rattle.cm_model.specs.Order.{Places, set_of, places_of, precedes_at, by_rank, depth, in_order}
+use Rattle.cm_model.specs.Order.{Places, set_of, places_of, precedes_at, depth, in_order}
 use Rattle.cm_model.specs.Scene as scenes
 use Rattle.cm_model.specs.Scene.{is_chained_in}
 use Rattle.cm_model.specs.State.{State, Loaded, is_active, active}
@@ -22,6 +23,7 @@ use Rattle.cm_model.specs.Steady.{IsInOrder, IsSteady}
 use Rattle.cm_model.specs.Switches.{differ, is_stopped, is_started}
 use Rattle.cm_model.specs.Values.{InterfaceValue, after_reads}
 use Rattle.cm_model.specs.declared.member.Member.{Member}
+use Rattle.chain_order.proofs.RunLemmas.{by_rank_map}
 use Rattle.chain_order.specs.Links.{leaders_of, linked, places_below}
 use Rattle.chain_order.proofs.DepthLemmas.{precedes_at-past}
 use Rattle.chain_order.proofs.LinkLemmas.{length-each_below, linked-rows_of}
@@ -43,26 +45,6 @@ use Rattle.stop_plan.specs.declared.report.Report.{Report}
 use Rattle.stop_plan.proofs.ReportLemmas.{places_in_order, struck_told}
 use Rattle.stop_plan.proofs.SpreadLemmas.{spread_reaches}
 use Rattle.stop_plan.proofs.WhereLemmas.{where_place}
-
--- ---- Lists that are read off others
-
-filter_mapped : {A B : Type 0} (test : B → Bool) (f : A → B) (xs : List A) → filter test (map f xs) ≡ map f (filter (λ x. test (f x)) xs)
-filter_mapped test f [] = refl
-filter_mapped {A = A} {B = B} test f (x ∷ xs) = one (test (f x)) (filter test (map f xs)) (filter (λ y. test (f y)) xs) (filter_mapped test f xs)
-  where
-    one : (b : Bool) (ys : List B) (zs : List A) → ys ≡ map f zs → cond b (f x ∷ ys) ys ≡ map f (cond b (x ∷ zs) zs)
-    one true ys zs same = ap (λ rest. f x ∷ rest) same
-    one false ys zs same = same
-
-by_rank_mapped : {A B : Type 0} (ranked : B → ℕ) (f : A → B) (n : ℕ) (xs : List A) → by_rank ranked n (map f xs) ≡ map f (by_rank (λ x. ranked (f x)) n xs)
-by_rank_mapped ranked f zero xs = refl
-by_rank_mapped ranked f (suc n) xs =
-    ap₂ (λ ys zs. ys ++ zs) (by_rank_mapped ranked f n xs) (filter_mapped (λ y. ranked y == n) f xs)
-    ∙ sym (map-append f (by_rank (λ x. ranked (f x)) n xs) (filter (λ x. ranked (f x) == n) xs))
-
-map_mapped : {A B C : Type 0} (g : B → C) (f : A → B) (xs : List A) → map g (map f xs) ≡ map (λ x. g (f x)) xs
-map_mapped g f [] = refl
-map_mapped g f (x ∷ xs) = ap (λ rest. g (f x) ∷ rest) (map_mapped g f xs)
 
 -- ---- Chained modes
 
@@ -121,7 +103,7 @@ module _ (s : State) (valid : IsValid s.description) where
 
   -- the order of updates is one by depth
   ordered : members_in_order s ≡ in_order cs (active s) (map member_of (filter is_active s.loaded))
-  ordered = sym (by_rank_mapped (λ m. depth cs (active s) m.place) member_of (suc (length cs)) (filter is_active s.loaded))
+  ordered = sym (by_rank_map (λ m. depth cs (active s) m.place) member_of (suc (length cs)) (filter is_active s.loaded))
 
   are_active : All (λ m. active s m.place ≡ true) (map member_of (filter is_active s.loaded))
   are_active k d below =
@@ -160,8 +142,8 @@ module _ (s : State) (valid : IsValid s.description) where
         → map (λ m. m.serial) (filter (λ m. set_of fallen m.place) r.order.now) ≡ stops s (told_in s)
     stops_so fallen same =
         ap₂ (λ (set : Places) (ms : List Member). map (λ (m : Member). m.serial) (filter (λ (m : Member). set m.place) ms)) (fun_ext same) of.order
-        ∙ ap (map (λ (m : Member). m.serial)) (filter_mapped (λ (m : Member). must_stop s (told_in s) m.place) member_of (active_order s))
-        ∙ map_mapped (λ (m : Member). m.serial) member_of (filter (λ (l : Loaded). must_stop s (told_in s) l.place) (active_order s))
+        ∙ ap (map (λ (m : Member). m.serial)) (filter_map_swapped (λ (m : Member). must_stop s (told_in s) m.place) member_of (active_order s))
+        ∙ map_twice member_of (λ (m : Member). m.serial) (filter (λ (l : Loaded). must_stop s (told_in s) l.place) (active_order s))
 
     -- ---- What is settled
 
