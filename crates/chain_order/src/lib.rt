@@ -3,9 +3,9 @@
 #![tactic(auto)]
 
 pub use cm_model::Member;
-pub use links::{Links, exports};
+pub use links::{Links, exports, precedes};
 pub use loops::first_loop;
-pub use orders::{by_rank, heights, in_order, is_chained, run_list, serials};
+pub use orders::{by_rank, has_any, heights, in_order, is_chained, run_list, serials};
 pub use places::PlaceSet;
 pub use rates::{divisor, due};
 

@@ -166,7 +166,7 @@ fn precedes_at(controllers: &[CtlDesc], place: u32, other: u32) -> bool
 }
 
 /// Whether the one controller precedes the other: it claims a reference of it.
-fn precedes(controller: &CtlDesc, other: &CtlDesc) -> bool
+pub fn precedes(controller: &CtlDesc, other: &CtlDesc) -> bool
     ensures { result ≡ precedes controller.now other.now }
 {
     controller

@@ -1,13 +1,11 @@
 //! The list of controllers, and which of them are chained.
 
 ghost use Rattle.std.specs.Prelude.{◌≡◌, ◌++◌, ◌&&◌, ◌<◌, length, slice_get, false, option_to_list, IfOk, OnOk};
-ghost use Rattle.std.specs.List.{list_any};
 ghost use Rattle.std.specs.Option.{option_map_or};
-ghost use Rattle.cm_document.specs.Links.{precedes};
 ghost use Rattle.cm_model.specs.State.{is_active, is_chained, precedes_described, controller_line, controller_lines};
 
 use crate::works::Works;
-use chain_order::exports;
+use chain_order::precedes;
 use cm_model::{CtlDesc, CtlLine, Memory, Seq};
 use ctl_slots::Slot;
 use ctl_trait::Controller;
@@ -70,17 +68,6 @@ impl<C: Controller> Works<C> {
             None => false,
         }
     }
-}
-
-/// Whether the one controller precedes the other: it claims a reference of it.
-fn precedes(controller: &CtlDesc, other: &CtlDesc) -> bool
-    ensures { result ≡ precedes controller.now other.now }
-{
-    controller
-        .claims
-        .as_slice()
-        .iter()
-        .any(|claim| exports(other, claim))
 }
 
 fn push_if_some(lines: &mut Seq<CtlLine>, line: Option<CtlLine>) -> Result<(), Memory>

@@ -1,7 +1,6 @@
 //! Sets of controllers that are told anew, place by place.
 
 ghost use Rattle.std.specs.Prelude.{◌≡◌, ◌<◌, ◌≤◌, ◌++◌, length, map, filter, All};
-ghost use Rattle.std.specs.List.{list_any};
 ghost use Rattle.cm_model.specs.Order.{set_of, places_of};
 ghost use Rattle.cm_model.specs.Switches.{differ};
 ghost use Rattle.chain_order.specs.Links.{linked};
@@ -10,7 +9,7 @@ ghost use Rattle.stop_plan.specs.Settled.{staying, is_stopped_by, is_started_by}
 ghost use Rattle.stop_plan.specs.Spread.{spread};
 
 use crate::report::{Report, is_struck};
-use chain_order::{Links, PlaceSet};
+use chain_order::{Links, PlaceSet, has_any};
 use cm_model::{ListRoom, Member};
 
 /// The members become the controllers at the places of these.
@@ -161,13 +160,6 @@ fn differ(one: bool, other: bool) -> bool
     ensures { result ≡ differ one other }
 {
     if one { !other } else { other }
-}
-
-/// Whether one of these places is that of a member.
-fn has_any(set: &PlaceSet, places: &[u32]) -> bool
-    ensures { result ≡ list_any (set_of set.now) places.now }
-{
-    places.iter().any(|place| set.has(*place))
 }
 
 /// Tells the serials of the members among these, in their order.

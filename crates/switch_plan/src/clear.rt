@@ -11,7 +11,7 @@ use crate::interfaces::is_available;
 use crate::members::is_ready;
 use crate::relations::Relations;
 use crate::view::View;
-use chain_order::PlaceSet;
+use chain_order::{PlaceSet, has_any};
 use cm_document::Life;
 
 /// Whether it is seen at once that no fault counts against a set, of which these are to be activated. Where it is not, there may still be
@@ -68,13 +68,6 @@ fn may_start(view: &View, relations: &Relations, set: &PlaceSet, place: u32) -> 
     } else {
         is_ready(view, place)
     }
-}
-
-/// Whether one of these is a member.
-fn has_any(set: &PlaceSet, places: &[u32]) -> bool
-    ensures { result ≡ list_any (set_of set.now) places.now }
-{
-    places.iter().any(|place| set.has(*place))
 }
 
 /// Whether one of these is no member.
