@@ -57,7 +57,7 @@ impl UnderWay {
     }
 
     /// The value at a time.
-    #[tactic(auto, using(crate::proofs::PointLemmas::updating))]
+    #[tactic(auto, using(cm_model::proofs::ControllerLemmas::updating))]
     fn update(&mut self, time_us: u64) -> Value {
         let mut outs = [Value::Unset];
         let tick = Tick {

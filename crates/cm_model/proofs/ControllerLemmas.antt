@@ -1,4 +1,4 @@
--- No step of a controller changes whether it is chained.
+-- No step of a controller changes whether it is chained, nor its parameters.
 use Rattle.std.proofs.Common.{◌≡◌, ℕ, ℤ, Bool, true, false, List, [], ◌∷◌, refl, ap, ◌∙◌}
 use Rattle.std.specs.Prelude.{if◌then◌else◌, Option, Some, None, option_map}
 use Rattle.fixed_num.specs.declared.value.Value.{Value}
@@ -10,7 +10,7 @@ use Rattle.cm_document.specs.declared.description.Params.{Params}
 use Rattle.cm_document.specs.declared.description.Params.TheVariants.{Forward, Passthrough, Pid, Trajectory, Broadcaster, Mock}
 use Rattle.cm_model.specs.Kinds.{fails_in}
 use Rattle.cm_model.specs.Pids.{Tuning}
-use Rattle.cm_model.specs.Controllers.{gives, fails, runs_chained, with_mail, wanted, pid_update, trajectory_update, updated, mailed, step_with, ctl_step}
+use Rattle.cm_model.specs.Controllers.{gives, fails, runs_chained, with_mail, wanted, pid_update, trajectory_update, updated, update_step, mailed, step_with, ctl_step}
 use Rattle.cm_model.specs.declared.data.CtlData.{CtlData}
 use Rattle.cm_model.specs.declared.data.RunData.{RunData}
 use Rattle.cm_model.specs.declared.data.RunData.TheVariants as run
@@ -88,3 +88,23 @@ pub ctl_step_keeps_chained : (ctl : CtlData) (tick : Tick) (states : List ℤ) (
 ctl_step_keeps_chained ctl tick states refs None = step_keeps_chained ctl ctl.params ctl.run tick states refs refl
 ctl_step_keeps_chained ctl tick states refs (Some mail) =
     step_keeps_chained (mailed ctl mail) (mailed ctl mail).params (mailed ctl mail).run tick states refs refl ∙ mailed_keeps_chained ctl ctl.run mail refl
+
+-- ---- Parameters
+
+-- a step keeps the parameters,
+pub step_keeps_params : (ctl : CtlData) (params : Option Params) (r : Option RunData) (tick : Tick) (states : List ℤ) (refs : List Value)
+    → (step_with ctl params r tick states refs).after.params ≡ ctl.params
+step_keeps_params ctl (Some params) (Some r) tick states refs = refl
+step_keeps_params ctl None r tick states refs = refl
+step_keeps_params ctl (Some params) None tick states refs = refl
+
+-- and so does an update
+pub update_step_keeps_params : (ctl : CtlData) (tick : Tick) (states : List ℤ) (refs : List Value) → (update_step ctl tick states refs).after.params ≡ ctl.params
+update_step_keeps_params ctl tick states refs = step_keeps_params ctl ctl.params ctl.run tick states refs
+
+pub update_step_keeps_chained : (ctl : CtlData) (tick : Tick) (states : List ℤ) (refs : List Value)
+    → option_map runs_chained (update_step ctl tick states refs).after.run ≡ option_map runs_chained ctl.run
+update_step_keeps_chained ctl tick states refs = ctl_step_keeps_chained ctl tick states refs None
+
+-- what an update leaves
+pub ruleset updating = (update_step_keeps_params, update_step_keeps_chained)

@@ -1,6 +1,7 @@
 -- What the calls of a switch and of a cycle make of what is kept of a loaded controller.
 use Rattle.std.proofs.Common.{◌≡◌, ℕ, ℤ, Bool, true, false, List, [], ◌∷◌, Option, Some, None, refl, ap, ◌∙◌}
 use Rattle.std.specs.Prelude.{IsSomeAnd, IfSome, if◌then◌else◌}
+use Rattle.cm_model.proofs.ControllerLemmas.{step_keeps_params}
 use Rattle.fixed_num.specs.declared.value.Value.{Value}
 use Rattle.fixed_num.specs.declared.value.Value.TheVariants.{Unset, Num}
 use Rattle.cm_document.specs.Params.{kind_of}
@@ -149,12 +150,6 @@ own_stepped ctl None r tick states refs e f own part = rw f part
 own_stepped ctl (Some q) None tick states refs e f own part = rw f tt
 own_stepped ctl (Some q) (Some x) tick states refs e f own part = runs_as_updated ctl.kind q x tick states refs own part
 
-pub params_stepped : (ctl : CtlData) (p : Option Params) (r : Option RunData) (tick : Tick) (states : List ℤ) (refs : List Value)
-    → (step_with ctl p r tick states refs).after.params ≡ ctl.params
-params_stepped ctl None r tick states refs = refl
-params_stepped ctl (Some q) None tick states refs = refl
-params_stepped ctl (Some q) (Some x) tick states refs = refl
-
 pub kind_stepped : (ctl : CtlData) (p : Option Params) (r : Option RunData) (tick : Tick) (states : List ℤ) (refs : List Value)
     → (step_with ctl p r tick states refs).after.kind ≡ ctl.kind
 kind_stepped ctl None r tick states refs = refl
@@ -190,7 +185,7 @@ kind_once_taken ctl (Some mail) = kind_mailed ctl mail ctl.run refl
 
 owned_stepped : (ctl : CtlData) (tick : Tick) (states : List ℤ) (refs : List Value) → IsOwned ctl → IsOwned (update_step ctl tick states refs).after
 owned_stepped ctl tick states refs h =
-    let same_params = params_stepped ctl ctl.params ctl.run tick states refs in
+    let same_params = step_keeps_params ctl ctl.params ctl.run tick states refs in
     let same_kind = kind_stepped ctl ctl.params ctl.run tick states refs in
     record {
       kind = rw (same_params, same_kind) h.kind;

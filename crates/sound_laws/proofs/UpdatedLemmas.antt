@@ -6,6 +6,7 @@ use Rattle.std.proofs.lemmas.Bool.{cases_lt}
 use Rattle.std.proofs.lemmas.List.{length-append, length-map, length-take, length-drop}
 use Rattle.std.proofs.lemmas.List.FromFn.{length-map-range_with_len}
 use Rattle.std.proofs.lemmas.Option.{same_Some}
+use Rattle.cm_model.proofs.ControllerLemmas.{step_keeps_params}
 use Rattle.fixed_num.specs.Bodies.{stopped}
 use Rattle.fixed_num.specs.declared.value.BodyState.{BodyState}
 use Rattle.fixed_num.specs.declared.value.Value.{Value}
@@ -18,14 +19,13 @@ use Rattle.cm_document.specs.declared.call.Mail.{Mail}
 use Rattle.cm_document.specs.declared.description.CompDesc.{CompDesc}
 use Rattle.cm_document.specs.declared.description.CtlDesc.{CtlDesc}
 use Rattle.cm_document.specs.declared.description.JointDesc.{JointDesc}
-use Rattle.cm_document.specs.declared.description.Params.{Params}
 use Rattle.cm_model.proofs.InterfaceLemmas.{all_map_back}
 use Rattle.cm_model.proofs.LoadedLemmas.{all_from}
 use Rattle.cm_model.proofs.UpdateLemmas.{step_keeps_mark, given_by_keeps, step_keeps_place}
 use Rattle.cm_model.specs.Claims.{states_for, refs_for, output_for, given_of, given, given_by}
 use Rattle.cm_model.specs.Commit.{described_of}
 use Rattle.cm_model.specs.Components.{is_written, command_interfaces, claim_on, claimed_by, driven_bodies, bodies_after_step}
-use Rattle.cm_model.specs.Controllers.{runs_chained, Stepped, step_with, mailed, ctl_step}
+use Rattle.cm_model.specs.Controllers.{runs_chained, Stepped, mailed, ctl_step}
 use Rattle.cm_model.specs.Cycle.{period, component_is, tick_of, mail_for, step_of, stepped_at, Updates, with_step, with_updates, claims_in, commands_at, component_stepped, components_stepped}
 use Rattle.cm_model.specs.Order.{Places}
 use Rattle.cm_model.specs.Sound.{IsEmptyUnless, IsMarked}
@@ -41,21 +41,14 @@ use Rattle.cm_model.specs.declared.tick.Tick.{Tick}
 
 -- ---- Controllers
 
--- a step keeps the parameters
-stepped_params : (ctl : CtlData) (params : Option Params) (run : Option RunData) (tick : Tick) (states : List ℤ) (refs : List Value)
-    → (step_with ctl params run tick states refs).after.params ≡ ctl.params
-stepped_params ctl (Some p) (Some r) tick states refs = refl
-stepped_params ctl (Some p) None tick states refs = refl
-stepped_params ctl None run tick states refs = refl
-
 mailed_params : (ctl : CtlData) (mail : Mail) (run : Option RunData) → ctl.run ≡ run → (mailed ctl mail).params ≡ ctl.params
 mailed_params ctl mail None is = rw is refl
 mailed_params ctl mail (Some r) is = rw is refl
 
 pub ctl_step_params : (ctl : CtlData) (tick : Tick) (states : List ℤ) (refs : List Value) (mail : Option Mail) → (ctl_step ctl tick states refs mail).after.params ≡ ctl.params
-ctl_step_params ctl tick states refs None = stepped_params ctl ctl.params ctl.run tick states refs
+ctl_step_params ctl tick states refs None = step_keeps_params ctl ctl.params ctl.run tick states refs
 ctl_step_params ctl tick states refs (Some mail) =
-    stepped_params (mailed ctl mail) (mailed ctl mail).params (mailed ctl mail).run tick states refs ∙ mailed_params ctl mail ctl.run refl
+    step_keeps_params (mailed ctl mail) (mailed ctl mail).params (mailed ctl mail).run tick states refs ∙ mailed_params ctl mail ctl.run refl
 
 step_keeps_params : (s : State) (values : List InterfaceValue) (serial : ℕ) (l : Loaded) → (stepped_at s values serial l).ctl.params ≡ l.ctl.params
 step_keeps_params s values serial l = either (l.serial == serial)

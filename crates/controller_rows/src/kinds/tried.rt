@@ -118,7 +118,7 @@ impl<C: Controller> Tried<C> {
     }
 
     /// It is updated.
-    #[tactic(auto, using(crate::proofs::KeptLemmas::updating))]
+    #[tactic(auto, using(cm_model::proofs::ControllerLemmas::updating))]
     pub fn update(&mut self, tick: Tick, states: &[Fx], refs: &[Value]) -> &'static str {
         let (Some(params), Some(_)) = (&self.params, self.chained) else {
             return "not active";
