@@ -227,7 +227,7 @@ pub await_waits : (s : State) (who n : ℕ) → who < s.sessions → is_reached 
 unfolding step
 await_waits s who n less unreached = rw (session_itself s who less, unreached) refl
 
-loop_itself : (n : ℕ) → (n == n) ≡ true
+pub loop_itself : (n : ℕ) → (n == n) ≡ true
 loop_itself n = grind (arith, nat_tests)
 
 -- the loop begins a cycle where it can

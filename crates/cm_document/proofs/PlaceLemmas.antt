@@ -31,7 +31,7 @@ use Rattle.cm_document.proofs.ReadingLemmas.{bind_Ok}
 -- ---- Names differ
 
 -- where no repeat is told, none was found
-found_none : {A : Type 0} (text : A → List ℕ) (found : Option A) (u : Unit {0})
+pub found_none : {A : Type 0} (text : A → List ℕ) (found : Option A) (u : Unit {0})
     → ◌≡◌ {A = Result (Unit {0}) CheckFault} (elim found [ None ↦ Ok tt | Some x ↦ Err (NameTwice (text x)) ]) (Ok u) → found ≡ None
 found_none text None u e = refl
 found_none text (Some x) u e = cc

@@ -1,6 +1,6 @@
 -- What a controller of a set that can run together claims is available: an interface of a component that is inactive or active, or a
 -- reference of another controller of the set.
-use Rattle.std.proofs.Common.{◌≡◌, ℕ, zero, suc, ◌+◌, ◌<◌, Bool, true, false, List, [], ◌∷◌, ◌++◌, map, length, Option, Some, None, Result, Ok, Err, refl, sym, subst, ap, ◌∙◌, arith, append_assoc, length-append, true≢false, lt-ltb}
+use Rattle.std.proofs.Common.{◌≡◌, ℕ, zero, suc, ◌+◌, ◌<◌, Bool, true, false, List, [], ◌∷◌, ◌++◌, map, length, Option, Some, None, refl, sym, subst, ap, ◌∙◌, arith, append_assoc, length-append, true≢false, lt-ltb}
 use Rattle.std.specs.Prelude.{not, ◌==◌, ◌&&◌, find, position, filter_map, slice_index_or, slice_get}
 use Rattle.std.specs.List.{AllByRecursion, IsDistinct, list_any, position_or_len}
 use Rattle.std.specs.Option.{option_map_or}
@@ -11,6 +11,7 @@ use Rattle.std.proofs.lemmas.List.Folds.{list_any-append}
 use Rattle.std.proofs.lemmas.List.Quantifiers.{position-Some}
 use Rattle.std.proofs.lemmas.List.{map-append}
 use Rattle.std.proofs.lemmas.Slice.Eq.{bytes_eq-Decides}
+use Rattle.cm_document.proofs.PlaceLemmas.{found_none}
 use Rattle.sequence.proofs.ListLemmas.{any_map, any_flat_map, all_append}
 use Rattle.iface_names.specs.Interfaces.{same_interface, interface_text}
 use Rattle.iface_names.specs.Names.{same_name}
@@ -25,8 +26,6 @@ use Rattle.cm_document.specs.declared.description.CompDesc.{CompDesc}
 use Rattle.cm_document.specs.declared.description.CtlDesc.{CtlDesc}
 use Rattle.cm_document.specs.declared.description.Description.{Description}
 use Rattle.cm_document.specs.declared.description.JointDesc.{JointDesc}
-use Rattle.cm_document.specs.declared.faults.CheckFault.{CheckFault}
-use Rattle.cm_document.specs.declared.faults.CheckFault.TheVariants.{NameTwice}
 use Rattle.cm_document.specs.declared.life.Life.{Life}
 use Rattle.cm_document.specs.declared.life.Life.TheVariants.{Unconfigured}
 use Rattle.cm_document.proofs.DistinctLemmas.{all_of, all_so, all_map, repeated_after-IsDistinct}
@@ -80,12 +79,6 @@ position_after test pre rest x before here =
 
 -- ---- What a valid description says of names
 
--- where no repeat is told, none was found
-none_twice : {A : Type 0} (text : A → List ℕ) (found : Option A) (u : Unit {0})
-    → ◌≡◌ {A = Result (Unit {0}) CheckFault} (elim found [ None ↦ Ok tt | Some x ↦ Err (NameTwice (text x)) ]) (Ok u) → found ≡ None
-none_twice text None u e = refl
-none_twice text (Some x) u e = cc
-
 -- joints differ by name, and so do references
 record NamesDiffer (d : Description) : Type 0 where
   joints : IsDistinct same_name (map (λ j. j.name) (joints_of d.components))
@@ -103,9 +96,9 @@ names_differ d ok =
     let joint_names = map (λ (j : JointDesc). j.name) (joints_of d.components) in
     record {
       joints = repeated_after-IsDistinct same_name nat_list_eq_equiv [] joint_names
-          (none_twice (λ (name : List ℕ). name) (repeated_after same_name [] joint_names) joints.0 joints.1) tt;
+          (found_none (λ (name : List ℕ). name) (repeated_after same_name [] joint_names) joints.0 joints.1) tt;
       references = repeated_after-IsDistinct same_interface same_interface-IsEquivalence [] (references_of d.controllers)
-          (none_twice interface_text (repeated_after same_interface [] (references_of d.controllers)) references.0 references.1) tt;
+          (found_none interface_text (repeated_after same_interface [] (references_of d.controllers)) references.0 references.1) tt;
     }
 
 -- ---- Whose an interface is

@@ -4,6 +4,7 @@ use Rattle.std.specs.Prelude.{not, ◌==◌, ◌&&◌, nat_lt}
 use Rattle.std.proofs.lemmas.Bool.{and_parts}
 use Rattle.std.proofs.lemmas.Option.{same_Some}
 use Rattle.std.proofs.lemmas.Bool.Decides.{nat_tests}
+use Rattle.cm_desk.proofs.RecordLemmas.{loop_itself}
 use Rattle.cm_document.specs.declared.call.Call.{Call}
 use Rattle.cm_document.specs.ScriptLaws.{CanBeWritten}
 use Rattle.cm_document.specs.declared.call.Call.TheVariants.{Load, Configure, Cleanup, Unload, Rate, Send, Switch, Hardware, Await, ListControllers, ListInterfaces, ListComponents, Begin, End, Close}
@@ -74,9 +75,6 @@ loop_made call old new r grows same =
       moved = same_progress (now_of new.desk) new.desk.made (with_entry old.desk.made (now_of old.desk).sessions call r) new.sessions old.sessions (rw who grows.made) same
           ∙ sym (looped_some call (progress_of old) (now_of new.desk, r) stepped);
     }
-
-loop_itself : (n : ℕ) → (n == n) ≡ true
-loop_itself n = grind (arith, nat_tests)
 
 -- it cannot make it
 loop_waits : (call : Call) (j : Standing) → step (now_of j.desk) (now_of j.desk).sessions call ≡ None → GoesOn (looped call) j j

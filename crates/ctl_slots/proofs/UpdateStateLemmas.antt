@@ -1,30 +1,27 @@
 -- That the updates by place are those of the written manager.
-use Rattle.std.proofs.Common.{◌≡◌, ℕ, zero, suc, ◌+◌, ◌*◌, ◌<◌, ◌≤◌, Bool, true, false, List, [], ◌∷◌, ◌++◌, length, map, slice_set, Option, Some, None, option_map, inl, inr, refl, sym, ap, ap₂, ◌∙◌, subst, true≢false, arith, append_assoc}
-use Rattle.std.specs.Prelude.{◌==◌, ◌&&◌, ◌||◌, not, if◌then◌else◌, slice_get, filter, filter_map, find, zip, unwrap_or}
-use Rattle.std.specs.List.{AllByRecursion, IsDistinct, Contains, list_any, range_with_len}
+use Rattle.std.proofs.Common.{◌≡◌, ℕ, zero, suc, ◌+◌, ◌*◌, ◌≤◌, Bool, true, false, List, [], ◌∷◌, ◌++◌, length, map, slice_set, Option, Some, option_map, inl, inr, refl, sym, ap, ap₂, ◌∙◌, true≢false, append_assoc}
+use Rattle.std.specs.Prelude.{◌==◌, ◌&&◌, ◌||◌, not, if◌then◌else◌, slice_get, filter, filter_map, find, unwrap_or}
+use Rattle.std.specs.List.{AllByRecursion, IsDistinct, list_any}
 use Rattle.std.specs.Option.{option_map_or}
 use Rattle.std.proofs.Math.Path.{fun_ext}
 use Rattle.std.proofs.lemmas.Bool.{and_from, cases_lt, eqb-true, eq-eqb, false_from_ne_true}
-use Rattle.std.proofs.lemmas.Option.{same_Some, slice_get_past}
+use Rattle.std.proofs.lemmas.Option.{same_Some}
 use Rattle.std.proofs.lemmas.List.{map-append, append-nil, get_or_past}
-use Rattle.std.proofs.lemmas.List.Elements.{filter-append, Contains-get_or}
-use Rattle.std.proofs.lemmas.List.FromFn.{get_or-range_with_len, length-range_with_len}
+use Rattle.std.proofs.lemmas.List.Elements.{filter-append}
 use Rattle.std.proofs.lemmas.List.Folds.{list_any-append}
-use Rattle.std.specs.Cmp.{both_ways}
+use Rattle.cm_hardware.proofs.ToldLemmas.{read_failures_told}
 use Rattle.sound_laws.proofs.SerialLemmas.{step_keeps_serial}
 use Rattle.sound_laws.proofs.ParamsLemmas.{all_each}
 use Rattle.fixed_num.specs.declared.value.Value.{Value}
 use Rattle.cm_document.specs.Places.{interfaces_of}
 use Rattle.cm_document.specs.Valid.{IsValid}
 use Rattle.cm_document.specs.declared.call.Mail.{Mail}
-use Rattle.cm_document.specs.declared.description.CompDesc.{CompDesc}
 use Rattle.cm_document.specs.declared.description.Description.{Description}
-use Rattle.cm_document.specs.declared.life.Life.{Life}
 use Rattle.cm_model.specs.Claims.{states_for, refs_for, given, given_by, uses}
 use Rattle.cm_model.specs.Commit.{described_of}
 use Rattle.cm_model.specs.Components.{read_fails}
 use Rattle.cm_model.specs.Controllers.{Stepped, ctl_step}
-use Rattle.cm_model.specs.Cycle.{period, component_is, components_where, active_order, is_due_now, is_held_off, tick_of, mail_for, step_of, stepped_at, ran_by, Updates, with_step, with_updates}
+use Rattle.cm_model.specs.Cycle.{period, component_is, active_order, is_due_now, is_held_off, tick_of, mail_for, step_of, stepped_at, ran_by, Updates, with_step, with_updates}
 use Rattle.cm_model.specs.Faults.{component_with}
 use Rattle.cm_model.specs.Order.{controller_at, nobody}
 use Rattle.cm_model.specs.Ran.{Ran}
@@ -36,7 +33,7 @@ use Rattle.cm_model.specs.declared.ran.Done.TheVariants as done
 use Rattle.cm_model.specs.declared.record.FailedPart.{FailedPart}
 use Rattle.loan_board.specs.Loans.{with_loan, set}
 use Rattle.loan_board.specs.declared.board.Loan.{Loan}
-use Rattle.cm_hardware.specs.Holding.{IsInCycle, values_read, reads_failed_in}
+use Rattle.cm_hardware.specs.Holding.{IsInCycle, values_read}
 use Rattle.cm_hardware.specs.Outputs.{is_there_at, given_out}
 use Rattle.cm_hardware.specs.Wiring.{Wired}
 use Rattle.cm_hardware.proofs.OutputLemmas.{held_in_cycle, outputs_in_cycle}
@@ -45,7 +42,7 @@ use Rattle.chain_order.specs.Links.{linked}
 use Rattle.chain_order.proofs.LinkLemmas.{length-each_below, get_or-each_below}
 use Rattle.switch_plan.specs.Relations.{components_at, relations_of}
 use Rattle.switch_plan.proofs.ClearLemmas.{any_found}
-use Rattle.switch_plan.proofs.ElementLemmas.{here, later, some_of, any_from, filter_back, filter_from}
+use Rattle.switch_plan.proofs.ElementLemmas.{here, later, any_from}
 use Rattle.sound_laws.proofs.ActiveLemmas.{from_active_order}
 use Rattle.sound_laws.proofs.RunLemmas.{ordered_once}
 use Rattle.sound_laws.proofs.ValidLemmas.{valid-IsChecked}
@@ -171,50 +168,6 @@ used_by d test p =
         ∙ ap (λ b. list_any (λ name. option_map_or test (with_it name) false) c.claims || b) (any_found test with_it c.reads)
         ∙ sym (list_any-append (λ name. option_map_or test (with_it name) false) c.claims c.reads)
 
--- ---- The reads that failed
-
--- a part at this place is among those of these places
-any_part : (places : List ℕ) (k : ℕ) → list_any (λ (part : FailedPart). part.place == k) (map (λ (place : ℕ). record { place = place; reading = true }) places) ≡ list_any (λ (place : ℕ). place == k) places
-any_part [] k = refl
-any_part (place ∷ places) k = ap (λ b. place == k || b) (any_part places k)
-
-in_range : (n k : ℕ) → k < n → Contains (range_with_len 0 n) k
-in_range n k below =
-    let from_0 : 0 + k ≡ k = omega arith in
-    subst (Contains (range_with_len 0 n)) (get_or-range_with_len 0 n k 0 below ∙ from_0) (Contains-get_or (range_with_len 0 n) k 0 (rw (length-range_with_len 0 n) below))
-
-zip_short : {A B : Type 0} (xs : List A) (ys : List B) → length (zip xs ys) ≤ length xs
-zip_short [] ys = omega arith
-zip_short (x ∷ xs) [] = omega arith
-zip_short (x ∷ xs) (y ∷ ys) = let rest = zip_short xs ys in omega (arith, rest)
-
--- what holds of a component holds of one that is described
-component_within : (s : State) (test : CompDesc → Life → ℕ → Bool) (k : ℕ) → component_is test s k ≡ true → k < length s.description.components
-component_within s test k holds =
-    elim (cases_lt k (length s.description.components)) [
-      | inl below ↦ below
-      | inr past ↦
-          (let short = zip_short s.description.components s.lives in
-          let none : slice_get (zip s.description.components s.lives) k ≡ None = slice_get_past (zip s.description.components s.lives) k (omega (arith, short, past)) in
-          let no : component_is test s k ≡ false = rw none refl in
-          absurd (true≢false (sym holds ∙ no)))
-    ]
-
--- The places among those whose read failed are those of which it is told.
-failed_at : (s : State) (k : ℕ) → list_any (λ (part : FailedPart). part.place == k) (reads_failed_in s) ≡ component_is read_fails s k
-failed_at s k =
-    any_part (components_where (component_is read_fails s) s) k
-    ∙ both_ways (list_any (λ (place : ℕ). place == k) (components_where (component_is read_fails s) s)) (component_is read_fails s k)
-    (λ told.
-    let one = some_of (λ (place : ℕ). place == k) (components_where (component_is read_fails s) s) told in
-    let holds = (filter_back (component_is read_fails s) (range_with_len 0 (length s.description.components)) one.0 one.1).1 in
-    ap (component_is read_fails s) (sym (eqb-true one.0 k one.2)) ∙ holds)
-    (λ holds.
-    any_from (λ (place : ℕ). place == k) (components_where (component_is read_fails s) s) k
-    (filter_from (component_is read_fails s) (range_with_len 0 (length s.description.components)) k
-    (in_range (length s.description.components) k (component_within s read_fails k holds)) holds)
-    (eq-eqb k k refl))
-
 -- ---- One controller in the cycle
 
 module _ (s : State) (a : Aloft) (valid : IsValid s.description) (aloft : IsAloftOf s a) where
@@ -222,7 +175,7 @@ module _ (s : State) (a : Aloft) (valid : IsValid s.description) (aloft : IsAlof
   held_off l =
       ap (λ (rows : List (List ℕ)). list_any (λ component. list_any (λ (part : FailedPart). part.place == component) a.failed) (linked rows l.place)) (ap (λ r. r.components) aloft.related)
       ∙ ap (λ (failed : List FailedPart). list_any (λ component. list_any (λ (part : FailedPart). part.place == component) failed) (linked (relations_of s.description).components l.place)) aloft.failed
-      ∙ ap (λ test. list_any test (linked (relations_of s.description).components l.place)) (fun_ext (failed_at s))
+      ∙ ap (λ test. list_any test (linked (relations_of s.description).components l.place)) (fun_ext (read_failures_told s))
       ∙ used_by s.description (component_is read_fails s) l.place
 
   due_now : (l : Loaded) → is_due_in a.number l ≡ is_due_now s l

@@ -5,6 +5,7 @@ use Rattle.std.specs.List.{Contains, list_any}
 use Rattle.std.specs.Option.{option_map_or}
 use Rattle.std.proofs.lemmas.Bool.{and_parts, and_from, not-false, eqb-true, false_from_ne_true}
 use Rattle.std.proofs.lemmas.Slice.Eq.{bytes_eq-Decides}
+use Rattle.switch_plan.proofs.MaximalLemmas.{cause_if-none}
 use Rattle.iface_names.specs.Interfaces.{same_kind, same_interface}
 use Rattle.iface_names.specs.Names.{same_name}
 use Rattle.iface_names.specs.Sameness.{same_kind-Decides, same_interface-Decides}
@@ -16,7 +17,6 @@ use Rattle.cm_model.specs.Faults.{cause_if, is_missing, component_with, is_unava
 use Rattle.cm_model.specs.Order.{Places}
 use Rattle.cm_model.specs.Scene.{Scene, controllers_in, described, claims_at, member, order}
 use Rattle.cm_model.specs.Sound.{names_at, is_there, CanRunTogether}
-use Rattle.cm_model.specs.declared.cause.Cause.{Cause}
 use Rattle.cm_model.specs.declared.cause.Cause.TheVariants as cause
 use Rattle.cm_model.specs.declared.fault_kind.FaultKind.TheVariants as fault_kind
 use Rattle.cm_model.specs.declared.member.Member.{Member}
@@ -33,11 +33,6 @@ and_first false b none holds = refl
 and_second : (a b : Bool) → (a && b) ≡ false → a ≡ true → b ≡ false
 and_second true b none holds = none
 and_second false b none holds = absurd (true≢false (sym holds))
-
--- where a cause is not given, its test fails
-pub if_none : (b : Bool) (c : Cause) → cause_if b c ≡ None → b ≡ false
-if_none true c e = cc
-if_none false c e = refl
 
 -- what does not fail is so, or there is nothing
 unless_fails : (f : ℕ → Bool) (o : Option ℕ) → option_map_or (λ k. not (f k)) o false ≡ false → option_map_or f o true ≡ true
@@ -64,7 +59,7 @@ beside_turned (Reference controller joint kind) (Reference controller' joint' ki
 pub none_missing : (scene : Scene) (set on : Places) (p : ℕ) (interface : IfaceName) → fault_of_kind scene set on fault_kind.Follower p ≡ None
     → claims_at (controllers_in scene) p interface ≡ true → is_missing (controllers_in scene) set interface ≡ false
 none_missing scene set on p interface none claims =
-    if_none (is_missing (controllers_in scene) set interface) (cause.MissingFollower interface)
+    cause_if-none (is_missing (controllers_in scene) set interface) (cause.MissingFollower interface)
     (first_of-none (λ interface. cause_if (is_missing (controllers_in scene) set interface) (cause.MissingFollower interface)) (described scene p).claims none interface (claims_from scene p interface claims))
 
 -- ---- A set
@@ -109,7 +104,7 @@ module _ (scene : Scene) (small set added on : Places) (extended : IsExtended sc
   no_other_mode p q interface beside inside new other claims also =
       let l = loaded_at q other in
       let free : is_mode_taken scene set interface ≡ false =
-      if_none (is_mode_taken scene set interface) (cause.ModeRefused (joint_name interface))
+      cause_if-none (is_mode_taken scene set interface) (cause.ModeRefused (joint_name interface))
       (first_of-none (λ interface. cause_if (is_mode_taken scene set interface) (cause.ModeRefused (joint_name interface))) (described scene p).claims (extended.clear p inside new).mode interface (claims_from scene p interface claims)) in
       let each : (set l.0.place && list_any (is_beside interface) (described scene l.0.place).claims) ≡ false =
       each_fails (λ (l : Seen). set l.place && list_any (is_beside interface) (described scene l.place).claims) scene.loaded free l.0 l.1 in
@@ -124,7 +119,7 @@ module _ (scene : Scene) (small set added on : Places) (extended : IsExtended sc
       let names = (described scene p).claims ++ (described scene p).reads in
       let r = some_of (same_interface interface) names named in
       let up : is_unavailable scene r.0 ≡ false =
-      if_none (is_unavailable scene r.0) (cause.Unavailable r.0)
+      cause_if-none (is_unavailable scene r.0) (cause.Unavailable r.0)
       (first_of-none (λ interface. cause_if (is_unavailable scene interface) (cause.Unavailable interface)) names (extended.clear p inside new).availability r.0 r.1) in
       subst (λ x. is_there scene.description scene.components x ≡ true) (sym ((same_interface-Decides interface r.0).0 r.2))
       (unless_fails (λ k. is_available (slice_index_or scene.components k Unconfigured)) (component_with scene.description.components r.0) up)

@@ -31,7 +31,7 @@ use Rattle.switch_plan.proofs.CauseLemmas.{order_back, order_from}
 
 -- ---- Faults of a member of a larger set
 
-cause_if-none : (b : Bool) (c : Cause) → cause_if b c ≡ None → b ≡ false
+pub cause_if-none : (b : Bool) (c : Cause) → cause_if b c ≡ None → b ≡ false
 cause_if-none true c e = cc
 cause_if-none false c e = refl
 
