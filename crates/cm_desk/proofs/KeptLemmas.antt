@@ -15,7 +15,7 @@ use Rattle.stop_plan.specs.declared.ending.Ending.{Ending}
 use Rattle.sound_laws.proofs.SerialLemmas.{serials_set}
 use Rattle.ctl_slots.specs.Fit.{AreFit}
 use Rattle.stop_plan.specs.Ending.{members_in_order}
-use Rattle.cm_desk.specs.Roster.{Listed, AreAt, IsListedOf, actives, serials_of, has_serial}
+use Rattle.cm_desk.specs.Roster.{Listed, AreAt, IsListedOf, actives, serials_of, is_listed}
 use Rattle.cm_desk.specs.Works.{IsAsDescribed, IsKept}
 use Rattle.cm_desk.specs.declared.flight.Flight.{Flight}
 use Rattle.cm_desk.proofs.ActiveLemmas.{IsSameOne, actives_set, actives_push, actives_remove, same_serial, same_order, hardware_stays}
@@ -88,10 +88,10 @@ length_remove ls i = omega (arith, length-append (take i ls) (drop (suc i) ls), 
 
 -- each in the order of updates is still loaded where one is gone that was not active,
 pub order_still_loaded : (s : State) (i : ℕ) (l : Loaded) (order : List Member) → slice_get s.loaded i ≡ Some l → is_active l ≡ false → order ≡ members_in_order s
-    → All (λ m. has_serial (serials_of (remove s.loaded i)) m.serial ≡ true) order
+    → All (λ m. is_listed (serials_of (remove s.loaded i)) m.serial ≡ true) order
 order_still_loaded s i l order there idle is =
     let t : State = record s { loaded = remove s.loaded i } in
-    subst (All (λ (m : Member). has_serial (serials_of t.loaded) m.serial ≡ true)) (same_order s t (actives_remove s.loaded i l there idle) refl ∙ sym is) (order_loaded t)
+    subst (All (λ (m : Member). is_listed (serials_of t.loaded) m.serial ≡ true)) (same_order s t (actives_remove s.loaded i l there idle) refl ∙ sym is) (order_loaded t)
 
 -- and as many are indexed as are in the order
 pub as_many_at : (serials : List ℕ) (order : List Member) (run : List ℕ) → AreAt serials order run → length order ≤ length run

@@ -13,7 +13,7 @@ use Rattle.cm_model.specs.declared.member.Member.{Member}
 use Rattle.sound_laws.proofs.ActiveLemmas.{from_active_order}
 use Rattle.sound_laws.proofs.RunLemmas.{one_of_serial}
 use Rattle.stop_plan.specs.Ending.{member_of, members_in_order}
-use Rattle.cm_desk.specs.Roster.{actives, serials_of, has_serial, AreAt}
+use Rattle.cm_desk.specs.Roster.{actives, serials_of, is_listed, AreAt}
 use Rattle.cm_desk.specs.Works.{IsAsDescribed}
 use Rattle.cm_desk.proofs.ActiveLemmas.{order_is}
 use Rattle.cm_desk.proofs.CommitLemmas.{places_within}
@@ -54,16 +54,16 @@ order_within s described =
     (recursion_from_All (λ (l : Loaded). l.place < length s.description.controllers) s.loaded (places_within s.description s.loaded described))
 
 -- and loaded
-has_each : (ls : List Loaded) → AllByRecursion (λ l. has_serial (serials_of ls) l.serial ≡ true) ls
+has_each : (ls : List Loaded) → AllByRecursion (λ l. is_listed (serials_of ls) l.serial ≡ true) ls
 has_each [] = tt
 has_each (l ∷ ls) = (rw (eq-eqb l.serial l.serial refl) refl, later ls (has_each ls))
   where
-    later : (ks : List Loaded) → AllByRecursion (λ k. has_serial (serials_of ls) k.serial ≡ true) ks → AllByRecursion (λ k. has_serial (serials_of (l ∷ ls)) k.serial ≡ true) ks
+    later : (ks : List Loaded) → AllByRecursion (λ k. is_listed (serials_of ls) k.serial ≡ true) ks → AllByRecursion (λ k. is_listed (serials_of (l ∷ ls)) k.serial ≡ true) ks
     later [] each = tt
-    later (k ∷ ks) each = (or_right (l.serial == k.serial) (has_serial (serials_of ls) k.serial) each.0, later ks each.1)
+    later (k ∷ ks) each = (or_right (l.serial == k.serial) (is_listed (serials_of ls) k.serial) each.0, later ks each.1)
 
-pub order_loaded : (s : State) → All (λ m. has_serial (serials_of s.loaded) m.serial ≡ true) (members_in_order s)
-order_loaded s = all_in_order (λ m. has_serial (serials_of s.loaded) m.serial ≡ true) s (has_each s.loaded)
+pub order_loaded : (s : State) → All (λ m. is_listed (serials_of s.loaded) m.serial ≡ true) (members_in_order s)
+order_loaded s = all_in_order (λ m. is_listed (serials_of s.loaded) m.serial ≡ true) s (has_each s.loaded)
 
 -- ---- Where they stand
 

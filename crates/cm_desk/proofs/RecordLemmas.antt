@@ -28,7 +28,8 @@ use Rattle.cm_model.proofs.StayLemmas.{step-Stands, step-IsStep}
 use Rattle.cm_model.proofs.UpdateLemmas.{updates_keep}
 use Rattle.sound_laws.proofs.HistoryLemmas.{legal_sound, step_steady}
 use Rattle.sound_laws.proofs.SerialLemmas.{IsNumbered, renumbered_numbered, effect_renumbered}
-use Rattle.cm_desk.specs.Desk.{owed, flag, seen, Keeps, Grows, CanBeCalled}
+use Rattle.cm_hardware.specs.Wiring.{one_if}
+use Rattle.cm_desk.specs.Desk.{owed, seen, Keeps, Grows, CanBeCalled}
 use Rattle.cm_desk.proofs.BeginLemmas.{boundary_stays}
 use Rattle.cm_desk.proofs.StayLemmas.{begun_stays, count_stays}
 
@@ -70,13 +71,13 @@ recorded at_boot s next made after who call r entries boxes later places kept st
 
 -- ---- Room
 
-flag-few : (b : Bool) → flag b ≤ 1
-flag-few true = omega arith
-flag-few false = omega arith
+one_if-few : (b : Bool) → one_if b ≤ 1
+one_if-few true = omega arith
+one_if-few false = omega arith
 
 -- no more is owed than the end and the close
 pub owed-few : (s : State) → owed s ≤ 2
-owed-few s = omega (arith, flag-few s.aloft, flag-few (not s.closed))
+owed-few s = omega (arith, one_if-few s.aloft, one_if-few (not s.closed))
 
 -- what is reserved before a call is room for its entry, and for what is owed after it
 pub room_after : (s : State) (made after : List Entry) (who : ℕ) (call : Call) (r : Reply) (entries : ℕ) → length made + 3 ≤ entries → after ≡ with_entry made who call r

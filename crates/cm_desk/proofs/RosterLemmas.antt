@@ -7,7 +7,7 @@ use Rattle.std.proofs.lemmas.Bool.{cases_eq, eqb-true, eq-eqb, ne_eqb, lt-ltb}
 use Rattle.std.proofs.lemmas.List.{get_or-set_same, get_or-set_other}
 use Rattle.std.proofs.lemmas.List.Elements.{recursion_from_All}
 use Rattle.cm_model.specs.State.{Loaded, is_active}
-use Rattle.cm_desk.specs.Roster.{serial_in, serials_of, has_serial, noted, noted_all, TellsActive}
+use Rattle.cm_desk.specs.Roster.{serial_in, serials_of, is_listed, noted, noted_all, TellsActive}
 
 -- ---- Options
 
@@ -109,19 +109,19 @@ record StandsAt (ls : List Loaded) (serial : ℕ) : Type 0 where
 one_later : (l : Loaded) (ls : List Loaded) (n m serial : ℕ) → m ≡ suc n → slice_get (serials_of ls) n ≡ Some serial → slice_get (serials_of (l ∷ ls)) m ≡ Some serial
 one_later l ls n m serial is there = rw is there
 
-stands_first : (l : Loaded) (ls : List Loaded) (serial : ℕ) → (has_serial (serials_of ls) serial ≡ true → StandsAt ls serial) → (b : Bool) → (l.serial == serial) ≡ b
-    → (b || has_serial (serials_of ls) serial) ≡ true → StandsAt (l ∷ ls) serial
+stands_first : (l : Loaded) (ls : List Loaded) (serial : ℕ) → (is_listed (serials_of ls) serial ≡ true → StandsAt ls serial) → (b : Bool) → (l.serial == serial) ≡ b
+    → (b || is_listed (serials_of ls) serial) ≡ true → StandsAt (l ∷ ls) serial
 stands_first l ls serial later true here has = record { within = rw here (omega arith); there = rw here (ap Some (eqb-true l.serial serial here)) }
 stands_first l ls serial later false here has =
     let at = later has in
     let k = position_or_len (λ (m : Loaded). m.serial == serial) ls in
     record { within = rw here (omega (arith, at.within)); there = rw here (one_later l ls k (1 + k) serial (omega arith) at.there) }
 
-stands : (ls : List Loaded) (serial : ℕ) → has_serial (serials_of ls) serial ≡ true → StandsAt ls serial
+stands : (ls : List Loaded) (serial : ℕ) → is_listed (serials_of ls) serial ≡ true → StandsAt ls serial
 stands [] serial has = cc
 stands (l ∷ ls) serial has = stands_first l ls serial (stands ls serial) (l.serial == serial) refl has
 
-pub stands_at : (ls : List Loaded) (serial : ℕ) → has_serial (serials_of ls) serial ≡ true
+pub stands_at : (ls : List Loaded) (serial : ℕ) → is_listed (serials_of ls) serial ≡ true
     → slice_get (serials_of ls) (unwrap_or (position (λ l. l.serial == serial) ls) 0) ≡ Some serial
 stands_at ls serial has =
     let at = stands ls serial has in

@@ -14,6 +14,7 @@ use Rattle.cm_model.specs.declared.data.CtlData.{CtlData}
 use Rattle.cm_model.specs.declared.entry.Entry.{Entry}
 use Rattle.cm_model.specs.declared.reply.Reply.{Reply}
 use Rattle.cm_model.specs.declared.reply.Reply.TheVariants as reply
+use Rattle.cm_hardware.specs.Wiring.{one_if}
 use Rattle.sound_laws.proofs.SerialLemmas.{IsNumbered}
 
 -- ---- A history
@@ -87,14 +88,9 @@ pub record IsAnswerTo (old : State) (call : Call) (new : State) (reply : Reply) 
 
 -- ---- What the desk keeps
 
--- one for what is so
-abbrev pub flag : Bool → ℕ
-flag true = 1
-flag false = 0
-
 -- how many entries will still be made without memory: the end of a cycle that is aloft, and the close
 abbrev pub owed : State → ℕ
-owed s = flag s.aloft + flag (not s.closed)
+owed s = one_if s.aloft + one_if (not s.closed)
 
 -- The description is valid; the history is legal and sound, and leads to this state, which is steady and whose serials differ; there is
 -- room for the entries that are owed, and for the boxes that are loaded.

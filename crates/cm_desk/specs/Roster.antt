@@ -1,6 +1,6 @@
 -- Who is active, as it is looked up: by place in the description, and in the order of updates.
 use Rattle.std.specs.Prelude.{◌≡◌, ℕ, ◌<◌, ◌==◌, ◌&&◌, Bool, true, if◌then◌else◌, List, [], ◌∷◌, length, map, filter, find, slice_get, slice_index_or, slice_set, is_none, Option, None, Some, option_map}
-use Rattle.std.specs.List.{list_any}
+pub use Rattle.cm_model.specs.Components.{is_listed}
 use Rattle.cm_model.specs.State.{State, Loaded, is_active}
 use Rattle.cm_model.specs.declared.member.Member.{Member}
 use Rattle.stop_plan.specs.Ending.{member_of, members_in_order}
@@ -33,10 +33,6 @@ pub record IsOfNobody (count : ℕ) (r : Listed) : Type 0 where
 -- the active ones of these, by serial and place
 abbrev pub actives : List Loaded → List Member
 actives loaded = map member_of (filter is_active loaded)
-
--- this serial is among these
-abbrev pub has_serial : List ℕ → ℕ → Bool
-has_serial serials serial = list_any (λ n. n == serial) serials
 
 -- at these indices of a list of serials stand those of these controllers
 abbrev pub AreAt : List ℕ → List Member → List ℕ → Type 0

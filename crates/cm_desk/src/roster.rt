@@ -1,7 +1,7 @@
 //! Who is active, as it is looked up.
 
 ghost use Rattle.std.specs.Prelude.{◌≡◌, ◌<◌, ◌≤◌, ◌^◌, ◌==◌, true, false, [], length, position, slice_get, slice_index_or, vec_capacity, All, IfOk, IfSome, None, Some};
-ghost use Rattle.cm_desk.specs.Roster.{TellsActive, AreAt, serials_of, has_serial, noted};
+ghost use Rattle.cm_desk.specs.Roster.{TellsActive, AreAt, serials_of, is_listed, noted};
 
 use cm_model::{Member, Memory};
 use ctl_slots::Slot;
@@ -97,7 +97,7 @@ impl Roster {
         room: Vec<u32>,
         slots: &[Slot<C>],
     )
-        requires loaded { All (λ m. has_serial (serials_of slots.now) m.serial ≡ true) order.items }
+        requires loaded { All (λ m. is_listed (serials_of slots.now) m.serial ≡ true) order.items }
         requires room { length order.items ≤ vec_capacity room }
         requires few { length slots.now < 2 ^ 32 }
         ensures active { self.new.active ≡ self.old.active }
@@ -114,7 +114,7 @@ impl Roster {
     /// Others may be loaded now, though the same are active: where these stand is looked up anew. It takes no memory.
     pub(crate) fn reindex<C: Controller>(&mut self, slots: &[Slot<C>])
         requires loaded { self.old.fresh ≡ true
-            → All (λ m. has_serial (serials_of slots.now) m.serial ≡ true) self.old.order }
+            → All (λ m. is_listed (serials_of slots.now) m.serial ≡ true) self.old.order }
         requires room { self.old.fresh ≡ true → length self.old.order ≤ length self.old.run }
         requires few { length slots.now < 2 ^ 32 }
         ensures active { self.new.active ≡ self.old.active }
@@ -152,7 +152,7 @@ fn note<C: Controller>(active: &mut [Option<u32>], slot: &Slot<C>)
 
 /// Where these stand among the loaded controllers, within this room.
 fn index_all<C: Controller>(run: &mut Vec<u32>, order: &[Member], slots: &[Slot<C>])
-    requires loaded { All (λ m. has_serial (serials_of slots.now) m.serial ≡ true) order.now }
+    requires loaded { All (λ m. is_listed (serials_of slots.now) m.serial ≡ true) order.now }
     requires room { length order.now ≤ vec_capacity run.old }
     requires few { length slots.now < 2 ^ 32 }
     ensures { AreAt (serials_of slots.now) order.now run.new.items }
@@ -165,7 +165,7 @@ fn index_all<C: Controller>(run: &mut Vec<u32>, order: &[Member], slots: &[Slot<
 
 /// Where the controller of this serial stands among the loaded ones.
 fn index_of<C: Controller>(slots: &[Slot<C>], serial: u32) -> u32
-    requires loaded { has_serial (serials_of slots.now) serial ≡ true }
+    requires loaded { is_listed (serials_of slots.now) serial ≡ true }
     requires few { length slots.now < 2 ^ 32 }
     ensures { slice_get (serials_of slots.now) result ≡ Some serial }
 {

@@ -1,6 +1,5 @@
 -- Where the interfaces of each described controller stand on the board: by place in place of by name.
-use Rattle.std.specs.Prelude.{◌≡◌, ℕ, zero, suc, ◌<◌, ◌==◌, Bool, true, if◌then◌else◌, List, [], ◌∷◌, length, map, filter_map, position, slice_get, All, Option, None, Some}
-use Rattle.std.specs.List.{list_any}
+use Rattle.std.specs.Prelude.{◌≡◌, ℕ, zero, suc, ◌<◌, true, if◌then◌else◌, List, [], ◌∷◌, length, map, filter_map, position, slice_get, All, Option, None, Some}
 use Rattle.std.specs.Option.{option_map_or}
 use Rattle.fixed_num.specs.declared.value.Value.{Value}
 use Rattle.fixed_num.specs.declared.value.Value.TheVariants.{Unset}
@@ -9,6 +8,7 @@ use Rattle.cm_document.specs.Links.{refs_of}
 use Rattle.cm_document.specs.Places.{Whose, of_joint, of_controller, Interface, interfaces_of}
 use Rattle.cm_document.specs.declared.description.CtlDesc.{CtlDesc}
 use Rattle.cm_document.specs.declared.description.Description.{Description}
+pub use Rattle.cm_model.specs.Components.{is_listed}
 use Rattle.cm_model.specs.Claims.{is_state_named, is_command_named}
 use Rattle.cm_model.specs.Scene.{claims_at}
 use Rattle.cm_model.specs.Values.{InterfaceValue}
@@ -67,10 +67,6 @@ with_value (v ∷ vs) (suc place) value = v ∷ with_value vs place value
 abbrev pub with_outputs : List InterfaceValue → List ℕ → List Value → List InterfaceValue
 with_outputs values (place ∷ places) (out ∷ outs) = with_outputs (with_value values place out) places outs
 with_outputs values _ _ = values
-
--- the place is among these
-abbrev pub is_listed : List ℕ → ℕ → Bool
-is_listed places place = list_any (λ each. each == place) places
 
 -- Each of these names has its place, and no place is past the last interface of the description.
 pub record AreFound (d : Description) (names : List IfaceName) (places : List ℕ) : Type 0 where
