@@ -1,5 +1,6 @@
 //! The edge to the world: sources and sinks in memory and over std, call after call.
 
+mod gathered;
 mod std_edge;
 
 use case_pages::pages::{Teller, halves, hold_lines, push_parted};

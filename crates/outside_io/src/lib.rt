@@ -4,6 +4,7 @@
 
 pub use failed::Failed;
 pub use gate::{Gate, OpenGate, Point};
+pub use gathered::MOST_GATHERED;
 pub use memory_sink::MemSink;
 pub use memory_source::MemSource;
 pub use pace::{NoPace, Pace};
@@ -16,6 +17,7 @@ pub use whole::{ReadFault, read_whole, write_whole};
 mod failed;
 mod failures;
 mod gate;
+mod gathered;
 mod memory_sink;
 mod memory_source;
 mod pace;

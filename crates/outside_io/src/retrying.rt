@@ -1,7 +1,7 @@
 //! Calls of std's readers and writers, tried again where the system interrupts them.
 
-ghost use Rattle.std.specs.Prelude.{◌≤◌, length, IfOk};
-ghost use Rattle.std.specs.Io.KnownBytes.{Keeps, ReadConsumes, WriteAppends};
+ghost use Rattle.std.specs.Prelude.{◌≡◌, ◌≤◌, length, take, IfOk, OnOk};
+ghost use Rattle.std.specs.Io.KnownBytes.{Keeps, Appends, ReadConsumes, WriteAppends};
 
 use crate::Failed;
 use std::io::{ErrorKind, Read, Write};
@@ -38,6 +38,23 @@ pub(crate) fn write<W: Write>(writer: &mut W, piece: &[u8]) -> Result<usize, Fai
         }
     }
     Err(Failed)
+}
+
+/// Writes all of some bytes, or a front of them where a write fails: how many bytes were written, and how it ended. A writer that
+/// takes none of them fails too, so that no loop over it goes on for ever.
+pub(crate) fn write_out<W: Write>(writer: &mut W, bytes: &[u8]) -> (usize, Result<(), Failed>)
+    ensures within { result.0 ≤ length bytes.now }
+    ensures all { OnOk result.1 (result.0 ≡ length bytes.now) }
+    ensures bytes { Appends (W.contents writer.old) (W.contents writer.new) (take result.0 bytes.now) }
+{
+    let mut done = 0;
+    while done < bytes.len() {
+        match write(writer, &bytes[done..]) {
+            Ok(count) if count > 0 => done += count,
+            _ => return (done, Err(Failed)),
+        }
+    }
+    (done, Ok(()))
 }
 
 /// One flush, made again where it is interrupted.

@@ -15,13 +15,8 @@ use std::{io, str};
 fn readers_and_writers_of_std(rt: HostRuntime) -> Result<(), Fail> {
     let alloc = rt.alloc();
     hold_lines(alloc, &Reads, "", "hello => 4 hell: o")?;
-    hold_lines(
-        alloc,
-        &Writes,
-        "",
-        "/all hello/flush => 0, all, flushed: hello",
-    )?;
-    hold_lines(alloc, &FullWrites, "", "hello/lo => 3, failed")?;
+    hold_lines(alloc, &Writes, "", WRITES)?;
+    hold_lines(alloc, &FullWrites, "", FULL_WRITES)?;
     hold_lines(alloc, &ThreeCalls, "", INTERRUPTIONS)
 }
 
@@ -42,7 +37,7 @@ impl Teller for Reads {
     }
 }
 
-/// Tells what writes and flushes give over a list, and then all that it took.
+/// Tells what writes and flushes give over a list, and then all that was written to it.
 #[derive(Clone, Copy)]
 struct Writes;
 
@@ -58,7 +53,12 @@ impl Teller for Writes {
     }
 }
 
-/// Tells what writes give over room for three bytes. A full writer takes none of a piece, which is a failure.
+/// What is not flushed is not written.
+const WRITES: &str = "\
+/all hello/flush => 0, all, flushed: hello
+hello/flush/ world/ and more => 5, flushed, 6, 9: hello";
+
+/// Tells what writes and flushes give over room for three bytes. A full writer takes none of a piece, which is a failure.
 #[derive(Clone, Copy)]
 struct FullWrites;
 
@@ -71,6 +71,10 @@ impl Teller for FullWrites {
         Ok(told)
     }
 }
+
+const FULL_WRITES: &str = "\
+hel/flush/lo/flush => 3, flushed, 2, failed
+hello/flush/lo/flush => 5, failed, 2, failed";
 
 /// A reader and writer of std that is interrupted so many times, and then gives, takes and flushes one byte; or fails.
 #[derive(Drop)]
@@ -114,7 +118,8 @@ impl Write for Interrupted {
     }
 }
 
-/// Tells what a read, a write and a flush give where each is interrupted so many times, and then goes well or `fails`.
+/// Tells what a read, a write with its flush, and a flush give where the first call is interrupted so many times, and then each goes
+/// well or `fails`.
 #[derive(Clone, Copy)]
 struct ThreeCalls;
 
@@ -150,7 +155,7 @@ fn is_read(left: u32, fails: bool) -> bool {
 
 fn is_written(left: u32, fails: bool) -> bool {
     let mut sink = StdSink::make(Interrupted { left, fails });
-    sink.write(b"hello") == Ok(1)
+    sink.write(b"hello") == Ok(5) && sink.flush() == Ok(())
 }
 
 fn is_flushed(left: u32, fails: bool) -> bool {
