@@ -10,6 +10,7 @@ mod hardware;
 mod kinds;
 mod outside;
 mod pages;
+mod sinks;
 mod switches;
 mod words;
 

@@ -6,12 +6,8 @@ pub use status::Status;
 pub use top::{run, run_alone};
 
 mod document;
-mod interfaces;
-mod items;
 pub mod laws;
-mod names;
 mod parts;
 mod session;
 mod status;
 mod top;
-mod trace;

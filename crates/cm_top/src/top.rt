@@ -16,15 +16,15 @@ ghost use Rattle.cm_top.specs.Calls.Run.{source_facts, sink_facts, RefusesWords,
 use crate::document::read_document;
 use crate::session::{Job, run_job};
 use crate::status::Status;
-use crate::trace::{OutFault, write_trace};
 use cm_desk::{Book, Stock};
 use cm_document::LONGEST_DOCUMENT;
-use cm_model::{Document, DocumentFault, SessionText};
+use cm_model::{Document, DocumentFault, Script};
 use ctl_trait::Controller;
 use outside_io::{Gate, Pace, ReadFault, Sink, Source, read_whole};
 use std::alloc::Global;
 use std::sync::Wait;
 use std::thread::Threads;
+use trace_text::{OutFault, write_trace};
 
 /// Runs the job of the words: `run` is the one that is built. The words are those after the program's name.
 ///
@@ -139,7 +139,7 @@ fn run_document<K: Sink, C: Controller>(
     let Ok(job) = run_job(alloc, description, &script, stock) else {
         return (Status::Memory, None);
     };
-    let status = write(alloc, sink, &job, script.sessions.as_slice());
+    let status = write(alloc, sink, &job, &script);
     (status, Some(job.into_book()))
 }
 
@@ -148,15 +148,14 @@ fn write<K: Sink, C: Controller>(
     alloc: Global,
     sink: &mut K,
     job: &Job<'_, C>,
-    sessions: &[SessionText],
+    script: &Script,
 ) -> Status
-    ensures wrote { Wrote (trace job.now.desk.opening.description sessions.now job.now.desk.made)
+    ensures wrote { Wrote (trace job.now.desk.opening.description script.now.sessions job.now.desk.made)
         (record { old = K.taken sink.old; new = K.taken sink.new; flushed = K.flushed sink.new }) result }
     ensures write_fault { result ≡ Status.WriteFault → Rose (K.faults sink.old) (K.faults sink.new) }
     ensures later { K.faults sink.old ≤ K.faults sink.new }
 {
-    let description = job.checked().description();
-    match write_trace(alloc, sink, description, sessions, job.history()) {
+    match write_trace(alloc, sink, job.checked(), script, job.history()) {
         Ok(()) => flush(sink),
         Err(OutFault::Failed) => Status::WriteFault,
         Err(OutFault::Memory) => Status::Memory,

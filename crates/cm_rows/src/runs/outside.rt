@@ -51,8 +51,7 @@ fn sink_of(alloc: Global, row: &str) -> Result<MemSink, Fail> {
     Ok(MemSink::make(alloc, room as usize, step as usize, fails)?)
 }
 
-/// A dot stands behind what the sink took. In the fifth case the first call takes the whole trace, and the second is
-/// the flush. Whatever the sink takes, the run was made before, and leaves its book: four calls, two cycles and the close,
+/// A dot stands behind what the sink took. The sink of the last cases takes a line in one call, so the tenth call is the flush. Whatever the sink takes, the run was made before, and leaves its book: four calls, two cycles and the close,
 /// with the mock that was loaded.
 pub const FAULTS: &str = "8 0 4096 4096 1000000
 => read fault
@@ -77,6 +76,13 @@ mock
 .
 
 8 1000000 4096 4096 1
+=> write fault
+entries 9
+mock
+a load mk: ok 0
+.
+
+8 1000000 4096 4096 9
 => write fault
 entries 9
 mock

@@ -21,5 +21,5 @@ returns-clause-ran g c =
     let d = c.args.document in
     let done = job_done d c.args.stock _ c.requires.rules c.in-Ok.ensures.opening c.in-Ok.ensures.scheduled in (
       book_done d c.args.stock _ _ done c.in-Ok.ensures.opening c.into_book.ensures.sound c.into_book.ensures.history c.into_book.ensures.boxes,
-      rw (c.into_book.ensures.history) (rw (c.in-Ok.ensures.opening, c.as_slice.ensures) at c.write-status.ensures.wrote),
+      rw (c.into_book.ensures.history) (rw (c.in-Ok.ensures.opening) at c.write-status.ensures.wrote),
     )

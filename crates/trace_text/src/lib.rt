@@ -1,0 +1,10 @@
+//! The trace of a history, line by line, into a sink.
+//! Each line is made in one text, which serves for all of them, and is offered to the sink as one piece.
+#![tactic(auto)]
+
+pub use trace::{OutFault, write_trace};
+
+mod interfaces;
+mod items;
+mod names;
+mod trace;
