@@ -1,4 +1,4 @@
-//! Tests of the public calls that read, check and print descriptions and scripts: what no clause says, as that calls
+//! Tests of the public calls that read words, and read, check and print descriptions and scripts: what no clause says, as that calls
 //! succeed where there is memory, and cases beside the clauses. Most are pages of text, each with what must be told of it.
 #![tactic(auto)]
 
@@ -10,6 +10,8 @@ mod descriptions;
 mod largest;
 #[cfg(test)]
 mod scripts;
+#[cfg(test)]
+mod words;
 
 #[cfg(test)]
 use case_pages::pages;

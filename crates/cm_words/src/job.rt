@@ -1,0 +1,41 @@
+//! What words ask for, and why they are refused.
+
+use fixed_num::Memory;
+use thiserror::Error;
+
+/// How a document is run.
+#[derive(Clone, Copy, Debug, PartialEq, Eq)]
+pub enum JobKind {
+    /// Before each cycle all sessions settle, in order.
+    Run,
+    /// The turns of the script's schedule come first, and then the rest as in `Run`.
+    Steps,
+}
+
+/// What words ask for.
+#[derive(Clone, Copy, Debug, PartialEq, Eq)]
+pub struct Job {
+    pub kind: JobKind,
+}
+
+/// Why words ask for nothing.
+#[derive(Clone, Copy, Debug, PartialEq, Eq, Error)]
+pub enum WordsFault {
+    /// They are not accepted.
+    #[error("usage: cm run|steps|live [--make N]")]
+    Usage,
+    /// Memory ran out.
+    #[error("out of memory")]
+    Memory,
+}
+
+impl From<Memory> for WordsFault {
+    ghost use Rattle.std.specs.Prelude.{◌≡◌};
+    ghost use Rattle.cm_words.specs.declared.job.WordsFault.TheVariants.{Memory as memory_ran_out};
+
+    ghost from_gives = { λ _ e. e ≡ memory_ran_out };
+
+    fn from(_fault: Memory) -> WordsFault {
+        WordsFault::Memory
+    }
+}
