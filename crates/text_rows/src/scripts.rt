@@ -151,7 +151,7 @@ fn one_call(told: &str) -> &str {
 /// Tells how many sessions a script has where every form is accepted, and how many calls and turns; or the first bad
 /// line.
 #[derive(Clone, Copy)]
-struct Counts;
+pub struct Counts;
 
 impl Teller for Counts {
     fn told(&self, alloc: Global, text: &str) -> Result<String, Fail> {

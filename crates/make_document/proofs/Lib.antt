@@ -1,0 +1,5 @@
+pub mod DescriptionLemmas
+pub mod PartsLemmas
+pub mod ScriptLemmas
+pub mod AcceptedLemmas
+mod Rows

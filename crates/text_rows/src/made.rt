@@ -1,0 +1,103 @@
+//! Made documents: a small one whole, the largest one by its length and checksum, and what is read of both.
+
+use crate::checks::Checks;
+use crate::pages::{Teller, halves, hold, hold_lines};
+use crate::scripts::Counts;
+use case_pages::largest::Summed;
+use make_document::make_document;
+use std::alloc::Global;
+use std::str;
+use std::test::Fail;
+
+#[test]
+fn made_documents_are_as_written(rt: HostRuntime) -> Result<(), Fail> {
+    let alloc = rt.alloc();
+    hold(alloc, &Makes, "", TWO_ROUNDS)?;
+    hold_lines(alloc, &Summed { teller: Makes }, "", LARGEST)
+}
+
+#[test]
+fn made_documents_are_read(rt: HostRuntime) -> Result<(), Fail> {
+    hold_lines(rt.alloc(), &Reads, "", SIZES)
+}
+
+/// Tells the made document of as many rounds as a text says.
+#[derive(Clone, Copy)]
+struct Makes;
+
+impl Teller for Makes {
+    fn told(&self, alloc: Global, text: &str) -> Result<String, Fail> {
+        let bytes = make_document(alloc, text.trim().parse()?)?;
+        let made = str::from_utf8(bytes.as_slice())?;
+        Ok(String::from_str(alloc, made.strip_suffix("\n").unwrap_or(made))?)
+    }
+}
+
+/// Tells what is wrong with its description, and how many sessions and calls are read of its script.
+#[derive(Clone, Copy)]
+struct Reads;
+
+impl Teller for Reads {
+    fn told(&self, alloc: Global, text: &str) -> Result<String, Fail> {
+        let made = Makes.told(alloc, text)?;
+        let (description, script) = halves(made.as_str(), "--- script ---\n")?;
+        let checked = Checks.told(alloc, description)?;
+        let counted = Counts.told(alloc, script)?;
+        Ok(format!(in alloc; "{checked}, {counted}")?)
+    }
+}
+
+/// Two rounds.
+const TWO_ROUNDS: &str = r#"2
+=> version = 1
+update_rate = 100
+cycles = 20
+[[component]]
+name = "sys"
+kind = "system"
+<0..8 * [[component.joint]]
+name = "j#"
+vmax = 1
+command = ["position"]
+state = ["position"]
+>\
+<0..8 * [[controller]]
+name = "f#"
+type = "forward"
+claims = ["j#/position"]
+>\
+--- script ---
+session a
+load f0
+load f1
+load f2
+load f3
+load f4
+load f5
+load f6
+load f7
+configure f0
+configure f1
+configure f2
+configure f3
+configure f4
+configure f5
+configure f6
+configure f7
+switch strict +f0 +f1 +f2 +f3 +f4 +f5 +f6 +f7
+send f1 0.37
+switch strict -f2
+switch strict +f2
+await 10
+send f2 0.74
+switch strict -f3
+switch strict +f3
+await 20"#;
+
+/// The largest that may be asked for, without the end of its last line.
+const LARGEST: &str = "1000 => 5 bytes: 61451 a67f836b";
+
+/// What is read, and of how many sessions and calls.
+const SIZES: &str = r"0 => valid, 1 and 17
+1 => valid, 1 and 21
+1000 => valid, 1 and 4017";
