@@ -148,7 +148,15 @@ impl<'a> Iterator for Rans<'a> {
 }
 
 impl Rans<'_> {
-    ghost use Rattle.std.specs.Prelude.{[]};
+    ghost use Rattle.std.specs.Prelude.{[], length};
+
+    /// How many are left to be looked at.
+    #[tactic(auto, using(crate::proofs::RanLemmas::rans_length))]
+    pub fn len(&self) -> usize
+        ensures { result ≡ length self.now }
+    {
+        self.heads.len()
+    }
 
     /// Of no controller.
     pub(crate) fn none() -> Self
