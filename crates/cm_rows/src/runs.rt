@@ -11,6 +11,7 @@ mod kinds;
 mod outside;
 mod pages;
 mod sinks;
+mod summaries;
 mod switches;
 mod words;
 
