@@ -11,7 +11,6 @@ pub use ctl_rack::Stock;
 pub use ctl_slots::Slot;
 pub use ctl_trait::Controller;
 pub use desk::Desk;
-pub use works::Works;
 
 mod answer;
 mod begin;

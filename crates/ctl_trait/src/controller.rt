@@ -13,7 +13,7 @@ use std::alloc::Global;
 /// A controller: what the manager loads, configures, activates and updates. Contracts see its data (`CtlData`), and each call does to
 /// them what the table of controllers says (docs/RULES.md). Memory is taken by `configure` alone, which makes room for all that runs
 /// later; the controller keeps that room until `cleanup`.
-pub trait Controller: Drop + Send {
+pub trait Controller: Drop {
     /// Its data: its kind, its parameters where it is configured, its running part where it is active.
     ghost meaning: { Self → CtlData };
 

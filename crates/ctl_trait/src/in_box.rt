@@ -5,8 +5,8 @@ use crate::fault::CfgFault;
 use cm_model::{CtlKind, Done, Fx, Mail, Params, Tick, Value};
 use std::alloc::Global;
 
-/// It is the controller in the box.
-impl Controller for Box<dyn Controller> {
+/// It is the controller in the box, which may go to another thread.
+impl Controller for Box<dyn Controller + Send> {
     ghost meaning = { λ b. (Controller-box b).meaning b.value };
 
     fn kind(&self) -> CtlKind {

@@ -14,21 +14,21 @@ read-requires g c =
     omega (arith, most_of s.description c.args.flight.now.hardware is.hardware.wired.components, is.room.failures)
 
 pub update_all-requires-clause-timely : goal.update_all-requires-clause-timely
-update_all-requires-clause-timely g c = λ κs lives.
+update_all-requires-clause-timely g c =
     let s = c.requires.flying.0 in
     let is = c.requires.flying.1 in
     let early : c.args.number < s.description.cycles = omega (arith, is.number, is.within) in
     rw (c.new-cycle.ensures) (timely s.description _ is.valid early is.timed)
 
 pub update_all-requires-clause-within : goal.update_all-requires-clause-within
-update_all-requires-clause-within g c = λ κs lives.
+update_all-requires-clause-within g c =
     let s = c.requires.flying.0 in
     let is = c.requires.flying.1 in
     rw (is.loaded) (all_within s.loaded c.args.run.now _ is.run)
 
 -- each can be updated after the reads
 pub update_all-requires-clause-each : goal.update_all-requires-clause-each
-update_all-requires-clause-each g c = λ κs lives.
+update_all-requires-clause-each g c =
     let s = c.requires.flying.0 in
     let is = c.requires.flying.1 in
     let read = c.read.ensures.read s is.hardware (sym is.number) in
@@ -36,13 +36,13 @@ update_all-requires-clause-each g c = λ κs lives.
     (can_run_each s _ _ _ is.valid is.steady is.fit is.described is.placed is.related is.timed (board_in_cycle s (values_read s) c.read.new.self read.hardware) is.wide)
 
 pub update_all-requires-clause-told : goal.update_all-requires-clause-told
-update_all-requires-clause-told g c = λ κs lives.
+update_all-requires-clause-told g c =
     let s = c.requires.flying.0 in
     let is = c.requires.flying.1 in
     rw (c.new-cycle.ensures, is.loaded) (can_tell s c.args.places.now c.args.run.now c.args.room.now is.run is.described is.room)
 
 pub update_all-requires-clause-erred : goal.update_all-requires-clause-erred
-update_all-requires-clause-erred g c = λ κs lives.
+update_all-requires-clause-erred g c =
     let is = c.requires.flying.1 in
     omega (arith, ap length is.none_erred, is.erred, c.args.flight.now.erred.ok.0)
 

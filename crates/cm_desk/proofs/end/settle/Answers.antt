@@ -2,8 +2,8 @@ use Rattle.std.proofs.Common.{sym, ◌∙◌}
 use Rattle.cm_desk.proofs.EndLemmas.{settled_without}
 use Rattle.cm_desk.proofs.end.settle.Goals as goal
 
-pub stop-requires-clause-landed : goal.stop-requires-clause-landed
-stop-requires-clause-landed g c = λ κs lives. c.requires.landed
+pub stop-requires : goal.stop-requires
+stop-requires g c = record { landed = c.requires.landed }
 
 -- where nothing failed nobody stops
 pub returns-else-has_failed-clause-settled : goal.returns-else-has_failed-clause-settled

@@ -29,8 +29,8 @@ decide-requires-clause-room g c =
     omega (arith, ap length c.order.ensures, is.stops)
 
 -- the sets are those of the end
-pub commit-requires-clause-can : goal.commit-requires-clause-can
-commit-requires-clause-can g c = λ κs lives.
+pub commit-requires : goal.commit-requires
+commit-requires g c =
     let s = c.requires.landed.0 in
     let is = c.requires.landed.1 in
     let sets = c.decide.ensures.sets s is.valid is.steady (record {
@@ -38,12 +38,14 @@ commit-requires-clause-can g c = λ κs lives.
       order = c.order.ensures ∙ is.listed.order is.fresh;
       failed = c.as_slice.ensures ∙ is.failed;
       erred = c.deref.ensures.value ∙ is.erred;
-    }) in (
-      landed s (cycle s),
-      stays_active s (told_in s),
-      nobody_again,
-      can_settle s c.args.slots.now c.args.flight.now c.args.roster.now c.args.ending.now c.decide.new.self c.args.places.now c.args.relations.now c.args.room.now is sets,
-    )
+    }) in record {
+      can = (
+        landed s (cycle s),
+        stays_active s (told_in s),
+        nobody_again,
+        can_settle s c.args.slots.now c.args.flight.now c.args.roster.now c.args.ending.now c.decide.new.self c.args.places.now c.args.relations.now c.args.room.now is sets,
+      );
+    }
 
 pub returns-clause-settled : goal.returns-clause-settled
 returns-clause-settled g c = λ s is.

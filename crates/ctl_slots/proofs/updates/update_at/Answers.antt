@@ -8,14 +8,14 @@ use Rattle.ctl_slots.proofs.UpdateLemmas.{among_others}
 use Rattle.ctl_slots.proofs.updates.update_at.Goals as goal
 
 pub update_one-requires-clause-can : goal.update_one-requires-clause-can
-update_one-requires-clause-can g c = λ κs lives.
+update_one-requires-clause-can g c =
     let there : slice_get c.args.slots.now c.args.index ≡ Some c.index-slots-index.result =
     slice_get-get_or c.args.slots.now c.args.index c.index-slots-index.result c.requires.within ∙ ap Some (sym c.index-slots-index.is) in
     rw (← c.index-slots-index.is)
     (all_at (CanRun c.args.cycle.now _ c.args.room.now c.args.mails.now.items) c.args.slots.now c.args.index c.index-slots-index.result c.requires.each there)
 
 pub update_one-requires-clause-told : goal.update_one-requires-clause-told
-update_one-requires-clause-told g c = λ κs lives.
+update_one-requires-clause-told g c =
     let there : slice_get c.args.slots.now c.args.index ≡ Some c.index-slots-index.result =
     slice_get-get_or c.args.slots.now c.args.index c.index-slots-index.result c.requires.within ∙ ap Some (sym c.index-slots-index.is) in
     let heads = c.requires.told.heads in

@@ -9,7 +9,7 @@ use Rattle.ctl_slots.proofs.updates.update_one.Goals as goal
 
 -- it runs, and it can take the mail that is aloft for it
 pub update_slot-requires-clause-can : goal.update_slot-requires-clause-can
-update_slot-requires-clause-can g c = λ κs lives. record {
+update_slot-requires-clause-can g c = record {
   active = c.runs.ensures.active c.if-runs.true;
   seated = c.requires.can.seated;
   time = c.requires.can.has_time;

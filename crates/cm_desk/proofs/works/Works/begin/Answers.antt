@@ -12,13 +12,13 @@ use Rattle.cm_desk.proofs.OrderLemmas.{order_within}
 use Rattle.cm_desk.proofs.works.Works.begin.Goals as goal
 
 pub begin_anew-requires-clause-can : goal.begin_anew-requires-clause-can
-begin_anew-requires-clause-can g c = λ κs lives. c.requires.can
+begin_anew-requires-clause-can g c = c.requires.can
 
 pub begin_anew-requires-clause-steady : goal.begin_anew-requires-clause-steady
-begin_anew-requires-clause-steady g c = λ κs lives. c.requires.steady
+begin_anew-requires-clause-steady g c = c.requires.steady
 
 pub begin_anew-requires-clause-numbered : goal.begin_anew-requires-clause-numbered
-begin_anew-requires-clause-numbered g c = λ κs lives. c.requires.numbered
+begin_anew-requires-clause-numbered g c = c.requires.numbered
 
 pub record_for-requires-clause-places : goal.record_for-requires-clause-places
 record_for-requires-clause-places g c = c.self.invariant.worked_out.placed
@@ -66,7 +66,7 @@ invariant_of-self-in_err-room g c =
 
 -- no mail is aloft yet, and there is room for that of each
 pub fly-requires-clause-no_mail : goal.fly-requires-clause-no_mail
-fly-requires-clause-no_mail g c = λ κs lives.
+fly-requires-clause-no_mail g c =
     let a = c.self.inside in
     let s = state_with a.checked a.blanks a.sessions a.loads a.slots.items a.requests a.flight a.ended a.closed in
     c.reserve.ensures.items ∙ c.self.invariant.no_mail (begins_down s (rw (← c.self.view_is) at c.requires.can))
@@ -75,7 +75,7 @@ pub fly-requires-clause-room : goal.fly-requires-clause-room
 fly-requires-clause-room g c = omega (arith, c.in_ok-reserve.ensures.ok, ap length c.deref_mut.ensures.value)
 
 pub fly-requires-clause-time : goal.fly-requires-clause-time
-fly-requires-clause-time g c = λ κs lives. rw (c.deref_mut.ensures.value) (all_timed c.self.inside.checked c.self.inside.slots.items c.self.invariant.fit.timed)
+fly-requires-clause-time g c = rw (c.deref_mut.ensures.value) (all_timed c.self.inside.checked c.self.inside.slots.items c.self.invariant.fit.timed)
 
 -- the cycle is aloft
 pub invariant_of-self-2 : goal.invariant_of-self-2

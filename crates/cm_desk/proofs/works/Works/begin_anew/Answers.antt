@@ -49,16 +49,16 @@ invariant_of-self-2 g c =
     refl refl refl refl c.self.invariant.roomy.none_erred
 
 pub carry_out-requires-clause-down : goal.carry_out-requires-clause-down
-carry_out-requires-clause-down g c = λ κs lives.
+carry_out-requires-clause-down g c =
     let a = c.self.inside in
     let s = state_with a.checked a.blanks a.sessions a.loads a.slots.items a.requests a.flight a.ended a.closed in
     begins_down s (rw (← c.self.view_is) at c.requires.can)
 
 pub carry_out-requires-clause-steady : goal.carry_out-requires-clause-steady
-carry_out-requires-clause-steady g c = λ κs lives. rw (← c.self.view_is) at c.requires.steady
+carry_out-requires-clause-steady g c = rw (← c.self.view_is) at c.requires.steady
 
 pub carry_out-requires-clause-concluded : goal.carry_out-requires-clause-concluded
-carry_out-requires-clause-concluded g c = λ κs lives.
+carry_out-requires-clause-concluded g c =
     let a = c.self.inside in
     let s = state_with a.checked a.blanks a.sessions a.loads a.slots.items a.requests a.flight a.ended a.closed in
     let planned : IsPlanOf s (waiting s) c.in_ok-plan.plan = subst (λ (u : State). IsPlanOf u (waiting u) c.in_ok-plan.plan) (sym c.self.view_is) c.in_ok-plan.ensures in
@@ -67,7 +67,7 @@ carry_out-requires-clause-concluded g c = λ κs lives.
 -- ---- All is decided
 
 pub put-requires-clause-loaded : goal.put-requires-clause-loaded
-put-requires-clause-loaded g c = λ κs lives.
+put-requires-clause-loaded g c =
     let a = c.self.inside in
     let b = c.self-2.inside in
     let s = state_with a.checked a.blanks a.sessions a.loads a.slots.items a.requests a.flight a.ended a.closed in
@@ -84,7 +84,7 @@ pub put-requires-clause-few : goal.put-requires-clause-few
 put-requires-clause-few g c = omega (arith, ap length c.deref-2.ensures.value, c.self-2.invariant.few, c.self-2.invariant.counted)
 
 pub fly-requires-clause-no_mail : goal.fly-requires-clause-no_mail
-fly-requires-clause-no_mail g c = λ κs lives. c.in_ok-supplies.ensures.lists.no_mail
+fly-requires-clause-no_mail g c = c.in_ok-supplies.ensures.lists.no_mail
 
 pub fly-requires-clause-room : goal.fly-requires-clause-room
 fly-requires-clause-room g c =
@@ -98,7 +98,7 @@ fly-requires-clause-room g c =
     omega (arith, counted, c.in_ok-supplies.ensures.lists.mails, ap length c.deref_mut.ensures.value)
 
 pub fly-requires-clause-time : goal.fly-requires-clause-time
-fly-requires-clause-time g c = λ κs lives. rw (c.deref_mut.ensures.value) (all_timed c.self-2.inside.checked c.self-2.inside.slots.items c.self-2.invariant.fit.timed)
+fly-requires-clause-time g c = rw (c.deref_mut.ensures.value) (all_timed c.self-2.inside.checked c.self-2.inside.slots.items c.self-2.invariant.fit.timed)
 
 -- the cycle is aloft
 pub invariant_of-self-3 : goal.invariant_of-self-3

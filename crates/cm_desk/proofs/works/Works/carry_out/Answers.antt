@@ -7,7 +7,6 @@ use Rattle.cm_desk.proofs.works.Works.carry_out.Goals as goal
 -- the first of those that are left
 pub conclude-requires-clause-next : goal.conclude-requires-clause-next
 conclude-requires-clause-next g c =
-    λ κs lives.
     let left = rw (c.in-Some.ensures.steps.0) at c.loop-conclusion.invariant in
     let n = next_of _ _ _ _ left in
     (n.asked, n.others, n.next)

@@ -9,7 +9,6 @@ use Rattle.cm_desk.proofs.works.Works.conclude.Goals as goal
 
 pub act-requires-clause-can : goal.act-requires-clause-can
 act-requires-clause-can g c =
-    λ κs lives.
     let p = c.requires.next in
     ((concluded c.args.self.now p.0).state, can_act c.args.self.now p.0 p.1 c.args.conclusion c.requires.steady p.2)
 

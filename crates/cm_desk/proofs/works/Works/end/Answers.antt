@@ -13,31 +13,35 @@ pub begun-record-requires : goal.begun-record-requires
 begun-record-requires g c = rw (← c.self.view_is) at c.requires.aloft
 
 -- the cycle can be made,
-pub make_cycle-requires-clause-flying : goal.make_cycle-requires-clause-flying
-make_cycle-requires-clause-flying g c = λ κs lives.
+pub make_cycle-requires : goal.make_cycle-requires
+make_cycle-requires g c =
     let a = c.self.inside in
     let s = state_with a.checked a.blanks a.sessions a.loads a.slots.items a.requests a.flight a.ended a.closed in
     let aloft : s.aloft ≡ true = rw (← c.self.view_is) at c.requires.aloft in
     let steady : IsSteady s = rw (← c.self.view_is) at c.requires.steady in
-    let numbered : IsNumbered s = rw (← c.self.view_is) at c.requires.numbered in (
-      s,
-      can_make_so s a.names.items a.relations a.places a.flight c.begun-record.new.flight a.roster a.ending c.begun-record.result c.as_mut_slice-slots.result.now c.run.result.now
-          c.self.invariant steady numbered aloft c.begun-record.ensures.record_room refl c.as_mut_slice-slots.ensures.value c.begun-record.ensures.flight c.run.ensures,
-    )
+    let numbered : IsNumbered s = rw (← c.self.view_is) at c.requires.numbered in record {
+      flying = (
+        s,
+        can_make_so s a.names.items a.relations a.places a.flight c.begun-record.new.flight a.roster a.ending c.begun-record.result c.as_mut_slice-slots.result.now c.run.result.now
+            c.self.invariant steady numbered aloft c.begun-record.ensures.record_room refl c.as_mut_slice-slots.ensures.value c.begun-record.ensures.flight c.run.ensures,
+      );
+    }
 
 -- it can be settled who stops,
-pub settle-requires-clause-landed : goal.settle-requires-clause-landed
-settle-requires-clause-landed g c = λ κs lives.
+pub settle-requires : goal.settle-requires
+settle-requires g c =
     let a = c.self.inside in
     let s = state_with a.checked a.blanks a.sessions a.loads a.slots.items a.requests a.flight a.ended a.closed in
     let aloft : s.aloft ≡ true = rw (← c.self.view_is) at c.requires.aloft in
     let steady : IsSteady s = rw (← c.self.view_is) at c.requires.steady in
-    let numbered : IsNumbered s = rw (← c.self.view_is) at c.requires.numbered in (
-      s,
-      landed_so s a.names.items a.relations a.places a.flight c.begun-record.new.flight c.make_cycle.new.flight a.flight a.roster a.roster a.ending a.ending c.begun-record.result c.make_cycle.new.room c.make_cycle.new.room
-          c.as_mut_slice-slots.result.now c.make_cycle.new.slots c.make_cycle.new.slots c.run.result.now c.self.invariant steady numbered aloft c.begun-record.ensures.record_room refl
-          c.as_mut_slice-slots.ensures.value c.begun-record.ensures.flight c.run.ensures c.make_cycle.ensures.made c.make_cycle.ensures.stops c.make_cycle.ensures.flight,
-    )
+    let numbered : IsNumbered s = rw (← c.self.view_is) at c.requires.numbered in record {
+      landed = (
+        s,
+        landed_so s a.names.items a.relations a.places a.flight c.begun-record.new.flight c.make_cycle.new.flight a.flight a.roster a.roster a.ending a.ending c.begun-record.result c.make_cycle.new.room c.make_cycle.new.room
+            c.as_mut_slice-slots.result.now c.make_cycle.new.slots c.make_cycle.new.slots c.run.result.now c.self.invariant steady numbered aloft c.begun-record.ensures.record_room refl
+            c.as_mut_slice-slots.ensures.value c.begun-record.ensures.flight c.run.ensures c.make_cycle.ensures.made c.make_cycle.ensures.stops c.make_cycle.ensures.flight,
+      );
+    }
 
 pub one_more-self-inside-requires : goal.one_more-self-inside-requires
 one_more-self-inside-requires g c =

@@ -1,4 +1,4 @@
-use Rattle.std.proofs.Common.{◌≡◌, ℕ, List, [], ◌∷◌, ◌++◌, ◌+◌, map, take, length, get_or, ◌<◌, sym, ap, ◌∙◌, rules, arith}
+use Rattle.std.proofs.Common.{◌≡◌, ℕ, List, [], ◌∷◌, ◌++◌, ◌+◌, map, take, length, get_or, ◌<◌, sym, ap, ◌∙◌, arith}
 use Rattle.std.proofs.lemmas.List.{map-append, take_more}
 use Rattle.cm_model.specs.Commit.{seen}
 use Rattle.cm_desk.proofs.WorksLemmas.{stands_here}
@@ -10,7 +10,7 @@ seen-requires g c =
     let a = c.self.inside in
     let within : c.loop-slot.slot-index < length a.slots.items = omega (arith, c.loop-slot-test.true, ap length c.deref-slot-items.ensures.value) in
     let own = (stands_here a.checked a.slots.items c.loop-slot.slot-index c.slot-item.result c.self.invariant.described within (rw (c.deref-slot-items.ensures.value) at c.slot-item.is)).1 in
-    (search rules, rw (← c.self.view_is) own)
+    rw (← c.self.view_is) own
 
 -- one item more of those that are read
 one_more : {A B : Type 0} (see : A → B) (xs : List A) (i : ℕ) (x : A) (y : B) (ys next : List B) → i < length xs → x ≡ get_or xs i x → y ≡ see x → ys ≡ map see (take i xs)

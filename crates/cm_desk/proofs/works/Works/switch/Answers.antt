@@ -7,19 +7,20 @@ use Rattle.cm_desk.proofs.ActingLemmas.{can_switch}
 use Rattle.cm_desk.proofs.AfterLemmas.{view_committed, kept_committed}
 use Rattle.cm_desk.proofs.works.Works.switch.Goals as goal
 
-pub commit-requires-clause-can : goal.commit-requires-clause-can
-commit-requires-clause-can g c =
-    λ κs lives.
+pub commit-requires : goal.commit-requires
+commit-requires g c =
     let a = c.self.inside in
     let s = state_with a.checked a.blanks a.sessions a.loads a.slots.items a.requests a.flight a.ended a.closed in
     let p = rw (← c.self.view_is) at c.requires.can in
-    let steady = rw (← c.self.view_is) at c.requires.steady in (
-      s,
-      set_of c.args.switched.now.set,
-      p.1.again,
-      rw (c.deref_mut.ensures.value)
-          (can_switch s p.0 c.args.switched.now a.names.items a.relations a.places a.flight a.roster a.ending c.self.invariant steady p.1),
-    )
+    let steady = rw (← c.self.view_is) at c.requires.steady in record {
+      can = (
+        s,
+        set_of c.args.switched.now.set,
+        p.1.again,
+        rw (c.deref_mut.ensures.value)
+            (can_switch s p.0 c.args.switched.now a.names.items a.relations a.places a.flight a.roster a.ending c.self.invariant steady p.1),
+      );
+    }
 
 pub invariant_of-self : goal.invariant_of-self
 invariant_of-self g c =

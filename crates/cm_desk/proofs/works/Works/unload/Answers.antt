@@ -9,7 +9,7 @@ use Rattle.cm_desk.proofs.works.Works.unload.Goals as goal
 
 -- what was found not active is what moves out, so each in the order of updates is still loaded
 pub reindex-requires-clause-loaded : goal.reindex-requires-clause-loaded
-reindex-requires-clause-loaded g c = λ κs lives fresh.
+reindex-requires-clause-loaded g c = λ fresh.
     let a = c.self.inside in
     let s = state_with a.checked a.blanks a.sessions a.loads a.slots.items a.requests a.flight a.ended a.closed in
     let l = c.remove-slot.result in
@@ -22,10 +22,10 @@ reindex-requires-clause-loaded g c = λ κs lives fresh.
     (order_still_loaded s c.in-Some.index l a.roster.order here.0 idle (c.self.invariant.listed.order fresh))
 
 pub reindex-requires-clause-room : goal.reindex-requires-clause-room
-reindex-requires-clause-room g c = λ κs lives fresh. as_many_at _ _ _ (c.self.invariant.listed.run fresh)
+reindex-requires-clause-room g c = λ fresh. as_many_at _ _ _ (c.self.invariant.listed.run fresh)
 
 pub reindex-requires-clause-few : goal.reindex-requires-clause-few
-reindex-requires-clause-few g c = λ κs lives.
+reindex-requires-clause-few g c =
     let a = c.self.inside in
     rw (c.deref.ensures.value, c.remove-slot.ensures.items) (omega (arith, c.self.invariant.few, c.self.invariant.counted, length_remove a.slots.items c.in-Some.index))
 

@@ -9,8 +9,8 @@ index_mut-requires g c =
     let a = asked c.args.serial (λ b. IsSome b.parked) c.self.inside.berths.items c.place_of-place.result c.self.invariant.1 (rw (← c.self.view_is) at c.requires) (rw (← c.self.view_is) at c.place_of-place.ensures) in
     rw c.self.inside.berths.ok.0 a.1.within
 
-pub lend-requires-after_bounds : goal.lend-requires-after_bounds
-lend-requires-after_bounds g c κs within =
+pub lend-requires : goal.lend-requires
+lend-requires g c =
     let a = asked c.args.serial (λ b. IsSome b.parked) c.self.inside.berths.items c.place_of-place.result c.self.invariant.1 (rw (← c.self.view_is) at c.requires) (rw (← c.self.view_is) at c.place_of-place.ensures) in
     subst (λ (b : Berth). IsSome b.parked) (sym (c.index_mut.ensures.value ∙ a.1.here _)) a.3
 

@@ -9,8 +9,8 @@ index_mut-requires g c =
     let a = asked c.args.serial (λ b. IsNone b.parked) c.self.inside.berths.items c.place_of-place.result c.self.invariant.1 (rw (← c.self.view_is) at c.requires) (rw (← c.self.view_is) at c.place_of-place.ensures) in
     rw c.self.inside.berths.ok.0 a.1.within
 
-pub park-requires-after_bounds : goal.park-requires-after_bounds
-park-requires-after_bounds g c κs within =
+pub park-requires : goal.park-requires
+park-requires g c =
     let a = asked c.args.serial (λ b. IsNone b.parked) c.self.inside.berths.items c.place_of-place.result c.self.invariant.1 (rw (← c.self.view_is) at c.requires) (rw (← c.self.view_is) at c.place_of-place.ensures) in
     subst (λ (b : Berth). IsNone b.parked) (sym (c.index_mut.ensures.value ∙ a.1.here _)) a.3
 
