@@ -1,16 +1,18 @@
 -- Every scheduled history is legal.
 use Rattle.std.proofs.Common.{◌≡◌, ℕ, zero, suc, ◌+◌, List, [], ◌∷◌, ◌++◌, length, Option, Some, None, refl, inl, inr}
-use Rattle.std.specs.Prelude.{IsSomeAnd}
+use Rattle.std.specs.Prelude.{◌-◌, IsSomeAnd, slice_get}
 use Rattle.cm_document.proofs.ReadingLemmas.{cases_Option}
 use Rattle.cm_model.specs.State.{State, boot}
 use Rattle.cm_model.specs.Machine.{step, LegalFrom, IsLegal, state_after}
-use Rattle.cm_model.specs.Scheduled.{Session, Advanced, Progress, with_entry, settle, settle_from, settle_all, looped, with_cycle, cycles, finish, start, scheduled}
-use Rattle.cm_model.proofs.AdvanceLemmas.{settle-keeps}
+use Rattle.cm_model.specs.Scheduled.{Session, Advanced, Progress, with_entry, settle, settle_from, settle_all, looped, with_cycle, cycles, cycles_from, finish, start, scheduled, advance, with_advance, advanced_once, turned, turns, landed, cycles_left, scheduled_in_steps}
+use Rattle.cm_model.proofs.AdvanceLemmas.{advance-Made, settle-keeps}
 use Rattle.cm_document.specs.declared.call.Call.{Call}
 use Rattle.cm_document.specs.declared.call.Call.TheVariants.{Begin, End, Close}
 use Rattle.cm_model.specs.declared.entry.Entry.{Entry}
 use Rattle.cm_model.specs.declared.reply.Reply.{Reply}
 use Rattle.cm_document.specs.declared.document.Document.{Document}
+use Rattle.cm_document.specs.declared.script.Turn.{Turn}
+use Rattle.cm_document.specs.declared.script.Turn.TheVariants as turn
 use Rattle.cm_model.specs.declared.blanks.Blanks.{Blanks}
 
 -- what a legal entry says of its step
@@ -86,3 +88,39 @@ finish-Leads from progress leads = settle_all-Leads from _ (looped-Leads Close f
 pub scheduled-IsLegal : (document : Document) (blanks : Blanks) → IsLegal document.description blanks (length document.script.sessions) (scheduled document blanks)
 unfolding scheduled start
 scheduled-IsLegal document blanks = (finish-Leads _ _ (cycles-Leads document.description.cycles _ _ (Leads-nil (boot document.description blanks (length document.script.sessions))))).legal
+
+-- ---- The turns of a schedule lead on
+
+with_advance-Leads : (who : ℕ) (from : State) (progress : Progress) (x : Session) (o : Option Advanced)
+    → advance who (record { state = progress.state; made = progress.made; session = x }) ≡ o → LeadsOn from progress → LeadsOn from (with_advance who progress o)
+with_advance-Leads who from progress x None made leads = leads
+with_advance-Leads who from progress x (Some a) made leads =
+    let one = advance-Made who (record { state = progress.state; made = progress.made; session = x }) a made in
+    rw one.made (Leads-step progress.made from progress.state who one.call a.state one.reply leads one.stepped)
+
+advanced_once-Leads : (who : ℕ) (from : State) (progress : Progress) (o : Option Session) → LeadsOn from progress → LeadsOn from (advanced_once who progress o)
+advanced_once-Leads who from progress None leads = leads
+advanced_once-Leads who from progress (Some x) leads = with_advance-Leads who from progress x _ refl leads
+
+turned-Leads : (t : Turn) (from : State) (progress : Progress) → LeadsOn from progress → LeadsOn from (turned t progress)
+turned-Leads (turn.Step who) from progress leads = advanced_once-Leads who from progress (slice_get progress.sessions who) leads
+turned-Leads turn.Begin from progress leads = looped-Leads (Begin progress.state.ended) from progress leads
+turned-Leads turn.End from progress leads = looped-Leads (End progress.state.ended) from progress leads
+
+turns-Leads : (ts : List Turn) (from : State) (progress : Progress) → LeadsOn from progress → LeadsOn from (turns ts progress)
+turns-Leads [] from progress leads = leads
+turns-Leads (t ∷ ts) from progress leads = turns-Leads ts from (turned t progress) (turned-Leads t from progress leads)
+
+cycles_from-Leads : (first n : ℕ) (from : State) (progress : Progress) → LeadsOn from progress → LeadsOn from (cycles_from first n progress)
+cycles_from-Leads first zero from progress leads = leads
+cycles_from-Leads first (suc n) from progress leads = with_cycle-Leads (first + n) from (cycles_from first n progress) (cycles_from-Leads first n from progress leads)
+
+-- so the history of the job `steps` is legal
+pub steps-IsLegal : (document : Document) (blanks : Blanks) → IsLegal document.description blanks (length document.script.sessions) (scheduled_in_steps document blanks)
+unfolding scheduled_in_steps start
+steps-IsLegal document blanks =
+    let first = start document blanks in
+    let from = boot document.description blanks (length document.script.sessions) in
+    let after = landed (turns document.script.schedule first) in
+    let turned_so : LeadsOn from after = looped-Leads (End _) from _ (turns-Leads document.script.schedule from first (Leads-nil from)) in
+    (finish-Leads from _ (cycles_from-Leads after.state.ended (document.description.cycles - after.state.ended) from after turned_so)).legal

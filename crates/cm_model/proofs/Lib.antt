@@ -24,6 +24,7 @@ pub mod SteadyLemmas
 mod Worked
 mod BoundaryRows
 mod ScheduleRows
+mod StepRows
 mod SoundRows
 mod ConsoleRows
 pub mod RangedLemmas

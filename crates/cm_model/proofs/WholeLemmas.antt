@@ -1,7 +1,7 @@
 -- A history that is scheduled for a script is whole: each session's entries follow its lines, whatever the others do meanwhile, and
 -- where the loop is closed no session has a line or a ticket left.
-use Rattle.std.proofs.Common.{◌≡◌, ℕ, zero, suc, ◌+◌, ◌<◌, ◌≤◌, List, [], ◌∷◌, ◌++◌, length, map, Option, Some, None, Bool, true, false, nat_lt, refl, sym, subst, ap, ◌∙◌, append_assoc, append-nil, inl, inr, arith}
-use Rattle.std.specs.Prelude.{slice_get, flat_map, not, ◌==◌, ◌&&◌, IfSome}
+use Rattle.std.proofs.Common.{◌≡◌, ℕ, zero, suc, ◌+◌, ◌<◌, ◌≤◌, List, [], ◌∷◌, ◌++◌, length, map, Option, Some, None, Bool, true, false, nat_lt, refl, sym, subst, ap, ◌∙◌, append_assoc, append-nil, inl, inr, ◌⊎◌, arith}
+use Rattle.std.specs.Prelude.{◌-◌, slice_get, slice_set, flat_map, not, ◌==◌, ◌&&◌, IfSome}
 use Rattle.std.specs.List.{AllByRecursion}
 use Rattle.std.proofs.lemmas.List.{map-append, length-map, length-append}
 use Rattle.std.proofs.lemmas.List.Concat.{flat_map-append}
@@ -9,24 +9,26 @@ use Rattle.std.proofs.lemmas.List.Elements.{filter-append}
 use Rattle.std.proofs.lemmas.Bool.Decides.{nat_tests}
 use Rattle.std.proofs.lemmas.Option.{same_Some, slice_get-map}
 use Rattle.cm_document.proofs.ReadingLemmas.{cases_Option}
-use Rattle.cm_document.specs.ScriptLaws.{CanBeWritten, IsSession, MeetsRules}
+use Rattle.cm_document.specs.ScriptLaws.{CanBeWritten, IsSession, IsTurnAmong, MeetsRules}
 use Rattle.cm_document.specs.declared.call.Call.{Call}
 use Rattle.cm_document.specs.declared.call.Call.TheVariants.{Told, Begin, End, Close}
 use Rattle.cm_document.specs.declared.description.Description.{Description}
 use Rattle.cm_document.specs.declared.document.Document.{Document}
 use Rattle.cm_document.specs.declared.script.SessionText.{SessionText}
+use Rattle.cm_document.specs.declared.script.Turn.{Turn}
+use Rattle.cm_document.specs.declared.script.Turn.TheVariants as turn
 use Rattle.cm_model.specs.Boundary.{begin_reply, begin_effect, close_reply, close_effect}
 use Rattle.cm_model.specs.Commit.{commit}
 use Rattle.cm_model.specs.Cycle.{cycle, after_cycle}
 use Rattle.cm_model.specs.Machine.{step, can_begin, can_end, can_close}
-use Rattle.cm_model.specs.Scheduled.{Session, Advanced, Progress, with_entry, ticket_in, next_call, after_call, stepped_on, called_on, advance, settle, settle_from, settle_all, looped, with_cycle, cycles, finish, start, scheduled}
+use Rattle.cm_model.specs.Scheduled.{Session, Advanced, Progress, with_entry, ticket_in, next_call, after_call, stepped_on, called_on, advance, settle, settle_from, settle_all, looped, with_cycle, cycles, cycles_from, finish, start, scheduled, with_advance, advanced_once, turned, turns, landed, cycles_left, scheduled_in_steps}
 use Rattle.cm_model.specs.Sessions.{entries_by, calls_of, is_told, told_of, with_its_told, asked, Follows, cycle_calls, loop_calls, IsWhole}
 use Rattle.cm_model.specs.State.{State, boot}
 use Rattle.cm_model.specs.declared.blanks.Blanks.{Blanks}
 use Rattle.cm_model.specs.declared.entry.Entry.{Entry}
 use Rattle.cm_model.specs.declared.reply.Reply.{Reply}
 use Rattle.cm_model.specs.declared.reply.Reply.TheVariants as reply
-use Rattle.cm_model.proofs.AdvanceLemmas.{Made, settle-keeps, settled-stands}
+use Rattle.cm_model.proofs.AdvanceLemmas.{Made, advance-Made, settle-keeps, settled-stands}
 use Rattle.cm_model.proofs.EnabledLemmas.{enabled-IsConsole}
 use Rattle.cm_model.proofs.StayLemmas.{effect-SameLoop, boundary-SameLoop, step-IsStep}
 use Rattle.cm_model.proofs.WaitingLemmas.{Asks, asks, IsMade, closed_made, told_made, step-enabled, boundary-requests, close-decides}
@@ -202,6 +204,38 @@ follows_at made s zero first (these ∷ scripts) (x ∷ xs) lines through all fo
 follows_at made s (suc k) first (these ∷ scripts) (x ∷ xs) lines through all found =
     let next : first + suc k ≡ (first + 1) + k = omega arith in
     rw next (follows_at made s k (first + 1) scripts xs lines through.1 all.1 found)
+
+-- A list parted at one of its items, which may be exchanged.
+record Parted (xs : List Session) (i : ℕ) (x : Session) : Type 0 where
+  settled : List Session
+  later : List Session
+  place : length settled ≡ i
+  whole : xs ≡ settled ++ x ∷ later
+  changed : (y : Session) → slice_set xs i y ≡ settled ++ y ∷ later
+
+parted : (xs : List Session) (i : ℕ) (x : Session) → slice_get xs i ≡ Some x → Parted xs i x
+parted [] i x found = cc
+parted (z ∷ xs) zero x found =
+    let same = same_Some z x found in record { settled = []; later = xs; place = refl; whole = ap (λ (first : Session). first ∷ xs) same; changed = λ y. refl }
+parted (z ∷ xs) (suc i) x found =
+    let rest = parted xs i x found in
+    record {
+      settled = z ∷ rest.settled;
+      later = rest.later;
+      place = ap suc rest.place;
+      whole = ap (λ (l : List Session). z ∷ l) rest.whole;
+      changed = λ y. ap (λ (l : List Session). z ∷ l) (rest.changed y);
+    }
+
+-- a number is below another, or it is not
+nat_cases : (n m : ℕ) → (n < m) ⊎ (m ≤ n)
+nat_cases zero zero = inr (omega arith)
+nat_cases zero (suc m) = inl (omega arith)
+nat_cases (suc n) zero = inr (omega arith)
+nat_cases (suc n) (suc m) = elim (nat_cases n m) [
+  | inl less ↦ inl (omega (arith, less))
+  | inr more ↦ inr (omega (arith, more))
+]
 
 -- ---- The whole run of a script
 
@@ -416,17 +450,33 @@ module _ (scripts : List (List Call)) (count total : ℕ) (size : length scripts
       (looped-Runs (open_at n) (record { ended = n; aloft = false; closed = true }) calls progress (close_effect s) Close (close_reply s) runs
       (record { sessions = refl; described = refl; requests = refl }) runs.ended runs.aloft refl (λ closed. close-decides s))
 
+  -- the calls of a cycle more
+  end_calls : (n : ℕ) (progress : Progress) → Runs (open_at (suc n)) ((cycle_calls n ++ Begin n ∷ []) ++ End n ∷ []) progress → Runs (open_at (suc n)) (cycle_calls (suc n)) progress
+  end_calls n progress runs = subst (λ calls. Runs (open_at (suc n)) calls progress) (append_assoc (cycle_calls n) (Begin n ∷ []) (End n ∷ [])) runs
+
   -- ---- The schedule
 
-  cycles-Runs : (n : ℕ) (progress : Progress) → n ≤ total → Runs (open_at 0) [] progress → Runs (open_at n) (cycle_calls n) (cycles n progress)
+  with_cycle-Runs : (n : ℕ) (progress : Progress) → n < total → Runs (open_at n) (cycle_calls n) progress → Runs (open_at (suc n)) (cycle_calls (suc n)) (with_cycle n progress)
   unfolding with_cycle
+  with_cycle-Runs n progress more runs =
+      let settled = settle_all-Settled (open_at n) (cycle_calls n) progress runs in
+      let aloft = begin-Runs n (cycle_calls n) (settle_all progress) more settled.runs in
+      end_calls n (with_cycle n progress) (end-Runs n (cycle_calls n ++ Begin n ∷ []) (looped (Begin n) (settle_all progress)) aloft)
+
+  cycles-Runs : (n : ℕ) (progress : Progress) → n ≤ total → Runs (open_at 0) [] progress → Runs (open_at n) (cycle_calls n) (cycles n progress)
   cycles-Runs zero progress few runs = runs
-  cycles-Runs (suc n) progress few runs =
-      let so_far = cycles-Runs n progress (omega (arith, few)) runs in
-      let settled = settle_all-Settled (open_at n) (cycle_calls n) (cycles n progress) so_far in
-      let aloft = begin-Runs n (cycle_calls n) (settle_all (cycles n progress)) (omega (arith, few)) settled.runs in
-      let ended = end-Runs n (cycle_calls n ++ Begin n ∷ []) (looped (Begin n) (settle_all (cycles n progress))) aloft in
-      subst (λ calls. Runs (open_at (suc n)) calls (cycles (suc n) progress)) (append_assoc (cycle_calls n) (Begin n ∷ []) (End n ∷ [])) ended
+  cycles-Runs (suc n) progress few runs = with_cycle-Runs n (cycles n progress) (omega (arith, few)) (cycles-Runs n progress (omega (arith, few)) runs)
+
+  -- so many cycles from this one on
+  cycles_from-Runs : (first n : ℕ) (progress : Progress) → first + n ≤ total → Runs (open_at first) (cycle_calls first) progress
+      → Runs (open_at (first + n)) (cycle_calls (first + n)) (cycles_from first n progress)
+  cycles_from-Runs first zero progress few runs =
+      let here : first ≡ first + zero = omega arith in subst (λ (k : ℕ). Runs (open_at k) (cycle_calls k) progress) here runs
+  cycles_from-Runs first (suc n) progress few runs =
+      let next : suc (first + n) ≡ first + suc n = omega arith in
+      let so_far = cycles_from-Runs first n progress (omega (arith, few)) runs in
+      subst (λ (k : ℕ). Runs (open_at k) (cycle_calls k) (cycles_from first (suc n) progress)) next
+      (with_cycle-Runs (first + n) (cycles_from first n progress) (omega (arith, few)) so_far)
 
   finish-Settled : (progress : Progress) → Runs (open_at total) (cycle_calls total) progress
       → Settled (record { ended = total; aloft = false; closed = true }) (loop_calls total) (finish progress)
@@ -435,6 +485,111 @@ module _ (scripts : List (List Call)) (count total : ℕ) (size : length scripts
       let settled = settle_all-Settled (open_at total) (cycle_calls total) progress runs in
       let closed = close-Runs total (cycle_calls total) (settle_all progress) settled.runs in
       settle_all-Settled (record { ended = total; aloft = false; closed = true }) (loop_calls total) (looped Close (settle_all progress)) closed
+
+  -- ---- The turns of a schedule
+
+  -- the loop's calls where so many cycles have ended, and one more may have begun
+  abbrev calls_at : ℕ → Bool → List Call
+  calls_at n false = cycle_calls n
+  calls_at n true = cycle_calls n ++ Begin n ∷ []
+
+  -- Where a run has come between two turns: so many cycles have ended, one may be aloft, and the loop is open.
+  record Underway (progress : Progress) : Type 0 where
+    n : ℕ
+    aloft : Bool
+    few : n ≤ total
+    left : aloft ≡ true → n < total
+    runs : Runs (record { ended = n; aloft = aloft; closed = false }) (calls_at n aloft) progress
+
+  -- the same where none is aloft
+  record Home (progress : Progress) : Type 0 where
+    n : ℕ
+    few : n ≤ total
+    runs : Runs (open_at n) (cycle_calls n) progress
+
+  home-Underway : (progress : Progress) → Home progress → Underway progress
+  home-Underway progress home = record { n = home.n; aloft = false; few = home.few; left = λ wrong. cc; runs = home.runs }
+
+  -- an advance of the session at this place
+  with_advance-Underway : (who : ℕ) (progress : Progress) (x : Session) (o : Option Advanced) → who < count → slice_get progress.sessions who ≡ Some x
+      → advance who (record { state = progress.state; made = progress.made; session = x }) ≡ o → Underway progress → Underway (with_advance who progress o)
+  with_advance-Underway who progress x None less found made under = under
+  with_advance-Underway who progress x (Some a) less found made under =
+      let parts = parted progress.sessions who x found in
+      let before : Advanced = record { state = progress.state; made = progress.made; session = x } in
+      let here : Runs _ _ (between parts.settled parts.later before) =
+      subst (λ (xs : List Session). Runs (record { ended = under.n; aloft = under.aloft; closed = false }) (calls_at under.n under.aloft) (record { state = progress.state; made = progress.made; sessions = xs })) parts.whole under.runs in
+      let after = advance-Runs _ _ who parts.settled parts.later before a parts.place less here (advance-Made who before a made) in
+      record {
+        n = under.n;
+        aloft = under.aloft;
+        few = under.few;
+        left = under.left;
+        runs = subst (λ (xs : List Session). Runs (record { ended = under.n; aloft = under.aloft; closed = false }) (calls_at under.n under.aloft) (record { state = a.state; made = a.made; sessions = xs }))
+            (sym (parts.changed a.session)) after;
+      }
+
+  advanced_once-Underway : (who : ℕ) (progress : Progress) (o : Option Session) → who < count → slice_get progress.sessions who ≡ o → Underway progress
+      → Underway (advanced_once who progress o)
+  advanced_once-Underway who progress None less found under = under
+  advanced_once-Underway who progress (Some x) less found under = with_advance-Underway who progress x _ less found refl under
+
+  -- where the loop's call is not enabled nothing changes
+  looped-waits : (call : Call) (progress : Progress) → step progress.state progress.state.sessions call ≡ None → looped call progress ≡ progress
+  unfolding looped
+  looped-waits call progress none = rw (none, looped) refl
+
+  -- a cycle begins, where none is aloft and one is left
+  begin-Underway : (n : ℕ) (aloft : Bool) (progress : Progress) → n ≤ total → (aloft ≡ true → n < total)
+      → Runs (record { ended = n; aloft = aloft; closed = false }) (calls_at n aloft) progress → Underway (looped (Begin n) progress)
+  unfolding step
+  begin-Underway n true progress few left runs =
+      let s = progress.state in
+      let waits : (s.sessions == s.sessions && can_begin s n) ≡ false = rw (runs.aloft) (grind (arith, nat_tests)) in
+      rw (looped-waits (Begin n) progress (rw waits refl)) (record { n = n; aloft = true; few = few; left = left; runs = runs })
+  begin-Underway n false progress few left runs = elim (nat_cases n total) [
+    | inl more ↦ record { n = n; aloft = true; few = few; left = λ yes. more; runs = begin-Runs n (cycle_calls n) progress more runs }
+    | inr none ↦
+        let s = progress.state in
+        let waits : (s.sessions == s.sessions && can_begin s n) ≡ false = rw (runs.aloft, runs.closed, runs.ended, runs.described) (grind (arith, nat_tests)) in
+        rw (looped-waits (Begin n) progress (rw waits refl)) (record { n = n; aloft = false; few = few; left = left; runs = runs })
+  ]
+
+  -- the cycle that is aloft ends
+  end-Home : (n : ℕ) (aloft : Bool) (progress : Progress) → n ≤ total → (aloft ≡ true → n < total)
+      → Runs (record { ended = n; aloft = aloft; closed = false }) (calls_at n aloft) progress → Home (looped (End n) progress)
+  unfolding step
+  end-Home n true progress few left runs = let more = left refl in record {
+    n = suc n;
+    few = omega (arith, more);
+    runs = end_calls n (looped (End n) progress) (end-Runs n (cycle_calls n ++ Begin n ∷ []) progress runs);
+  }
+  end-Home n false progress few left runs =
+      let s = progress.state in
+      let waits : (s.sessions == s.sessions && can_end s n) ≡ false = rw (runs.aloft) (grind (arith, nat_tests)) in
+      rw (looped-waits (End n) progress (rw waits refl)) (record { n = n; few = few; runs = runs })
+
+  landed-Home : (progress : Progress) → Underway progress → Home (landed progress)
+  landed-Home progress under = subst (λ (k : ℕ). Home (looped (End k) progress)) (sym under.runs.ended)
+      (end-Home under.n under.aloft progress under.few under.left under.runs)
+
+  turned-Underway : (t : Turn) (progress : Progress) → IsTurnAmong count t → Underway progress → Underway (turned t progress)
+  turned-Underway (turn.Step who) progress among under = advanced_once-Underway who progress (slice_get progress.sessions who) among refl under
+  turned-Underway turn.Begin progress among under = subst (λ (k : ℕ). Underway (looped (Begin k) progress)) (sym under.runs.ended)
+      (begin-Underway under.n under.aloft progress under.few under.left under.runs)
+  turned-Underway turn.End progress among under = home-Underway (landed progress) (landed-Home progress under)
+
+  turns-Underway : (ts : List Turn) (progress : Progress) → AllByRecursion (IsTurnAmong count) ts → Underway progress → Underway (turns ts progress)
+  turns-Underway [] progress among under = under
+  turns-Underway (t ∷ ts) progress among under = turns-Underway ts (turned t progress) among.1 (turned-Underway t progress among.0 under)
+
+  -- the cycles that are left
+  cycles_left-Runs : (progress : Progress) → Home progress → Runs (open_at total) (cycle_calls total) (cycles_left total progress)
+  cycles_left-Runs progress home =
+      let all : home.n + (total - home.n) ≡ total = omega (arith, home.few) in
+      subst (λ (k : ℕ). Runs (open_at total) (cycle_calls total) (cycles_from k (total - k) progress)) (sym home.runs.ended)
+      (subst (λ (k : ℕ). Runs (open_at k) (cycle_calls k) (cycles_from home.n (total - home.n) progress)) all
+      (cycles_from-Runs home.n (total - home.n) progress (omega (arith, all)) home.runs))
 
 -- ---- A document
 
@@ -448,39 +603,69 @@ all_at_first s first [] rules = tt
 all_at_first s first (session ∷ sessions) rules =
     (record { comes = record { in_order = refl; each_told = refl }; written = rules.0.written; given = tt }, all_at_first s (first + 1) sessions rules.1)
 
--- what is scheduled for a script that meets the rules is whole
-pub scheduled-IsWhole : (document : Document) (blanks : Blanks) → MeetsRules document.script → IsWhole document (scheduled document blanks)
-unfolding scheduled start
-scheduled-IsWhole document blanks rules =
+-- a run that was made to its end is whole for its document
+finished-IsWhole : (document : Document) (size : length (lines_of document.script.sessions) ≡ length document.script.sessions) (progress : Progress)
+    → Settled (lines_of document.script.sessions) (length document.script.sessions) document.description.cycles size
+    (record { ended = document.description.cycles; aloft = false; closed = true }) (loop_calls document.description.cycles) progress
+    → IsWhole document progress.made
+finished-IsWhole document size progress last =
     let texts = document.script.sessions in
-    let scripts = lines_of texts in
-    let count = length texts in
-    let total = document.description.cycles in
-    let size : length scripts ≡ count = length-map texts (λ (session : SessionText). session.lines) in
-    let first = start document blanks in
-    let s = boot document.description blanks count in
-    let runs : Runs scripts count total size (record { ended = 0; aloft = false; closed = false }) [] first = record {
-      sessions = all_at_first s 0 texts rules.sessions;
-      made = refl;
-      within = tt;
-      known = refl;
-      described = refl;
-      ended = refl;
-      aloft = refl;
-      closed = refl;
-      decided = λ wrong. cc;
-    } in
-    let last = finish-Settled scripts count total size (cycles total first) (cycles-Runs scripts count total size total first (omega arith) runs) in
-    let progress = finish (cycles total first) in
     record {
       sessions = λ k. elim (cases_Option (slice_get texts k)) [
         | inl none ↦ rw none tt
         | inr (session, found) ↦
-            let lines : slice_get scripts k ≡ Some session.lines = slice_get-map (λ (each : SessionText). each.lines) texts k ∙ rw found refl in
+            let lines : slice_get (lines_of texts) k ≡ Some session.lines = slice_get-map (λ (each : SessionText). each.lines) texts k ∙ rw found refl in
             let from_zero : 0 + k ≡ k = omega arith in
-            let follows : Follows session.lines (entries_by k progress.made) = rw from_zero at (follows_at progress.made progress.state k 0 scripts progress.sessions session.lines (last.through refl) last.runs.sessions lines) in
+            let follows : Follows session.lines (entries_by k progress.made) = rw from_zero at (follows_at progress.made progress.state k 0 (lines_of texts) progress.sessions session.lines (last.through refl) last.runs.sessions lines) in
             rw found follows
       ];
       cycles = last.runs.made;
       nobody_else = last.runs.within;
     }
+
+-- as many scripts as sessions
+lines_counted : (texts : List SessionText) → length (lines_of texts) ≡ length texts
+lines_counted texts = length-map texts (λ (session : SessionText). session.lines)
+
+-- at first the loop has made no call
+start-Runs : (document : Document) (blanks : Blanks) (size : length (lines_of document.script.sessions) ≡ length document.script.sessions) → MeetsRules document.script
+    → Runs (lines_of document.script.sessions) (length document.script.sessions) document.description.cycles size (record { ended = 0; aloft = false; closed = false }) [] (start document blanks)
+unfolding start
+start-Runs document blanks size rules = record {
+  sessions = all_at_first (boot document.description blanks (length document.script.sessions)) 0 document.script.sessions rules.sessions;
+  made = refl;
+  within = tt;
+  known = refl;
+  described = refl;
+  ended = refl;
+  aloft = refl;
+  closed = refl;
+  decided = λ wrong. cc;
+}
+
+-- what is scheduled for a script that meets the rules is whole
+pub scheduled-IsWhole : (document : Document) (blanks : Blanks) → MeetsRules document.script → IsWhole document (scheduled document blanks)
+unfolding scheduled
+scheduled-IsWhole document blanks rules =
+    let scripts = lines_of document.script.sessions in
+    let count = length document.script.sessions in
+    let total = document.description.cycles in
+    let size = lines_counted document.script.sessions in
+    let first = start document blanks in
+    finished-IsWhole document size (finish (cycles total first))
+    (finish-Settled scripts count total size (cycles total first) (cycles-Runs scripts count total size total first (omega arith) (start-Runs document blanks size rules)))
+
+-- and so is what its schedule makes of it
+pub steps-IsWhole : (document : Document) (blanks : Blanks) → MeetsRules document.script → IsWhole document (scheduled_in_steps document blanks)
+unfolding scheduled_in_steps
+steps-IsWhole document blanks rules =
+    let scripts = lines_of document.script.sessions in
+    let count = length document.script.sessions in
+    let total = document.description.cycles in
+    let size = lines_counted document.script.sessions in
+    let first = start document blanks in
+    let under : Underway scripts count total size first = record { n = 0; aloft = false; few = omega arith; left = λ wrong. cc; runs = start-Runs document blanks size rules } in
+    let turned_so = turns-Underway scripts count total size document.script.schedule first rules.turns under in
+    let home = landed-Home scripts count total size (turns document.script.schedule first) turned_so in
+    let left = cycles_left total (landed (turns document.script.schedule first)) in
+    finished-IsWhole document size (finish left) (finish-Settled scripts count total size left (cycles_left-Runs scripts count total size _ home))

@@ -27,6 +27,7 @@ pub mod Sound
 pub mod Steady
 pub mod Scheduled
 pub mod Sessions
+pub mod Ports
 pub mod Causes
 -- the trace
 pub mod Items

@@ -1,8 +1,11 @@
--- The order of the job `run`: sessions settle before each cycle, after the last, and once more after the close.
-use Rattle.std.specs.Prelude.{ℕ, zero, suc, ◌+◌, List, [], ◌∷◌, ◌++◌, length, map, drop, Option, Some, None}
+-- The order of the job `run`: sessions settle before each cycle, after the last, and once more after the close. And that of the job
+-- `steps`: first the turns of the script's schedule, and then the rest so.
+use Rattle.std.specs.Prelude.{ℕ, zero, suc, ◌+◌, ◌-◌, List, [], ◌∷◌, ◌++◌, length, map, drop, slice_get, slice_set, Option, Some, None}
 use Rattle.cm_document.specs.declared.call.Call.{Call}
 use Rattle.cm_document.specs.declared.call.Call.TheVariants.{Told, Begin, End, Close}
 use Rattle.cm_document.specs.declared.document.Document.{Document}
+use Rattle.cm_document.specs.declared.script.Turn.{Turn}
+use Rattle.cm_document.specs.declared.script.Turn.TheVariants as turn
 use Rattle.cm_model.specs.State.{State, boot}
 use Rattle.cm_model.specs.Machine.{step}
 use Rattle.cm_model.specs.declared.entry.Entry.{Entry}
@@ -107,6 +110,11 @@ abbrev pub cycles : ℕ → Progress → Progress
 cycles zero progress = progress
 cycles (suc n) progress = with_cycle n (cycles n progress)
 
+-- so many cycles from this one on
+abbrev pub cycles_from : ℕ → ℕ → Progress → Progress
+cycles_from first zero progress = progress
+cycles_from first (suc n) progress = with_cycle (first + n) (cycles_from first n progress)
+
 -- after the last cycle the sessions settle, the loop closes, and they settle once more
 unfoldable pub finish : Progress → Progress
 finish progress = settle_all (looped Close (settle_all progress))
@@ -122,3 +130,39 @@ start document blanks = record {
 -- the history of the job `run`
 unfoldable pub scheduled : Document → Blanks → List Entry
 scheduled document blanks = (finish (cycles document.description.cycles (start document blanks))).made
+
+-- ---- The turns of a schedule
+
+-- where one session made this advance; without one nothing changes
+abbrev pub with_advance : ℕ → Progress → Option Advanced → Progress
+with_advance who progress None = progress
+with_advance who progress (Some a) = record { state = a.state; made = a.made; sessions = slice_set progress.sessions who a.session }
+
+-- the session of this number, which stands so, advances once, where it can
+abbrev pub advanced_once : ℕ → Progress → Option Session → Progress
+advanced_once who progress None = progress
+advanced_once who progress (Some x) = with_advance who progress (advance who (record { state = progress.state; made = progress.made; session = x }))
+
+-- A turn: a session advances once, the next cycle begins, or the cycle that is aloft ends. A turn that cannot be made does nothing.
+abbrev pub turned : Turn → Progress → Progress
+turned (turn.Step who) progress = advanced_once who progress (slice_get progress.sessions who)
+turned turn.Begin progress = looped (Begin progress.state.ended) progress
+turned turn.End progress = looped (End progress.state.ended) progress
+
+-- the turns, one after another
+abbrev pub turns : List Turn → Progress → Progress
+turns [] progress = progress
+turns (t ∷ ts) progress = turns ts (turned t progress)
+
+-- a cycle that is aloft ends
+abbrev pub landed : Progress → Progress
+landed progress = looped (End progress.state.ended) progress
+
+-- the cycles that are left of so many
+abbrev pub cycles_left : ℕ → Progress → Progress
+cycles_left count progress = cycles_from progress.state.ended (count - progress.state.ended) progress
+
+-- The history of the job `steps`.
+unfoldable pub scheduled_in_steps : Document → Blanks → List Entry
+scheduled_in_steps document blanks =
+    (finish (cycles_left document.description.cycles (landed (turns document.script.schedule (start document blanks))))).made

@@ -15,7 +15,7 @@ ghost use Rattle.cm_model.specs.Cycle.{IsIdle, cycle, updated_in, updates};
 ghost use Rattle.cm_model.specs.Machine.{IsLegal, LegalFrom, state_after, is_enabled};
 ghost use Rattle.cm_model.specs.State.{State, IsStill, active};
 ghost use Rattle.cm_model.specs.Values.{InterfaceValue};
-ghost use Rattle.cm_model.specs.Scheduled.{Advanced, advance, settle, scheduled};
+ghost use Rattle.cm_model.specs.Scheduled.{Advanced, advance, settle, scheduled, scheduled_in_steps};
 ghost use Rattle.cm_model.specs.Sessions.{IsConsole, IsWhole};
 
 /// Each scheduled history is legal: from boot each of its entries is a step of the written manager.
@@ -30,6 +30,18 @@ pub fn scheduled_histories_are_legal()
 pub fn scheduled_histories_are_whole()
     ensures { (document : Document) (blanks : Blanks)
         → MeetsRules document.script → IsWhole document (scheduled document blanks) }
+{}
+
+/// The history of the job `steps` is legal, whatever the turns of the schedule are.
+pub fn stepped_histories_are_legal()
+    ensures { (document : Document) (blanks : Blanks)
+        → IsLegal document.description blanks (length document.script.sessions) (scheduled_in_steps document blanks) }
+{}
+
+/// It is whole for a document whose script meets the rules: turns change the order in which sessions and loop go on, and no more.
+pub fn stepped_histories_are_whole()
+    ensures { (document : Document) (blanks : Blanks)
+        → MeetsRules document.script → IsWhole document (scheduled_in_steps document blanks) }
 {}
 
 /// A legal history that is whole for a document leaves the loop closed.

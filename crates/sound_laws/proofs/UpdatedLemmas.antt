@@ -50,8 +50,8 @@ ctl_step_params ctl tick states refs None = step_keeps_params ctl ctl.params ctl
 ctl_step_params ctl tick states refs (Some mail) =
     step_keeps_params (mailed ctl mail) (mailed ctl mail).params (mailed ctl mail).run tick states refs ∙ mailed_params ctl mail ctl.run refl
 
-step_keeps_params : (s : State) (values : List InterfaceValue) (serial : ℕ) (l : Loaded) → (stepped_at s values serial l).ctl.params ≡ l.ctl.params
-step_keeps_params s values serial l = either (l.serial == serial)
+stepped_keeps_params : (s : State) (values : List InterfaceValue) (serial : ℕ) (l : Loaded) → (stepped_at s values serial l).ctl.params ≡ l.ctl.params
+stepped_keeps_params s values serial l = either (l.serial == serial)
   where
     either : (b : Bool) → (if b then record l { ctl = (step_of s values l).after } else l).ctl.params ≡ l.ctl.params
     either true = ctl_step_params l.ctl (tick_of s l) (states_for values (described_of s l)) (refs_for values (described_of s l)) (mail_for s l.serial)
@@ -81,7 +81,7 @@ same_own controllers old new place params runs own = record {
 module _ (s : State) (values : List InterfaceValue) (serial : ℕ) (l : Loaded) where
   step_owns : IsOwn s.description.controllers l → IsOwn s.description.controllers (stepped_at s values serial l)
   step_owns own =
-      same_own s.description.controllers l (stepped_at s values serial l) (step_keeps_place s values serial l) (step_keeps_params s values serial l)
+      same_own s.description.controllers l (stepped_at s values serial l) (step_keeps_place s values serial l) (stepped_keeps_params s values serial l)
       (same_runs l.ctl.run (stepped_at s values serial l).ctl.run (step_keeps_mark s values serial l)) own
 
   step_marks : (set : Places) → IsMarked s.description.controllers set l → IsMarked s.description.controllers set (stepped_at s values serial l)
