@@ -10,4 +10,3 @@ pub mod PrintCallLemmas
 pub mod PrintScriptLemmas
 pub mod ReadCallLemmas
 pub mod ReadScriptLemmas
-mod BuiltRows

@@ -4,7 +4,7 @@
 
 pub use lines::{bare_line, first_line};
 pub use print::print_script;
-pub use reading::{built, read_script, read_script_with};
+pub use reading::{read_script, read_script_with};
 
 mod calls;
 mod grammar;

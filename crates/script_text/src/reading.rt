@@ -4,45 +4,22 @@ ghost use Rattle.std.specs.Prelude.{◌≡◌, ◌+◌, ◌<◌, ◌^◌, length
 ghost use Rattle.sequence.specs.Answers.{Answers};
 ghost use Rattle.cm_document.specs.Lines.{raw_lines};
 ghost use Rattle.cm_document.specs.ScriptRules.{nothing, with_line, with_lines, script_with};
-ghost use Rattle.script_text.specs.Built.{built};
+ghost use Rattle.cm_document.specs.Grammars.{whole_grammar};
 
 use crate::grammar::line_of;
 use crate::lines::{bare_line, first_line};
 use crate::rules::Draft;
 use crate::words::{begins_comment, next_word};
-use cm_document::{Grammar, LONGEST_LINE, Script, ScriptFault};
+use cm_document::{Grammar, LONGEST_LINE, Script, ScriptFault, whole_grammar};
 use std::alloc::Global;
-
-/// The lines that are accepted today.
-pub fn built() -> Grammar
-    ensures { result ≡ built }
-{
-    Grammar {
-        first_session: true,
-        further_session: false,
-        load: true,
-        configure: true,
-        cleanup: true,
-        unload: true,
-        rate: true,
-        send: true,
-        switch: true,
-        hardware: true,
-        await_cycles: true,
-        list_controllers: true,
-        list_interfaces: true,
-        list_components: true,
-        schedule: false,
-    }
-}
 
 /// The script of this text, whose first line has this number in its document; or the first bad line. `Memory` where
 /// memory ran out.
 pub fn read_script(alloc: Global, text: &[u8], first_line: u32) -> Result<Script, ScriptFault>
     requires fits { first_line + length (raw_lines text.now) < 2 ^ 32 }
-    ensures { Answers ScriptFault.Memory (script_with built first_line text.now) result }
+    ensures { Answers ScriptFault.Memory (script_with whole_grammar first_line text.now) result }
 {
-    read_script_with(alloc, built(), text, first_line)
+    read_script_with(alloc, whole_grammar(), text, first_line)
 }
 
 /// The script of this text by this grammar, its first line having this number; or the first bad line.
