@@ -1,19 +1,20 @@
--- The command takes no other words than a job's, with or without hyphens.
+-- Without its option the command takes no other words than a job's, with or without hyphens.
 use Rattle.std.proofs.Common.{◌≡◌, ◌⊎◌, ◌∙◌, ℕ, Bool, cond, true, false, zero, refl, sym, ap, ap₂, subst, List, [], ◌∷◌, length, inl, inr, true≢false, Option, Some, None, Result, Ok, Err, codes}
 use Rattle.std.proofs.lemmas.Bool.{cases_Bool}
 use Rattle.std.proofs.lemmas.Slice.Eq.{bytes_eq-Decides}
 use Rattle.std.specs.Option.{option_map_or}
-use Rattle.std.specs.Prelude.{slice_get}
+use Rattle.std.specs.Prelude.{◌||◌, option_and_then, slice_get}
 use Rattle.std.specs.Str.{bytes_eq, chars}
-use Rattle.clap.specs.Faults.{bundle_fault, bundle_step_fault, flag_word_fault, flags_fault, step_fault, turn_fault, walk_fault, word_fault}
+use Rattle.clap.specs.Faults.{bundle_fault, bundle_step_fault, flag_word_fault, flags_fault, long_fault, step_fault, turn_fault, walk_fault, word_fault}
 use Rattle.clap.specs.Kinds.{Kinds, or_else}
-use Rattle.clap.specs.Simple.{Shape, built}
-use Rattle.clap.specs.Walk.{Held, Row, Step, Text, Walk, after_flag, after_step, bundle_met, bundle_step, finished, first_of, idle, long_or_other, nothing_held, plain, rows_after, short_or_plain, trailing, value, walked, word_met}
+use Rattle.clap.specs.Simple.{Shape, built, filled, with_index}
+use Rattle.clap.specs.Walk.{Held, Row, Rule, Step, Text, Walk, after_flag, after_step, bundle_met, bundle_step, finished, first_of, idle, long_or_other, nothing_held, plain, rows_after, short_or_plain, trailing, value, walked, word_met}
 use Rattle.clap.specs.Words.{fault_of, matches_of}
 use Rattle.clap.specs.Lexer.{long_of, short_of}
-use Rattle.cm_words.specs.Accepted.{IsAround, IsListed, word_for}
-use Rattle.cm_words.specs.Words.{asked, command, job_named, job_of, job_word, unless_at_fault}
+use Rattle.cm_words.specs.Accepted.{HasNoOption, IsAround, IsListed, gives_make, word_for}
+use Rattle.cm_words.specs.Words.{asked, command, given, job_of, kind_named, make_rule, unless_at_fault}
 use Rattle.cm_words.specs.declared.job.Job.{Job}
+use Rattle.cm_words.specs.declared.job.JobKind.{JobKind}
 use Rattle.cm_words.specs.declared.job.JobKind.TheVariants.{Run, Steps}
 use Rattle.cm_words.specs.declared.job.WordsFault.{WordsFault}
 use Rattle.cm_words.specs.declared.job.WordsFault.TheVariants.{Usage}
@@ -56,21 +57,30 @@ plain_short None rows pending v e = refl
 plain_short (Some []) rows pending v e = refl
 plain_short (Some (x ∷ xs)) rows pending v e = plain_first (slice_get (chars (x ∷ xs)) 0) (x ∷ xs) (length xs) rows pending v e
 
+-- the option, as the command reads it
+abbrev option : Rule
+option = with_index 2 (filled make_rule)
+
+-- a long word that is not the option is refused
+not_the_option : (b : Bool) (rule : Rule) (text : Option Text) (h : Held) → b ≡ false → long_fault top.rules false (cond (b || false) (Some rule) None) text h ≡ [] → ⊥
+not_the_option true rule text h other e = absurd (true≢false other)
+not_the_option false rule text h other e = cc
+
 plain_long : (long : Option (Text × Option Text)) (rows : List Row) (pending : Option (Text × List Text)) (v : Text)
-    → flag_word_fault top.rules false long v (holds rows pending) ≡ []
+    → option_map_or (λ named. bytes_eq (codes "make") named.0) long false ≡ false → flag_word_fault top.rules false long v (holds rows pending) ≡ []
     → long_or_other top.rules idle v long (holds rows pending) ≡ (holds rows pending, value)
-plain_long (Some p) rows pending v e = cc
-plain_long None rows pending v e = plain_short (short_of v) rows pending v e
+plain_long (Some p) rows pending v no_option e = absurd (not_the_option (bytes_eq (codes "make") p.0) option p.1 (holds rows pending) no_option e)
+plain_long None rows pending v no_option e = plain_short (short_of v) rows pending v e
 
 unless_hyphens : (b : Bool) (long : Option (Text × Option Text)) (rows : List Row) (pending : Option (Text × List Text)) (position : ℕ) (v : Text) → b ≡ false
-    → cond b [] (flag_word_fault top.rules false long v (holds rows pending)) ≡ []
+    → option_map_or (λ named. bytes_eq (codes "make") named.0) long false ≡ false → cond b [] (flag_word_fault top.rules false long v (holds rows pending)) ≡ []
     → cond b (holds rows pending, trailing position) (long_or_other top.rules idle v long (holds rows pending)) ≡ (holds rows pending, value)
-unless_hyphens true long rows pending position v other e = absurd (true≢false other)
-unless_hyphens false long rows pending position v other e = plain_long long rows pending v e
+unless_hyphens true long rows pending position v other no_option e = absurd (true≢false other)
+unless_hyphens false long rows pending position v other no_option e = plain_long long rows pending v no_option e
 
-plain_met : (rows : List Row) (pending : Option (Text × List Text)) (position : ℕ) (v : Text) → bytes_eq v hyphens ≡ false
+plain_met : (rows : List Row) (pending : Option (Text × List Text)) (position : ℕ) (v : Text) → bytes_eq v hyphens ≡ false → gives_make v ≡ false
     → word_fault top [] false idle v (holds rows pending) ≡ [] → word_met top.rules [] false idle position v (holds rows pending) ≡ (holds rows pending, value)
-plain_met rows pending position v other e = unless_hyphens (bytes_eq v hyphens) (long_of v) rows pending position v other e
+plain_met rows pending position v other no_option e = unless_hyphens (bytes_eq v hyphens) (long_of v) rows pending position v other no_option e
 
 -- ---- One word after another
 
@@ -93,59 +103,67 @@ one_more (v ∷ vs) e =
     inr (v, ap (λ t. v ∷ t) (ends v vs rest))
 
 -- a second word is refused
-second : (u v : Text) → bytes_eq v hyphens ≡ false → turn_fault top [] (after false u) v ≡ [] → ⊥
-second u v other e =
+second : (u v : Text) → bytes_eq v hyphens ≡ false → gives_make v ≡ false → turn_fault top [] (after false u) v ≡ [] → ⊥
+second u v other no_option e =
     let met = word_met top.rules [] false idle 2 v (after false u).held in
     let parts = both_none (word_fault top [] false idle v (after false u).held) (step_fault top 2 met.0 met.1) e in
-    let is = plain_met [] (Some (codes "job", u ∷ [])) 2 v other parts.0 in
+    let is = plain_met [] (Some (codes "job", u ∷ [])) 2 v other no_option parts.0 in
     let no : step_fault top 2 (after false u).held value ≡ [] = subst (λ (m : Held × Step). step_fault top 2 m.0 m.1 ≡ []) is parts.1 in
     cc
 
 -- behind a word hyphens may follow
-hyphens_after : (u : Text) (vs : List Text) → walk_fault top [] (after false u) vs ≡ [] → (vs ≡ []) ⊎ (vs ≡ hyphens ∷ [])
+hyphens_after : (u : Text) (vs : List Text) → HasNoOption vs → walk_fault top [] (after false u) vs ≡ [] → (vs ≡ []) ⊎ (vs ≡ hyphens ∷ [])
 unfolding walk_fault walked
-hyphens_after u [] e = inl refl
-hyphens_after u (v ∷ vs) e = elim (cases_Bool (bytes_eq v hyphens)) [
+hyphens_after u [] free e = inl refl
+hyphens_after u (v ∷ vs) free e = elim (cases_Bool (bytes_eq v hyphens)) [
   | inl same ↦
       let is : v ≡ hyphens = (bytes_eq-Decides v hyphens).0 same in
       let rest : walk_fault top [] (after true u) vs ≡ [] = subst (λ (t : Text). walk_fault top [] (after false u) (t ∷ vs) ≡ []) is e in
       inr (ap₂ (λ (a : Text) (b : List Text). a ∷ b) is (ends u vs rest))
-  | inr other ↦ absurd (second u v other (turn_parts (after false u) v vs e).0)
+  | inr other ↦ absurd (second u v other free.0 (turn_parts (after false u) v vs e).0)
 ]
 
 -- the first word
-first_step : (v : Text) → bytes_eq v hyphens ≡ false → turn_fault top [] (before false) v ≡ [] → walked top.rules [] (before false) v ≡ after false v
+first_step : (v : Text) → bytes_eq v hyphens ≡ false → gives_make v ≡ false → turn_fault top [] (before false) v ≡ [] → walked top.rules [] (before false) v ≡ after false v
 unfolding walked
-first_step v other e =
+first_step v other no_option e =
     let met = word_met top.rules [] false idle 1 v nothing_held in
     let parts = both_none (word_fault top [] false idle v nothing_held) (step_fault top 1 met.0 met.1) e in
-    ap (λ (m : Held × Step). after_step top.rules v (before false) m.0 m.1) (plain_met [] None 1 v other parts.0)
+    ap (λ (m : Held × Step). after_step top.rules v (before false) m.0 m.1) (plain_met [] None 1 v other no_option parts.0)
 
 -- ---- All words
 
--- the word that is read of these words
-abbrev read_of : List Text → Option Text
-read_of words = first_of (codes "job") (rows_after top.rules [] words)
+-- the text that is read of these words for an argument
+abbrev read_of : Text → List Text → Option Text
+read_of id words = first_of id (rows_after top.rules [] words)
 
--- there is none, or the words are around it
+-- a word is read for the job, and none for the option
+abbrev IsJob : Text → List Text → Type 0
+IsJob v words = (read_of (codes "job") words ≡ Some v) × (read_of (codes "make") words ≡ None)
+
+-- no word is read for the job, or the words are around it
 abbrev IsRead : List Text → Type 0
-IsRead words = ((words ≡ []) ⊎ (words ≡ hyphens ∷ [])) ⊎ ((v : Text) × (read_of words ≡ Some v) × IsAround v words)
+IsRead words = ((words ≡ []) ⊎ (words ≡ hyphens ∷ [])) ⊎ ((v : Text) × IsJob v words × IsAround v words)
 
-read_behind_hyphens : (v : Text) → read_of (hyphens ∷ v ∷ []) ≡ Some v
+read_behind_hyphens : (v : Text) → IsJob v (hyphens ∷ v ∷ [])
 unfolding walked
-read_behind_hyphens v = refl
+read_behind_hyphens v = (refl, refl)
 
-read_alone : (v : Text) → walked top.rules [] (before false) v ≡ after false v → read_of (v ∷ []) ≡ Some v
-read_alone v step = ap (λ (w : Walk). first_of (codes "job") (finished top.rules w.held)) step
+read_alone : (v : Text) → walked top.rules [] (before false) v ≡ after false v → IsJob v (v ∷ [])
+read_alone v step =
+    (ap (λ (w : Walk). first_of (codes "job") (finished top.rules w.held)) step, ap (λ (w : Walk). first_of (codes "make") (finished top.rules w.held)) step)
 
-read_before_hyphens : (v : Text) → walked top.rules [] (before false) v ≡ after false v → read_of (v ∷ hyphens ∷ []) ≡ Some v
+read_before_hyphens : (v : Text) → walked top.rules [] (before false) v ≡ after false v → IsJob v (v ∷ hyphens ∷ [])
 unfolding walked
-read_before_hyphens v step = ap (λ (w : Walk). first_of (codes "job") (finished top.rules (walked top.rules [] w hyphens).held)) step
+read_before_hyphens v step = (
+  ap (λ (w : Walk). first_of (codes "job") (finished top.rules (walked top.rules [] w hyphens).held)) step,
+  ap (λ (w : Walk). first_of (codes "make") (finished top.rules (walked top.rules [] w hyphens).held)) step,
+)
 
-reads : (words : List Text) → walk_fault top [] (before false) words ≡ [] → IsRead words
+reads : (words : List Text) → HasNoOption words → walk_fault top [] (before false) words ≡ [] → IsRead words
 unfolding walk_fault walked
-reads [] e = inl (inl refl)
-reads (v ∷ vs) e = elim (cases_Bool (bytes_eq v hyphens)) [
+reads [] free e = inl (inl refl)
+reads (v ∷ vs) free e = elim (cases_Bool (bytes_eq v hyphens)) [
   | inl same ↦
       let is : v ≡ hyphens = (bytes_eq-Decides v hyphens).0 same in
       let rest : walk_fault top [] (before true) vs ≡ [] = subst (λ (t : Text). walk_fault top [] (before false) (t ∷ vs) ≡ []) is e in
@@ -153,55 +171,65 @@ reads (v ∷ vs) e = elim (cases_Bool (bytes_eq v hyphens)) [
         | inl none ↦ inl (inr (ap₂ (λ (a : Text) (b : List Text). a ∷ b) is none))
         | inr one ↦
             let whole : v ∷ vs ≡ hyphens ∷ one.0 ∷ [] = ap₂ (λ (a : Text) (b : List Text). a ∷ b) is one.1 in
-            inr (one.0, subst (λ (t : List Text). read_of t ≡ Some one.0) (sym whole) (read_behind_hyphens one.0), inr (inl whole))
+            inr (one.0, subst (IsJob one.0) (sym whole) (read_behind_hyphens one.0), inr (inl whole))
       ]
   | inr other ↦
       let parts = turn_parts (before false) v vs e in
-      let step = first_step v other parts.0 in
+      let step = first_step v other free.0 parts.0 in
       let rest : walk_fault top [] (after false v) vs ≡ [] = subst (λ (w : Walk). walk_fault top [] w vs ≡ []) step parts.1 in
-      elim (hyphens_after v vs rest) [
+      elim (hyphens_after v vs free.1 rest) [
         | inl none ↦
             let whole : v ∷ vs ≡ v ∷ [] = ap (λ (b : List Text). v ∷ b) none in
-            inr (v, subst (λ (t : List Text). read_of t ≡ Some v) (sym whole) (read_alone v step), inl whole)
+            inr (v, subst (IsJob v) (sym whole) (read_alone v step), inl whole)
         | inr more ↦
             let whole : v ∷ vs ≡ v ∷ hyphens ∷ [] = ap (λ (b : List Text). v ∷ b) more in
-            inr (v, subst (λ (t : List Text). read_of t ≡ Some v) (sym whole) (read_before_hyphens v step), inr (inr whole))
+            inr (v, subst (IsJob v) (sym whole) (read_before_hyphens v step), inr (inr whole))
       ]
 ]
 
 -- ---- The job
 
-taken : (kinds : Kinds) (word : Option Text) (job : Job) → job_of (unless_at_fault kinds word) ≡ Ok job → (kinds ≡ []) × (job_of word ≡ Ok job)
-taken [] word job e = (refl, e)
-taken (k ∷ ks) word job e = cc
+-- the job of what was given for it and for the option
+abbrev of_given : Option Text → Option Text → Result Job WordsFault
+of_given word make = job_of (option_and_then kind_named word) make
 
-abbrev word_in : Result Job WordsFault → Text
-word_in (Ok job) = word_for job.kind
-word_in (Err fault) = []
+taken : (kinds : Kinds) (word make : Option Text) (job : Job) → of_given (unless_at_fault kinds word) (unless_at_fault kinds make) ≡ Ok job
+    → (kinds ≡ []) × (of_given word make ≡ Ok job)
+taken [] word make job e = (refl, e)
+taken (k ∷ ks) word make job e = cc
+
+abbrev job_in : Result Job WordsFault → Job
+job_in (Ok job) = job
+job_in (Err fault) = record { kind = Run; make = None }
 
 which : (a b : Bool) (v : Text) (job : Job) → (a ≡ true → v ≡ codes "run") → (b ≡ true → v ≡ codes "steps")
-    → cond a (Ok (record { kind = Run })) (cond b (Ok (record { kind = Steps })) (Err Usage)) ≡ Ok job → v ≡ word_for job.kind
-which true b v job run steps e = run refl ∙ ap word_in e
-which false true v job run steps e = steps refl ∙ ap word_in e
+    → job_of (cond a (Some Run) (cond b (Some Steps) None)) None ≡ Ok job → (v ≡ word_for job.kind) × (job.make ≡ None)
+which true b v job run steps e = (run refl ∙ ap (λ (r : Result Job WordsFault). word_for (job_in r).kind) e, ap (λ (r : Result Job WordsFault). (job_in r).make) (sym e))
+which false true v job run steps e = (steps refl ∙ ap (λ (r : Result Job WordsFault). word_for (job_in r).kind) e, ap (λ (r : Result Job WordsFault). (job_in r).make) (sym e))
 which false false v job run steps e = cc
 
-named : (v : Text) (job : Job) → job_named v ≡ Ok job → v ≡ word_for job.kind
+named : (v : Text) (job : Job) → of_given (Some v) None ≡ Ok job → (v ≡ word_for job.kind) × (job.make ≡ None)
 named v job e = which (bytes_eq v (codes "run")) (bytes_eq v (codes "steps")) v job (bytes_eq-Decides v (codes "run")).0 (bytes_eq-Decides v (codes "steps")).0 e
 
-listed : (words : List Text) (job : Job) → IsRead words → job_of (read_of words) ≡ Ok job → IsListed words job
+-- what is given of words
+abbrev given_of : List Text → Result Job WordsFault
+given_of words = of_given (read_of (codes "job") words) (read_of (codes "make") words)
+
+listed : (words : List Text) (job : Job) → IsRead words → given_of words ≡ Ok job → IsListed words job
 unfolding walked
 listed words job (inl (inl none)) e =
-    let no : job_of (read_of []) ≡ Ok job = subst (λ (t : List Text). job_of (read_of t) ≡ Ok job) none e in cc
+    let no : given_of [] ≡ Ok job = subst (λ (t : List Text). given_of t ≡ Ok job) none e in cc
 listed words job (inl (inr alone)) e =
-    let no : job_of (read_of (hyphens ∷ [])) ≡ Ok job = subst (λ (t : List Text). job_of (read_of t) ≡ Ok job) alone e in cc
+    let no : given_of (hyphens ∷ []) ≡ Ok job = subst (λ (t : List Text). given_of t ≡ Ok job) alone e in cc
 listed words job (inr (v, read, around)) e =
-    let is : v ≡ word_for job.kind = named v job (subst (λ (w : Option Text). job_of w ≡ Ok job) read e) in
-    subst (λ (w : Text). IsAround w words) is around
+    let given_so : of_given (Some v) None ≡ Ok job = subst (λ (m : Option Text). of_given (Some v) m ≡ Ok job) read.1 (subst (λ (w : Option Text). of_given w (read_of (codes "make") words) ≡ Ok job) read.0 e) in
+    let is = named v job given_so in
+    record { around = subst (λ (w : Text). IsAround w words) is.0 around; reads = is.1 }
 
-pub accepted_alone : (words : List Text) (job : Job) → asked words ≡ Ok job → IsListed words job
-unfolding job_word
-accepted_alone words job e =
+pub accepted_alone : (words : List Text) (job : Job) → HasNoOption words → asked words ≡ Ok job → IsListed words job
+unfolding given
+accepted_alone words job free e =
     let line = codes "cm" ∷ words in
-    let got = taken (fault_of command line) (first_of (codes "job") (matches_of command line)) job e in
+    let got = taken (fault_of command line) (first_of (codes "job") (matches_of command line)) (first_of (codes "make") (matches_of command line)) job e in
     let walk = both_none (walk_fault top [] (before false) words) _ got.0 in
-    listed words job (reads words walk.0) got.1
+    listed words job (reads words free walk.0) got.1

@@ -1,3 +1,4 @@
 pub mod WordLemmas
+pub mod RoundLemmas
 pub mod ExactLemmas
 pub mod Rows

@@ -1,10 +1,10 @@
 -- Words that are accepted, and words that are refused: computed from the definitions.
-use Rattle.std.proofs.Common.{◌≡◌, refl, sym, subst, List, [], ◌∷◌, inl, inr, Ok, Err}
+use Rattle.std.proofs.Common.{◌≡◌, ℕ, refl, sym, subst, List, [], ◌∷◌, inl, inr, Option, None, Some, Ok, Err}
 use Rattle.std.specs.Prelude.{codes}
 use Rattle.clap.proofs.OnLiterals.{clap_on_literals}
 use Rattle.clap.specs.Words.{Text}
 use Rattle.cm_words.specs.Accepted.{IsAround, IsListed, word_for}
-use Rattle.cm_words.specs.Words.{asked, job_word}
+use Rattle.cm_words.specs.Words.{asked, given}
 use Rattle.cm_words.specs.declared.job.Job.{Job}
 use Rattle.cm_words.specs.declared.job.JobKind.{JobKind}
 use Rattle.cm_words.specs.declared.job.JobKind.TheVariants.{Run, Steps}
@@ -12,119 +12,166 @@ use Rattle.cm_words.specs.declared.job.WordsFault.TheVariants.{Usage}
 
 -- ---- Accepted
 
-run : asked (codes "run" ∷ []) ≡ Ok (record { kind = Run })
-unfolding job_word clap_on_literals
+run : asked (codes "run" ∷ []) ≡ Ok (record { kind = Run; make = None })
+unfolding given clap_on_literals
 run = refl
 
-steps : asked (codes "steps" ∷ []) ≡ Ok (record { kind = Steps })
-unfolding job_word clap_on_literals
+steps : asked (codes "steps" ∷ []) ≡ Ok (record { kind = Steps; make = None })
+unfolding given clap_on_literals
 steps = refl
 
--- two hyphens end the options, of which there are none
-run_and_hyphens : asked (codes "run" ∷ codes "--" ∷ []) ≡ Ok (record { kind = Run })
-unfolding job_word clap_on_literals
+-- two hyphens end the options
+run_and_hyphens : asked (codes "run" ∷ codes "--" ∷ []) ≡ Ok (record { kind = Run; make = None })
+unfolding given clap_on_literals
 run_and_hyphens = refl
 
-hyphens_and_run : asked (codes "--" ∷ codes "run" ∷ []) ≡ Ok (record { kind = Run })
-unfolding job_word clap_on_literals
+hyphens_and_run : asked (codes "--" ∷ codes "run" ∷ []) ≡ Ok (record { kind = Run; make = None })
+unfolding given clap_on_literals
 hyphens_and_run = refl
 
-steps_and_hyphens : asked (codes "steps" ∷ codes "--" ∷ []) ≡ Ok (record { kind = Steps })
-unfolding job_word clap_on_literals
+steps_and_hyphens : asked (codes "steps" ∷ codes "--" ∷ []) ≡ Ok (record { kind = Steps; make = None })
+unfolding given clap_on_literals
 steps_and_hyphens = refl
 
-hyphens_and_steps : asked (codes "--" ∷ codes "steps" ∷ []) ≡ Ok (record { kind = Steps })
-unfolding job_word clap_on_literals
+hyphens_and_steps : asked (codes "--" ∷ codes "steps" ∷ []) ≡ Ok (record { kind = Steps; make = None })
+unfolding given clap_on_literals
 hyphens_and_steps = refl
 
 -- so the words of each job ask for it
-around_accepted : (kind : JobKind) (words : List Text) → IsAround (word_for kind) words → asked words ≡ Ok (record { kind = kind })
-around_accepted Run words (inl e) = subst (λ (t : List Text). asked t ≡ Ok (record { kind = Run })) (sym e) run
-around_accepted Run words (inr (inl e)) = subst (λ (t : List Text). asked t ≡ Ok (record { kind = Run })) (sym e) hyphens_and_run
-around_accepted Run words (inr (inr e)) = subst (λ (t : List Text). asked t ≡ Ok (record { kind = Run })) (sym e) run_and_hyphens
-around_accepted Steps words (inl e) = subst (λ (t : List Text). asked t ≡ Ok (record { kind = Steps })) (sym e) steps
-around_accepted Steps words (inr (inl e)) = subst (λ (t : List Text). asked t ≡ Ok (record { kind = Steps })) (sym e) hyphens_and_steps
-around_accepted Steps words (inr (inr e)) = subst (λ (t : List Text). asked t ≡ Ok (record { kind = Steps })) (sym e) steps_and_hyphens
+around_accepted : (kind : JobKind) (words : List Text) → IsAround (word_for kind) words → asked words ≡ Ok (record { kind = kind; make = None })
+around_accepted Run words (inl e) = subst (λ (t : List Text). asked t ≡ Ok (record { kind = Run; make = None })) (sym e) run
+around_accepted Run words (inr (inl e)) = subst (λ (t : List Text). asked t ≡ Ok (record { kind = Run; make = None })) (sym e) hyphens_and_run
+around_accepted Run words (inr (inr e)) = subst (λ (t : List Text). asked t ≡ Ok (record { kind = Run; make = None })) (sym e) run_and_hyphens
+around_accepted Steps words (inl e) = subst (λ (t : List Text). asked t ≡ Ok (record { kind = Steps; make = None })) (sym e) steps
+around_accepted Steps words (inr (inl e)) = subst (λ (t : List Text). asked t ≡ Ok (record { kind = Steps; make = None })) (sym e) hyphens_and_steps
+around_accepted Steps words (inr (inr e)) = subst (λ (t : List Text). asked t ≡ Ok (record { kind = Steps; make = None })) (sym e) steps_and_hyphens
 
 pub listed_accepted : (words : List Text) (job : Job) → IsListed words job → asked words ≡ Ok job
-listed_accepted words job listed = around_accepted job.kind words listed
+listed_accepted words job listed =
+    subst (λ (make : Option ℕ). asked words ≡ Ok (record { kind = job.kind; make = make })) (sym listed.reads) (around_accepted job.kind words listed.around)
+
+-- ---- Accepted with a number of rounds
+
+making : asked (codes "run" ∷ codes "--make" ∷ codes "1" ∷ []) ≡ Ok (record { kind = Run; make = Some 1 })
+unfolding given clap_on_literals
+making = refl
+
+making_the_most : asked (codes "steps" ∷ codes "--make" ∷ codes "1000" ∷ []) ≡ Ok (record { kind = Steps; make = Some 1000 })
+unfolding given clap_on_literals
+making_the_most = refl
+
+making_first : asked (codes "--make" ∷ codes "5" ∷ codes "run" ∷ []) ≡ Ok (record { kind = Run; make = Some 5 })
+unfolding given clap_on_literals
+making_first = refl
+
+making_with_a_sign : asked (codes "run" ∷ codes "--make=5" ∷ []) ≡ Ok (record { kind = Run; make = Some 5 })
+unfolding given clap_on_literals
+making_with_a_sign = refl
+
+making_with_a_sign_first : asked (codes "--make=5" ∷ codes "steps" ∷ []) ≡ Ok (record { kind = Steps; make = Some 5 })
+unfolding given clap_on_literals
+making_with_a_sign_first = refl
+
+making_before_hyphens : asked (codes "--make" ∷ codes "5" ∷ codes "--" ∷ codes "run" ∷ []) ≡ Ok (record { kind = Run; make = Some 5 })
+unfolding given clap_on_literals
+making_before_hyphens = refl
+
+-- zeros may lead the number
+making_with_a_zero : asked (codes "run" ∷ codes "--make" ∷ codes "05" ∷ []) ≡ Ok (record { kind = Run; make = Some 5 })
+unfolding given clap_on_literals
+making_with_a_zero = refl
 
 -- ---- Refused
 
 no_words : asked [] ≡ Err Usage
-unfolding job_word clap_on_literals
+unfolding given clap_on_literals
 no_words = refl
 
 another_word : asked (codes "walk" ∷ []) ≡ Err Usage
-unfolding job_word clap_on_literals
+unfolding given clap_on_literals
 another_word = refl
 
 an_empty_word : asked (codes "" ∷ []) ≡ Err Usage
-unfolding job_word clap_on_literals
+unfolding given clap_on_literals
 an_empty_word = refl
 
 another_case : asked (codes "Run" ∷ []) ≡ Err Usage
-unfolding job_word clap_on_literals
+unfolding given clap_on_literals
 another_case = refl
 
 two_jobs : asked (codes "run" ∷ codes "run" ∷ []) ≡ Err Usage
-unfolding job_word clap_on_literals
+unfolding given clap_on_literals
 two_jobs = refl
 
 hyphens_alone : asked (codes "--" ∷ []) ≡ Err Usage
-unfolding job_word clap_on_literals
+unfolding given clap_on_literals
 hyphens_alone = refl
 
 hyphens_for_a_job : asked (codes "--" ∷ codes "--" ∷ []) ≡ Err Usage
-unfolding job_word clap_on_literals
+unfolding given clap_on_literals
 hyphens_for_a_job = refl
 
 a_flag_for_help : asked (codes "--help" ∷ []) ≡ Err Usage
-unfolding job_word clap_on_literals
+unfolding given clap_on_literals
 a_flag_for_help = refl
 
 a_short_flag : asked (codes "run" ∷ codes "-h" ∷ []) ≡ Err Usage
-unfolding job_word clap_on_literals
+unfolding given clap_on_literals
 a_short_flag = refl
 
 a_word_for_help : asked (codes "help" ∷ []) ≡ Err Usage
-unfolding job_word clap_on_literals
+unfolding given clap_on_literals
 a_word_for_help = refl
 
--- ---- Refused today
+-- ---- Refused today, while there is no live run
 
 a_live_run : asked (codes "live" ∷ []) ≡ Err Usage
-unfolding job_word clap_on_literals
+unfolding given clap_on_literals
 a_live_run = refl
 
 a_live_run_that_makes : asked (codes "live" ∷ codes "--make" ∷ codes "5" ∷ []) ≡ Err Usage
-unfolding job_word clap_on_literals
+unfolding given clap_on_literals
 a_live_run_that_makes = refl
 
-making_first : asked (codes "--make" ∷ codes "5" ∷ codes "run" ∷ []) ≡ Err Usage
-unfolding job_word clap_on_literals
-making_first = refl
-
-making_with_a_sign : asked (codes "run" ∷ codes "--make=5" ∷ []) ≡ Err Usage
-unfolding job_word clap_on_literals
-making_with_a_sign = refl
+-- ---- Refused for the option
 
 making_nothing : asked (codes "run" ∷ codes "--make" ∷ []) ≡ Err Usage
-unfolding job_word clap_on_literals
+unfolding given clap_on_literals
 making_nothing = refl
 
 making_an_empty_text : asked (codes "run" ∷ codes "--make=" ∷ []) ≡ Err Usage
-unfolding job_word clap_on_literals
+unfolding given clap_on_literals
 making_an_empty_text = refl
 
 making_in_short : asked (codes "run" ∷ codes "--mak" ∷ codes "5" ∷ []) ≡ Err Usage
-unfolding job_word clap_on_literals
+unfolding given clap_on_literals
 making_in_short = refl
 
 making_too_much : asked (codes "run" ∷ codes "--make" ∷ codes "1001" ∷ []) ≡ Err Usage
-unfolding job_word clap_on_literals
+unfolding given clap_on_literals
 making_too_much = refl
 
 making_twice : asked (codes "run" ∷ codes "--make" ∷ codes "1" ∷ codes "--make" ∷ codes "2" ∷ []) ≡ Err Usage
-unfolding job_word clap_on_literals
+unfolding given clap_on_literals
 making_twice = refl
+
+making_no_rounds : asked (codes "run" ∷ codes "--make" ∷ codes "0" ∷ []) ≡ Err Usage
+unfolding given clap_on_literals
+making_no_rounds = refl
+
+making_with_a_plus : asked (codes "run" ∷ codes "--make" ∷ codes "+5" ∷ []) ≡ Err Usage
+unfolding given clap_on_literals
+making_with_a_plus = refl
+
+five_digits : asked (codes "run" ∷ codes "--make" ∷ codes "00005" ∷ []) ≡ Err Usage
+unfolding given clap_on_literals
+five_digits = refl
+
+-- behind the hyphens there are no options
+making_behind_hyphens : asked (codes "run" ∷ codes "--" ∷ codes "--make" ∷ codes "5" ∷ []) ≡ Err Usage
+unfolding given clap_on_literals
+making_behind_hyphens = refl
+
+making_without_a_job : asked (codes "--make" ∷ codes "5" ∷ []) ≡ Err Usage
+unfolding given clap_on_literals
+making_without_a_job = refl

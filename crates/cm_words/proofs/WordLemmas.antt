@@ -12,7 +12,7 @@ use Rattle.clap.specs.declared.error.kind.ErrorKind.TheVariants.{OutOfMemory}
 use Rattle.clap.specs.declared.parser.matches.ArgMatches.{ArgMatches}
 use Rattle.clap.proofs.OnLiterals.{clap_on_literals}
 use Rattle.clap.proofs.WalkLemmas.{first_value-rows}
-use Rattle.cm_words.specs.Words.{command, flagless, job_word, unless_at_fault}
+use Rattle.cm_words.specs.Words.{command, flagless, given, unless_at_fault}
 
 -- a command after both of its flags were switched off
 pub flagless-app : (a b c : Command) (app : App) → app_of a ≡ app → out-Command b ≡ record (out-Command a) { disable_help_flag = true }
@@ -34,22 +34,21 @@ at_fault : (k : ErrorKind) (kinds : Kinds) (word : Option Text) → IsAmong k ki
 at_fault k [] word among = absurd among
 at_fault k (x ∷ xs) word among = refl
 
--- a parse of the command's line has its word, or its line has none
-pub parsed_word : (r : Result ArgMatches Error) (a : App) (line : List Text) → a ≡ command → IfOk r (HasMatchesOf a line) → (is_simple_and_free a ≡ true → FailsBy (fault_of a line) r)
-    → IfOk r (λ m. first_value (found_of m) (codes "job") ≡ job_word line) × IfErr r (λ e. (kind_of e ≡ OutOfMemory) ⊎ (job_word line ≡ None))
-unfolding job_word
-parsed_word (Ok m) a line is found fails =
+-- a parse of the command's line has what was given, or nothing was
+pub parsed_given : (r : Result ArgMatches Error) (a : App) (line : List Text) → a ≡ command → IfOk r (HasMatchesOf a line) → (is_simple_and_free a ≡ true → FailsBy (fault_of a line) r)
+    → IfOk r (λ m. (id : Text) → first_value (found_of m) id ≡ given id line) × IfErr r (λ e. (kind_of e ≡ OutOfMemory) ⊎ ((id : Text) → given id line ≡ None))
+unfolding given
+parsed_given (Ok m) a line is found fails =
     let rows = (subst (λ (b : App). HasMatchesOf b line m) is found is_a_simple_command).0 in
     let none : fault_of command line ≡ [] = subst (λ (b : App). is_simple_and_free b ≡ true → fault_of b line ≡ []) is fails is_a_free_command in (
-      first_value-rows (found_of m) (codes "job") ∙ ap (first_of (codes "job")) rows
-          ∙ ap (λ (k : Kinds). unless_at_fault k (first_of (codes "job") (matches_of command line))) (sym none),
+      λ id. first_value-rows (found_of m) id ∙ ap (first_of id) rows ∙ ap (λ (k : Kinds). unless_at_fault k (first_of id (matches_of command line))) (sym none),
       tt,
     )
-parsed_word (Err e) a line is found fails =
+parsed_given (Err e) a line is found fails =
     let failed : HasKind (fault_of command line) e = subst (λ (b : App). is_simple_and_free b ≡ true → HasKind (fault_of b line) e) is fails is_a_free_command in (
       tt,
       elim failed [
         | inl memory ↦ inl memory
-        | inr among ↦ inr (at_fault (kind_of e) (fault_of command line) (first_of (codes "job") (matches_of command line)) among)
+        | inr among ↦ inr (λ id. at_fault (kind_of e) (fault_of command line) (first_of id (matches_of command line)) among)
       ],
     )

@@ -1,5 +1,9 @@
 -- The lists of words that ask for a job, told one by one.
-use Rattle.std.specs.Prelude.{◌≡◌, ◌⊎◌, List, [], ◌∷◌, codes}
+use Rattle.std.specs.Prelude.{◌≡◌, ◌⊎◌, Bool, false, List, [], ◌∷◌, None, codes}
+use Rattle.std.specs.List.{AllByRecursion}
+use Rattle.std.specs.Option.{option_map_or}
+use Rattle.std.specs.Str.{bytes_eq}
+use Rattle.clap.specs.Lexer.{long_of}
 use Rattle.clap.specs.Words.{Text}
 use Rattle.cm_words.specs.declared.job.Job.{Job}
 use Rattle.cm_words.specs.declared.job.JobKind.{JobKind}
@@ -14,6 +18,15 @@ word_for Steps = codes "steps"
 abbrev pub IsAround : Text → List Text → Type 0
 IsAround word words = (words ≡ word ∷ []) ⊎ ((words ≡ codes "--" ∷ word ∷ []) ⊎ (words ≡ word ∷ codes "--" ∷ []))
 
--- The words of a job: its word, with or without the two hyphens that end the options, of which there are none.
-abbrev pub IsListed : List Text → Job → Type 0
-IsListed words job = IsAround (word_for job.kind) words
+-- The words of a job that reads its document: its word, with or without the two hyphens that end the options.
+pub record IsListed (words : List Text) (job : Job) : Type 0 where
+  pub around : IsAround (word_for job.kind) words
+  pub reads : job.make ≡ None
+
+-- a word is the option `--make`, alone or with a text behind `=`
+abbrev pub gives_make : Text → Bool
+gives_make word = option_map_or (λ named. bytes_eq (codes "make") named.0) (long_of word) false
+
+-- no word is the option
+abbrev pub HasNoOption : List Text → Type 0
+HasNoOption words = AllByRecursion (λ word. gives_make word ≡ false) words

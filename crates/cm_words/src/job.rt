@@ -3,6 +3,12 @@
 use fixed_num::Memory;
 use thiserror::Error;
 
+/// The most rounds that a made document may have.
+pub const MOST_ROUNDS: u32 = 1_000;
+
+/// The most digits of a number of rounds; zeros may lead it.
+pub const MOST_DIGITS: usize = 4;
+
 /// How a document is run.
 #[derive(Clone, Copy, Debug, PartialEq, Eq)]
 pub enum JobKind {
@@ -16,6 +22,8 @@ pub enum JobKind {
 #[derive(Clone, Copy, Debug, PartialEq, Eq)]
 pub struct Job {
     pub kind: JobKind,
+    /// Of how many rounds the document is made that is run, from 1 to `MOST_ROUNDS`. Without it the document is read.
+    pub make: Option<u32>,
 }
 
 /// Why words ask for nothing.

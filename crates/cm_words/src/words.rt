@@ -1,10 +1,14 @@
 //! Words, read by a command of `clap`.
 
-ghost use Rattle.std.specs.Prelude.{◌≡◌, ◌⊎◌, ◌∷◌, None, codes, map, option_map, string_bytes, IfOk, IfErr};
-ghost use Rattle.clap.specs.Words.{first_value, found_of, kind_of};
+ghost use Rattle.std.specs.Prelude.{◌≡◌, ◌≤◌, ◌⊎◌, ◌∷◌, None, codes, map, option_map, string_bytes, IfOk, IfErr, IfSome};
+ghost use Rattle.std.specs.List.{list_all};
+ghost use Rattle.std.specs.Char.{is_ascii_digit};
+ghost use Rattle.clap.specs.Words.{first_value, found_of, kind_of, Text};
 ghost use Rattle.sequence.specs.Answers.{Answers};
-ghost use Rattle.cm_words.specs.Words.{asked, job_named, job_word};
+ghost use Rattle.cm_words.specs.declared.job.TheConstants.{MOST_ROUNDS};
+ghost use Rattle.cm_words.specs.Words.{asked, given, job_of, job_with, job_word, kind_named, make_text, rounds_in};
 
+use crate::job::{MOST_DIGITS, MOST_ROUNDS};
 use crate::{Job, JobKind, WordsFault};
 use clap::error::ErrorKind;
 use clap::{Arg, ArgMatches, Command, Error};
@@ -13,11 +17,13 @@ use std::alloc::Global;
 
 /// The job that the words after the program's name ask for. `Usage` exactly where they are not accepted.
 pub fn asked(alloc: Global, words: &[String]) -> Result<Job, WordsFault>
-    ensures { Answers WordsFault.Memory (asked (map string_bytes words.now)) result }
+    ensures answer { Answers WordsFault.Memory (asked (map string_bytes words.now)) result }
+    ensures rounds { IfOk result (λ job. IfSome job.make (λ rounds. (1 ≤ rounds) × (rounds ≤ MOST_ROUNDS))) }
 {
     let line = line(alloc, words)?;
-    match job_word(alloc, line.as_slice())? {
-        Some(word) => job_named(word),
+    let found = read_line(alloc, line.as_slice())?;
+    match found.job {
+        Some(word) => job_of(kind_named(word), found.make),
         None => Err(WordsFault::Usage),
     }
 }
@@ -35,42 +41,108 @@ fn line(alloc: Global, words: &[String]) -> Result<Vec<&str>, Memory>
     Ok(line)
 }
 
-/// The word that stands for the job, where the command takes the line.
-fn job_word<'a>(alloc: Global, line: &'a [&'a str]) -> Result<Option<&'a str>, Memory>
-    ensures { IfOk result
-        (λ word. option_map (λ w. w.now) word ≡ job_word (map (λ w. w.now) line.entry.now)) }
+/// What the command finds on a line that it takes, and nothing on another.
+#[derive(Clone, Copy, Debug)]
+struct Found<'a> {
+    /// The word that stands for the job.
+    job: Option<&'a str>,
+    /// The text of `--make`, where it is given.
+    make: Option<&'a str>,
+}
+
+/// What the command finds on the line.
+fn read_line<'a>(alloc: Global, line: &'a [&'a str]) -> Result<Found<'a>, Memory>
+    ensures job { IfOk result
+        (λ found. option_map (λ w. w.now) found.job ≡ job_word (map (λ w. w.now) line.entry.now)) }
+    ensures make { IfOk result
+        (λ found. option_map (λ w. w.now) found.make ≡ make_text (map (λ w. w.now) line.entry.now)) }
 {
     match parsed(alloc, line) {
-        Ok(matches) => Ok(matches.get_str("job")),
+        Ok(matches) => Ok(Found {
+            job: matches.get_str("job"),
+            make: matches.get_str("make"),
+        }),
         Err(fault) if fault.kind() == ErrorKind::OutOfMemory => Err(Memory),
-        Err(_) => Ok(None),
+        Err(_) => Ok(Found {
+            job: None,
+            make: None,
+        }),
     }
 }
 
 /// What the command makes of the line.
 fn parsed<'a>(alloc: Global, line: &'a [&'a str]) -> Result<ArgMatches<'a>, Error>
-    ensures found { IfOk result (λ m. first_value (found_of m) (codes "job")
-        ≡ job_word (map (λ w. w.now) line.entry.now)) }
+    ensures found { IfOk result (λ m. (id : Text)
+        → first_value (found_of m) id ≡ given id (map (λ w. w.now) line.entry.now)) }
     ensures refused { IfErr result (λ e. (kind_of e ≡ ErrorKind.OutOfMemory)
-        ⊎ (job_word (map (λ w. w.now) line.entry.now) ≡ None)) }
+        ⊎ ((id : Text) → given id (map (λ w. w.now) line.entry.now) ≡ None)) }
 {
     let job = Arg::new(alloc, "job").required(true);
+    let make = Arg::new(alloc, "make").long("make");
     let command = Command::new(alloc, "cm")
         .disable_help_flag(true)
         .disable_version_flag(true)
-        .arg(job)?;
+        .arg(job)?
+        .arg(make)?;
     command.try_get_matches_from(line)
 }
 
-/// The job of this word.
-fn job_named(word: &str) -> Result<Job, WordsFault>
-    ensures { result ≡ job_named word.now }
+/// The job that a word names.
+fn kind_named(word: &str) -> Option<JobKind>
+    ensures { result ≡ kind_named word.now }
 {
     match word {
-        "run" => Ok(Job { kind: JobKind::Run }),
-        "steps" => Ok(Job {
-            kind: JobKind::Steps,
-        }),
-        _ => Err(WordsFault::Usage),
+        "run" => Some(JobKind::Run),
+        "steps" => Some(JobKind::Steps),
+        _ => None,
     }
+}
+
+/// The job of this kind, where there is one: with the text of `--make` it makes its document.
+fn job_of(kind: Option<JobKind>, make: Option<&str>) -> Result<Job, WordsFault>
+    ensures job { result ≡ job_of kind (option_map (λ t. t.now) make.entry) }
+    ensures rounds { IfOk result (λ job. IfSome job.make (λ rounds. (1 ≤ rounds) × (rounds ≤ MOST_ROUNDS))) }
+{
+    match kind {
+        Some(kind) => job_with(kind, make),
+        None => Err(WordsFault::Usage),
+    }
+}
+
+/// The job of this kind: it reads its document, or makes it.
+fn job_with(kind: JobKind, make: Option<&str>) -> Result<Job, WordsFault>
+    ensures job { result ≡ job_with kind (option_map (λ t. t.now) make.entry) }
+    ensures rounds { IfOk result (λ job. IfSome job.make (λ rounds. (1 ≤ rounds) × (rounds ≤ MOST_ROUNDS))) }
+{
+    let Some(text) = make else {
+        return Ok(Job { kind, make: None });
+    };
+    match rounds_in(text) {
+        Some(rounds) => Ok(Job {
+            kind,
+            make: Some(rounds),
+        }),
+        None => Err(WordsFault::Usage),
+    }
+}
+
+/// How many rounds a text asks for.
+#[tactic(auto, using(crate::proofs::RoundLemmas::rounds))]
+fn rounds_in(text: &str) -> Option<u32>
+    ensures rounds { result ≡ rounds_in text.now }
+    ensures within { IfSome result (λ rounds. (1 ≤ rounds) × (rounds ≤ MOST_ROUNDS)) }
+{
+    if text.is_empty() || text.len() > MOST_DIGITS || !are_digits(text) {
+        return None;
+    }
+    match text.parse::<u32>() {
+        Ok(rounds) if 1 <= rounds && rounds <= MOST_ROUNDS => Some(rounds),
+        _ => None,
+    }
+}
+
+fn are_digits(text: &str) -> bool
+    ensures { result ≡ list_all is_ascii_digit text.now }
+{
+    text.as_bytes().iter().all(|byte| byte.is_ascii_digit())
 }
