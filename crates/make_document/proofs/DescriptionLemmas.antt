@@ -29,7 +29,7 @@ use Rattle.cm_document.specs.declared.faults.CheckFault.{CheckFault}
 use Rattle.cm_document.specs.declared.faults.DescFault.{DescFault}
 use Rattle.cm_document.specs.declared.faults.DescProblem.TheVariants.{Text, Check}
 use Rattle.cm_document.specs.declared.faults.Wrong.TheVariants as wrong
-use Rattle.make_document.specs.Made.{all_below, robot_lines, running}
+use Rattle.make_document.specs.Made.{of_each, all_below, robot_lines, running}
 use Rattle.make_document.specs.Meant.{component_meant, controller_meant, robot_meant}
 
 -- ---- The text
@@ -143,7 +143,7 @@ after_robot m = unwrap_or (lines 80 (after_cycles m) (10 ∷ robot_lines)) (no_n
 
 -- it has no more lines than are read in 80 turns
 robot_ends : (m : ℕ) → is_some (lines 80 (after_cycles m) (10 ∷ robot_lines)) ≡ true
-unfolding toml_on_literals robot_lines digits
+unfolding toml_on_literals robot_lines of_each digits
 robot_ends m = refl
 
 some_is : {A : Type 0} (o : Option A) (other : A) → is_some o ≡ true → o ≡ Some (unwrap_or o other)
@@ -154,7 +154,7 @@ robot_reads : (m : ℕ) → lines 80 (after_cycles m) (10 ∷ robot_lines) ≡ S
 robot_reads m = some_is (lines 80 (after_cycles m) (10 ∷ robot_lines)) (no_nodes, []) (robot_ends m)
 
 robot_long : nat_le 80 (length robot_lines) ≡ true
-unfolding robot_lines digits
+unfolding robot_lines of_each digits
 robot_long = refl
 
 no_mark : (m : ℕ) → skip_bom (as_read m) ≡ as_read m
@@ -181,7 +181,7 @@ unfolding is_utf8 chars lib.Utf8.encode
 head_is_utf8 = refl
 
 robot_is_utf8 : is_utf8 (10 ∷ robot_lines) ≡ true
-unfolding is_utf8 chars robot_lines digits lib.Utf8.encode
+unfolding is_utf8 chars robot_lines of_each digits lib.Utf8.encode
 robot_is_utf8 = refl
 
 text_is_utf8 : (m : ℕ) → m < 2 ^ 64 → is_utf8 (as_read m) ≡ true
@@ -204,7 +204,7 @@ walked m fits =
     >>= λ make. Ok (make (all_below (λ i. controller_meant i ∷ []) 8))
 
 walk_is : (m : ℕ) → description_in (Some (close (after_robot m).0)) ≡ walked m (nat_lt m (2 ^ 32))
-unfolding toml_on_literals robot_lines digits description_form top_table described_states component_table joint_table controller_table number_of interface_of
+unfolding toml_on_literals robot_lines of_each digits description_form top_table described_states component_table joint_table controller_table number_of interface_of
 walk_is m = refl
 
 -- a check that finds no fault

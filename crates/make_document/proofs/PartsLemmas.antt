@@ -11,7 +11,7 @@ use Rattle.std.proofs.lemmas.Fmt.{digits_decimal}
 use Rattle.fixed_num.proofs.DigitLemmas.{own}
 use Rattle.cm_document.specs.Lines.{raw_lines, joined, Parts, parts_of_lines, parts_of}
 use Rattle.cm_document.proofs.LineLemmas.{joined_raw_lines}
-use Rattle.make_document.specs.Made.{robot_lines, running}
+use Rattle.make_document.specs.Made.{of_each, robot_lines, running}
 use Rattle.make_document.proofs.DescriptionLemmas.{as_read, running_is}
 
 -- parts of this description, of so many lines, and this script
@@ -47,7 +47,7 @@ cycles_pass ds rest all = ap (λ lines. parts_of_lines (behind_cycles lines)) (d
 -- the robot's lines, up to the separator
 robot_passes : (script : List ℕ) → parts_of_lines (raw_lines (robot_lines ++ (codes "--- script ---\n" ++ script)))
     ≡ parts_with robot_lines 75 (joined (raw_lines script))
-unfolding robot_lines digits
+unfolding robot_lines of_each digits
 robot_passes script = refl
 
 -- the parts of the text with its cycles apart

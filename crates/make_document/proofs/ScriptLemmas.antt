@@ -26,7 +26,7 @@ use Rattle.script_text.proofs.PrintWordLemmas.{IsWord, IsLine, spaced, Reads, Re
 use Rattle.script_text.proofs.PrintValueLemmas.{name_IsWord, name_short, name_reads}
 use Rattle.script_text.proofs.PrintCallLemmas.{call_says}
 use Rattle.make_document.specs.declared.TheConstants.{CYCLES_A_ROUND}
-use Rattle.make_document.specs.Made.{controller_name, sent_to, restarted, hundredths, two_digits, send_line, round_lines, rounds_lines, opening_lines, script_lines}
+use Rattle.make_document.specs.Made.{of_each, controller_name, sent_to, restarted, hundredths, two_digits, send_line, round_lines, rounds_lines, first_switch, opening_lines, script_lines}
 use Rattle.make_document.specs.Meant.{strictly, opening_calls, value_sent, round_calls, rounds_calls, script_meant}
 
 -- ---- What holds of each number below another
@@ -248,7 +248,7 @@ rounds_read (suc n) few =
 
 -- the lines before the rounds, of which the first is line 80 of the document
 opening_read : (rest : List ℕ) → with_lines whole_grammar 80 nothing (raw_lines (opening_lines ++ rest)) ≡ with_lines whole_grammar 98 (writing opening_calls) (raw_lines rest)
-unfolding with_line opening_lines opening_calls digits
+unfolding with_line opening_lines first_switch of_each opening_calls digits
 opening_read rest = refl
 
 -- The script is the one that is meant.

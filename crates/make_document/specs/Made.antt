@@ -8,6 +8,10 @@ abbrev pub all_below : {A : Type 0} → (ℕ → List A) → ℕ → List A
 all_below of zero = []
 all_below of (suc n) = all_below of n ++ of n
 
+-- what comes of each joint's number
+unfoldable pub of_each : (ℕ → List ℕ) → List ℕ
+of_each lines = all_below lines JOINTS
+
 -- ---- The description
 
 -- the name of a joint: `j0` to `j7`
@@ -28,7 +32,7 @@ controller_lines i = codes "[[controller]]\nname = \"" ++ controller_name i ++ c
 
 -- one component with all joints, and the controllers
 unfoldable pub robot_lines : List ℕ
-robot_lines = codes "[[component]]\nname = \"sys\"\nkind = \"system\"\n" ++ all_below joint_lines JOINTS ++ all_below controller_lines JOINTS
+robot_lines = codes "[[component]]\nname = \"sys\"\nkind = \"system\"\n" ++ of_each joint_lines ++ of_each controller_lines
 
 -- the description that runs for so many cycles
 abbrev pub running : ℕ → List ℕ
@@ -48,11 +52,14 @@ line_each verb i = verb ++ codes " " ++ controller_name i ++ codes "\n"
 abbrev pub started : ℕ → List ℕ
 started i = codes " +" ++ controller_name i
 
+-- the switch that starts all of them
+unfoldable pub first_switch : List ℕ
+first_switch = codes "switch strict" ++ of_each started ++ codes "\n"
+
 -- One session loads all controllers, configures them and starts them.
 unfoldable pub opening_lines : List ℕ
 opening_lines =
-    codes "session a\n" ++ all_below (line_each (codes "load")) JOINTS ++ all_below (line_each (codes "configure")) JOINTS
-    ++ codes "switch strict" ++ all_below started JOINTS ++ codes "\n"
+    codes "session a\n" ++ of_each (line_each (codes "load")) ++ of_each (line_each (codes "configure")) ++ first_switch
 
 -- the controller that is sent to in a round, and the one that is started anew
 abbrev pub sent_to : ℕ → ℕ

@@ -1,8 +1,10 @@
 //! A made document, line by line.
 
-ghost use Rattle.std.specs.Prelude.{◌≡◌, ◌+◌, ◌≤◌, ◌^◌, ◌++◌, IfOk, OnOk, codes, string_bytes};
-ghost use Rattle.make_document.specs.Made.{made, robot_text, robot_lines, joint_lines, controller_lines};
-ghost use Rattle.make_document.specs.Made.{script_lines, opening_lines, line_each, started, all_below};
+ghost use Rattle.std.specs.Prelude.{◌≡◌, ◌+◌, ◌*◌, ◌≤◌, ◌^◌, ◌++◌, IfOk, OnOk, codes, decimal, string_bytes};
+ghost use Rattle.make_document.specs.declared.TheConstants.{CYCLES_A_ROUND};
+ghost use Rattle.make_document.specs.Made.{made, robot_text, robot_lines, joint_name, joint_lines};
+ghost use Rattle.make_document.specs.Made.{controller_name, controller_lines};
+ghost use Rattle.make_document.specs.Made.{script_lines, opening_lines, line_each, first_switch, started, of_each};
 ghost use Rattle.make_document.specs.Made.{rounds_lines, round_lines, send_line, switch_line, await_line};
 
 use crate::{CYCLES_A_ROUND, JOINTS, VALUE_STEP};
@@ -24,13 +26,22 @@ pub fn make_document(alloc: Global, rounds: u32) -> Result<Vec<u8>, Memory>
 fn push_robot(text: &mut String, rounds: u32) -> Result<(), Memory>
     ensures { OnOk result (string_bytes text.new ≡ string_bytes text.old ++ robot_text rounds) }
 {
-    let cycles = CYCLES_A_ROUND * (rounds as u64);
-    write!(text, "version = 1\nupdate_rate = 100\ncycles = {cycles}\n")?;
+    text.push_str("version = 1\nupdate_rate = 100\ncycles = ")?;
+    push_cycles(text, rounds)?;
     push_robot_lines(text)
 }
 
+/// Appends how many cycles so many rounds last, and the end of the line.
+fn push_cycles(text: &mut String, rounds: u32) -> Result<(), Memory>
+    ensures { OnOk result
+        (string_bytes text.new ≡ string_bytes text.old ++ (decimal (CYCLES_A_ROUND * rounds) ++ codes "\n")) }
+{
+    let cycles = CYCLES_A_ROUND * (rounds as u64);
+    write!(text, "{cycles}\n")?;
+    Ok(())
+}
+
 /// Appends the component with its joints, and the controllers.
-#[tactic(auto, unfolding(make_document::specs::Made::robot_lines))]
 fn push_robot_lines(text: &mut String) -> Result<(), Memory>
     ensures { OnOk result (string_bytes text.new ≡ string_bytes text.old ++ robot_lines) }
 {
@@ -39,8 +50,9 @@ fn push_robot_lines(text: &mut String) -> Result<(), Memory>
     push_controllers(text)
 }
 
+#[tactic(auto, unfolding(crate::specs::Made::of_each))]
 fn push_joints(text: &mut String) -> Result<(), Memory>
-    ensures { OnOk result (string_bytes text.new ≡ string_bytes text.old ++ all_below joint_lines JOINTS) }
+    ensures { OnOk result (string_bytes text.new ≡ string_bytes text.old ++ of_each joint_lines) }
 {
     for i in 0..JOINTS {
         push_joint(text, i)?;
@@ -51,20 +63,44 @@ fn push_joints(text: &mut String) -> Result<(), Memory>
 fn push_joint(text: &mut String, i: u64) -> Result<(), Memory>
     ensures { OnOk result (string_bytes text.new ≡ string_bytes text.old ++ joint_lines i) }
 {
-    write!(text, "[[component.joint]]\nname = \"j{i}\"\nvmax = 1\n")?;
-    text.push_str("command = [\"position\"]\nstate = [\"position\"]\n")?;
+    text.push_str("[[component.joint]]\nname = \"")?;
+    push_joint_name(text, i)?;
+    text.push_str("\"\nvmax = 1\ncommand = [\"position\"]\nstate = [\"position\"]\n")?;
     Ok(())
 }
 
+#[tactic(auto, unfolding(crate::specs::Made::of_each))]
 fn push_controllers(text: &mut String) -> Result<(), Memory>
-    ensures { OnOk result (string_bytes text.new ≡ string_bytes text.old ++ all_below controller_lines JOINTS) }
+    ensures { OnOk result (string_bytes text.new ≡ string_bytes text.old ++ of_each controller_lines) }
 {
     for i in 0..JOINTS {
-        write!(
-            text,
-            "[[controller]]\nname = \"f{i}\"\ntype = \"forward\"\nclaims = [\"j{i}/position\"]\n"
-        )?;
+        push_controller(text, i)?;
     }
+    Ok(())
+}
+
+fn push_controller(text: &mut String, i: u64) -> Result<(), Memory>
+    ensures { OnOk result (string_bytes text.new ≡ string_bytes text.old ++ controller_lines i) }
+{
+    text.push_str("[[controller]]\nname = \"")?;
+    push_controller_name(text, i)?;
+    text.push_str("\"\ntype = \"forward\"\nclaims = [\"")?;
+    push_joint_name(text, i)?;
+    text.push_str("/position\"]\n")?;
+    Ok(())
+}
+
+fn push_joint_name(text: &mut String, i: u64) -> Result<(), Memory>
+    ensures { OnOk result (string_bytes text.new ≡ string_bytes text.old ++ joint_name i) }
+{
+    write!(text, "j{i}")?;
+    Ok(())
+}
+
+fn push_controller_name(text: &mut String, i: u64) -> Result<(), Memory>
+    ensures { OnOk result (string_bytes text.new ≡ string_bytes text.old ++ controller_name i) }
+{
+    write!(text, "f{i}")?;
     Ok(())
 }
 
@@ -77,7 +113,7 @@ fn push_script(text: &mut String, rounds: u32) -> Result<(), Memory>
 }
 
 /// Appends the session's line, and those that load, configure and start all controllers.
-#[tactic(auto, unfolding(make_document::specs::Made::opening_lines))]
+#[tactic(auto, using(crate::proofs::TextLemmas::opening_text))]
 fn push_opening(text: &mut String) -> Result<(), Memory>
     ensures { OnOk result (string_bytes text.new ≡ string_bytes text.old ++ opening_lines) }
 {
@@ -88,8 +124,9 @@ fn push_opening(text: &mut String) -> Result<(), Memory>
 }
 
 /// Appends a line for each controller, of this verb.
+#[tactic(auto, unfolding(crate::specs::Made::of_each))]
 fn push_line_each(text: &mut String, verb: &str) -> Result<(), Memory>
-    ensures { OnOk result (string_bytes text.new ≡ string_bytes text.old ++ all_below (line_each verb.now) JOINTS) }
+    ensures { OnOk result (string_bytes text.new ≡ string_bytes text.old ++ of_each (line_each verb.now)) }
 {
     for i in 0..JOINTS {
         write!(text, "{verb} f{i}\n")?;
@@ -98,10 +135,9 @@ fn push_line_each(text: &mut String, verb: &str) -> Result<(), Memory>
 }
 
 /// Appends the switch that starts all controllers.
+#[tactic(auto, unfolding(crate::specs::Made::first_switch))]
 fn push_first_switch(text: &mut String) -> Result<(), Memory>
-    ensures { OnOk result
-        (string_bytes text.new
-        ≡ string_bytes text.old ++ codes "switch strict" ++ all_below started JOINTS ++ codes "\n") }
+    ensures { OnOk result (string_bytes text.new ≡ string_bytes text.old ++ first_switch) }
 {
     text.push_str("switch strict")?;
     push_started(text)?;
@@ -110,8 +146,9 @@ fn push_first_switch(text: &mut String) -> Result<(), Memory>
 }
 
 /// Appends the names of all controllers, each as one to start.
+#[tactic(auto, unfolding(crate::specs::Made::of_each))]
 fn push_started(text: &mut String) -> Result<(), Memory>
-    ensures { OnOk result (string_bytes text.new ≡ string_bytes text.old ++ all_below started JOINTS) }
+    ensures { OnOk result (string_bytes text.new ≡ string_bytes text.old ++ of_each started) }
 {
     for i in 0..JOINTS {
         write!(text, " +f{i}")?;

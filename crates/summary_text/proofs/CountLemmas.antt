@@ -57,4 +57,4 @@ few_decisions ds c few fits =
 pub entries_decisions : (ds : List Decision) (c : Counted) → (with_decisions ds (one_more c)).entries ≡ c.entries + 1
 entries_decisions ds c = (decisions_add ds (one_more c)).entries
 
-pub ruleset counting = (few_other, few_cycle, few_decisions, entries_decisions)
+pub ruleset counting = (few_other, few_cycle)

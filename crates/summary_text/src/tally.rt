@@ -9,7 +9,7 @@ use std::marker::Model;
 
 /// What is counted of some entries, and where the bodies are after the last cycle among them. Each count has 128 bits: an entry may
 /// hold as many items as there can be.
-#[derive(Clone, Copy, Debug)]
+#[derive(Debug, Drop)]
 pub struct Tally<'a> {
     /// The cycles that ended.
     pub cycles: u128,

@@ -4,4 +4,4 @@ use Rattle.make_document.proofs.document.push_controllers.Given as goal
 
 -- what comes of the numbers so far stands there
 abbrev pub invariant-loop-i : goal.invariant-loop-i
-invariant-loop-i l = string_bytes l.text ≡ string_bytes l.fn.text ++ all_below controller_lines l.i-counter
+invariant-loop-i l = string_bytes l.text ≡ string_bytes l.fn.text ++ all_below controller_lines l.i

@@ -1,0 +1,12 @@
+pub mod RunRows
+pub mod DueLemmas
+pub mod Standing
+pub mod AskedLemmas
+pub mod CountingLemmas
+pub mod FlightLemmas
+pub mod RoundLemmas
+pub mod SessionLemmas
+pub mod CycleLemmas
+pub mod StageLemmas
+pub mod OpeningLemmas
+pub mod CountLemmas
