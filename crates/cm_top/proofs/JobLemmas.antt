@@ -1,54 +1,20 @@
--- What a call of a session or of the loop makes of a job.
-use Rattle.std.proofs.Common.{◌≡◌, ℕ, true, false, List, ◌∷◌, Some, None, refl, sym, ap, ◌∙◌, arith}
-use Rattle.std.specs.Prelude.{not, ◌==◌, ◌&&◌, nat_lt}
+-- What a call of the loop makes of a job.
+use Rattle.std.proofs.Common.{◌≡◌, ℕ, true, false, List, Some, None, refl, sym, ap, ◌∙◌, arith}
+use Rattle.std.specs.Prelude.{map, not, ◌==◌, ◌&&◌, nat_lt}
 use Rattle.std.proofs.lemmas.Bool.{and_parts}
-use Rattle.std.proofs.lemmas.Option.{same_Some}
 use Rattle.std.proofs.lemmas.Bool.Decides.{nat_tests}
-use Rattle.cm_desk.proofs.RecordLemmas.{loop_itself}
 use Rattle.cm_document.specs.declared.call.Call.{Call}
-use Rattle.cm_document.specs.ScriptLaws.{CanBeWritten}
-use Rattle.cm_document.specs.declared.call.Call.TheVariants.{Load, Configure, Cleanup, Unload, Rate, Send, Switch, Hardware, Await, ListControllers, ListInterfaces, ListComponents, Begin, End, Close}
+use Rattle.cm_document.specs.declared.call.Call.TheVariants.{Begin, End, Close}
+use Rattle.cm_desk.proofs.RecordLemmas.{loop_itself}
 use Rattle.cm_model.specs.Machine.{can_begin, can_end, can_close, step}
-use Rattle.cm_model.specs.Scheduled.{Session, Progress, with_entry, ticket_in, advance, looped}
+use Rattle.cm_model.specs.Scheduled.{Session, Progress, with_entry, looped}
 use Rattle.cm_model.specs.State.{State}
 use Rattle.cm_model.specs.declared.entry.Entry.{Entry}
 use Rattle.cm_model.specs.declared.reply.Reply.{Reply}
-use Rattle.cm_desk.specs.Desk.{History, now_of, Grows, CanBeCalled}
-use Rattle.cm_top.specs.Session.{at, awaited, Makes, Standing, progress_of, GoesOn}
+use Rattle.cm_desk.specs.Desk.{now_of, Grows}
+use Rattle.console_session.specs.Sessions.{left_of}
+use Rattle.cm_top.specs.Jobs.{JobFacts, progress_of, GoesOn}
 use Rattle.cm_model.proofs.HistoryLemmas.{sessions_stay}
-
--- a session whose next line was made has advanced
-pub line_made : (who : ℕ) (h next : History) (call : Call) (lines : List Call) (r : Reply) → Makes h next who call (Some r)
-    → advance who (at h (record { lines = call ∷ lines; ticket = None })) ≡ Some (at next (record { lines = lines; ticket = ticket_in r }))
-unfolding advance
-line_made who h next call lines r made = rw (made.stepped, made.made) refl
-
--- one whose next line waits has not
-pub line_waits : (who : ℕ) (h : History) (call : Call) (lines : List Call) → step (now_of h) who call ≡ None
-    → advance who (at h (record { lines = call ∷ lines; ticket = None })) ≡ None
-unfolding advance
-line_waits who h call lines waits = rw waits refl
-
--- a line that waits for so many cycles is the await of them
-pub await_is : (call : Call) (cycles : ℕ) → awaited call ≡ Some cycles → call ≡ Await cycles
-await_is (Await n) cycles same = ap Await (same_Some n cycles same)
-await_is _ cycles same = cc
-
--- any other line is a call that the desk answers
-pub written_called : (call : Call) → CanBeWritten call → awaited call ≡ None → CanBeCalled call
-written_called (Load name) written no_await = tt
-written_called (Configure name) written no_await = tt
-written_called (Cleanup name) written no_await = tt
-written_called (Unload name) written no_await = tt
-written_called (Rate name hz) written no_await = tt
-written_called (Send name mail) written no_await = tt
-written_called (Switch asked) written no_await = tt
-written_called (Hardware component target) written no_await = tt
-written_called ListControllers written no_await = tt
-written_called ListInterfaces written no_await = tt
-written_called ListComponents written no_await = tt
-written_called (Await cycles) written no_await = cc
-written_called _ written no_await = absurd written
 
 -- ---- The loop
 
@@ -66,29 +32,29 @@ same_progress : (s : State) (made made' : List Entry) (xs xs' : List Session) �
 same_progress s made made' xs xs' e f = rw (e, f) refl
 
 -- the loop made its call
-pub loop_made : (call : Call) (old new : Standing) (r : Reply) → Grows old.desk new.desk old.desk.opening.sessions call r → new.sessions ≡ old.sessions → GoesOn (looped call) old new
+pub loop_made : (call : Call) (old new : JobFacts) (r : Reply) → Grows old.desk new.desk old.desk.opening.sessions call r → new.sessions ≡ old.sessions → GoesOn (looped call) old new
 loop_made call old new r grows same =
     let who : (now_of old.desk).sessions ≡ old.desk.opening.sessions = sessions_stay old.desk.made old.desk.opening in
     let stepped : step (now_of old.desk) (now_of old.desk).sessions call ≡ Some (now_of new.desk, r) = rw who grows.stepped in
     record {
       opening = grows.opening;
-      moved = same_progress (now_of new.desk) new.desk.made (with_entry old.desk.made (now_of old.desk).sessions call r) new.sessions old.sessions (rw who grows.made) same
+      moved = same_progress (now_of new.desk) new.desk.made (with_entry old.desk.made (now_of old.desk).sessions call r) (map left_of new.sessions) (map left_of old.sessions) (rw who grows.made) (ap (map left_of) same)
           ∙ sym (looped_some call (progress_of old) (now_of new.desk, r) stepped);
     }
 
 -- it cannot make it
-loop_waits : (call : Call) (j : Standing) → step (now_of j.desk) (now_of j.desk).sessions call ≡ None → GoesOn (looped call) j j
+loop_waits : (call : Call) (j : JobFacts) → step (now_of j.desk) (now_of j.desk).sessions call ≡ None → GoesOn (looped call) j j
 loop_waits call j none = record { opening = refl; moved = sym (looped_none call (progress_of j) none) }
 
-pub begin_waits : (n : ℕ) (j : Standing) → can_begin (now_of j.desk) n ≡ false → GoesOn (looped (Begin n)) j j
+pub begin_waits : (n : ℕ) (j : JobFacts) → can_begin (now_of j.desk) n ≡ false → GoesOn (looped (Begin n)) j j
 unfolding step
 begin_waits n j can = loop_waits (Begin n) j (rw (loop_itself (now_of j.desk).sessions, can) refl)
 
-pub end_waits : (n : ℕ) (j : Standing) → can_end (now_of j.desk) n ≡ false → GoesOn (looped (End n)) j j
+pub end_waits : (n : ℕ) (j : JobFacts) → can_end (now_of j.desk) n ≡ false → GoesOn (looped (End n)) j j
 unfolding step
 end_waits n j can = loop_waits (End n) j (rw (loop_itself (now_of j.desk).sessions, can) refl)
 
-pub close_waits : (j : Standing) → can_close (now_of j.desk) ≡ false → GoesOn (looped Close) j j
+pub close_waits : (j : JobFacts) → can_close (now_of j.desk) ≡ false → GoesOn (looped Close) j j
 unfolding step
 close_waits j can = loop_waits Close j (rw (loop_itself (now_of j.desk).sessions, can) refl)
 

@@ -1,4 +1,5 @@
-pub mod Session
+pub mod Ports
+pub mod Jobs
 pub mod Book
 pub mod Status
 pub mod Calls

@@ -4,8 +4,7 @@ use Rattle.std.specs.Io.KnownBytes.{Keeps, Appends}
 use Rattle.outside_io.specs.Bytes.{AllFlushed, AppendsPrefix}
 use Rattle.cm_document.specs.declared.limits.TheConstants.{LONGEST_DOCUMENT}
 use Rattle.cm_document.specs.Document.{document}
-use Rattle.script_text.specs.Built.{built}
-use Rattle.cm_model.specs.Trace.{output}
+use Rattle.cm_document.specs.Grammars.{whole_grammar}
 use Rattle.cm_document.specs.declared.document.Document.{Document}
 use Rattle.cm_document.specs.declared.faults.DescProblem.TheVariants as problem
 use Rattle.cm_document.specs.declared.faults.DescFault.TheVariants as desc_fault
@@ -14,7 +13,7 @@ use Rattle.cm_document.specs.declared.faults.ScriptFault.TheVariants as script_f
 use Rattle.cm_document.specs.declared.faults.DocumentFault.{DocumentFault}
 use Rattle.cm_document.specs.declared.faults.DocumentFault.TheVariants as fault
 use Rattle.cm_model.specs.declared.blanks.Blanks.{Blanks}
-use Rattle.cm_top.specs.Book.{BookFacts, Histories, IsShort, IsBookOf}
+use Rattle.cm_top.specs.Book.{BookFacts, Task, IsShort, IsBookOf}
 use Rattle.cm_top.specs.declared.status.Status.{Status}
 use Rattle.cm_top.specs.declared.status.Status.TheVariants as status
 
@@ -35,39 +34,39 @@ pub record Written : Type 0 where
   pub new : Option (List ℕ)
   pub flushed : Option ℕ
 
--- A run that went well: the bytes are an accepted document; the book is that of its run; and the sink has grown by exactly the trace
--- of the book's history, all of it flushed.
-pub record Printed (made : Histories) (bytes : List ℕ) (blanks : Blanks) (w : Written) (book : BookFacts) : Type 0 where
+-- A run that went well: the bytes are an accepted document; the book is that of its run; and the sink has grown by exactly the text
+-- that the task has of the book's history, all of it flushed.
+pub record Printed (task : Task) (bytes : List ℕ) (blanks : Blanks) (w : Written) (book : BookFacts) : Type 0 where
   pub document_is : Document
   pub short : IsShort bytes
-  pub accepted : document built bytes ≡ Ok document_is
-  pub book_is : IsBookOf made blanks document_is book
-  pub taken : Appends w.old w.new (output document_is book.history)
+  pub accepted : document whole_grammar bytes ≡ Ok document_is
+  pub book_is : IsBookOf task.history blanks document_is book
+  pub taken : Appends w.old w.new (task.text document_is book.history)
   pub all_flushed : AllFlushed w.new w.flushed
 
--- A run that was cut short while it wrote: the sink has grown by a front of that trace.
-pub record Cut (made : Histories) (bytes : List ℕ) (blanks : Blanks) (w : Written) (book : BookFacts) : Type 0 where
+-- A run that was cut short while it wrote: the sink has grown by a front of that text.
+pub record Cut (task : Task) (bytes : List ℕ) (blanks : Blanks) (w : Written) (book : BookFacts) : Type 0 where
   pub document_is : Document
   pub short : IsShort bytes
-  pub accepted : document built bytes ≡ Ok document_is
-  pub book_is : IsBookOf made blanks document_is book
-  pub taken : AppendsPrefix w.old w.new (output document_is book.history)
+  pub accepted : document whole_grammar bytes ≡ Ok document_is
+  pub book_is : IsBookOf task.history blanks document_is book
+  pub taken : AppendsPrefix w.old w.new (task.text document_is book.history)
 
--- Want of memory: without a book nothing was written, with one a front of its trace.
-abbrev pub WantsMemory : Histories → List ℕ → Blanks → Written → Option BookFacts → Type 0
-WantsMemory made bytes blanks w None = Keeps w.old w.new
-WantsMemory made bytes blanks w (Some book) = Cut made bytes blanks w book
+-- Want of memory: without a book nothing was written, with one a front of its text.
+abbrev pub WantsMemory : Task → List ℕ → Blanks → Written → Option BookFacts → Type 0
+WantsMemory task bytes blanks w None = Keeps w.old w.new
+WantsMemory task bytes blanks w (Some book) = Cut task bytes blanks w book
 
--- What a run over these bytes says by its status, where the job made this history. Each refusal names the document's first fault, exactly.
-abbrev pub EndedWith : Histories → List ℕ → Blanks → Written → Status → Option BookFacts → Type 0
-EndedWith made bytes blanks w status.Ok book = IsSomeAnd book (Printed made bytes blanks w)
-EndedWith made bytes blanks w status.BadWords book = ⊥
-EndedWith made bytes blanks w (status.BadDescription p) book = IsShort bytes × (document built bytes ≡ Err (fault.Description p))
-EndedWith made bytes blanks w (status.BadScript f) book = IsShort bytes × (document built bytes ≡ Err (fault.Script f))
-EndedWith made bytes blanks w status.ReadFault book = Unit {0}
-EndedWith made bytes blanks w status.TooLong book = LONGEST_DOCUMENT < length bytes
-EndedWith made bytes blanks w status.Memory book = WantsMemory made bytes blanks w book
-EndedWith made bytes blanks w status.WriteFault book = IsSomeAnd book (Cut made bytes blanks w)
+-- What a run over these bytes says by its status, where this was the task. Each refusal names the document's first fault, exactly.
+abbrev pub EndedWith : Task → List ℕ → Blanks → Written → Status → Option BookFacts → Type 0
+EndedWith task bytes blanks w status.Ok book = IsSomeAnd book (Printed task bytes blanks w)
+EndedWith task bytes blanks w status.BadWords book = ⊥
+EndedWith task bytes blanks w (status.BadDescription p) book = IsShort bytes × (document whole_grammar bytes ≡ Err (fault.Description p))
+EndedWith task bytes blanks w (status.BadScript f) book = IsShort bytes × (document whole_grammar bytes ≡ Err (fault.Script f))
+EndedWith task bytes blanks w status.ReadFault book = Unit {0}
+EndedWith task bytes blanks w status.TooLong book = LONGEST_DOCUMENT < length bytes
+EndedWith task bytes blanks w status.Memory book = WantsMemory task bytes blanks w book
+EndedWith task bytes blanks w status.WriteFault book = IsSomeAnd book (Cut task bytes blanks w)
 
 -- The status that a document asks for, where it can be read and written: its first fault, or all of its trace.
 abbrev pub status_of_document : Result Document DocumentFault → Status
@@ -78,7 +77,7 @@ status_of_document (Err fault.Memory) = status.Memory
 
 -- The length comes first, then the description, then the script.
 abbrev pub status_of : List ℕ → Status
-status_of bytes = if nat_lt LONGEST_DOCUMENT (length bytes) then status.TooLong else status_of_document (document built bytes)
+status_of bytes = if nat_lt LONGEST_DOCUMENT (length bytes) then status.TooLong else status_of_document (document whole_grammar bytes)
 
 -- the statuses that come before anything is written
 abbrev pub ComesBeforeWriting : Status → Type 0
@@ -107,11 +106,11 @@ Wrote text w status.Memory = AppendsPrefix w.old w.new text
 Wrote text w status.WriteFault = AppendsPrefix w.old w.new text
 Wrote text w _ = ⊥
 
--- What a run of an accepted document came to: without a book memory ran out before anything was written; with one the trace of its
+-- What a run of an accepted document came to: without a book memory ran out before anything was written; with one the text of its
 -- history was written.
-abbrev pub RanDocument : Histories → Document → Blanks → Written → Status → Option BookFacts → Type 0
-RanDocument made d blanks w ended None = (ended ≡ status.Memory) × Keeps w.old w.new
-RanDocument made d blanks w ended (Some book) = IsBookOf made blanks d book × Wrote (output d book.history) w ended
+abbrev pub RanDocument : Task → Document → Blanks → Written → Status → Option BookFacts → Type 0
+RanDocument task d blanks w ended None = (ended ≡ status.Memory) × Keeps w.old w.new
+RanDocument task d blanks w ended (Some book) = IsBookOf task.history blanks d book × Wrote (task.text d book.history) w ended
 
 -- the statuses that a run can come to once its bytes are read
 abbrev pub ComesOfBytes : Status → Type 0

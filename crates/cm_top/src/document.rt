@@ -5,7 +5,7 @@ ghost use Rattle.sequence.specs.Answers.{Answers};
 ghost use Rattle.cm_document.specs.declared.limits.TheConstants.{LONGEST_DOCUMENT};
 ghost use Rattle.cm_document.specs.Reading.{fault_as};
 ghost use Rattle.cm_document.specs.Document.{accepted_description, accepted_script, document_of, document};
-ghost use Rattle.script_text.specs.Built.{built};
+ghost use Rattle.cm_document.specs.Grammars.{whole_grammar};
 ghost use Rattle.cm_document.specs.Valid.{valid, IsDescribed};
 ghost use Rattle.cm_top.specs.Status.{IsPlainFault};
 
@@ -23,7 +23,7 @@ use std::alloc::Global;
 #[tactic(auto, unfolding(cm_document::specs::Document::document_of))]
 pub fn read_document(alloc: Global, bytes: &[u8]) -> Result<Document, DocumentFault>
     requires { length bytes.now ≤ LONGEST_DOCUMENT }
-    ensures reads { Answers DocumentFault.Memory (document built bytes.now) result }
+    ensures reads { Answers DocumentFault.Memory (document whole_grammar bytes.now) result }
     ensures plain { IfErr result IsPlainFault }
 {
     let parts = divide(bytes);
@@ -70,7 +70,8 @@ fn checked(alloc: Global, description: Description) -> Result<Checked, DocumentF
 fn script(alloc: Global, lines: usize, text: Option<&[u8]>) -> Result<Script, DocumentFault>
     requires { lines + unwrap_or (option_map (λ t. length t.now) text) 0 + 2 < 2 ^ 32 }
     ensures reads { Answers DocumentFault.Memory
-        (fault_as DocumentFault.Script (accepted_script built lines (option_map (λ t. t.now) text.entry))) result }
+        (fault_as DocumentFault.Script
+        (accepted_script whole_grammar lines (option_map (λ t. t.now) text.entry))) result }
     ensures plain { IfErr result IsPlainFault }
 {
     let Some(text) = text else {

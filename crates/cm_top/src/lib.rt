@@ -1,13 +1,17 @@
-//! From bytes to bytes: a document is read, its run is made, the trace is written, and the book of the run is handed out.
+//! From words and bytes to bytes: a document is read, the job of the words is run, the trace is written, and the book of the run is
+//! handed out.
 #![tactic(auto)]
 
 pub use cm_desk::{Book, Stock};
+pub use cm_words::{Job, JobKind};
 pub use status::Status;
 pub use top::{run, run_alone};
 
+mod accepted;
 mod document;
+mod jobs;
 pub mod laws;
 mod parts;
-mod session;
+mod port;
 mod status;
 mod top;

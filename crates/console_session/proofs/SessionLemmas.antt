@@ -5,7 +5,7 @@ use Rattle.std.proofs.lemmas.Bool.Decides.{nat_tests}
 use Rattle.fixed_num.specs.declared.memory.Memory.{Memory}
 use Rattle.cm_document.specs.declared.call.Call.{Call}
 use Rattle.cm_model.specs.Scheduled.{advance, next_call, with_entry}
-use Rattle.console_session.specs.Ports.{Console}
+use Rattle.cm_model.specs.Ports.{Console}
 use Rattle.console_session.specs.Sessions.{Standing, HasRun, HasWaited, HasEnded, Advances, AdvancesAsWritten}
 use Rattle.console_session.specs.declared.session.Progress.{Progress}
 use Rattle.console_session.specs.declared.session.Progress.TheVariants as progress

@@ -1,3 +1,2 @@
--- In reading order: what consoles tell, and what a session makes over one.
-pub mod Ports
+-- What a session makes over a console.
 pub mod Sessions

@@ -10,7 +10,7 @@ use Rattle.cm_model.specs.declared.entry.Entry.{Entry}
 use Rattle.cm_model.specs.declared.reply.Reply.{Reply}
 use Rattle.console_session.specs.declared.session.Progress.{Progress}
 use Rattle.console_session.specs.declared.session.Progress.TheVariants as progress
-use Rattle.console_session.specs.Ports.{Console, Makes, IsNotYet, MakesNone}
+use Rattle.cm_model.specs.Ports.{Console, Makes, IsNotYet, MakesNone}
 
 -- A line of a session: a call of its own, and no Told, which comes of itself.
 abbrev pub IsLine : Call → Type 0

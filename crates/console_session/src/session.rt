@@ -2,11 +2,10 @@
 
 ghost use Rattle.std.specs.Prelude.{◌≡◌, ◌<◌, length, None, true, IfOk, IfSome, OnErr, MatchOption};
 ghost use Rattle.cm_model.specs.Scheduled.{ticket_in};
-ghost use Rattle.console_session.specs.Ports.{Makes, MakesNone, IsNotYet};
+ghost use Rattle.cm_model.specs.Ports.{Makes, MakesNone, IsNotYet};
 ghost use Rattle.console_session.specs.Sessions.{IsLine, AreLines, Standing, awaited, at_first, next_of, Advances, HasStopped, AdvancesAsWritten};
 
-use crate::ports::Port;
-use cm_model::{Call, Memory, Reply, SessionText};
+use cm_model::{Call, Memory, Port, Reply, SessionText};
 use std::marker::Model;
 
 /// What an advance came to.

@@ -1,12 +1,15 @@
 -- What a call of `run_alone` promises, and `run` where its words are accepted.
-use Rattle.std.specs.Prelude.{◌≡◌, ℕ, ◌+◌, ◌≤◌, ◌↔◌, false, List, Option, None, IfSome, IsSome, ◌⊎◌}
+use Rattle.std.specs.Prelude.{◌≡◌, ℕ, ◌+◌, ◌≤◌, List, Option, None, Some, Err, IfSome, IsSome, ◌⊎◌}
 use Rattle.std.specs.Io.KnownBytes.{IsAtEnd}
 use Rattle.cm_document.specs.declared.limits.TheConstants.{LONGEST_DOCUMENT}
 use Rattle.outside_io.specs.Bytes.{TakesAtMost}
 use Rattle.outside_io.specs.Faults.{Rose}
 use Rattle.cm_model.specs.declared.blanks.Blanks.{Blanks}
-use Rattle.cm_model.specs.Words.{is_asked}
-use Rattle.cm_top.specs.Book.{BookFacts, Histories, IsBook, HandsOut}
+use Rattle.cm_words.specs.Words.{asked}
+use Rattle.cm_words.specs.declared.job.WordsFault.TheVariants.{Usage}
+use Rattle.make_document.specs.Made.{made}
+use Rattle.cm_words.specs.declared.job.Job.{Job}
+use Rattle.cm_top.specs.Book.{BookFacts, Task, IsBook, HandsOut, task_of}
 use Rattle.cm_top.specs.Status.{Written, EndedWith, IsPlain, ComesOfBytes, status_of}
 use Rattle.cm_top.specs.declared.status.Status.{Status}
 use Rattle.cm_top.specs.declared.status.Status.TheVariants as status
@@ -33,29 +36,31 @@ sink_facts taken flushed faults sink = record { taken = taken sink; flushed = fl
 abbrev pub written : SinkFacts → SinkFacts → Written
 written sink sink' = record { old = sink.taken; new = sink'.taken; flushed = sink'.flushed }
 
--- Words that are not accepted, and they alone, are answered so; then nothing was read, nothing written and no book made.
+-- Words that are not accepted are answered so, unless memory runs out, and no others are. Then nothing was read, nothing written and no
+-- book made.
 pub record RefusesWords {S K B : Type 0} (words : List (List ℕ)) (source source' : S) (sink sink' : K) (ended : Status) (book : Option B) : Type 0 where
-  pub exactly : (ended ≡ status.BadWords) ↔ (is_asked words ≡ false)
-  pub nothing_read : ended ≡ status.BadWords → source' ≡ source
-  pub nothing_written : ended ≡ status.BadWords → sink' ≡ sink
-  pub no_book : ended ≡ status.BadWords → book ≡ None
+  pub alone : ended ≡ status.BadWords → asked words ≡ Err Usage
+  pub refused : asked words ≡ Err Usage → (ended ≡ status.BadWords) ⊎ (ended ≡ status.Memory)
+  pub nothing_read : asked words ≡ Err Usage → source' ≡ source
+  pub nothing_written : asked words ≡ Err Usage → sink' ≡ sink
+  pub no_book : asked words ≡ Err Usage → book ≡ None
 
 -- A run of these bytes into this sink, before and after, with its status and its book.
-pub record RunsBytes (made : Histories) (blanks : Blanks) (bytes : List ℕ) (sink sink' : SinkFacts) (ended : Status) (book : Option BookFacts) : Type 0 where
-  pub ran : EndedWith made bytes blanks (written sink sink') ended book
-  pub book_is : HandsOut (IsBook made blanks) ended book
+pub record RunsBytes (task : Task) (blanks : Blanks) (bytes : List ℕ) (sink sink' : SinkFacts) (ended : Status) (book : Option BookFacts) : Type 0 where
+  pub ran : EndedWith task bytes blanks (written sink sink') ended book
+  pub book_is : HandsOut (IsBook task.history blanks) ended book
   pub of_bytes : ComesOfBytes ended
   pub plain : IsPlain ended
   pub write_fault : ended ≡ status.WriteFault → Rose sink.faults sink'.faults
   pub later : sink.faults ≤ sink'.faults
 
--- A run from this source, before and after, into this sink, before and after, with its status and its book. The job made these
--- histories.
-pub record Runs (made : Histories) (blanks : Blanks) (source source' : SourceFacts) (sink sink' : SinkFacts) (ended : Status) (book : Option BookFacts) : Type 0 where
+-- A run from this source, before and after, into this sink, before and after, with its status and its book. This was the
+-- task.
+pub record Runs (task : Task) (blanks : Blanks) (source source' : SourceFacts) (sink sink' : SinkFacts) (ended : Status) (book : Option BookFacts) : Type 0 where
   -- by the bytes of the source, where they are known
-  pub ran : IfSome source.left (λ bytes. EndedWith made bytes blanks (written sink sink') ended book)
+  pub ran : IfSome source.left (λ bytes. EndedWith task bytes blanks (written sink sink') ended book)
   -- whatever source and sink tell, a book comes with these statuses alone, and it is that of a run of an accepted document
-  pub book_is : HandsOut (IsBook made blanks) ended book
+  pub book_is : HandsOut (IsBook task.history blanks) ended book
   -- the words are none of its business
   pub never_words : ended ≡ status.BadWords → ⊥
   -- a run that went well has read its source to the end
@@ -74,3 +79,16 @@ pub record Runs (made : Histories) (blanks : Blanks) (source source' : SourceFac
   -- too long or refused is answered so, and an accepted one goes well.
   pub exact : IfSome source.left (λ bytes. ¬ (Rose source.faults source'.faults) → ¬ (Rose sink.faults sink'.faults)
       → (ended ≡ status_of bytes) ⊎ (ended ≡ status.Memory))
+
+-- A run of a made document of so many rounds: what a run of its bytes promises. It goes well, unless the sink fails or memory runs out.
+pub record RunsMade (task : Task) (blanks : Blanks) (rounds : ℕ) (sink sink' : SinkFacts) (ended : Status) (book : Option BookFacts) : Type 0 where
+  pub ran : RunsBytes task blanks (made rounds) sink sink' ended book
+  pub exact : ¬ (Rose sink.faults sink'.faults) → (ended ≡ status.Ok) ⊎ (ended ≡ status.Memory)
+
+-- A run of a job, by where its document comes from: the source, or with `--make` a number of rounds. Then the source tells nothing.
+abbrev pub RunsFrom : Option ℕ → Task → Blanks → SourceFacts → SourceFacts → SinkFacts → SinkFacts → Status → Option BookFacts → Type 0
+RunsFrom None task blanks source source' sink sink' ended book = Runs task blanks source source' sink sink' ended book
+RunsFrom (Some rounds) task blanks source source' sink sink' ended book = RunsMade task blanks rounds sink sink' ended book
+
+abbrev pub RunsJob : Job → Blanks → SourceFacts → SourceFacts → SinkFacts → SinkFacts → Status → Option BookFacts → Type 0
+RunsJob job blanks source source' sink sink' ended book = RunsFrom job.make (task_of job blanks) blanks source source' sink sink' ended book

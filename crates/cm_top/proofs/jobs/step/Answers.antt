@@ -1,0 +1,14 @@
+use Rattle.std.proofs.Common.{rules, ap, arith}
+use Rattle.cm_top.specs.Ports.{DeskGround}
+use Rattle.cm_top.proofs.SettleLemmas.{step_over}
+use Rattle.cm_top.proofs.jobs.step.Goals as goal
+
+-- whatever the advance came to, that is the turn
+pub returns-clause-stepped : goal.returns-clause-stepped
+returns-clause-stepped g c =
+    let who = ap (λ (k : DeskGround). k.who) c.in_ok-advance.ensures.still in
+    let opening = ap (λ (k : DeskGround). k.opening) c.in_ok-advance.ensures.still in
+    step_over c.in_ok-advance.field-0 c.args.who c.over-port.result.who c.advance.new.port.who c.over-port.result.waited c.advance.new.port.waited
+    c.args.sessions.now c.index-sessions-who.result c.advance.new.self c.args.desk.now c.over-port.result.desk.now c.advance.new.port.desk.now _
+    (omega (arith, c.if-who-sessions.false, c.sessions.ensures, c.requires)) c.over-port.ensures.who who c.over-port.ensures.desk opening
+    c.in_ok-advance.ensures.advanced c.in_ok-advance.ensures.as_written (search rules)
