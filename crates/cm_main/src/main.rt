@@ -75,7 +75,7 @@ where
     ensures untouched { IfOk result (λ status. ComesBeforeWriting status → sink.new ≡ sink.old) }
 {
     let alloc = rt.alloc();
-    let mut blanks: Vec<Box<dyn Controller>> = Vec::new(alloc);
+    let mut blanks: Vec<Box<dyn Controller + Send>> = Vec::new(alloc);
     for _number in 0..BLANKS {
         add(
             &mut blanks,

@@ -95,37 +95,70 @@ const LEAST: &str = "version = 1\nupdate_rate = 1\ncycles = 0\n--- script ---\n"
 
 const LEAST_TRACE: &str = "loop close: none\n";
 
+/// The summary of the made document of one round.
+const ONE_ROUND: &str = "\
+cycles 10
+entries 45
+updates 79
+asks 3 done 3 refused 0 ended 0
+joint j0 0.000000
+joint j1 0.090000
+joint j2 0.000000
+joint j3 0.000000
+joint j4 0.000000
+joint j5 0.000000
+joint j6 0.000000
+joint j7 0.000000
+";
+
 /// `WORDS => END`, over the least document.
 const WORDS: &str = r"run => 0
+steps => 0
+run -- => 0
+-- steps => 0
+run --make 1 => 0
+--make=01 run => 0
  => 2 cm: usage: cm run|steps|live [--make N]
+walk => 2 cm: usage: cm run|steps|live [--make N]
 run run => 2 cm: usage: cm run|steps|live [--make N]
-run --make 5 => 2 cm: usage: cm run|steps|live [--make N]
-steps => 2 cm: usage: cm run|steps|live [--make N]
+run steps => 2 cm: usage: cm run|steps|live [--make N]
+run --make 0 => 2 cm: usage: cm run|steps|live [--make N]
+run --make 1001 => 2 cm: usage: cm run|steps|live [--make N]
+run --make 1 --make 2 => 2 cm: usage: cm run|steps|live [--make N]
+run --make => 2 cm: usage: cm run|steps|live [--make N]
+live --make 5 => 2 cm: usage: cm run|steps|live [--make N]
+--help => 2 cm: usage: cm run|steps|live [--make N]
 Run => 2 cm: usage: cm run|steps|live [--make N]
 \xFF => 2 cm: usage: cm run|steps|live [--make N]
 run \xFF => 2 cm: usage: cm run|steps|live [--make N]
 run\xFF => 2 cm: usage: cm run|steps|live [--make N]";
 
 #[test]
-fn the_one_word_run_runs_and_others_are_refused(rt: HostRuntime) -> Result<(), Fail> {
+fn words_of_jobs_run_and_others_are_refused(rt: HostRuntime) -> Result<(), Fail> {
     let alloc = rt.alloc();
     for row in WORDS.lines() {
-        let (words, want) = row.split_once(" => ").ok_or("a row without an arrow")?;
-        let words = (Words::of(alloc, words)?, alloc);
+        let (given, want) = row.split_once(" => ").ok_or("a row without an arrow")?;
+        let words = (Words::of(alloc, given)?, alloc);
         let document = LEAST.as_bytes().to_vec(alloc)?;
         let mut source = MemSource::make(document, 100, vec![in alloc]?);
-        let mut sink = MemSink::make(alloc, 100, 100, vec![in alloc]?)?;
+        let mut sink = MemSink::make(alloc, 1000, 100, vec![in alloc]?)?;
         let status = run_words(&words, &rt, &mut source, &mut sink);
         let end = end(alloc, &status)?;
         assert_eq!(rt; end.as_str(), want, "{row}");
-        let trace = if status == Status::Ok {
-            LEAST_TRACE
-        } else {
-            ""
-        };
-        assert_eq!(rt; sink.bytes(), trace.as_bytes(), "{row}");
+        assert_eq!(rt; sink.bytes(), printed(given, &status).as_bytes(), "{row}");
     }
     Ok(())
+}
+
+/// What is printed of these words, by the status.
+fn printed(words: &str, status: &Status) -> &'static str {
+    if *status != Status::Ok {
+        ""
+    } else if words.contains("--make") {
+        ONE_ROUND
+    } else {
+        LEAST_TRACE
+    }
 }
 
 /// How a run ends by its status: the number, and what stands on standard error, without the end of its one line.

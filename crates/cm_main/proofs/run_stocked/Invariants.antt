@@ -1,4 +1,4 @@
-use Rattle.ctl_trait.specs.contracts.in_box.BoxDynControllerController.TheImpl.{ghosts}
+use Rattle.ctl_trait.specs.contracts.in_box.BoxDynControllerSendController.TheImpl.{ghosts}
 use Rattle.cm_main.specs.Stock.{AreBlanks, blanks_of_each}
 use Rattle.cm_main.proofs.run_stocked.Given as goal
 use Rattle.cm_main.proofs.run_stocked.Hidden.{sends-own-1}
