@@ -191,7 +191,7 @@ fn push_given<C: Controller>(told: &mut String, given: Option<C>) -> Result<(), 
 }
 
 /// The call of a verb and the words behind it.
-fn call_of(alloc: Global, verb: &str, rest: &str) -> Result<Call, Fail>
+pub fn call_of(alloc: Global, verb: &str, rest: &str) -> Result<Call, Fail>
     ensures { IfOk result CanBeCalled }
 {
     match verb {
@@ -205,7 +205,7 @@ fn call_of(alloc: Global, verb: &str, rest: &str) -> Result<Call, Fail>
     }
 }
 
-fn name_of(alloc: Global, word: &str) -> Result<Name, Fail> {
+pub fn name_of(alloc: Global, word: &str) -> Result<Name, Fail> {
     Ok(Name::read(alloc, word.as_bytes())?)
 }
 
@@ -265,12 +265,13 @@ fn add_word(alloc: Global, request: &mut SwitchRequest, word: &str) -> Result<()
 
 // ---- Replies
 
-fn push_reply(told: &mut String, reply: &Reply) -> Result<(), Fail> {
+pub fn push_reply(told: &mut String, reply: &Reply) -> Result<(), Fail> {
     match reply {
         Reply::Done => told.push_str("ok")?,
         Reply::Serial(serial) => write!(told, "ok {serial}")?,
         Reply::Queued(ticket) => write!(told, "queued {ticket}")?,
         Reply::Not(why) => write!(told, "{why}")?,
+        Reply::Outcome(outcome) => write!(told, "{}", outcome.get())?,
         Reply::Decisions(decisions) => push_decisions(told, decisions.as_slice())?,
         Reply::Cycle(record) => push_record(told, record)?,
         _ => return Err(Fail::new("another reply")),

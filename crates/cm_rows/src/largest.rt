@@ -6,6 +6,7 @@ use crate::pages::{hold, hold_told};
 use crate::runs::Runs;
 use case_pages::largest::{AT_ALL_LIMITS, Summed, count_and_checksum};
 use cm_model::IfaceName;
+use cm_top::JobKind;
 use iface_names::Registry;
 use outside_io::{MemSink, MemSource, read_whole, write_whole};
 use std::alloc::Global;
@@ -17,6 +18,7 @@ const LONGEST: usize = 1_048_576;
 /// Tells how long what a run prints is.
 const RUNS: Summed<Runs> = Summed {
     teller: Runs {
+        kind: JobKind::Run,
         step: 4096,
         in_stock: 64,
     },

@@ -17,11 +17,11 @@ use std::test::Fail;
 const MOST_BOXES: usize = 1_000;
 
 /// So many of each kind, all of them blank.
-pub fn blanks(alloc: Global, each: u32) -> Result<Vec<Box<dyn Controller>>, Fail>
+pub fn blanks(alloc: Global, each: u32) -> Result<Vec<Box<dyn Controller + Send>>, Fail>
     ensures blank { IfOk result (λ blanks. All (λ b. IsBlank (meaning b)) blanks.items) }
     ensures few { IfOk result (λ blanks. length blanks.items < 2 ^ 32) }
 {
-    let mut blanks: Vec<Box<dyn Controller>> = Vec::new(alloc);
+    let mut blanks: Vec<Box<dyn Controller + Send>> = Vec::new(alloc);
     for _number in 0..each {
         add(&mut blanks, Box::new(alloc, Forward::blank())?)?;
         add(&mut blanks, Box::new(alloc, Passthrough::blank())?)?;

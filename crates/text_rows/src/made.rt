@@ -1,4 +1,4 @@
-//! Made documents: a small one whole, the largest one by its length and checksum, and what is read of both.
+//! Made documents: small ones whole, the largest one by its first and last lines, its length and its checksum, and what is read of them.
 
 use crate::checks::Checks;
 use crate::pages::{Teller, halves, hold, hold_lines};
@@ -12,7 +12,8 @@ use std::test::Fail;
 #[test]
 fn made_documents_are_as_written(rt: HostRuntime) -> Result<(), Fail> {
     let alloc = rt.alloc();
-    hold(alloc, &Makes, "", TWO_ROUNDS)?;
+    hold(alloc, &Makes, "", SMALL)?;
+    hold(alloc, &Ends, "", ENDS)?;
     hold_lines(alloc, &Summed { teller: Makes }, "", LARGEST)
 }
 
@@ -33,6 +34,19 @@ impl Teller for Makes {
     }
 }
 
+/// Tells its lines before the component, and those behind the 999th round.
+#[derive(Clone, Copy)]
+struct Ends;
+
+impl Teller for Ends {
+    fn told(&self, alloc: Global, text: &str) -> Result<String, Fail> {
+        let made = Makes.told(alloc, text)?;
+        let (first, _) = halves(made.as_str(), "[[component]]\n")?;
+        let (_, last) = halves(made.as_str(), "await 9990\n")?;
+        Ok(format!(in alloc; "{first}{last}")?)
+    }
+}
+
 /// Tells what is wrong with its description, and how many sessions and calls are read of its script.
 #[derive(Clone, Copy)]
 struct Reads;
@@ -47,8 +61,38 @@ impl Teller for Reads {
     }
 }
 
-/// Two rounds.
-const TWO_ROUNDS: &str = r#"2
+/// One round, and two.
+const SMALL: &str = r#"1
+=> version = 1
+update_rate = 100
+cycles = 10
+[[component]]
+name = "sys"
+kind = "system"
+<0..8 * [[component.joint]]
+name = "j#"
+vmax = 1
+command = ["position"]
+state = ["position"]
+>\
+<0..8 * [[controller]]
+name = "f#"
+type = "forward"
+claims = ["j#/position"]
+>\
+--- script ---
+session a
+<0..8 * load f#
+>\
+<0..8 * configure f#
+>\
+switch strict +f0 +f1 +f2 +f3 +f4 +f5 +f6 +f7
+send f1 0.37
+switch strict -f2
+switch strict +f2
+await 10
+
+2
 => version = 1
 update_rate = 100
 cycles = 20
@@ -94,7 +138,18 @@ switch strict -f3
 switch strict +f3
 await 20"#;
 
-/// The largest that may be asked for, without the end of its last line.
+/// The ends of the largest: 1,000 leaves nothing by 8, and 37 times 1,000 nothing by 100.
+const ENDS: &str = r"1000
+=> version = 1
+update_rate = 100
+cycles = 10000
+send f0 0.00
+switch strict -f1
+switch strict +f1
+await 10000";
+
+/// The largest that may be asked for, without the end of its last line: 1,559 bytes before the rounds, 56 a round, and the digits of
+/// what each awaits, 2 of nine rounds, 3 of 90, 4 of 900 and 5 of the last.
 const LARGEST: &str = "1000 => 5 bytes: 61451 a67f836b";
 
 /// What is read, and of how many sessions and calls.

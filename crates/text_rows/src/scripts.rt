@@ -12,7 +12,7 @@ use long::{CALLS_AND_TURNS, LONG_LINES, SIZES_OF_CALLS};
 use printed::PRINTED;
 pub use printed::Prints;
 use script_text::{read_script, read_script_with};
-use sessions::{FORMS_OF_TODAY, ONE_FAULT_COUNTS, SCHEDULES, SESSIONS};
+use sessions::{FORMS_FURTHER_BELOW, ONE_FAULT_COUNTS, SCHEDULES, SESSIONS};
 use std::alloc::Global;
 use std::test::Fail;
 
@@ -29,9 +29,9 @@ fn read_every_form(alloc: Global, text: &str) -> Result<Result<Script, ScriptFau
     Ok(read_script_with(alloc, whole_grammar(), bytes, 1))
 }
 
-/// The same where the forms of today are accepted, and the first line is line 20.
+/// The same where the first line is line 20.
 #[tactic(auto, using(cm_document::proofs::LineLemmas::raw_lines_within))]
-fn read_forms_of_today(alloc: Global, text: &str) -> Result<Result<Script, ScriptFault>, Fail> {
+fn read_further_below(alloc: Global, text: &str) -> Result<Result<Script, ScriptFault>, Fail> {
     let bytes = text.as_bytes();
     if bytes.len() > LONGEST {
         return Err(Fail::new("a text too long"));
@@ -52,13 +52,13 @@ impl Teller for EveryForm {
     }
 }
 
-/// The same where the forms of today are accepted.
+/// The same where the first line is line 20.
 #[derive(Clone, Copy)]
-struct FormsOfToday;
+struct FormsFurtherBelow;
 
-impl Teller for FormsOfToday {
+impl Teller for FormsFurtherBelow {
     fn told(&self, alloc: Global, text: &str) -> Result<String, Fail> {
-        match read_forms_of_today(alloc, text)? {
+        match read_further_below(alloc, text)? {
             Ok(script) => told(alloc, &script),
             Err(fault) => Ok(format!(in alloc; "{fault}")?),
         }
@@ -103,7 +103,7 @@ fn scripts_are_read_or_told_by_their_first_bad_line(rt: HostRuntime) -> Result<(
     hold(alloc, &EveryForm, "", SESSIONS)?;
     hold(alloc, &EveryForm, "", SCHEDULES)?;
     hold(alloc, &EveryForm, "", ONE_FAULT_COUNTS)?;
-    hold(alloc, &FormsOfToday, "", FORMS_OF_TODAY)?;
+    hold(alloc, &FormsFurtherBelow, "", FORMS_FURTHER_BELOW)?;
     hold(alloc, &Prints, "", PRINTED)
 }
 

@@ -1,7 +1,7 @@
 //! Words of the command line, each list with the job that it asks for.
 
 use crate::pages::{Teller, hold_lines};
-use cm_words::{JobKind, asked};
+use cm_words::{Job, JobKind, asked};
 use std::alloc::Global;
 use std::test::Fail;
 
@@ -10,7 +10,7 @@ fn words_ask_for_a_job_or_are_refused(rt: HostRuntime) -> Result<(), Fail> {
     hold_lines(rt.alloc(), &Asks, "", WORDS)
 }
 
-/// Tells the job that words ask for, between which bars stand, or why they are refused.
+/// Tells the job that words ask for, between which bars stand, and how many rounds are made; or why they are refused.
 #[derive(Clone, Copy)]
 struct Asks;
 
@@ -18,9 +18,17 @@ impl Teller for Asks {
     fn told(&self, alloc: Global, row: &str) -> Result<String, Fail> {
         let words = words(alloc, row.strip_suffix("\n").unwrap_or(row))?;
         match asked(alloc, words.as_slice()) {
-            Ok(job) => Ok(String::from_str(alloc, name_of(job.kind))?),
+            Ok(job) => told_of(alloc, &job),
             Err(fault) => Ok(format!(in alloc; "{fault}")?),
         }
+    }
+}
+
+fn told_of(alloc: Global, job: &Job) -> Result<String, Fail> {
+    let name = name_of(job.kind);
+    match job.make {
+        Some(rounds) => Ok(format!(in alloc; "{name}, {rounds} made")?),
+        None => Ok(String::from_str(alloc, name)?),
     }
 }
 
@@ -43,13 +51,22 @@ fn words(alloc: Global, row: &str) -> Result<Vec<String>, Fail> {
     Ok(words)
 }
 
-/// The two jobs, with hyphens that end the options; and what is refused, for good or today.
+/// The two jobs, with hyphens that end the options and with a number of rounds; and what is refused, for good or today.
 const WORDS: &str = r"run => run
 steps => steps
 run|-- => run
 --|run => run
 steps|-- => steps
 --|steps => steps
+run|--make|1 => run, 1 made
+run|--make|1000 => run, 1000 made
+run|--make=5 => run, 5 made
+--make|5|run => run, 5 made
+--make=5|run => run, 5 made
+--make|5|--|run => run, 5 made
+--make|5|run|-- => run, 5 made
+run|--make|05 => run, 5 made
+steps|--make|0012 => steps, 12 made
  => usage: cm run|steps|live [--make N]
 walk => usage: cm run|steps|live [--make N]
 Run => usage: cm run|steps|live [--make N]
@@ -69,10 +86,21 @@ run|--help => usage: cm run|steps|live [--make N]
 help => usage: cm run|steps|live [--make N]
 live => usage: cm run|steps|live [--make N]
 live|--make|5 => usage: cm run|steps|live [--make N]
---make|5|run => usage: cm run|steps|live [--make N]
-run|--make=5 => usage: cm run|steps|live [--make N]
+--make|5 => usage: cm run|steps|live [--make N]
 run|--make => usage: cm run|steps|live [--make N]
 run|--make= => usage: cm run|steps|live [--make N]
 run|--mak|5 => usage: cm run|steps|live [--make N]
+run|--make|0 => usage: cm run|steps|live [--make N]
+run|--make|0000 => usage: cm run|steps|live [--make N]
 run|--make|1001 => usage: cm run|steps|live [--make N]
-run|--make|1|--make|2 => usage: cm run|steps|live [--make N]";
+run|--make|00001 => usage: cm run|steps|live [--make N]
+run|--make|+5 => usage: cm run|steps|live [--make N]
+run|--make|-5 => usage: cm run|steps|live [--make N]
+run|--make|5x => usage: cm run|steps|live [--make N]
+run|--make|\s5 => usage: cm run|steps|live [--make N]
+run|--make|five => usage: cm run|steps|live [--make N]
+--make|run => usage: cm run|steps|live [--make N]
+--make|run|5 => usage: cm run|steps|live [--make N]
+run|--make|1|--make|2 => usage: cm run|steps|live [--make N]
+run|--make|1|--make|1 => usage: cm run|steps|live [--make N]
+run|--|--make|5 => usage: cm run|steps|live [--make N]";

@@ -1,9 +1,11 @@
 //! What a run leaves behind: its history and the boxes of the controllers that are loaded then.
 
-use super::{AMPLE, IN_STOCK, OF_PROGRAM, run_over};
+use super::operators::ROBOT;
+use super::{AMPLE, IN_STOCK, OF_PROGRAM, run_by};
 use crate::pages::{Teller, hold};
 use crate::stocks::blanks;
 use cm_desk::Book;
+use cm_top::JobKind;
 use ctl_trait::Controller;
 use outside_io::MemSink;
 use std::alloc::Global;
@@ -12,16 +14,18 @@ use std::test::Fail;
 /// Before which of so many cycles each box is asked whether it is ready.
 const ASKED: u64 = 6;
 
-/// Tells how the run of a document ends, how many entries its book has, and what box by box it holds.
+/// Tells how the run of a document ends by a job, how many entries its book has, and what box by box it holds.
 #[derive(Clone, Copy)]
-struct Books;
+struct Books {
+    kind: JobKind,
+}
 
 impl Teller for Books {
     fn told(&self, alloc: Global, text: &str) -> Result<String, Fail> {
         let mut source = OF_PROGRAM.source(alloc, text)?;
         let mut sink = MemSink::make(alloc, AMPLE, AMPLE, vec![in alloc]?)?;
         let blanks = blanks(alloc, IN_STOCK)?;
-        let (status, book) = run_over(alloc, &mut source, &mut sink, blanks);
+        let (status, book) = run_by(self.kind, alloc, &mut source, &mut sink, blanks);
         let mut told = format!(in alloc; "{status}")?;
         push_book(&mut told, book)?;
         Ok(told)
@@ -59,7 +63,7 @@ fn push_unready<C: Controller>(told: &mut String, ctl: &C, cycle: u64) -> Result
 
 /// Two mocks that are not ready in some cycles, which they know once they are configured, one that refuses to be, a forward
 /// and a passthrough. Lines 1 to 31 of the document.
-const ROBOT: &str = r#"version = 1
+const STOCKED: &str = r#"version = 1
 update_rate = 100
 cycles = 0
 [[component]]
@@ -195,7 +199,7 @@ no book
 --- script ---
 session a
 load mk
-schedule
+session a
 => script: bad_line 35
 no book
 
@@ -203,7 +207,45 @@ no book
 => document longer than 1048576 bytes
 no book";
 
+/// The same by the turns of a schedule: what is unloaded while a cycle is aloft, and what is loaded there.
+const BOOKS_OF_TURNS: &str = r"cycles = 1
+--- script ---
+session a
+load fwd
+configure fwd
+switch strict +fwd
+unload fwd
+session b
+load traj2
+configure traj2
+unload traj2
+load mk
+schedule
+step a
+step a
+step a
+step b
+step b
+begin
+step a
+step a
+step b
+step b
+end
+=> ok
+entries 12
+forward
+mock";
+
 #[test]
 fn a_run_leaves_its_history_and_the_boxes_that_are_loaded(rt: HostRuntime) -> Result<(), Fail> {
-    hold(rt.alloc(), &Books, ROBOT, BOOKS)
+    hold(rt.alloc(), &Books { kind: JobKind::Run }, STOCKED, BOOKS)?;
+    hold(
+        rt.alloc(),
+        &Books {
+            kind: JobKind::Steps,
+        },
+        ROBOT,
+        BOOKS_OF_TURNS,
+    )
 }

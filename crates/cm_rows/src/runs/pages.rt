@@ -207,7 +207,7 @@ type = "mock"
 session a
 \n\
 # x
-session b
+session a
 => script: bad_line 11
 
 version = 1
@@ -217,8 +217,37 @@ cycles = 2
 name = "mk"
 type = "mock"
 --- script ---
-schedule
+begin
 => script: bad_line 8
+
+version = 1
+update_rate = 100
+cycles = 2
+--- script ---
+session a
+schedule
+step a
+begin
+load mk
+=> script: bad_line 9
+
+version = 1
+update_rate = 100
+cycles = 2
+--- script ---
+session a
+schedule
+end
+step b
+=> script: no_session 8
+
+version = 1
+update_rate = 100
+cycles = 2
+--- script ---
+<0..9 * session s#
+>\
+=> script: too_many 13
 
 version = 1
 update_rate = 100

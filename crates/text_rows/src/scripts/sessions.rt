@@ -196,8 +196,8 @@ told 1
 close
 => bad_line 1";
 
-/// The forms that are built today, those that are not, and of each fault one that a form of today may have.
-pub const FORMS_OF_TODAY: &str = r"=> empty
+/// The forms of a script that begins further below in its document, and of each fault some.
+pub const FORMS_FURTHER_BELOW: &str = r"=> empty
 
 session a
 load mk
@@ -220,15 +220,23 @@ list components
 
 session a
 session b
-=> bad_line 21
+=> |a|b
 
 schedule
-=> bad_line 20
+=> empty
 
 session a
 load mk
 schedule
-=> bad_line 22
+step a
+begin
+end
+=> |a|load mk|step 0|begin|end
+
+session a
+load mk
+schedule
+=> |a|load mk
 
 session a
 step a
@@ -239,6 +247,12 @@ begin
 
 end
 => bad_line 20
+
+session a
+schedule
+step a
+step b
+=> no_session 23
 
 load mk
 => no_session 20

@@ -281,7 +281,7 @@ type = "mock"
 session a
 load mk
 configure mk
-session b
+session a
 => script: bad_line 11
 
 version = 1
