@@ -1,1 +1,3 @@
 mod TextLemmas
+pub mod WordLemmas
+mod WordRows

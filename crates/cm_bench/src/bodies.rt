@@ -16,7 +16,7 @@ pub trait Body<C> {
 }
 
 /// The product by 128 bits.
-#[derive(Clone, Copy, Debug)]
+#[derive(Clone, Copy)]
 pub struct PlainMul;
 
 impl Body<Case> for PlainMul {
@@ -28,7 +28,7 @@ impl Body<Case> for PlainMul {
 }
 
 /// `Fx::mul`.
-#[derive(Clone, Copy, Debug)]
+#[derive(Clone, Copy)]
 pub struct FastMul;
 
 impl Body<Case> for FastMul {
@@ -40,7 +40,7 @@ impl Body<Case> for FastMul {
 }
 
 /// The ratio by 128 bits.
-#[derive(Clone, Copy, Debug)]
+#[derive(Clone, Copy)]
 pub struct PlainOver;
 
 impl Body<Case> for PlainOver {
@@ -52,7 +52,7 @@ impl Body<Case> for PlainOver {
 }
 
 /// `Fx::over`.
-#[derive(Clone, Copy, Debug)]
+#[derive(Clone, Copy)]
 pub struct FastOver;
 
 impl Body<Case> for FastOver {

@@ -15,7 +15,7 @@ const COUNT: usize = 1000;
 const FAR: u64 = 1_000_000_000;
 
 /// What one turn of a body is given.
-#[derive(Clone, Copy, Debug)]
+#[derive(Clone, Copy)]
 pub struct Case {
     pub left: Fx,
     pub right: Fx,
@@ -34,7 +34,7 @@ pub fn made(alloc: Global, seed: u64) -> Result<Vec<Case>, Memory> {
 }
 
 /// What one step of a body is given: how its joint is driven, by which number, and for how long.
-#[derive(Clone, Copy, Debug)]
+#[derive(Clone, Copy)]
 pub struct Push {
     pub mode: JointMode,
     pub command: Fx,
@@ -54,7 +54,7 @@ pub fn pushes(alloc: Global, seed: u64) -> Result<Vec<Push>, Memory> {
 }
 
 /// When a trajectory is updated.
-#[derive(Clone, Copy, Debug)]
+#[derive(Clone, Copy)]
 pub struct Moment {
     pub time_us: u64,
 }

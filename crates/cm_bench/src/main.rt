@@ -2,18 +2,21 @@
 #![tactic(auto)]
 
 use bodies::{FastMul, FastOver, FastText, PlainMul, PlainOver, PlainText};
+use cases::Case;
 use cm_document::MOST_POINTS;
 use plan::Plan;
 use points::{SEGMENT_US, UnderWay};
 use reading::{DescriptionChecker, DescriptionReader, ScriptReader, TomlReader};
+use std::alloc::Global;
 use std::process::ExitCode;
 use std::rt::{Clock, Env};
 use std::sync::Wait;
 use std::{env, io};
 use steps::{FastStep, PlainStep};
 use switches::{PlainPlan, RelatedPlan};
-use timing::{Course, Pair};
+use timing::{Course, Pair, Title};
 use turns::{LockTurn, MutexTurn};
+use words::plan_of;
 
 mod bodies;
 mod cases;
@@ -27,11 +30,12 @@ mod switches;
 mod texts;
 mod timing;
 mod turns;
+mod words;
 
 /// Status 0 where all answers were the same, 1 where some differ or a call failed, 2 for words that are no plan.
 fn main(rt: HostRuntime) -> anyhow::Result<ExitCode> {
     let words: Vec<String> = env::args(&rt)?.skip(1).collect(rt.alloc())?;
-    let Some(plan) = Plan::from_words(words.as_slice()) else {
+    let Some(plan) = plan_of(words.as_slice()) else {
         eprintln!(rt; "cm_bench: usage: cm_bench TURNS SEED")?;
         return Ok(ExitCode::from(2));
     };
@@ -46,31 +50,48 @@ fn compare_all<R>(rt: &R, plan: Plan) -> anyhow::Result<bool>
 where
     R: Clock + Print + AllocGlobal + Wait,
 {
+    let numbers = compare_numbers(rt, plan)?;
+    let steps = compare_steps(rt, plan)?;
+    let ways = compare_ways(rt, plan)?;
+    let switches = compare_switches(rt, plan)?;
+    let checks = compare_checks(rt, plan)?;
+    let readers = compare_readers(rt, plan)?;
+    Ok(numbers && steps && ways && switches && checks && readers)
+}
+
+/// Prints the lines of a product, a ratio, a number's text and a turn at a lock, over the same cases.
+fn compare_numbers<R>(rt: &R, plan: Plan) -> anyhow::Result<bool>
+where
+    R: Clock + Print + AllocGlobal + Wait,
+{
     let cases = cases::made(rt.alloc(), plan.seed)?;
     let course = Course {
         cases: cases.as_slice(),
         turns: plan.turns,
     };
-    let mul = course.compare(rt, &mut PlainMul, &mut FastMul)?;
-    tell(rt, plan, "mul", "answers", &mul)?;
-    let over = course.compare(rt, &mut PlainOver, &mut FastOver)?;
-    tell(rt, plan, "over", "answers", &over)?;
-    let alloc = rt.alloc();
-    let text = course.compare(rt, &mut PlainText::make(alloc), &mut FastText::make(alloc))?;
-    tell(rt, plan, "text", "bytes", &text)?;
-    let turn = course.compare(
-        rt,
-        &mut MutexTurn::make(rt),
-        &mut LockTurn::make(rt, alloc)?,
-    )?;
-    tell(rt, plan, "turn", "answers", &turn)?;
-    let stepped = compare_steps(rt, plan)?;
-    let led = compare_ways(rt, plan)?;
-    let switched = compare_switches(rt, plan)?;
-    let checked = compare_checks(rt, plan)?;
-    let read = compare_readers(rt, plan)?;
-    let of_numbers = mul.same && over.same && text.same && stepped && led;
-    Ok(of_numbers && turn.same && switched && checked && read)
+    let mul = course.tell(rt, MUL, &mut PlainMul, &mut FastMul)?;
+    let over = course.tell(rt, OVER, &mut PlainOver, &mut FastOver)?;
+    let text = compare_texts(rt, &course)?;
+    let turn = compare_locks(rt, &course)?;
+    Ok(mul && over && text && turn)
+}
+
+/// Prints the line of a number's text.
+fn compare_texts<R>(rt: &R, course: &Course<'_, Case>) -> anyhow::Result<bool>
+where
+    R: Clock + Print + AllocGlobal,
+{
+    let mut plain = PlainText::make(rt.alloc());
+    course.tell(rt, TEXT, &mut plain, &mut FastText::make(rt.alloc()))
+}
+
+/// Prints the line of a turn at a lock.
+fn compare_locks<R>(rt: &R, course: &Course<'_, Case>) -> anyhow::Result<bool>
+where
+    R: Clock + Print + AllocGlobal + Wait,
+{
+    let mut lock = LockTurn::make(rt, rt.alloc())?;
+    course.tell(rt, TURN, &mut MutexTurn::make(rt), &mut lock)
 }
 
 /// Prints the line of a body's step.
@@ -83,9 +104,7 @@ where
         cases: pushes.as_slice(),
         turns: plan.turns,
     };
-    let step = course.compare(rt, &mut PlainStep::make(), &mut FastStep::make())?;
-    tell(rt, plan, "step", "answers", &step)?;
-    Ok(step.same)
+    course.tell(rt, STEP, &mut PlainStep::make(), &mut FastStep::make())
 }
 
 /// Prints the line of a trajectory: on the last of its segments, which it has alone, and behind all others that there may be.
@@ -93,19 +112,20 @@ fn compare_ways<R>(rt: &R, plan: Plan) -> anyhow::Result<bool>
 where
     R: Clock + Print + AllocGlobal,
 {
-    let alloc = rt.alloc();
-    let values = cases::values(alloc, plan.seed, MOST_POINTS)?;
-    let moments = cases::moments(alloc, plan.seed, LAST_US)?;
+    let moments = cases::moments(rt.alloc(), plan.seed, LAST_US)?;
     let course = Course {
         cases: moments.as_slice(),
         turns: plan.turns,
     };
-    let two = LAST_US - 2 * SEGMENT_US;
-    let mut last = UnderWay::make(alloc, values.as_slice(), two)?;
-    let mut all = UnderWay::make(alloc, values.as_slice(), 0)?;
-    let pair = course.compare(rt, &mut last, &mut all)?;
-    tell(rt, plan, "points", "answers", &pair)?;
-    Ok(pair.same)
+    let mut last = way(rt.alloc(), plan.seed, LAST_US - 2 * SEGMENT_US)?;
+    let mut all = way(rt.alloc(), plan.seed, 0)?;
+    course.tell(rt, POINTS, &mut last, &mut all)
+}
+
+/// A trajectory of the points of a seed, but for those up to a time.
+fn way(alloc: Global, seed: u64, after_us: u64) -> anyhow::Result<UnderWay> {
+    let values = cases::values(alloc, seed, MOST_POINTS)?;
+    UnderWay::make(alloc, values.as_slice(), after_us)
 }
 
 /// When the last point is, in microseconds.
@@ -122,9 +142,12 @@ where
         cases: cases.as_slice(),
         turns: plan.turns / SWITCH_SHARE + 1,
     };
-    let pair = course.compare(rt, &mut PlainPlan { alloc }, &mut RelatedPlan { alloc })?;
-    tell(rt, plan, "switch", "plans", &pair)?;
-    Ok(pair.same)
+    course.tell(
+        rt,
+        SWITCH,
+        &mut PlainPlan { alloc },
+        &mut RelatedPlan { alloc },
+    )
 }
 
 /// A switch is decided in some microseconds, so it gets one turn for so many of the others.
@@ -143,15 +166,19 @@ where
     };
     let mut reader = DescriptionReader { alloc };
     let pair = course.compare(rt, &mut reader, &mut DescriptionChecker { alloc })?;
-    if !pair.same {
-        println!(rt; "check: bytes differ")?;
-    } else if plan.turns == 1 {
-        println!(rt; "check: same bytes")?;
-    } else {
-        let (read, checked) = (pair.plain, pair.fast.besides(pair.plain));
-        println!(rt; "check: same bytes, {read} ns read, {checked} ns checked")?;
-    }
+    tell_checks(rt, course.turns, &pair)?;
     Ok(pair.same)
+}
+
+fn tell_checks<R: Print>(rt: &R, turns: u64, pair: &Pair) -> io::Result<()> {
+    if !pair.same {
+        return println!(rt; "check: bytes differ");
+    }
+    if turns == 1 {
+        return println!(rt; "check: same bytes");
+    }
+    let (read, checked) = (pair.plain, pair.fast.besides(pair.plain));
+    println!(rt; "check: same bytes, {read} ns read, {checked} ns checked")
 }
 
 /// A description is read in some hundred microseconds, so it gets one turn for so many of the others.
@@ -169,31 +196,57 @@ where
         turns: plan.turns / READER_SHARE + 1,
     };
     let pair = course.compare(rt, &mut TomlReader { alloc }, &mut ScriptReader { alloc })?;
-    let bytes = cases[0].script.len();
-    if !pair.same {
-        println!(rt; "script: bytes differ")?;
-    } else if plan.turns == 1 {
-        println!(rt; "script: same bytes")?;
-    } else {
-        let (toml, script) = (pair.plain.bytes_a_us(bytes), pair.fast.bytes_a_us(bytes));
-        println!(rt; "script: same bytes, {toml} bytes a us by toml, {script}")?;
-    }
+    tell_readers(rt, course.turns, &pair, cases[0].script.len())?;
     Ok(pair.same)
+}
+
+fn tell_readers<R: Print>(rt: &R, turns: u64, pair: &Pair, bytes: usize) -> io::Result<()> {
+    if !pair.same {
+        return println!(rt; "script: bytes differ");
+    }
+    if turns == 1 {
+        return println!(rt; "script: same bytes");
+    }
+    let (toml, script) = (pair.plain.bytes_a_us(bytes), pair.fast.bytes_a_us(bytes));
+    println!(rt; "script: same bytes, {toml} bytes a us by toml, {script}")
 }
 
 /// A reader goes over a whole text, so it gets one turn for so many of the others.
 const READER_SHARE: u64 = 100_000;
 
-/// The line of a pair. One turn has no time worth telling, so its line is the same in each run.
-fn tell<R: Print>(rt: &R, plan: Plan, name: &str, what: &str, pair: &Pair) -> io::Result<()> {
-    if !pair.same {
-        println!(rt; "{name}: {what} differ")
-    } else if plan.turns == 1 {
-        println!(rt; "{name}: same {what}")
-    } else {
-        println!(rt;
-            "{name}: same {what}, {} ns plain, {} ns",
-            pair.plain, pair.fast
-        )
-    }
-}
+// ---- What the lines are called
+
+const MUL: Title = Title {
+    name: "mul",
+    what: "answers",
+};
+
+const OVER: Title = Title {
+    name: "over",
+    what: "answers",
+};
+
+const TEXT: Title = Title {
+    name: "text",
+    what: "bytes",
+};
+
+const TURN: Title = Title {
+    name: "turn",
+    what: "answers",
+};
+
+const STEP: Title = Title {
+    name: "step",
+    what: "answers",
+};
+
+const POINTS: Title = Title {
+    name: "points",
+    what: "answers",
+};
+
+const SWITCH: Title = Title {
+    name: "switch",
+    what: "plans",
+};

@@ -4,9 +4,9 @@ ghost use Rattle.std.specs.Prelude.{◌<◌};
 
 use crate::bodies::Body;
 use fixed_num::Memory;
-use std::fmt;
 use std::rt::Clock;
 use std::time::Instant;
+use std::{fmt, io};
 
 /// What the bodies go over, and how many turns each is given.
 #[derive(Drop)]
@@ -16,8 +16,15 @@ pub struct Course<'a, C> {
     ghost some: { 0 < turns },
 }
 
+/// What the line of a pair is called, and what is compared in it.
+#[derive(Clone, Copy)]
+pub struct Title {
+    pub name: &'static str,
+    pub what: &'static str,
+}
+
 /// How a plain body and a fast one compare.
-#[derive(Clone, Copy, Debug)]
+#[derive(Clone, Copy)]
 pub struct Pair {
     /// Whether they gave the same answers.
     pub same: bool,
@@ -27,7 +34,7 @@ pub struct Pair {
 }
 
 /// A number of tenths, as a time in tenths of a nanosecond; it prints with one decimal.
-#[derive(Clone, Copy, Debug)]
+#[derive(Clone, Copy)]
 pub struct Tenths(u128);
 
 impl Tenths {
@@ -48,7 +55,42 @@ impl fmt::Display for Tenths {
     }
 }
 
+impl Pair {
+    /// Prints the line of a pair. One turn has no time worth telling, so its line is the same in each run.
+    fn tell<R: Print>(&self, rt: &R, turns: u64, title: Title) -> io::Result<()> {
+        let Title { name, what } = title;
+        if !self.same {
+            return println!(rt; "{name}: {what} differ");
+        }
+        if turns == 1 {
+            return println!(rt; "{name}: same {what}");
+        }
+        println!(rt;
+            "{name}: same {what}, {} ns plain, {} ns",
+            self.plain, self.fast
+        )
+    }
+}
+
 impl<C> Course<'_, C> {
+    /// Compares both bodies and prints their line. Says whether they gave the same answers.
+    pub fn tell<R, P, F>(
+        &self,
+        rt: &R,
+        title: Title,
+        plain: &mut P,
+        fast: &mut F,
+    ) -> anyhow::Result<bool>
+    where
+        R: Clock + Print,
+        P: Body<C>,
+        F: Body<C>,
+    {
+        let pair = self.compare(rt, plain, fast)?;
+        pair.tell(rt, self.turns, title)?;
+        Ok(pair.same)
+    }
+
     /// Compares both bodies at each case, and then times the turns of each.
     pub fn compare<R, P, F>(&self, rt: &R, plain: &mut P, fast: &mut F) -> anyhow::Result<Pair>
     where

@@ -105,7 +105,7 @@ struct OfSeveral;
 
 impl Teller for OfSeveral {
     fn told(&self, alloc: Global, text: &str) -> Result<String, Fail> {
-        let mut blanks: Vec<Box<dyn Controller>> = Vec::new(alloc);
+        let mut blanks: Vec<Box<dyn Controller + Send>> = Vec::new(alloc);
         add(&mut blanks, Box::new(alloc, Forward::blank())?)?;
         add(&mut blanks, Box::new(alloc, Forward::blank())?)?;
         add(&mut blanks, Box::new(alloc, Passthrough::blank())?)?;

@@ -1,4 +1,5 @@
 pub mod CountLemmas
+mod CountRows
 pub mod InterfaceLemmas
 pub mod NameLemmas
 pub mod VerdictLemmas

@@ -10,6 +10,4 @@ mod loops;
 mod names;
 mod ranges;
 mod references;
-#[cfg(test)]
-mod tests;
 mod verdict;

@@ -134,18 +134,22 @@ impl Rig {
 
     /// `move STATE`: whether it moved, and its state then.
     fn go(&mut self, told: &mut String, rest: &str) -> Result<(), Fail> {
-        let target = match rest {
-            "unconfigured" => Life::Unconfigured,
-            "inactive" => Life::Inactive,
-            "active" => Life::Active,
-            _ => Life::Finalized,
-        };
-        match self.component.to_state(target) {
+        match self.component.to_state(life_of(rest)) {
             Ok(()) => told.push_str("ok")?,
             Err(fault) => write!(told, "{fault}")?,
         }
         write!(told, " {}", self.component.life())?;
         Ok(())
+    }
+}
+
+/// The lifecycle state that a word stands for.
+pub fn life_of(word: &str) -> Life {
+    match word {
+        "unconfigured" => Life::Unconfigured,
+        "inactive" => Life::Inactive,
+        "finalized" => Life::Finalized,
+        _ => Life::Active,
     }
 }
 

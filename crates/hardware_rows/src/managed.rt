@@ -2,11 +2,12 @@
 
 ghost use Rattle.std.specs.Prelude.{◌<◌, length};
 
+use crate::acts::life_of;
 use crate::starts::{names_of, push_components, push_interfaces};
 use case_pages::acts::{Player, hold_acts};
 use case_pages::pages::{halves, joined, push_parted};
 use cm_hardware::ResourceManager;
-use cm_model::{BodyState, Checked, FailedPart, Life, ListRoom};
+use cm_model::{BodyState, Checked, FailedPart, ListRoom};
 use desc_check::check;
 use desc_text::read_description;
 use std::alloc::Global;
@@ -74,15 +75,6 @@ fn run(alloc: Global, told: &mut String, checked: &Checked, act: &str) -> Result
     push_failed(told, failed.as_slice())?;
     push_bodies(told, bodies.as_slice())?;
     push_lists(alloc, told, checked, &hardware)
-}
-
-fn life_of(word: &str) -> Life {
-    match word {
-        "unconfigured" => Life::Unconfigured,
-        "inactive" => Life::Inactive,
-        "finalized" => Life::Finalized,
-        _ => Life::Active,
-    }
 }
 
 /// Appends each failure, a read or a write, with the place of its component.

@@ -3,7 +3,9 @@
 use case_pages::largest::AT_ALL_LIMITS;
 use case_pages::pages::{Teller, hold};
 use cm_hardware::ResourceManager;
-use cm_model::{CompLine, Description, IfaceLine, IfaceName, JointDesc, Kind, Name, Value};
+use cm_model::{
+    CompDesc, CompLine, CtlDesc, Description, IfaceLine, IfaceName, JointDesc, Kind, Name, Value,
+};
 use desc_check::check;
 use desc_text::read_description;
 use std::alloc::Global;
@@ -69,12 +71,25 @@ pub(crate) fn push_components(
         told.push_str("none")?;
     }
     for (index, line) in lines.iter().enumerate() {
-        let described = description.components.as_slice().get(line.place as usize);
-        let described = described.ok_or("no such component")?;
-        let separator = if index > 0 { "; " } else { "" };
-        let (name, kind, life) = (&described.name, described.kind, line.life);
-        write!(told, "{separator}{name} {kind} {life}")?;
+        push_separator(told, index)?;
+        push_component(told, description.components.as_slice(), line)?;
     }
+    Ok(())
+}
+
+/// Appends what parts an item from the one before it.
+fn push_separator(told: &mut String, index: usize) -> Result<(), Fail> {
+    if index > 0 {
+        told.push_str("; ")?;
+    }
+    Ok(())
+}
+
+fn push_component(told: &mut String, components: &[CompDesc], line: &CompLine) -> Result<(), Fail> {
+    let described = components.get(line.place as usize);
+    let described = described.ok_or("no such component")?;
+    let (name, kind, life) = (&described.name, described.kind, line.life);
+    write!(told, "{name} {kind} {life}")?;
     Ok(())
 }
 
@@ -88,13 +103,17 @@ pub(crate) fn push_interfaces(
         told.push_str("none")?;
     }
     for (index, line) in lines.iter().enumerate() {
-        let name = names.get(line.place as usize).ok_or("no such interface")?;
-        let separator = if index > 0 { "; " } else { "" };
-        let side = if line.command { "command" } else { "state" };
-        write!(told, "{separator}{side} {name} ")?;
-        push_held(told, line)?;
+        push_separator(told, index)?;
+        push_interface(told, names, line)?;
     }
     Ok(())
+}
+
+fn push_interface(told: &mut String, names: &[String], line: &IfaceLine) -> Result<(), Fail> {
+    let name = names.get(line.place as usize).ok_or("no such interface")?;
+    let side = if line.command { "command" } else { "state" };
+    write!(told, "{side} {name} ")?;
+    push_held(told, line)
 }
 
 /// What the interface holds and, of a command interface, who claims it; or that it is not available.
@@ -115,26 +134,57 @@ fn push_held(told: &mut String, line: &IfaceLine) -> Result<(), Fail> {
     Ok(())
 }
 
-/// What the interfaces are called, by place.
+/// What the interfaces are called, by place: states first, then commands, then references.
 pub(crate) fn names_of(alloc: Global, description: &Description) -> Result<Vec<String>, Fail> {
     let mut names = Vec::new(alloc);
     let components = description.components.as_slice();
-    for component in components {
-        for joint in component.joints.as_slice() {
-            push_kinds(alloc, &mut names, joint, joint.states.as_slice())?;
-        }
-    }
-    for component in components {
-        for joint in component.joints.as_slice() {
-            push_kinds(alloc, &mut names, joint, joint.commands.as_slice())?;
-        }
-    }
-    for controller in description.controllers.as_slice() {
-        for interface in controller.exported_for() {
-            names.push(reference_for(alloc, &controller.name, interface)?)?;
-        }
-    }
+    push_side(alloc, &mut names, components, false)?;
+    push_side(alloc, &mut names, components, true)?;
+    push_references(alloc, &mut names, description.controllers.as_slice())?;
     Ok(names)
+}
+
+/// The commands of these components, or their states.
+fn push_side(
+    alloc: Global,
+    names: &mut Vec<String>,
+    components: &[CompDesc],
+    is_command: bool,
+) -> Result<(), Fail> {
+    for component in components {
+        push_joints(alloc, names, component.joints.as_slice(), is_command)?;
+    }
+    Ok(())
+}
+
+fn push_joints(
+    alloc: Global,
+    names: &mut Vec<String>,
+    joints: &[JointDesc],
+    is_command: bool,
+) -> Result<(), Fail> {
+    for joint in joints {
+        push_kinds(alloc, names, joint, joint.kinds(is_command))?;
+    }
+    Ok(())
+}
+
+fn push_references(
+    alloc: Global,
+    names: &mut Vec<String>,
+    controllers: &[CtlDesc],
+) -> Result<(), Fail> {
+    for controller in controllers {
+        push_exported(alloc, names, controller)?;
+    }
+    Ok(())
+}
+
+fn push_exported(alloc: Global, names: &mut Vec<String>, controller: &CtlDesc) -> Result<(), Fail> {
+    for interface in controller.exported_for() {
+        names.push(reference_for(alloc, &controller.name, interface)?)?;
+    }
+    Ok(())
 }
 
 /// A reference is called by its controller, and then by the joint and the kind of what it stands for.

@@ -4,11 +4,11 @@ ghost use Rattle.std.specs.Prelude.{IsTrue};
 ghost use Rattle.request_plan.specs.Stands.{IsStand};
 
 use crate::robots::ARM_AND_LEG;
-use crate::scenes::{Scene, are_below, request_of};
+use crate::scenes::{Scene, are_below, life_of, request_of};
 use case_pages::acts::{Player, hold_acts};
 use case_pages::pages::push_parted;
 use chain_order::PlaceSet;
-use cm_model::{Checked, Life, Name, Request};
+use cm_model::{Checked, Name, Request};
 use request_plan::{Act, Conclusion, Decision, Plan, Reply, Requests, Stand, Switched};
 use std::alloc::Global;
 use std::test::Fail;
@@ -252,15 +252,6 @@ fn request(alloc: Global, words: &str) -> Result<Request, Fail> {
         component: Name::read(alloc, name.as_bytes())?,
         target: life_of(state),
     })
-}
-
-fn life_of(word: &str) -> Life {
-    match word {
-        "unconfigured" => Life::Unconfigured,
-        "inactive" => Life::Inactive,
-        "finalized" => Life::Finalized,
-        _ => Life::Active,
-    }
 }
 
 /// Whether each loaded controller has its place, and each component its state.

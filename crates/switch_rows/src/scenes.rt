@@ -73,12 +73,7 @@ impl Scene {
     /// one that is not ready; or `PLACE STATE` of a component.
     fn add(&mut self, line: &str) -> Result<(), Fail> {
         let (name, word) = halves(line, " ")?;
-        let life = match word {
-            "unconfigured" => Life::Unconfigured,
-            "inactive" | "late" => Life::Inactive,
-            "finalized" => Life::Finalized,
-            _ => Life::Active,
-        };
+        let life = life_of(word);
         match name.parse() {
             Ok(place) => self.set_component(place, life),
             Err(_) => self.load(name, word, life),
@@ -143,6 +138,16 @@ impl Scene {
         let controllers = self.checked.description().controllers.as_slice();
         let controller = controllers.get(place as usize).ok_or("no such place")?;
         Ok(controller.name.as_str())
+    }
+}
+
+/// The lifecycle state that a word stands for: of one that is late it is inactive, and of any other it is active.
+pub(crate) fn life_of(word: &str) -> Life {
+    match word {
+        "unconfigured" => Life::Unconfigured,
+        "inactive" | "late" => Life::Inactive,
+        "finalized" => Life::Finalized,
+        _ => Life::Active,
     }
 }
 
