@@ -4,7 +4,7 @@
 #[cfg(test)]
 mod bodies;
 #[cfg(test)]
-mod edge;
+mod faults;
 #[cfg(test)]
 mod lists;
 #[cfg(test)]

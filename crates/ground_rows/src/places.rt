@@ -69,6 +69,26 @@ fn a_new_registry_is_empty(rt: HostRuntime) {
     assert!(rt; registry.is_empty() && registry.limit() == 3);
 }
 
+#[test]
+fn the_largest_registry(rt: HostRuntime) -> Result<(), Fail> {
+    let mut registry = Registry::make(rt.alloc(), 1_000);
+    for index in 0..1_000u32 {
+        add(rt.alloc(), &mut registry, index)?;
+    }
+    assert!(rt; registry.len() == 1_000);
+    Ok(())
+}
+
+/// An interface more, which has this place.
+fn add(alloc: Global, registry: &mut Registry, index: u32) -> Result<(), Fail> {
+    let text = format!(in alloc; "controller/joint{index}/effort")?;
+    let name = IfaceName::read(alloc, text.as_bytes())?;
+    if registry.add(name)? == index {
+        return Ok(());
+    }
+    Err(Fail::new("another place"))
+}
+
 /// An interface that is there is refused before a registry that is full; a reference is another interface than the one that it is of.
 const CALLS: &str = "\
 3

@@ -20,9 +20,10 @@ use switch_plan::{Planned, Relations, SwitchRequest, View, plan, plan_with};
 fn requests_have_their_plans(rt: HostRuntime) -> Result<(), Fail> {
     let alloc = rt.alloc();
     hold_acts::<Scene>(alloc, SEVEN, ONE_JOINT)?;
-    for page in [LISTS, MEMBERS, RESTARTS, EFFORTS] {
-        hold_acts::<Scene>(alloc, ARM_AND_LEG, page)?;
-    }
+    hold_acts::<Scene>(alloc, ARM_AND_LEG, LISTS)?;
+    hold_acts::<Scene>(alloc, ARM_AND_LEG, MEMBERS)?;
+    hold_acts::<Scene>(alloc, ARM_AND_LEG, RESTARTS)?;
+    hold_acts::<Scene>(alloc, ARM_AND_LEG, EFFORTS)?;
     hold_acts::<Scene>(alloc, RISING, RISING_REQUESTS)?;
     hold_acts::<Scene>(alloc, SINKING, SINKING_REQUESTS)
 }

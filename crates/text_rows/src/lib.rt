@@ -7,6 +7,8 @@ mod checks;
 #[cfg(test)]
 mod descriptions;
 #[cfg(test)]
+mod faults;
+#[cfg(test)]
 mod largest;
 #[cfg(test)]
 mod made;

@@ -107,19 +107,18 @@ fn scripts_are_read_or_told_by_their_first_bad_line(rt: HostRuntime) -> Result<(
     hold(alloc, &Prints, "", PRINTED)
 }
 
+/// What stands before a line alone.
+const BEGUN: &str = "session a\n";
+
 #[test]
 fn each_line_is_a_call_or_bad(rt: HostRuntime) -> Result<(), Fail> {
-    for page in [
-        CALLS_ON_NAMES,
-        WHOLE_NUMBERS,
-        VALUES,
-        POINTS,
-        SWITCHES,
-        BYTES,
-    ] {
-        hold_lines(rt.alloc(), &OneCall, "session a\n", page)?;
-    }
-    Ok(())
+    let alloc = rt.alloc();
+    hold_lines(alloc, &OneCall, BEGUN, CALLS_ON_NAMES)?;
+    hold_lines(alloc, &OneCall, BEGUN, WHOLE_NUMBERS)?;
+    hold_lines(alloc, &OneCall, BEGUN, VALUES)?;
+    hold_lines(alloc, &OneCall, BEGUN, POINTS)?;
+    hold_lines(alloc, &OneCall, BEGUN, SWITCHES)?;
+    hold_lines(alloc, &OneCall, BEGUN, BYTES)
 }
 
 #[test]

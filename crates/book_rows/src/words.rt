@@ -1,0 +1,252 @@
+//! Runs by their words, between which nobody waits: neither pace nor gate is called.
+
+ghost use Rattle.std.specs.Prelude.{◌<◌, ◌^◌, length};
+ghost use Rattle.std.specs.List.{All};
+ghost use Rattle.cm_model.specs.Controllers.{IsBlank};
+
+use case_calls::stocks::blanks;
+use case_pages::pages::{expanded, halves, hold_told, written_out};
+use case_runs::runs::{IN_STOCK, ample_sink};
+use cm_top::{Status, Stock, run};
+use ctl_trait::Controller;
+use outside_io::{Gate, MemSource, Pace, Point};
+use std::alloc::Global;
+use std::str;
+use std::sync::Wait;
+use std::sync::atomic::{AtomicU64, Ordering};
+use std::test::Fail;
+use std::thread::Threads;
+
+/// A pace that counts its calls.
+#[derive(Drop)]
+struct CountingPace {
+    calls: u64,
+}
+
+impl Pace for CountingPace {
+    fn pause(&mut self, _cycle: u64) {
+        self.calls = self.calls.saturating_add(1);
+    }
+}
+
+/// A gate that counts its calls.
+#[derive(Drop)]
+struct CountingGate {
+    calls: AtomicU64,
+}
+
+impl Gate for CountingGate {
+    fn at(&self, _point: Point) {
+        self.calls.fetch_add(1, Ordering::SeqCst);
+    }
+}
+
+/// One operator, whose second line comes while the cycle is aloft where turns are made, and before it where none are.
+const DOCUMENT: &str = r#"version = 1
+update_rate = 100
+cycles = 1
+[[controller]]
+name = "mk"
+type = "mock"
+--- script ---
+session a
+load mk
+load mk
+schedule
+step a
+begin
+step a
+end
+"#;
+
+/// What a run of it prints.
+const BY_RUN: &str = "a load mk: ok 0
+a load mk: loaded
+loop begin 0: none
+loop end 0: none
+loop close: none
+";
+
+/// What its turns print.
+const BY_STEPS: &str = "a load mk: ok 0
+loop begin 0: none
+a load mk: loaded
+loop end 0: none
+loop close: none
+";
+
+/// How a run of it ends by words, between which a bar stands.
+const WORDS: &str = r"run => ok
+run|-- => ok
+--|run => ok
+steps => ok
+--|steps => ok
+ => usage: cm run|steps|live [--make N]
+walk => usage: cm run|steps|live [--make N]
+run|run => usage: cm run|steps|live [--make N]
+run|steps => usage: cm run|steps|live [--make N]
+Run => usage: cm run|steps|live [--make N]
+run\s => usage: cm run|steps|live [--make N]
+--help => usage: cm run|steps|live [--make N]
+run|--make => usage: cm run|steps|live [--make N]
+run|--make| => usage: cm run|steps|live [--make N]
+run|--make|0 => usage: cm run|steps|live [--make N]
+run|--make|1001 => usage: cm run|steps|live [--make N]
+run|--make|1|--make|2 => usage: cm run|steps|live [--make N]
+live => usage: cm run|steps|live [--make N]";
+
+/// Words with a number of rounds, and the summary of the made document of so many, whatever the source gives. Zeros may lead a number; of
+/// the smallest, of two rounds, of five and of the largest.
+const MADE: &str = "\
+run|--make|1
+=> cycles 10
+entries 45
+updates 79
+asks 3 done 3 refused 0 ended 0
+joint j0 0.000000
+joint j1 0.090000
+<2..8 * joint j# 0.000000
+>
+
+--make=0002|steps
+=> cycles 20
+entries 71
+updates 158
+asks 5 done 5 refused 0 ended 0
+joint j0 0.000000
+joint j1 0.190000
+joint j2 0.100000
+<3..8 * joint j# 0.000000
+>
+
+run|--make|05
+=> cycles 50
+entries 149
+updates 395
+asks 11 done 11 refused 0 ended 0
+joint j0 0.000000
+joint j1 0.370000
+joint j2 0.400000
+joint j3 0.110000
+joint j4 0.200000
+joint j5 0.100000
+<6..8 * joint j# 0.000000
+>
+
+--make|1000|run
+=> cycles 10000
+entries 26019
+updates 79000
+asks 2001 done 2001 refused 0 ended 0
+joint j0 0.000000
+joint j1 0.410000
+joint j2 0.780000
+joint j3 0.150000
+joint j4 0.520000
+joint j5 0.890000
+joint j6 0.260000
+joint j7 0.630000
+";
+
+/// What is printed by words that are accepted and name no number.
+fn trace_by(words: &str) -> &'static str {
+    if words.contains("steps") {
+        BY_STEPS
+    } else {
+        BY_RUN
+    }
+}
+
+#[test]
+fn jobs_run_by_their_words_and_nobody_waits(rt: HostRuntime) -> Result<(), Fail> {
+    for row in WORDS.lines() {
+        let (given, want) = halves(row, " => ")?;
+        let trace = if want == "ok" { trace_by(given) } else { "" };
+        hold_run(&rt, rt.alloc(), given, want, trace)?;
+    }
+    Ok(())
+}
+
+#[test]
+fn made_documents_are_run_by_their_words(rt: HostRuntime) -> Result<(), Fail> {
+    let alloc = rt.alloc();
+    for case in MADE.split("\n\n") {
+        let case = expanded(alloc, case)?;
+        let (given, summary) = halves(case.as_str(), "\n=> ")?;
+        hold_run(&rt, alloc, given, "ok", summary)?;
+    }
+    Ok(())
+}
+
+/// Fails where a run by the words of a row does, over the program's stock.
+fn hold_run<R: Threads + Wait + Sync>(
+    rt: &R,
+    alloc: Global,
+    given: &str,
+    want: &str,
+    trace: &str,
+) -> Result<(), Fail> {
+    let words = words(alloc, given)?;
+    let blanks = blanks(alloc, IN_STOCK)?;
+    hold_words(rt, alloc, words.as_slice(), blanks, want, trace)
+}
+
+/// Fails where a run by these words ends otherwise, or prints something else, or waits, or leaves a book where it should leave none,
+/// or none where it should.
+fn hold_words<R: Threads + Wait + Sync, C: Controller>(
+    rt: &R,
+    alloc: Global,
+    words: &[String],
+    blanks: Vec<C>,
+    want: &str,
+    trace: &str,
+) -> Result<(), Fail>
+    requires blank { All (λ c. IsBlank (C.meaning c)) blanks.items }
+    requires few { length blanks.items < 2 ^ 32 }
+{
+    let bytes = DOCUMENT.as_bytes().to_vec(alloc)?;
+    let mut source = MemSource::make(bytes, 1000, vec![in alloc]?);
+    let mut sink = ample_sink(alloc)?;
+    let mut pace = CountingPace { calls: 0 };
+    let gate = CountingGate {
+        calls: AtomicU64::new(0),
+    };
+    let stock = Stock::make(blanks);
+    let (status, book) = run(
+        rt,
+        alloc,
+        words,
+        &mut source,
+        &mut sink,
+        stock,
+        &mut pace,
+        &gate,
+    );
+    let calls = pace.calls.saturating_add(gate.calls.load(Ordering::SeqCst));
+    hold_status(alloc, status, want)?;
+    hold_told(alloc, "its words", str::from_utf8(sink.bytes())?, trace)?;
+    if calls != 0 {
+        return Err(Fail::new("somebody waits"));
+    }
+    if book.is_some() != (want == "ok") {
+        return Err(Fail::new("a book without a run, or a run without a book"));
+    }
+    Ok(())
+}
+
+fn hold_status(alloc: Global, status: Status, want: &str) -> Result<(), Fail> {
+    let status = format!(in alloc; "{status}")?;
+    hold_told(alloc, "its words", status.as_str(), want)
+}
+
+/// The words of a row; of an empty one none.
+fn words(alloc: Global, given: &str) -> Result<Vec<String>, Fail> {
+    let mut words = Vec::new(alloc);
+    if given.is_empty() {
+        return Ok(words);
+    }
+    for word in given.split('|') {
+        words.push(written_out(alloc, word)?)?;
+    }
+    Ok(words)
+}

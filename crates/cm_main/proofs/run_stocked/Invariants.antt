@@ -1,9 +1,0 @@
-use Rattle.ctl_trait.specs.contracts.in_box.BoxDynControllerSendController.TheImpl.{ghosts}
-use Rattle.cm_main.specs.Stock.{AreBlanks, blanks_of_each}
-use Rattle.cm_main.proofs.run_stocked.Given as goal
-use Rattle.cm_main.proofs.run_stocked.Hidden.{sends-own-1}
-use Rattle.cm_main.proofs.run_stocked.OwnLists.{own-1, lawful-own-1}
-
--- so many of each kind so far
-abbrev pub invariant-loop-number : goal.invariant-loop-number
-invariant-loop-number g l = AreBlanks (ghosts (own-1, lawful-own-1, sends-own-1)).meaning l.blanks.items (blanks_of_each l._number)

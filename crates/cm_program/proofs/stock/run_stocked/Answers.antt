@@ -1,0 +1,20 @@
+use Rattle.cm_document.specs.declared.description.CtlKind.TheVariants.{Forward, Passthrough, Pid, Trajectory, Broadcaster}
+use Rattle.ctl_rack.specs.Stocks.{with_one_more}
+use Rattle.cm_program.specs.Stock.{blanks_of_each}
+use Rattle.cm_program.proofs.stock.run_stocked.Goals as goal
+
+-- one more of each kind
+pub loop-number-preserved : goal.loop-number-preserved
+loop-number-preserved g c =
+    let each = blanks_of_each c.loop-number._number in
+    let forwards = with_one_more each Forward in
+    let passthroughs = with_one_more forwards Passthrough in
+    let pids = with_one_more passthroughs Pid in
+    let trajectories = with_one_more pids Trajectory in
+    let broadcasters = with_one_more trajectories Broadcaster in
+    let with_forward = c.in_ok-add.ensures each c.loop-number.invariant in
+    let with_passthrough = c.in_ok-add-2.ensures forwards with_forward in
+    let with_pid = c.in_ok-add-3.ensures passthroughs with_passthrough in
+    let with_trajectory = c.in_ok-add-4.ensures pids with_pid in
+    let with_broadcaster = c.in_ok-add-5.ensures trajectories with_trajectory in
+    c.in_ok-add-6.ensures broadcasters with_broadcaster

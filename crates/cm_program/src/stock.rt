@@ -1,0 +1,108 @@
+//! The program's stock, a box for each blank.
+
+ghost use Rattle.std.specs.Prelude.{◌≡◌, IfOk, OnOk};
+ghost use Rattle.cm_model.specs.State.{fresh};
+ghost use Rattle.cm_model.specs.declared.blanks.Blanks.{Blanks};
+ghost use Rattle.ctl_rack.specs.Stocks.{with_one_more};
+ghost use Rattle.cm_top.specs.Status.{ComesBeforeWriting};
+ghost use Rattle.cm_program.specs.Stock.{AreBlanks, blanks_of_each};
+
+use cm_model::Memory;
+use cm_top::{Status, Stock, run};
+use ctl_bcast::Broadcaster;
+use ctl_forward::{Forward, Passthrough};
+use ctl_mock::Mock;
+use ctl_pid::PidCtl;
+use ctl_trait::{Controller, CtlKind};
+use ctl_traj::TrajCtl;
+use outside_io::{NoPace, OpenGate, Sink, Source};
+use std::sync::Wait;
+use std::thread::Threads;
+
+/// How many blanks of each kind the program has in stock.
+pub const BLANKS: u32 = 32;
+
+/// Runs the words over the program's stock, a box for each blank.
+pub fn run_stocked<R, S, K>(
+    rt: &R,
+    words: &[String],
+    source: &mut S,
+    sink: &mut K,
+) -> Result<Status, Memory>
+where
+    R: Threads + Wait + Sync + AllocGlobal,
+    S: Source,
+    K: Sink,
+    ensures refused { IfOk result (λ status. status ≡ Status.BadWords → source.new ≡ source.old) }
+    ensures untouched { IfOk result (λ status. ComesBeforeWriting status → sink.new ≡ sink.old) }
+{
+    let alloc = rt.alloc();
+    let mut blanks: Vec<Box<dyn Controller + Send>> = Vec::new(alloc);
+    for _number in 0..BLANKS {
+        add(
+            &mut blanks,
+            CtlKind::Forward,
+            Box::new(alloc, Forward::blank())?,
+        )?;
+        add(
+            &mut blanks,
+            CtlKind::Passthrough,
+            Box::new(alloc, Passthrough::blank())?,
+        )?;
+        add(&mut blanks, CtlKind::Pid, Box::new(alloc, PidCtl::blank())?)?;
+        add(
+            &mut blanks,
+            CtlKind::Trajectory,
+            Box::new(alloc, TrajCtl::blank())?,
+        )?;
+        add(
+            &mut blanks,
+            CtlKind::Broadcaster,
+            Box::new(alloc, Broadcaster::blank())?,
+        )?;
+        add(&mut blanks, CtlKind::Mock, Box::new(alloc, Mock::blank())?)?;
+    }
+    Ok(run_over(rt, words, source, sink, blanks))
+}
+
+/// Runs the words over a stock of these blanks, so many of each kind, and drops the book.
+fn run_over<R, S, K, C>(
+    rt: &R,
+    words: &[String],
+    source: &mut S,
+    sink: &mut K,
+    blanks: Vec<C>,
+) -> Status
+where
+    R: Threads + Wait + Sync + AllocGlobal,
+    S: Source,
+    K: Sink,
+    C: Controller,
+    requires { AreBlanks C.meaning blanks.items (blanks_of_each BLANKS) }
+    ensures refused { result ≡ Status.BadWords → source.new ≡ source.old }
+    ensures untouched { ComesBeforeWriting result → sink.new ≡ sink.old }
+{
+    let stock = Stock::make(blanks);
+    let alloc = rt.alloc();
+    let (status, _) = run(
+        rt,
+        alloc,
+        words,
+        source,
+        sink,
+        stock,
+        &mut NoPace,
+        &OpenGate,
+    );
+    status
+}
+
+/// One blank more, of this kind.
+fn add<C: Controller>(blanks: &mut Vec<C>, kind: CtlKind, blank: C) -> Result<(), Memory>
+    requires { C.meaning blank ≡ fresh kind }
+    ensures { OnOk result ((b : Blanks) → AreBlanks C.meaning blanks.old.items b
+        → AreBlanks C.meaning blanks.new.items (with_one_more b kind)) }
+{
+    blanks.push(blank)?;
+    Ok(())
+}

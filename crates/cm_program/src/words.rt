@@ -1,0 +1,50 @@
+//! The words that the program was started with.
+
+ghost use Rattle.std.specs.Prelude.{◌≡◌, ◌⊎◌, IfErr};
+ghost use Rattle.cm_top.specs.Status.{ComesBeforeWriting};
+
+use crate::stock::run_stocked;
+use cm_model::Memory;
+use cm_top::Status;
+use outside_io::{Sink, Source};
+use std::rt::Env;
+use std::sync::Wait;
+use std::thread::Threads;
+use std::{env, io};
+
+/// Runs the words between a source and a sink. Words that are not UTF-8 are not accepted.
+pub fn run_words<E, R, S, K>(words_of: &E, rt: &R, source: &mut S, sink: &mut K) -> Status
+where
+    E: Env + AllocGlobal,
+    R: Threads + Wait + Sync + AllocGlobal,
+    S: Source,
+    K: Sink,
+    // Where the words are not accepted, nothing was read.
+    ensures refused { result ≡ Status.BadWords → source.new ≡ source.old }
+    // Statuses 2 to 6 leave the sink as it was.
+    ensures untouched { ComesBeforeWriting result → sink.new ≡ sink.old }
+{
+    let words = match words(words_of) {
+        Ok(words) => words,
+        Err(status) => return status,
+    };
+    match run_stocked(rt, words.as_slice(), source, sink) {
+        Ok(status) => status,
+        Err(Memory) => Status::Memory,
+    }
+}
+
+/// The words after the program's name.
+fn words<E: Env + AllocGlobal>(rt: &E) -> Result<Vec<String>, Status>
+    ensures { IfErr result (λ status. (status ≡ Status.BadWords) ⊎ (status ≡ Status.Memory)) }
+{
+    let args = match env::args(rt) {
+        Ok(args) => args,
+        Err(fault) if fault.kind() == io::ErrorKind::OutOfMemory => return Err(Status::Memory),
+        Err(_) => return Err(Status::BadWords),
+    };
+    match args.skip(1).collect(rt.alloc()) {
+        Ok(words) => Ok(words),
+        Err(_) => Err(Status::Memory),
+    }
+}

@@ -1,0 +1,5 @@
+//! Tests of a session over a small console, advance by advance.
+#![tactic(auto)]
+
+#[cfg(test)]
+mod sessions;

@@ -1,0 +1,110 @@
+//! Runs of the program where one allocation may be refused.
+
+use crate::given::Words;
+use cm_model::Memory;
+use cm_program::run_words;
+use cm_top::Status;
+use outside_io::{MemSink, MemSource};
+use std::alloc::{AllocError, Global};
+use std::process::Abort;
+use std::sync::Wait;
+use std::thread::Threads;
+
+/// An arm that cannot be read in cycle 1, a forward that commands it, and a mock whose update fails in cycle 2: they are switched on
+/// together, both are stopped, and the forward is refused while the arm is down. The last request waits until the loop closes.
+const DOCUMENT: &str = r#"version = 1
+update_rate = 100
+cycles = 3
+[[component]]
+name = "arm"
+kind = "actuator"
+fail_read = [1]
+[[component.joint]]
+name = "j1"
+vmax = 1
+command = ["position"]
+state = ["position"]
+[[controller]]
+name = "fwd"
+type = "forward"
+claims = ["j1/position"]
+[[controller]]
+name = "mk"
+type = "mock"
+fail_update = [2]
+--- script ---
+session a
+load fwd
+load mk
+configure fwd
+configure mk
+switch strict +fwd +mk
+send fwd 0.5
+hw arm active
+list interfaces
+switch strict +fwd
+hw arm inactive
+"#;
+
+/// What a run of it prints.
+const TRACE: &str = "a load fwd: ok 0
+a load mk: ok 1
+a configure fwd: ok
+a configure mk: ok
+a switch strict +fwd +mk: queued 0
+loop begin 0: 0 done
+loop end 0: run fwd ok unset; run mk ok; joint j1 0.000000 0.000000 0.000000
+a told 0: done
+a send fwd 0.500000: ok
+a hw arm active: queued 1
+loop begin 1: 1 done
+loop end 1: fail arm read; run mk ok; joint j1 0.000000 0.000000 0.000000; stop fwd
+a told 1: done
+a list interfaces: state j1/position unavailable; command j1/position unavailable
+a switch strict +fwd: queued 2
+loop begin 2: 2 refused fwd unavailable j1/position
+loop end 2: run mk error; joint j1 0.000000 0.000000 0.000000; stop mk
+a told 2: refused fwd unavailable j1/position
+a hw arm inactive: queued 3
+loop close: 3 loop_ended
+a told 3: loop_ended
+";
+
+/// Where at most one allocation is refused, at most one of two runs may want memory: that one has printed a front of the trace, and
+/// the other all of it. So a run that tells a want of memory though nothing was refused to it fails here, wherever one is refused.
+#[test]
+fn memory_is_wanted_only_where_it_was_refused(rt: HostRuntime) {
+    let first = wants_memory(&rt, rt.alloc());
+    let second = wants_memory(&rt, rt.alloc());
+    assert!(rt; !(first && second));
+}
+
+/// Whether a run of the document, or what it was to run between, wanted memory. Whatever else it comes to has the whole trace.
+fn wants_memory<R>(rt: &R, alloc: Global) -> bool
+where
+    R: Abort + Threads + Wait + Sync + AllocGlobal,
+{
+    let Ok(words) = Words::of(alloc, "run") else {
+        return true;
+    };
+    let (Ok(mut source), Ok(mut sink)) = (source(alloc), sink(alloc)) else {
+        return true;
+    };
+    let status = run_words(&(words, alloc), rt, &mut source, &mut sink);
+    let trace = TRACE.as_bytes();
+    match status {
+        Status::Ok => assert_eq!(rt; sink.bytes(), trace),
+        Status::Memory => assert!(rt; trace.starts_with(sink.bytes())),
+        other => panic!(rt; "ended with {other}"),
+    }
+    status == Status::Memory
+}
+
+fn source(alloc: Global) -> Result<MemSource, AllocError> {
+    let bytes = DOCUMENT.as_bytes().to_vec(alloc)?;
+    Ok(MemSource::make(bytes, 100, vec![in alloc]?))
+}
+
+fn sink(alloc: Global) -> Result<MemSink, Memory> {
+    MemSink::make(alloc, 2000, 1000, vec![in alloc]?)
+}

@@ -1,0 +1,23 @@
+//! Tests of whole runs, as pages of documents: each with how its run ends and what is printed, by the documents' rules.
+#![tactic(auto)]
+
+#[cfg(test)]
+mod awaits;
+#[cfg(test)]
+mod console;
+#[cfg(test)]
+mod hardware;
+#[cfg(test)]
+mod kinds;
+#[cfg(test)]
+mod largest;
+#[cfg(test)]
+mod operators;
+#[cfg(test)]
+mod pages;
+#[cfg(test)]
+mod runs;
+#[cfg(test)]
+mod switches;
+#[cfg(test)]
+mod turns;

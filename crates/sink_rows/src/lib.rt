@@ -1,0 +1,9 @@
+//! Tests of runs whose source or sink fails, or takes a few bytes at a time: how each ends, what it printed, and what it leaves.
+#![tactic(auto)]
+
+#[cfg(test)]
+mod gathered;
+#[cfg(test)]
+mod outside;
+#[cfg(test)]
+mod sinks;
