@@ -9,7 +9,7 @@ use case_pages::pages::{expanded, halves, hold_told, written_out};
 use case_runs::runs::{IN_STOCK, ample_sink};
 use cm_top::{Status, Stock, run};
 use ctl_trait::Controller;
-use outside_io::{Gate, MemSource, Pace, Point};
+use outside_io::{Gate, MemSink, MemSource, Pace, Point};
 use std::alloc::Global;
 use std::str;
 use std::sync::Wait;
@@ -160,22 +160,29 @@ fn trace_by(words: &str) -> &'static str {
 #[test]
 fn jobs_run_by_their_words_and_nobody_waits(rt: HostRuntime) -> Result<(), Fail> {
     for row in WORDS.lines() {
-        let (given, want) = halves(row, " => ")?;
-        let trace = if want == "ok" { trace_by(given) } else { "" };
-        hold_run(&rt, rt.alloc(), given, want, trace)?;
+        hold_row(&rt, rt.alloc(), row)?;
     }
     Ok(())
 }
 
+fn hold_row<R: Threads + Wait + Sync>(rt: &R, alloc: Global, row: &str) -> Result<(), Fail> {
+    let (given, want) = halves(row, " => ")?;
+    let trace = if want == "ok" { trace_by(given) } else { "" };
+    hold_run(rt, alloc, given, want, trace)
+}
+
 #[test]
 fn made_documents_are_run_by_their_words(rt: HostRuntime) -> Result<(), Fail> {
-    let alloc = rt.alloc();
     for case in MADE.split("\n\n") {
-        let case = expanded(alloc, case)?;
-        let (given, summary) = halves(case.as_str(), "\n=> ")?;
-        hold_run(&rt, alloc, given, "ok", summary)?;
+        hold_made(&rt, rt.alloc(), case)?;
     }
     Ok(())
+}
+
+fn hold_made<R: Threads + Wait + Sync>(rt: &R, alloc: Global, case: &str) -> Result<(), Fail> {
+    let case = expanded(alloc, case)?;
+    let (given, summary) = halves(case.as_str(), "\n=> ")?;
+    hold_run(rt, alloc, given, "ok", summary)
 }
 
 /// Fails where a run by the words of a row does, over the program's stock.
@@ -207,35 +214,53 @@ fn hold_words<R: Threads + Wait + Sync, C: Controller>(
     let bytes = DOCUMENT.as_bytes().to_vec(alloc)?;
     let mut source = MemSource::make(bytes, 1000, vec![in alloc]?);
     let mut sink = ample_sink(alloc)?;
+    let ran = ran(rt, alloc, words, &mut source, &mut sink, blanks);
+    hold_ran(alloc, &ran, want)?;
+    hold_told(alloc, "its words", str::from_utf8(sink.bytes())?, trace)
+}
+
+/// How a run ended, whether it left a book, and how often pace and gate were called.
+#[derive(Drop)]
+struct Ran {
+    status: Status,
+    has_book: bool,
+    calls: u64,
+}
+
+/// Runs the words over a stock of these blanks.
+fn ran<R: Threads + Wait + Sync, C: Controller>(
+    rt: &R,
+    alloc: Global,
+    words: &[String],
+    source: &mut MemSource,
+    sink: &mut MemSink,
+    blanks: Vec<C>,
+) -> Ran
+    requires blank { All (λ c. IsBlank (C.meaning c)) blanks.items }
+    requires few { length blanks.items < 2 ^ 32 }
+{
     let mut pace = CountingPace { calls: 0 };
     let gate = CountingGate {
         calls: AtomicU64::new(0),
     };
     let stock = Stock::make(blanks);
-    let (status, book) = run(
-        rt,
-        alloc,
-        words,
-        &mut source,
-        &mut sink,
-        stock,
-        &mut pace,
-        &gate,
-    );
-    let calls = pace.calls.saturating_add(gate.calls.load(Ordering::SeqCst));
-    hold_status(alloc, status, want)?;
-    hold_told(alloc, "its words", str::from_utf8(sink.bytes())?, trace)?;
-    if calls != 0 {
-        return Err(Fail::new("somebody waits"));
+    let (status, book) = run(rt, alloc, words, source, sink, stock, &mut pace, &gate);
+    Ran {
+        status,
+        has_book: book.is_some(),
+        calls: pace.calls.saturating_add(gate.calls.load(Ordering::SeqCst)),
     }
-    if book.is_some() != (want == "ok") {
-        return Err(Fail::new("a book without a run, or a run without a book"));
-    }
-    Ok(())
 }
 
-fn hold_status(alloc: Global, status: Status, want: &str) -> Result<(), Fail> {
-    let status = format!(in alloc; "{status}")?;
+/// Fails where a run ended otherwise, or somebody was waited for, or a book is there without a run or is not there with one.
+fn hold_ran(alloc: Global, ran: &Ran, want: &str) -> Result<(), Fail> {
+    if ran.calls != 0 {
+        return Err(Fail::new("somebody waits"));
+    }
+    if ran.has_book != (want == "ok") {
+        return Err(Fail::new("a book without a run, or a run without a book"));
+    }
+    let status = format!(in alloc; "{}", ran.status)?;
     hold_told(alloc, "its words", status.as_str(), want)
 }
 

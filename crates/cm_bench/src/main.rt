@@ -2,7 +2,7 @@
 #![tactic(auto)]
 
 use bodies::{FastMul, FastOver, FastText, PlainMul, PlainOver, PlainText};
-use cases::Case;
+use cases::{Case, Moment};
 use cm_document::MOST_POINTS;
 use plan::Plan;
 use points::{SEGMENT_US, UnderWay};
@@ -14,6 +14,7 @@ use std::sync::Wait;
 use std::{env, io};
 use steps::{FastStep, PlainStep};
 use switches::{PlainPlan, RelatedPlan};
+use texts::Texts;
 use timing::{Course, Pair, Title};
 use turns::{LockTurn, MutexTurn};
 use words::plan_of;
@@ -69,10 +70,17 @@ where
         cases: cases.as_slice(),
         turns: plan.turns,
     };
+    compare_over(rt, &course)
+}
+
+fn compare_over<R>(rt: &R, course: &Course<'_, Case>) -> anyhow::Result<bool>
+where
+    R: Clock + Print + AllocGlobal + Wait,
+{
     let mul = course.tell(rt, MUL, &mut PlainMul, &mut FastMul)?;
     let over = course.tell(rt, OVER, &mut PlainOver, &mut FastOver)?;
-    let text = compare_texts(rt, &course)?;
-    let turn = compare_locks(rt, &course)?;
+    let text = compare_texts(rt, course)?;
+    let turn = compare_locks(rt, course)?;
     Ok(mul && over && text && turn)
 }
 
@@ -117,8 +125,15 @@ where
         cases: moments.as_slice(),
         turns: plan.turns,
     };
-    let mut last = way(rt.alloc(), plan.seed, LAST_US - 2 * SEGMENT_US)?;
-    let mut all = way(rt.alloc(), plan.seed, 0)?;
+    compare_points(rt, &course, plan.seed)
+}
+
+fn compare_points<R>(rt: &R, course: &Course<'_, Moment>, seed: u64) -> anyhow::Result<bool>
+where
+    R: Clock + Print + AllocGlobal,
+{
+    let mut last = way(rt.alloc(), seed, LAST_US - 2 * SEGMENT_US)?;
+    let mut all = way(rt.alloc(), seed, 0)?;
     course.tell(rt, POINTS, &mut last, &mut all)
 }
 
@@ -164,6 +179,14 @@ where
         cases: cases.as_slice(),
         turns: plan.turns / CHECK_SHARE + 1,
     };
+    compare_checked(rt, &course)
+}
+
+fn compare_checked<R>(rt: &R, course: &Course<'_, String>) -> anyhow::Result<bool>
+where
+    R: Clock + Print + AllocGlobal,
+{
+    let alloc = rt.alloc();
     let mut reader = DescriptionReader { alloc };
     let pair = course.compare(rt, &mut reader, &mut DescriptionChecker { alloc })?;
     tell_checks(rt, course.turns, &pair)?;
@@ -195,8 +218,16 @@ where
         cases: cases.as_slice(),
         turns: plan.turns / READER_SHARE + 1,
     };
+    compare_read(rt, &course, cases[0].script.len())
+}
+
+fn compare_read<R>(rt: &R, course: &Course<'_, Texts>, bytes: usize) -> anyhow::Result<bool>
+where
+    R: Clock + Print + AllocGlobal,
+{
+    let alloc = rt.alloc();
     let pair = course.compare(rt, &mut TomlReader { alloc }, &mut ScriptReader { alloc })?;
-    tell_readers(rt, course.turns, &pair, cases[0].script.len())?;
+    tell_readers(rt, course.turns, &pair, bytes)?;
     Ok(pair.same)
 }
 

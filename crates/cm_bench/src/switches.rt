@@ -27,17 +27,37 @@ pub struct Switching {
 
 /// The switch of all: the topmost of a chain stops and one mock takes over from another, so the second of the chain restarts.
 pub fn made(alloc: Global) -> anyhow::Result<Switching> {
+    let request = request(alloc)?;
+    of_request(alloc, described(alloc)?, request)
+}
+
+/// The description at which it is.
+fn described(alloc: Global) -> anyhow::Result<Checked> {
     let text = chained(alloc)?;
-    let checked = check(alloc, read_description(alloc, text.as_bytes())?)?;
-    let components = checked.description().components.as_slice().len();
-    let request = SwitchRequest {
-        on: names(alloc, &["m1"])?,
-        off: names(alloc, &["m0", "p0"])?,
+    let description = read_description(alloc, text.as_bytes())?;
+    Ok(check(alloc, description)?)
+}
+
+fn request(alloc: Global) -> anyhow::Result<SwitchRequest> {
+    let on = names(alloc, &["m1"])?;
+    let off = names(alloc, &["m0", "p0"])?;
+    Ok(SwitchRequest {
+        on,
+        off,
         strict: true,
-    };
-    let relations = Relations::of(alloc, &checked)?;
-    let loaded = loaded(alloc, &checked)?;
+    })
+}
+
+/// A request of this description, with every controller loaded.
+fn of_request(
+    alloc: Global,
+    checked: Checked,
+    request: SwitchRequest,
+) -> anyhow::Result<Switching> {
+    let components = checked.description().components.as_slice().len();
     let components = vec![in alloc; Life::Active; components]?;
+    let loaded = loaded(alloc, &checked)?;
+    let relations = Relations::of(alloc, &checked)?;
     Ok(Switching {
         checked,
         relations,

@@ -142,11 +142,20 @@ impl Teller for Mocks {
 fn play<C: Kind>(alloc: Global, case: &str) -> Result<String, Fail> {
     let (params, calls) = halves_of(case);
     let params = params_of(alloc, params)?;
-    let mut told = String::new(alloc);
     let mut tried = Tried::new(C::blank(), Vec::new(alloc));
+    answers(alloc, &mut tried, &params, calls)
+}
+
+fn answers<C: Controller>(
+    alloc: Global,
+    tried: &mut Tried<C>,
+    params: &Params,
+    calls: &str,
+) -> Result<String, Fail> {
+    let mut told = String::new(alloc);
     for call in calls.lines() {
         push_parted(&mut told, "\n", "")?;
-        answer(alloc, &mut tried, &params, call, &mut told)?;
+        answer(alloc, tried, params, call, &mut told)?;
     }
     Ok(told)
 }
@@ -165,19 +174,44 @@ fn answer<C: Controller>(
     told: &mut String,
 ) -> Result<(), Fail> {
     let (name, given) = call.split_once(" ").unwrap_or((call, ""));
+    if name == "update" {
+        return updated(alloc, tried, given, told);
+    }
     let answer = match name {
-        "configure" if given.is_empty() => tried.configure(alloc, params)?,
-        "configure" => tried.configure(alloc, &params_of(alloc, given)?)?,
-        "ready" => yes_or_no(tried.ready(given.parse()?)),
+        "configure" => configured(alloc, tried, params, given)?,
         "activate" => activated(alloc, tried, given)?,
         "send" => tried.take(mail_of(alloc, given)?),
-        "update" => return updated(alloc, tried, given, told),
-        "deactivate" => tried.deactivate(),
-        "cleanup" => tried.cleanup(),
-        _ => return Err(Fail::new("an unknown call")),
+        _ => answer_at_once(tried, name, given)?,
     };
     told.push_str(answer)?;
     Ok(())
+}
+
+/// The answer to a call that takes no memory.
+fn answer_at_once<C: Controller>(
+    tried: &mut Tried<C>,
+    name: &str,
+    given: &str,
+) -> Result<&'static str, Fail> {
+    match name {
+        "ready" => Ok(yes_or_no(tried.ready(given.parse()?))),
+        "deactivate" => Ok(tried.deactivate()),
+        "cleanup" => Ok(tried.cleanup()),
+        _ => Err(Fail::new("an unknown call")),
+    }
+}
+
+/// It is configured by the parameters that are given, or else by those of the case.
+fn configured<C: Controller>(
+    alloc: Global,
+    tried: &mut Tried<C>,
+    params: &Params,
+    given: &str,
+) -> Result<&'static str, Fail> {
+    if given.is_empty() {
+        return tried.configure(alloc, params);
+    }
+    tried.configure(alloc, &params_of(alloc, given)?)
 }
 
 fn yes_or_no(ready: bool) -> &'static str {
@@ -253,10 +287,15 @@ fn add_part(alloc: Global, given: &mut Given, part: &str) -> Result<(), Fail> {
 
 fn push_values(told: &mut String, values: &[Value]) -> Result<(), Fail> {
     for value in values {
-        match value {
-            Value::Unset => told.push_str(" unset")?,
-            Value::Num(number) => write!(told, " {number}")?,
-        }
+        push_value(told, value)?;
+    }
+    Ok(())
+}
+
+fn push_value(told: &mut String, value: &Value) -> Result<(), Fail> {
+    match value {
+        Value::Unset => told.push_str(" unset")?,
+        Value::Num(number) => write!(told, " {number}")?,
     }
     Ok(())
 }

@@ -151,12 +151,20 @@ fn play<C: Controller>(alloc: Global, blanks: Vec<C>, calls: &str) -> Result<Str
     requires blank { All (λ c. IsBlank (C.meaning c)) blanks.items }
     requires few { length blanks.items < 2 ^ 32 }
 {
-    let mut told = String::new(alloc);
     let mut rack = Rack::make(alloc, Stock::make(blanks))?;
     let mut lent = Vec::new(alloc);
+    answers(alloc, &mut rack, &mut lent, calls)
+}
+
+fn answers<C: Controller>(
+    alloc: Global,
+    rack: &mut Rack<C>,
+    lent: &mut Vec<(u32, C)>,
+    calls: &str,
+) -> Result<String, Fail> {
+    let mut told = String::new(alloc);
     for call in calls.lines() {
-        let answer = answer(&mut rack, &mut lent, call)?;
-        push_parted(&mut told, "\n", answer)?;
+        push_parted(&mut told, "\n", answer(rack, lent, call)?)?;
     }
     Ok(told)
 }

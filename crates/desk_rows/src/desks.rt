@@ -21,11 +21,20 @@ use std::test::Fail;
 #[test]
 fn a_desk_answers_several_sessions(rt: HostRuntime) -> Result<(), Fail> {
     for case in CALLS.split("\n\n") {
-        let alloc = rt.alloc();
-        let checked = check(alloc, read_description(alloc, ROBOT.as_bytes())?)?;
-        play(alloc, checked, blanks(alloc, 1)?, case)?;
+        play_case(rt.alloc(), case)?;
     }
     Ok(())
+}
+
+fn play_case(alloc: Global, case: &str) -> Result<(), Fail> {
+    let checked = robot(alloc)?;
+    let blanks = blanks(alloc, 1)?;
+    play(alloc, checked, blanks, case)
+}
+
+fn robot(alloc: Global) -> Result<Checked, Fail> {
+    let description = read_description(alloc, ROBOT.as_bytes())?;
+    Ok(check(alloc, description)?)
 }
 
 /// How many sessions the desk has.

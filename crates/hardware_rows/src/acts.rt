@@ -1,5 +1,6 @@
 //! Pages of acts on components, and how they are tried.
 
+use crate::described::described;
 use crate::failures::FAILURES;
 use crate::modes::MODES;
 use crate::moves::MOVES;
@@ -7,11 +8,10 @@ use crate::steps::STEPS;
 use case_pages::acts::{Player, hold_acts};
 use case_pages::pages::{joined, push_parted};
 use cm_model::{BodyState, Checked, Done, Life, Value};
-use desc_check::check;
-use desc_text::read_description;
 use fixed_num::Fx;
-use hw_component::Component;
+use hw_component::{Component, ModeFault};
 use std::alloc::Global;
+use std::fmt::Display;
 use std::test::Fail;
 
 #[test]
@@ -45,8 +45,7 @@ impl Player for Rig {
     /// The component of a case, its head the lines of a component as in a description, without its name.
     fn begin(alloc: Global, before: &str, head: &str) -> Result<Rig, Fail> {
         let text = joined(alloc, before, head)?;
-        let description = read_description(alloc, text.as_str().as_bytes())?;
-        Rig::make(alloc, &check(alloc, description)?)
+        Rig::make(alloc, &described(alloc, text.as_str())?)
     }
 
     fn told(&mut self, alloc: Global, act: &str) -> Result<String, Fail> {
@@ -77,34 +76,36 @@ impl Rig {
 
     /// `read N`: how the read ends, and what the places hold then.
     fn read(&mut self, told: &mut String, rest: &str) -> Result<(), Fail> {
+        let cycle = rest.parse()?;
         if self.states.len() != self.component.state_interfaces().len() {
             return Err(Fail::new("no place for each state interface"));
         }
         match self.component.life() {
             Life::Inactive | Life::Active => {
-                let done = self.component.read(rest.parse()?, &mut self.states);
-                told.push_str(done_word(done))?;
-                push_values(told, &self.states)?;
+                let done = self.component.read(cycle, &mut self.states);
+                push_read(told, done, &self.states)
             }
-            _ => told.push_str("not read")?,
+            _ => Ok(told.push_str("not read")?),
         }
-        Ok(())
     }
 
     /// `write N VALUES`: how the write ends.
     fn write(&mut self, alloc: Global, told: &mut String, rest: &str) -> Result<(), Fail> {
         let (cycle, values) = rest.split_once(" ").unwrap_or((rest, ""));
+        let cycle = cycle.parse()?;
         let values = values_of(alloc, values)?;
+        told.push_str(self.written(cycle, values.as_slice()))?;
+        Ok(())
+    }
+
+    fn written(&mut self, cycle: u64, values: &[Value]) -> &'static str {
         if values.len() != self.component.command_interfaces().len() {
-            return Err(Fail::new("no value for each command interface"));
+            return "no value for each command interface";
         }
         match self.component.life() {
-            Life::Active => {
-                told.push_str(done_word(self.component.write(cycle.parse()?, &values)))?
-            }
-            _ => told.push_str("not written")?,
+            Life::Active => done_word(self.component.write(cycle, values)),
+            _ => "not written",
         }
-        Ok(())
     }
 
     /// `step`: the bodies after it.
@@ -112,9 +113,7 @@ impl Rig {
         self.component.step(STEP_US);
         let joints = u32::try_from(self.component.description().joints.as_slice().len())?;
         for joint in 0..joints {
-            let BodyState { x, v, f } = self.component.body(joint);
-            push_parted(told, "; ", "")?;
-            write!(told, "{x} {v} {f}")?;
+            push_body(told, "; ", &self.component.body(joint))?;
         }
         Ok(())
     }
@@ -122,22 +121,18 @@ impl Rig {
     /// `claim NUMBERS`: prepared, and performed where nothing is at odds.
     fn claim(&mut self, alloc: Global, told: &mut String, rest: &str) -> Result<(), Fail> {
         let claims = numbers_of(alloc, rest)?;
-        match self.component.prepare(&claims) {
-            Ok(()) => {
-                self.component.perform(&claims);
-                told.push_str("ok")?;
-            }
-            Err(fault) => write!(told, "{fault}")?,
-        }
+        push_end(told, self.claimed(claims.as_slice()))
+    }
+
+    fn claimed(&mut self, claims: &[u32]) -> Result<(), ModeFault> {
+        self.component.prepare(claims)?;
+        self.component.perform(claims);
         Ok(())
     }
 
     /// `move STATE`: whether it moved, and its state then.
     fn go(&mut self, told: &mut String, rest: &str) -> Result<(), Fail> {
-        match self.component.to_state(life_of(rest)) {
-            Ok(()) => told.push_str("ok")?,
-            Err(fault) => write!(told, "{fault}")?,
-        }
+        push_end(told, self.component.to_state(life_of(rest)))?;
         write!(told, " {}", self.component.life())?;
         Ok(())
     }
@@ -158,6 +153,28 @@ fn done_word(done: Done) -> &'static str {
         Done::Ok => "ok",
         Done::Error => "error",
     }
+}
+
+/// Appends `ok`, or the fault.
+pub fn push_end<F: Display + Drop>(told: &mut String, end: Result<(), F>) -> Result<(), Fail> {
+    match end {
+        Ok(()) => told.push_str("ok")?,
+        Err(fault) => write!(told, "{fault}")?,
+    }
+    Ok(())
+}
+
+/// Appends how a read ended, and what the places hold.
+fn push_read(told: &mut String, done: Done, states: &[Value]) -> Result<(), Fail> {
+    told.push_str(done_word(done))?;
+    push_values(told, states)
+}
+
+/// Appends where a body is, behind a sign where something stands before it.
+pub fn push_body(told: &mut String, sign: &str, body: &BodyState) -> Result<(), Fail> {
+    push_parted(told, sign, "")?;
+    write!(told, "{} {} {}", body.x, body.v, body.f)?;
+    Ok(())
 }
 
 fn push_values(told: &mut String, values: &[Value]) -> Result<(), Fail> {

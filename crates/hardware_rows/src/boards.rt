@@ -3,10 +3,9 @@
 ghost use Rattle.std.specs.Prelude.{◌<◌, length};
 
 use crate::acts::value_of;
+use crate::described::described;
 use case_pages::largest::AT_ALL_LIMITS;
 use case_pages::pages::{Teller, halves, hold, hold_lines, push_parted};
-use desc_check::check;
-use desc_text::read_description;
 use fixed_num::Value;
 use loan_board::{Board, Loan};
 use std::alloc::Global;
@@ -61,8 +60,7 @@ impl Teller for Sides {
 
 /// The board of a described robot.
 fn board_of(alloc: Global, text: &str) -> Result<Board, Fail> {
-    let description = read_description(alloc, text.as_bytes())?;
-    Ok(Board::make(alloc, &check(alloc, description)?)?)
+    Ok(Board::make(alloc, &described(alloc, text)?)?)
 }
 
 fn carry_out_all(board: &mut Board, acts: &str) -> Result<(), Fail> {

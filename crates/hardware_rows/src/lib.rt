@@ -7,6 +7,8 @@ mod acts;
 #[cfg(test)]
 mod boards;
 #[cfg(test)]
+mod described;
+#[cfg(test)]
 mod failures;
 #[cfg(test)]
 mod managed;

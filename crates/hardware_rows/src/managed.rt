@@ -2,14 +2,13 @@
 
 ghost use Rattle.std.specs.Prelude.{◌<◌, length};
 
-use crate::acts::life_of;
-use crate::starts::{names_of, push_components, push_interfaces};
+use crate::acts::{life_of, push_body, push_end};
+use crate::described::described;
+use crate::starts::{push_component_list, push_interface_list};
 use case_pages::acts::{Player, hold_acts};
 use case_pages::pages::{halves, joined, push_parted};
 use cm_hardware::ResourceManager;
-use cm_model::{BodyState, Checked, FailedPart, ListRoom};
-use desc_check::check;
-use desc_text::read_description;
+use cm_model::{BodyState, Checked, Description, FailedPart, ListRoom};
 use std::alloc::Global;
 use std::test::Fail;
 
@@ -34,9 +33,8 @@ struct Robot {
 impl Player for Robot {
     fn begin(alloc: Global, before: &str, head: &str) -> Result<Robot, Fail> {
         let text = joined(alloc, before, head)?;
-        let description = read_description(alloc, text.as_str().as_bytes())?;
         Ok(Robot {
-            checked: check(alloc, description)?,
+            checked: described(alloc, text.as_str())?,
         })
     }
 
@@ -58,23 +56,32 @@ fn moved(alloc: Global, told: &mut String, checked: &Checked, rest: &str) -> Res
         return Err(Fail::new("no such component"));
     }
     let mut hardware = ResourceManager::make(alloc, checked)?;
-    match hardware.move_component(place, life_of(state)) {
-        Ok(()) => told.push_str("ok")?,
-        Err(fault) => write!(told, "{fault}")?,
-    }
-    push_lists(alloc, told, checked, &hardware)
+    let end = hardware.move_component(place, life_of(state));
+    push_end(told, end)?;
+    push_lists(alloc, told, checked.description(), &hardware)
 }
 
 /// `cycle N`: what failed, the bodies, and what stands then.
 fn run(alloc: Global, told: &mut String, checked: &Checked, act: &str) -> Result<(), Fail> {
     let (_, number) = halves(act, " ")?;
+    let number = number.parse()?;
     let mut hardware = ResourceManager::make(alloc, checked)?;
+    push_cycle(alloc, told, &mut hardware, number)?;
+    push_lists(alloc, told, checked.description(), &hardware)
+}
+
+/// Runs a cycle, and appends what failed and the bodies after it.
+fn push_cycle(
+    alloc: Global,
+    told: &mut String,
+    hardware: &mut ResourceManager,
+    number: u64,
+) -> Result<(), Fail> {
     let mut failed = ListRoom::with_room(alloc, hardware.most_failures())?;
     let mut bodies = ListRoom::with_room(alloc, hardware.joints())?;
-    hardware.cycle(number.parse()?, CYCLE_US, &mut failed, &mut bodies);
+    hardware.cycle(number, CYCLE_US, &mut failed, &mut bodies);
     push_failed(told, failed.as_slice())?;
-    push_bodies(told, bodies.as_slice())?;
-    push_lists(alloc, told, checked, &hardware)
+    push_bodies(told, bodies.as_slice())
 }
 
 /// Appends each failure, a read or a write, with the place of its component.
@@ -88,9 +95,8 @@ fn push_failed(told: &mut String, failed: &[FailedPart]) -> Result<(), Fail> {
 
 /// Appends where the body of each joint is.
 fn push_bodies(told: &mut String, bodies: &[BodyState]) -> Result<(), Fail> {
-    for BodyState { x, v, f } in bodies {
-        push_parted(told, ", ", "")?;
-        write!(told, "{x} {v} {f}")?;
+    for body in bodies {
+        push_body(told, ", ", body)?;
     }
     Ok(())
 }
@@ -99,19 +105,13 @@ fn push_bodies(told: &mut String, bodies: &[BodyState]) -> Result<(), Fail> {
 fn push_lists(
     alloc: Global,
     told: &mut String,
-    checked: &Checked,
+    description: &Description,
     hardware: &ResourceManager,
 ) -> Result<(), Fail> {
     told.push_str(" | ")?;
-    let components = hardware.component_lines(alloc)?;
-    push_components(told, checked.description(), components.as_slice())?;
+    push_component_list(alloc, told, description, hardware)?;
     told.push_str(" | ")?;
-    let interfaces = hardware.interface_lines(alloc)?;
-    push_interfaces(
-        told,
-        &names_of(alloc, checked.description())?,
-        interfaces.as_slice(),
-    )
+    push_interface_list(alloc, told, description, hardware)
 }
 
 /// A component moves from each state to each, but that one which is finalized stays so; while it can be read its state interfaces hold

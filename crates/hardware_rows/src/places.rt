@@ -3,13 +3,12 @@
 ghost use Rattle.std.specs.Prelude.{◌<◌, ◌≤◌, length, IfOk};
 ghost use Rattle.ctl_places.specs.Placed.{HasAllRows};
 
+use crate::described::described;
 use case_pages::largest::AT_ALL_LIMITS;
 use case_pages::pages::{Teller, hold, push_parted};
 use cm_model::Checked;
 use ctl_places::CtlPlaces;
 use ctl_places::laws::each_has_its_row;
-use desc_check::check;
-use desc_text::read_description;
 use loan_board::Board;
 use std::alloc::Global;
 use std::test::Fail;
@@ -30,8 +29,7 @@ struct Rows;
 
 impl Teller for Rows {
     fn told(&self, alloc: Global, text: &str) -> Result<String, Fail> {
-        let checked = check(alloc, read_description(alloc, text.as_bytes())?)?;
-        rows_of(alloc, &checked)
+        rows_of(alloc, &described(alloc, text)?)
     }
 }
 
@@ -41,8 +39,7 @@ struct Counts;
 
 impl Teller for Counts {
     fn told(&self, alloc: Global, text: &str) -> Result<String, Fail> {
-        let checked = check(alloc, read_description(alloc, text.as_bytes())?)?;
-        counted(alloc, &checked)
+        counted(alloc, &described(alloc, text)?)
     }
 }
 
@@ -58,22 +55,30 @@ fn places_of(alloc: Global, checked: &Checked) -> Result<CtlPlaces, Fail>
 fn rows_of(alloc: Global, checked: &Checked) -> Result<String, Fail> {
     let places = places_of(alloc, checked)?;
     let count = Board::make(alloc, checked)?.len();
+    told_rows(alloc, checked, &places, count)
+}
+
+fn told_rows(
+    alloc: Global,
+    checked: &Checked,
+    places: &CtlPlaces,
+    count: u32,
+) -> Result<String, Fail>
+    requires rows { HasAllRows checked.now places.now }
+    requires claimers { count ≤ length places.now.claimers }
+    requires exporters { count ≤ length places.now.exporters }
+{
     let mut told = String::new(alloc);
-    push_controllers(&mut told, checked, &places)?;
-    push_interfaces(&mut told, &places, count)?;
+    push_controllers(&mut told, checked, places)?;
+    push_interfaces(&mut told, places, count)?;
     Ok(told)
 }
 
 fn push_controllers(told: &mut String, checked: &Checked, places: &CtlPlaces) -> Result<(), Fail>
     requires { HasAllRows checked.now places.now }
 {
-    for (place, controller) in checked
-        .description()
-        .controllers
-        .as_slice()
-        .iter()
-        .enumerate()
-    {
+    let controllers = checked.description().controllers.as_slice();
+    for (place, controller) in controllers.iter().enumerate() {
         push_parted(told, "\n", controller.name.as_str())?;
         push_controller(told, places, u32::try_from(place)?)?;
     }

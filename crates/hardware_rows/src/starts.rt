@@ -1,13 +1,13 @@
 //! Hardware at start, as its two lists tell it: components in every lifecycle state, of several joints and kinds.
 
+use crate::described::described;
 use case_pages::largest::AT_ALL_LIMITS;
 use case_pages::pages::{Teller, hold};
 use cm_hardware::ResourceManager;
 use cm_model::{
-    CompDesc, CompLine, CtlDesc, Description, IfaceLine, IfaceName, JointDesc, Kind, Name, Value,
+    Checked, CompDesc, CompLine, CtlDesc, Description, IfaceLine, IfaceName, JointDesc, Kind, Name,
+    Value,
 };
-use desc_check::check;
-use desc_text::read_description;
 use std::alloc::Global;
 use std::test::Fail;
 
@@ -30,17 +30,48 @@ struct Lists;
 
 impl Teller for Lists {
     fn told(&self, alloc: Global, text: &str) -> Result<String, Fail> {
-        let checked = check(alloc, read_description(alloc, text.as_bytes())?)?;
-        let hardware = ResourceManager::make(alloc, &checked)?;
-        let mut told = String::new(alloc);
-        let components = hardware.component_lines(alloc)?;
-        push_components(&mut told, checked.description(), components.as_slice())?;
-        told.push_str("\n")?;
-        let names = names_of(alloc, checked.description())?;
-        let interfaces = hardware.interface_lines(alloc)?;
-        push_interfaces(&mut told, &names, interfaces.as_slice())?;
-        Ok(told)
+        lists_of(alloc, &described(alloc, text)?)
     }
+}
+
+fn lists_of(alloc: Global, checked: &Checked) -> Result<String, Fail> {
+    let hardware = ResourceManager::make(alloc, checked)?;
+    told_of(alloc, checked.description(), &hardware)
+}
+
+fn told_of(
+    alloc: Global,
+    description: &Description,
+    hardware: &ResourceManager,
+) -> Result<String, Fail> {
+    let mut told = String::new(alloc);
+    push_component_list(alloc, &mut told, description, hardware)?;
+    told.push_str("\n")?;
+    push_interface_list(alloc, &mut told, description, hardware)?;
+    Ok(told)
+}
+
+/// Appends the list of components.
+pub(crate) fn push_component_list(
+    alloc: Global,
+    told: &mut String,
+    description: &Description,
+    hardware: &ResourceManager,
+) -> Result<(), Fail> {
+    let lines = hardware.component_lines(alloc)?;
+    push_components(told, description, lines.as_slice())
+}
+
+/// Appends the list of interfaces.
+pub(crate) fn push_interface_list(
+    alloc: Global,
+    told: &mut String,
+    description: &Description,
+    hardware: &ResourceManager,
+) -> Result<(), Fail> {
+    let names = names_of(alloc, description)?;
+    let lines = hardware.interface_lines(alloc)?;
+    push_interfaces(told, names.as_slice(), lines.as_slice())
 }
 
 /// Tells how many components there are, and how many of the interfaces are available.
@@ -49,20 +80,29 @@ struct Counts;
 
 impl Teller for Counts {
     fn told(&self, alloc: Global, text: &str) -> Result<String, Fail> {
-        let checked = check(alloc, read_description(alloc, text.as_bytes())?)?;
-        let hardware = ResourceManager::make(alloc, &checked)?;
-        let components = hardware.component_lines(alloc)?;
-        let components = components.as_slice().len();
-        let interfaces = hardware.interface_lines(alloc)?;
-        let interfaces = interfaces.as_slice();
-        let available = interfaces.iter().filter(|line| line.available).count();
-        let all = interfaces.len();
-        Ok(format!(in alloc; "{components} components, {available} of {all} interfaces available")?)
+        counts_of(alloc, &described(alloc, text)?)
     }
 }
 
+fn counts_of(alloc: Global, checked: &Checked) -> Result<String, Fail> {
+    let hardware = ResourceManager::make(alloc, checked)?;
+    let components = hardware.component_lines(alloc)?;
+    let interfaces = hardware.interface_lines(alloc)?;
+    counted(alloc, components.as_slice(), interfaces.as_slice())
+}
+
+fn counted(
+    alloc: Global,
+    components: &[CompLine],
+    interfaces: &[IfaceLine],
+) -> Result<String, Fail> {
+    let available = interfaces.iter().filter(|line| line.available).count();
+    let (components, all) = (components.len(), interfaces.len());
+    Ok(format!(in alloc; "{components} components, {available} of {all} interfaces available")?)
+}
+
 /// Appends each component with its kind and its lifecycle state.
-pub(crate) fn push_components(
+fn push_components(
     told: &mut String,
     description: &Description,
     lines: &[CompLine],
@@ -94,11 +134,7 @@ fn push_component(told: &mut String, components: &[CompDesc], line: &CompLine) -
 }
 
 /// Appends each interface with what it holds.
-pub(crate) fn push_interfaces(
-    told: &mut String,
-    names: &[String],
-    lines: &[IfaceLine],
-) -> Result<(), Fail> {
+fn push_interfaces(told: &mut String, names: &[String], lines: &[IfaceLine]) -> Result<(), Fail> {
     if lines.is_empty() {
         told.push_str("none")?;
     }
@@ -135,7 +171,7 @@ fn push_held(told: &mut String, line: &IfaceLine) -> Result<(), Fail> {
 }
 
 /// What the interfaces are called, by place: states first, then commands, then references.
-pub(crate) fn names_of(alloc: Global, description: &Description) -> Result<Vec<String>, Fail> {
+fn names_of(alloc: Global, description: &Description) -> Result<Vec<String>, Fail> {
     let mut names = Vec::new(alloc);
     let components = description.components.as_slice();
     push_side(alloc, &mut names, components, false)?;

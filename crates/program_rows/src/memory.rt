@@ -91,13 +91,18 @@ where
         return true;
     };
     let status = run_words(&(words, alloc), rt, &mut source, &mut sink);
+    hold_trace(rt, &status, sink.bytes());
+    status == Status::Memory
+}
+
+/// Ends the test where a run ended with another status, or has not printed what it was to.
+fn hold_trace<R: Abort>(rt: &R, status: &Status, printed: &[u8]) {
     let trace = TRACE.as_bytes();
     match status {
-        Status::Ok => assert_eq!(rt; sink.bytes(), trace),
-        Status::Memory => assert!(rt; trace.starts_with(sink.bytes())),
+        Status::Ok => assert!(rt; printed == trace),
+        Status::Memory => assert!(rt; trace.starts_with(printed)),
         other => panic!(rt; "ended with {other}"),
     }
-    status == Status::Memory
 }
 
 fn source(alloc: Global) -> Result<MemSource, AllocError> {

@@ -1,15 +1,15 @@
 //! Ends of cycles: who stops, and of those that stay who restarts and who is chained.
 
-ghost use Rattle.stop_plan.specs.Reports.{IsReport};
+ghost use Rattle.stop_plan.specs.Ending.{HasFlags};
+ghost use Rattle.stop_plan.specs.Reports.{IsReport, count_in};
 
+use crate::described::described;
 use crate::orders::{are_below, listed, members_of};
 use crate::robots::{ARM_AND_LEG, SEVEN};
 use case_pages::acts::{Player, hold_acts};
 use case_pages::pages::{halves, push_parted};
 use chain_order::{PlaceSet, in_order};
 use cm_model::Checked;
-use desc_check::check;
-use desc_text::read_description;
 use std::alloc::Global;
 use std::test::Fail;
 use stop_plan::{Ending, FailedPart, ListRoom, Member, Report};
@@ -32,9 +32,8 @@ struct Robot {
 
 impl Player for Robot {
     fn begin(alloc: Global, robot: &str, _head: &str) -> Result<Robot, Fail> {
-        let description = read_description(alloc, robot.as_bytes())?;
         Ok(Robot {
-            checked: check(alloc, description)?,
+            checked: described(alloc, robot)?,
         })
     }
 
@@ -77,13 +76,21 @@ fn decided(alloc: Global, checked: &Checked, report: &Report) -> Result<String, 
     requires { IsReport report.now }
 {
     let mut ending = Ending::make(alloc, report.relations.leaders().len() as usize)?;
-    let mut once_more = ListRoom::with_room(alloc, report.order.len())?;
-    let mut serials = ListRoom::with_room(alloc, report.order.len())?;
-    ending.decide(report, &mut once_more);
-    ending.decide(report, &mut serials);
-    let mut told = listed(alloc, serials.into_list().as_slice())?;
+    decide(alloc, report, &mut ending)?;
+    let mut told = decide(alloc, report, &mut ending)?;
     push_sets(alloc, &mut told, checked, &ending)?;
     Ok(told)
+}
+
+/// Decides by a report, and tells who stops.
+fn decide(alloc: Global, report: &Report, ending: &mut Ending) -> Result<String, Fail>
+    requires report { IsReport report.now }
+    requires flags { HasFlags (count_in report.now) ending.old }
+    ensures flags { HasFlags (count_in report.now) ending.new }
+{
+    let mut serials = ListRoom::with_room(alloc, report.order.len())?;
+    ending.decide(report, &mut serials);
+    listed(alloc, serials.into_list().as_slice())
 }
 
 fn push_sets(

@@ -5,6 +5,8 @@
 #[cfg(test)]
 mod causes;
 #[cfg(test)]
+mod described;
+#[cfg(test)]
 mod efforts;
 #[cfg(test)]
 mod ends;

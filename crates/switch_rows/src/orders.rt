@@ -3,6 +3,7 @@
 
 ghost use Rattle.std.specs.Prelude.{◌<◌, IsTrue, All};
 
+use crate::described::described;
 use crate::largest::{RISING, SINKING};
 use crate::robots::{ARM_AND_LEG, SEVEN};
 use crate::scenes::place_of;
@@ -10,8 +11,6 @@ use case_pages::acts::{Player, hold_acts};
 use case_pages::pages::{halves, push_parted};
 use chain_order::{Member, heights, run_list};
 use cm_model::Checked;
-use desc_check::check;
-use desc_text::read_description;
 use std::alloc::Global;
 use std::test::Fail;
 
@@ -33,9 +32,8 @@ struct Robot {
 
 impl Player for Robot {
     fn begin(alloc: Global, robot: &str, _head: &str) -> Result<Robot, Fail> {
-        let description = read_description(alloc, robot.as_bytes())?;
         Ok(Robot {
-            checked: check(alloc, description)?,
+            checked: described(alloc, robot)?,
         })
     }
 

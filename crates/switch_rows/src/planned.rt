@@ -1,6 +1,6 @@
 //! Requests that are planned one after the other.
 
-ghost use Rattle.std.specs.Prelude.{IsTrue};
+ghost use Rattle.std.specs.Prelude.{IsTrue, IfOk};
 ghost use Rattle.request_plan.specs.Stands.{IsStand};
 
 use crate::robots::ARM_AND_LEG;
@@ -115,11 +115,7 @@ impl Queue {
     fn ask(&mut self, alloc: Global, words: &str) -> Result<String, Fail> {
         let asked = request(alloc, words)?;
         match self.requests.ask(alloc, self.is_closed, asked)? {
-            Reply::Queued(_) => {
-                let plan = self.plan(alloc)?;
-                hold_decisions(&plan)?;
-                self.told_of(alloc, &plan)
-            }
+            Reply::Queued(_) => self.told_of(alloc, &self.plan(alloc)?),
             Reply::Not(why) => Ok(format!(in alloc; "{why}")?),
             _ => Err(Fail::new("another reply")),
         }
@@ -150,19 +146,14 @@ impl Queue {
     /// The plan for those that wait.
     fn plan(&self, alloc: Global) -> Result<Plan, Fail> {
         let checked = &self.scene.checked;
-        let stand = Stand {
-            loaded: self.scene.loaded.clone()?,
-            lives: self.scene.components.clone()?,
-        };
-        if !is_stand(&stand, checked) {
-            return Err(Fail::new("a place is not described"));
-        }
         let relations = Relations::of(alloc, checked)?;
+        let stand = stand_of(&self.scene)?;
         Ok(self.requests.plan(alloc, checked, &relations, stand)?)
     }
 
     /// What is told of the last request of a plan, and of the order after it.
     fn told_of(&self, alloc: Global, plan: &Plan) -> Result<String, Fail> {
+        hold_decisions(plan)?;
         let mut told = String::new(alloc);
         let last = plan.conclusions.last().ok_or("nothing is planned")?;
         self.push_conclusion(alloc, &mut told, last)?;
@@ -252,6 +243,20 @@ fn request(alloc: Global, words: &str) -> Result<Request, Fail> {
         component: Name::read(alloc, name.as_bytes())?,
         target: life_of(state),
     })
+}
+
+/// What a scene shows of its state.
+fn stand_of(scene: &Scene) -> Result<Stand, Fail>
+    ensures { IfOk result (IsStand scene.now.checked) }
+{
+    let stand = Stand {
+        loaded: scene.loaded.clone()?,
+        lives: scene.components.clone()?,
+    };
+    if !is_stand(&stand, &scene.checked) {
+        return Err(Fail::new("a place is not described"));
+    }
+    Ok(stand)
 }
 
 /// Whether each loaded controller has its place, and each component its state.

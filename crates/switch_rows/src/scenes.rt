@@ -1,8 +1,10 @@
 //! Pages of scenes, and how they are tried.
 
-ghost use Rattle.std.specs.Prelude.{◌<◌, IsTrue, All};
+ghost use Rattle.std.specs.Prelude.{◌≡◌, ◌<◌, IsTrue, All};
+ghost use Rattle.switch_plan.specs.Relations.{relations_of};
 
 use crate::causes::{LISTS, MEMBERS};
+use crate::described::described;
 use crate::efforts::EFFORTS;
 use crate::largest::{RISING, RISING_REQUESTS, SINKING, SINKING_REQUESTS};
 use crate::restarts::RESTARTS;
@@ -10,8 +12,6 @@ use crate::robots::{ARM_AND_LEG, ONE_JOINT, SEVEN};
 use case_pages::acts::{Player, hold_acts};
 use case_pages::pages::halves;
 use cm_model::{Checked, Life, Name, Seen, Seq};
-use desc_check::check;
-use desc_text::read_description;
 use std::alloc::Global;
 use std::test::Fail;
 use switch_plan::{Planned, Relations, SwitchRequest, View, plan, plan_with};
@@ -50,23 +50,24 @@ impl Player for Scene {
     fn told(&mut self, alloc: Global, words: &str) -> Result<String, Fail> {
         let request = request_of(alloc, words)?;
         let planned = self.planned(alloc, &request)?;
-        let mut told = format!(in alloc; "{};", planned.outcome)?;
-        self.push_names(&mut told, " -", planned.off.as_slice())?;
-        told.push_str(";")?;
-        self.push_names(&mut told, " +", planned.on.as_slice())?;
-        Ok(told)
+        self.hold_with_relations(alloc, &request, &planned)?;
+        self.told_of(alloc, &planned)
     }
 }
 
 impl Scene {
     /// The description of this text, with nothing loaded.
     fn of(alloc: Global, text: &str) -> Result<Scene, Fail> {
-        let checked = check(alloc, read_description(alloc, text.as_bytes())?)?;
+        Scene::made(alloc, described(alloc, text)?)
+    }
+
+    fn made(alloc: Global, checked: Checked) -> Result<Scene, Fail> {
         let count = checked.description().components.as_slice().len();
+        let components = vec![in alloc; Life::Active; count]?;
         Ok(Scene {
             checked,
             loaded: Vec::new(alloc),
-            components: vec![in alloc; Life::Active; count]?,
+            components,
         })
     }
 
@@ -115,12 +116,50 @@ impl Scene {
             loaded: &self.loaded,
             components: &self.components,
         };
-        let planned = plan(alloc, &view, request)?;
-        let relations = Relations::of(alloc, &self.checked)?;
-        if plan_with(alloc, &view, &relations, request)? != planned {
-            return Err(Fail::new("with the relations it is another plan"));
+        Ok(plan(alloc, &view, request)?)
+    }
+
+    /// The plan of a request, with the relations.
+    fn planned_with(
+        &self,
+        alloc: Global,
+        relations: &Relations,
+        request: &SwitchRequest,
+    ) -> Result<Planned, Fail>
+        requires relations { relations.now ≡ relations_of self.now.checked }
+    {
+        let count = self.checked.description().controllers.as_slice().len();
+        if !are_below(&self.loaded, count) {
+            return Err(Fail::new("no such place"));
         }
-        Ok(planned)
+        let view = View {
+            checked: &self.checked,
+            loaded: &self.loaded,
+            components: &self.components,
+        };
+        Ok(plan_with(alloc, &view, relations, request)?)
+    }
+
+    /// Fails where a request has another plan with the relations.
+    fn hold_with_relations(
+        &self,
+        alloc: Global,
+        request: &SwitchRequest,
+        planned: &Planned,
+    ) -> Result<(), Fail> {
+        let relations = Relations::of(alloc, &self.checked)?;
+        if self.planned_with(alloc, &relations, request)? == *planned {
+            return Ok(());
+        }
+        Err(Fail::new("with the relations it is another plan"))
+    }
+
+    fn told_of(&self, alloc: Global, planned: &Planned) -> Result<String, Fail> {
+        let mut told = format!(in alloc; "{};", planned.outcome)?;
+        self.push_names(&mut told, " -", planned.off.as_slice())?;
+        told.push_str(";")?;
+        self.push_names(&mut told, " +", planned.on.as_slice())?;
+        Ok(told)
     }
 
     /// The names of the controllers with these serials, each behind a sign.
