@@ -1,14 +1,11 @@
 //! Summaries of the histories that runs leave behind, and of those of made documents.
 
-ghost use Rattle.cm_document.specs.Valid.{IsDescribed};
-
 use case_calls::stocks::blanks;
 use case_pages::pages::{Teller, halves, hold};
+use case_robots::described::described;
 use case_runs::runs::{IN_STOCK, OF_PROGRAM, ample_sink, run_over, without_end};
 use cm_desk::Book;
-use cm_model::{Checked, Description, Entry};
-use desc_check::check;
-use desc_text::read_description;
+use cm_model::{Checked, Entry};
 use make_document::make_document;
 use std::alloc::Global;
 use std::str;
@@ -22,7 +19,7 @@ struct Summaries;
 impl Teller for Summaries {
     fn told(&self, alloc: Global, text: &str) -> Result<String, Fail> {
         let (description, _) = halves(text, "--- script ---\n")?;
-        let checked = checked(alloc, description)?;
+        let checked = described(alloc, description)?;
         let history = history_of(alloc, text)?;
         summed_up(alloc, &checked, history.as_slice())
     }
@@ -36,22 +33,6 @@ impl Teller for OfMade {
     fn told(&self, alloc: Global, text: &str) -> Result<String, Fail> {
         let made = make_document(alloc, text.trim().parse()?)?;
         Summaries.told(alloc, str::from_utf8(made.as_slice())?)
-    }
-}
-
-fn checked(alloc: Global, description: &str) -> Result<Checked, Fail> {
-    match read_description(alloc, description.as_bytes()) {
-        Ok(description) => valid(alloc, description),
-        Err(fault) => Err(Fail::new(format!(in alloc; "{fault}")?)),
-    }
-}
-
-fn valid(alloc: Global, description: Description) -> Result<Checked, Fail>
-    requires described { IsDescribed description }
-{
-    match check(alloc, description) {
-        Ok(checked) => Ok(checked),
-        Err(fault) => Err(Fail::new(format!(in alloc; "{fault}")?)),
     }
 }
 

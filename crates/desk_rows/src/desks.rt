@@ -9,12 +9,11 @@ use case_calls::calls::call_of;
 use case_calls::replies::push_reply;
 use case_calls::stocks::blanks;
 use case_pages::pages::{halves, hold_told};
+use case_robots::described::described;
 use cm_desk::Desk;
 use cm_model::{Call, Checked, Entry, Outcome, Reply};
 use ctl_rack::Stock;
 use ctl_trait::Controller;
-use desc_check::check;
-use desc_text::read_description;
 use std::alloc::Global;
 use std::test::Fail;
 
@@ -27,14 +26,8 @@ fn a_desk_answers_several_sessions(rt: HostRuntime) -> Result<(), Fail> {
 }
 
 fn play_case(alloc: Global, case: &str) -> Result<(), Fail> {
-    let checked = robot(alloc)?;
     let blanks = blanks(alloc, 1)?;
-    play(alloc, checked, blanks, case)
-}
-
-fn robot(alloc: Global) -> Result<Checked, Fail> {
-    let description = read_description(alloc, ROBOT.as_bytes())?;
-    Ok(check(alloc, description)?)
+    play(alloc, described(alloc, ROBOT)?, blanks, case)
 }
 
 /// How many sessions the desk has.

@@ -13,5 +13,3 @@ mod names;
 mod numbers;
 #[cfg(test)]
 mod places;
-#[cfg(test)]
-mod turns;

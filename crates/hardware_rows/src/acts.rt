@@ -1,12 +1,12 @@
 //! Pages of acts on components, and how they are tried.
 
-use crate::described::described;
 use crate::failures::FAILURES;
 use crate::modes::MODES;
 use crate::moves::MOVES;
 use crate::steps::STEPS;
 use case_pages::acts::{Player, hold_acts};
 use case_pages::pages::{joined, push_parted};
+use case_robots::described::described;
 use cm_model::{BodyState, Checked, Done, Life, Value};
 use fixed_num::Fx;
 use hw_component::{Component, ModeFault};
@@ -209,7 +209,7 @@ fn values_of(alloc: Global, words: &str) -> Result<Vec<Value>, Fail> {
 }
 
 /// `unset`, or a number.
-pub fn value_of(word: &str) -> Result<Value, Fail> {
+fn value_of(word: &str) -> Result<Value, Fail> {
     match word {
         "unset" => Ok(Value::Unset),
         _ => Ok(Value::Num(Fx::read(word.as_bytes())?)),

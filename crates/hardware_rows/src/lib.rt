@@ -1,13 +1,9 @@
-//! Tests of the public calls of hardware components and of the board, act by act: a page has for each case a component,
-//! and line by line what is done and what is told of it; or what is done to a board, and what stands at its places.
+//! Tests of the public calls of hardware components, act by act: a page has for each case a component, and line by line what is done
+//! and what is told of it; and of the hardware of a description, at start, moved and run.
 #![tactic(auto)]
 
 #[cfg(test)]
 mod acts;
-#[cfg(test)]
-mod boards;
-#[cfg(test)]
-mod described;
 #[cfg(test)]
 mod failures;
 #[cfg(test)]
@@ -16,8 +12,6 @@ mod managed;
 mod modes;
 #[cfg(test)]
 mod moves;
-#[cfg(test)]
-mod places;
 #[cfg(test)]
 mod starts;
 #[cfg(test)]

@@ -3,10 +3,10 @@
 ghost use Rattle.std.specs.Prelude.{◌<◌, length};
 
 use crate::acts::{life_of, push_body, push_end};
-use crate::described::described;
 use crate::starts::{push_component_list, push_interface_list};
 use case_pages::acts::{Player, hold_acts};
 use case_pages::pages::{halves, joined, push_parted};
+use case_robots::described::described;
 use cm_hardware::ResourceManager;
 use cm_model::{BodyState, Checked, Description, FailedPart, ListRoom};
 use std::alloc::Global;

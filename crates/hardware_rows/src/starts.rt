@@ -1,8 +1,8 @@
 //! Hardware at start, as its two lists tell it: components in every lifecycle state, of several joints and kinds.
 
-use crate::described::described;
 use case_pages::largest::AT_ALL_LIMITS;
 use case_pages::pages::{Teller, hold};
+use case_robots::described::described;
 use cm_hardware::ResourceManager;
 use cm_model::{
     Checked, CompDesc, CompLine, CtlDesc, Description, IfaceLine, IfaceName, JointDesc, Kind, Name,

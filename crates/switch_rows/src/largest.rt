@@ -1,41 +1,5 @@
 //! The largest sizes: 64 controllers in one chain, and 128 names in a request.
 
-/// Each controller claims a reference of the one before it.
-pub const RISING: &str = r#"version = 1
-update_rate = 100
-cycles = 1
-[[component]]
-name = "arm"
-kind = "system"
-joint = [{ name = "j", vmax = 1, command = ["position"] }]
-[[controller]]
-name = "c0"
-type = "passthrough"
-claims = ["j/position"]
-<0..63 * [[controller]]
-name = "c#'"
-type = "passthrough"
-claims = ["c#/j/position"]
->"#;
-
-/// Each controller claims a reference of the one behind it.
-pub const SINKING: &str = r#"version = 1
-update_rate = 100
-cycles = 1
-[[component]]
-name = "arm"
-kind = "system"
-joint = [{ name = "j", vmax = 1, command = ["position"] }]
-<0..63 * [[controller]]
-name = "c#"
-type = "passthrough"
-claims = ["c#'/j/position"]
->[[controller]]
-name = "c63"
-type = "passthrough"
-claims = ["j/position"]
-"#;
-
 pub const RISING_REQUESTS: &str = r#"<0..64 * c# inactive
 >strict<0..64 *  +c#> => done;;<0..64 *  +c#>
 best<0..64 *  +c#><0..64 *  +c#> => done dropped c0 twice<1..64 * , c# twice>;;<0..64 *  +c#>

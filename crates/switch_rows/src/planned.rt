@@ -3,10 +3,10 @@
 ghost use Rattle.std.specs.Prelude.{IsTrue, IfOk};
 ghost use Rattle.request_plan.specs.Stands.{IsStand};
 
-use crate::robots::ARM_AND_LEG;
 use crate::scenes::{Scene, are_below, life_of, request_of};
 use case_pages::acts::{Player, hold_acts};
 use case_pages::pages::push_parted;
+use case_robots::robots::ARM_AND_LEG;
 use chain_order::PlaceSet;
 use cm_model::{Checked, Name, Request};
 use request_plan::{Act, Conclusion, Decision, Plan, Reply, Requests, Stand, Switched};

@@ -4,13 +4,14 @@ ghost use Rattle.std.specs.Prelude.{◌≡◌, ◌<◌, IsTrue, All};
 ghost use Rattle.switch_plan.specs.Relations.{relations_of};
 
 use crate::causes::{LISTS, MEMBERS};
-use crate::described::described;
 use crate::efforts::EFFORTS;
-use crate::largest::{RISING, RISING_REQUESTS, SINKING, SINKING_REQUESTS};
+use crate::largest::{RISING_REQUESTS, SINKING_REQUESTS};
+use crate::requests::ONE_JOINT;
 use crate::restarts::RESTARTS;
-use crate::robots::{ARM_AND_LEG, ONE_JOINT, SEVEN};
 use case_pages::acts::{Player, hold_acts};
 use case_pages::pages::halves;
+use case_robots::described::{described, place_of};
+use case_robots::robots::{ARM_AND_LEG, RISING, SEVEN, SINKING};
 use cm_model::{Checked, Life, Name, Seen, Seq};
 use std::alloc::Global;
 use std::test::Fail;
@@ -189,15 +190,6 @@ pub(crate) fn life_of(word: &str) -> Life {
         "finalized" => Life::Finalized,
         _ => Life::Active,
     }
-}
-
-/// The place of a described controller.
-pub fn place_of(checked: &Checked, name: &str) -> Result<u32, Fail> {
-    let controllers = checked.description().controllers.as_slice();
-    let place = controllers
-        .iter()
-        .position(|controller| controller.name.as_str() == name);
-    Ok(u32::try_from(place.ok_or("no such controller")?)?)
 }
 
 /// Whether each of these has its place below the count.

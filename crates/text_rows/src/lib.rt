@@ -1,5 +1,5 @@
-//! Tests of the public calls that read words, and read, check, print and make descriptions and scripts: what no clause says, as that
-//! calls succeed where there is memory, and cases beside the clauses. Most are pages of text, each with what must be told of it.
+//! Tests of the public calls that read and check descriptions: what no clause says, as that calls succeed where there is memory, and cases
+//! beside the clauses. Most are pages of text, each with what must be told of it.
 #![tactic(auto)]
 
 #[cfg(test)]
@@ -10,12 +10,6 @@ mod descriptions;
 mod faults;
 #[cfg(test)]
 mod largest;
-#[cfg(test)]
-mod made;
-#[cfg(test)]
-mod scripts;
-#[cfg(test)]
-mod words;
 
 #[cfg(test)]
 use case_pages::pages;

@@ -1,0 +1,5 @@
+//! Tests of the turn lock: a book of lines that threads write in turns.
+#![tactic(auto)]
+
+#[cfg(test)]
+mod turns;
