@@ -214,7 +214,7 @@ fn hold_words<R: Threads + Wait + Sync, C: Controller>(
     let bytes = DOCUMENT.as_bytes().to_vec(alloc)?;
     let mut source = MemSource::make(bytes, 1000, vec![in alloc]?);
     let mut sink = ample_sink(alloc)?;
-    let ran = ran(rt, alloc, words, &mut source, &mut sink, blanks);
+    let ran = run_counted(rt, alloc, words, &mut source, &mut sink, blanks);
     hold_ran(alloc, &ran, want)?;
     hold_told(alloc, "its words", str::from_utf8(sink.bytes())?, trace)
 }
@@ -228,7 +228,7 @@ struct Ran {
 }
 
 /// Runs the words over a stock of these blanks.
-fn ran<R: Threads + Wait + Sync, C: Controller>(
+fn run_counted<R: Threads + Wait + Sync, C: Controller>(
     rt: &R,
     alloc: Global,
     words: &[String],

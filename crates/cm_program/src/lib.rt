@@ -1,10 +1,10 @@
 //! The program but for its `main`: its words run over its stock between a source and a sink, and its status told.
 #![tactic(auto)]
 
-mod report;
+mod status;
 mod stock;
 mod words;
 
-pub use report::report;
+pub use status::report;
 pub use stock::BLANKS;
 pub use words::run_words;
