@@ -75,7 +75,7 @@ put_more w claims outs i place out within among here is =
     let values : drop i outs ≡ out ∷ drop (i + 1) outs = drop_more outs i out among ∙ ap (λ (v : Value). v ∷ drop (i + 1) outs) (sym is) in
     ap₂ (λ (ps : List ℕ) (vs : List Value). record w { loans = put_on w.loans ps vs }) (sym places) (sym values)
 
-board_count : (claims : List ℕ) (step : Stepped) (loans : List Loan) → length (board_after claims step loans) ≡ length loans
+pub board_count : (claims : List ℕ) (step : Stepped) (loans : List Loan) → length (board_after claims step loans) ≡ length loans
 board_count claims step loans = by_end step.done
   where
     by_end : (end : Done) → length {A = Loan} (elim end [ done.Ok ↦ put_on loans claims step.outs | done.Error ↦ loans ]) ≡ length loans

@@ -171,14 +171,14 @@ used_by d test p =
 -- ---- One controller in the cycle
 
 module _ (s : State) (a : Aloft) (valid : IsValid s.description) (aloft : IsAloftOf s a) where
-  held_off : (l : Loaded) → is_held_in a l ≡ is_held_off s l
+  pub held_off : (l : Loaded) → is_held_in a l ≡ is_held_off s l
   held_off l =
       ap (λ (rows : List (List ℕ)). list_any (λ component. list_any (λ (part : FailedPart). part.place == component) a.failed) (linked rows l.place)) (ap (λ r. r.components) aloft.related)
       ∙ ap (λ (failed : List FailedPart). list_any (λ component. list_any (λ (part : FailedPart). part.place == component) failed) (linked (relations_of s.description).components l.place)) aloft.failed
       ∙ ap (λ test. list_any test (linked (relations_of s.description).components l.place)) (fun_ext (read_failures_told s))
       ∙ used_by s.description (component_is read_fails s) l.place
 
-  due_now : (l : Loaded) → is_due_in a.number l ≡ is_due_now s l
+  pub due_now : (l : Loaded) → is_due_in a.number l ≡ is_due_now s l
   due_now l = ap (λ n. is_due_in n l) aloft.number
 
   runs_is : (l : Loaded) → is_active l ≡ true → runs_in a l ≡ (is_due_now s l && not (is_held_off s l))
@@ -192,7 +192,7 @@ module _ (s : State) (a : Aloft) (valid : IsValid s.description) (aloft : IsAlof
     shown = record { held = held_in_cycle s values w inside; described = inside.wired.interfaces }
 
     -- its step is that of the state
-    step_is_of : (mail : Option Mail) (l : Loaded) → mail ≡ mail_for s l.serial → step_in a w.loans mail l ≡ step_of s values l
+    pub step_is_of : (mail : Option Mail) (l : Loaded) → mail ≡ mail_for s l.serial → step_in a w.loans mail l ≡ step_of s values l
     step_is_of mail l same =
         ap (λ (placed : Placed). ctl_step l.ctl (tick_in a l) (numbers_at w.loans (linked placed.reads l.place)) (held_at w.loans (linked placed.references l.place)) mail) aloft.placed
         ∙ ap (λ tick. ctl_step l.ctl tick (numbers_at w.loans (linked (placed_of s.description).reads l.place)) (held_at w.loans (linked (placed_of s.description).references l.place)) mail) (tick_is l)
@@ -205,7 +205,7 @@ module _ (s : State) (a : Aloft) (valid : IsValid s.description) (aloft : IsAlof
     put_is loans (place ∷ places) (out ∷ outs) = put_is (with_loan loans place (set out)) places outs
 
     -- its outputs leave the hardware in the cycle
-    given_by_is : (l : Loaded) (step : Stepped) → AllByRecursion (λ k. is_there_at s values k ≡ true) (linked (placed_of s.description).claims l.place)
+    pub given_by_is : (l : Loaded) (step : Stepped) → AllByRecursion (λ k. is_there_at s values k ≡ true) (linked (placed_of s.description).claims l.place)
         → IsInCycle s (given_by (described_of s l).claims step values) (record w { loans = board_after (linked (placed_of s.description).claims l.place) step w.loans })
     given_by_is l step there = by_end step.done
       where
@@ -222,7 +222,7 @@ module _ (s : State) (a : Aloft) (valid : IsValid s.description) (aloft : IsAlof
 
 -- ---- All of them
 
-with_last_error : (ran : List Ran) (l : Loaded) (step : Stepped) (erred : List ℕ)
+pub with_last_error : (ran : List Ran) (l : Loaded) (step : Stepped) (erred : List ℕ)
     → with_erred l.serial step (erred ++ erred_in ran) ≡ erred ++ erred_in (ran ++ ran_by l step ∷ [])
 with_last_error ran l step erred =
     by_end step.done
@@ -251,7 +251,7 @@ record AreLeft (s : State) (loaded : List Loaded) (mails : List MailAloft) (orde
   apart : IsDistinct (λ m n. m == n) (map (λ (l : Loaded). l.serial) ls)
 
 module _ (s : State) (a : Aloft) (valid : IsValid s.description) (aloft : IsAloftOf s a) (steady : IsSteady s) (told : List Ran) (wrong : List ℕ) where
-  claims_there : (values : List InterfaceValue) → map (λ (v : InterfaceValue). v.interface) values ≡ interfaces_of s.description → (l : Loaded) → active s l.place ≡ true
+  pub claims_there : (values : List InterfaceValue) → map (λ (v : InterfaceValue). v.interface) values ≡ interfaces_of s.description → (l : Loaded) → active s l.place ≡ true
       → AllByRecursion (λ k. is_there_at s values k ≡ true) (linked (placed_of s.description).claims l.place)
   claims_there values are l runs = rw (claims_row s.description l.place) (claims_are_there s valid steady.together values are l.place runs)
 

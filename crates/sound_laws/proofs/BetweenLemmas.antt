@@ -24,7 +24,8 @@ use Rattle.cm_model.specs.declared.reply.Reply.TheVariants as reply
 use Rattle.cm_model.specs.declared.reply.Why.{Why}
 use Rattle.cm_model.specs.declared.reply.Why.TheVariants as why
 use Rattle.sound_laws.proofs.MomentLemmas.{moment_of, legal_step}
-use Rattle.sound_laws.proofs.CoreLemmas.{bare, running_ones, core, core_configuration, core_cycle}
+use Rattle.sound_laws.proofs.CoreLemmas.{core_configuration, core_cycle}
+use Rattle.sound_laws.specs.Core.{bare, running_ones, core}
 
 -- ---- Lists
 

@@ -1,0 +1,258 @@
+-- That a flight makes the cycle of the state from which it began.
+use Rattle.std.proofs.Common.{◌≡◌, ◌≤◌, ℕ, Bool, true, false, List, [], ◌∷◌, ◌++◌, length, map, Option, None, Some, refl, sym, ap, ap₂, subst, ◌∙◌, arith}
+use Rattle.std.specs.Prelude.{◌==◌, ◌&&◌, if◌then◌else◌}
+use Rattle.std.specs.List.{AllByRecursion}
+use Rattle.std.proofs.lemmas.Bool.{and_from, eq-eqb}
+use Rattle.std.proofs.lemmas.List.{append-nil, length-map}
+use Rattle.fixed_num.specs.declared.value.BodyState.{BodyState}
+use Rattle.cm_document.specs.Places.{interfaces_of}
+use Rattle.cm_document.specs.Valid.{IsValid}
+use Rattle.cm_model.specs.Cycle.{failed_in, active_order, updates, Updates, cycle, landed, stops, members_in_order, member_of}
+use Rattle.cm_model.specs.Happened.{Happened}
+use Rattle.cm_model.specs.Ran.{Ran}
+use Rattle.cm_model.specs.Sound.{running_part, configuration}
+use Rattle.cm_model.specs.State.{State, Loaded, is_active, active}
+use Rattle.cm_model.specs.Steady.{IsSteady}
+use Rattle.cm_model.specs.Values.{InterfaceValue}
+use Rattle.cm_model.specs.declared.data.CtlData.{CtlData}
+use Rattle.cm_model.specs.declared.member.Member.{Member}
+use Rattle.cm_model.specs.declared.record.FailedPart.{FailedPart}
+use Rattle.cm_model.specs.declared.record_room.RecordRoom.{RecordRoom}
+use Rattle.cm_hardware.specs.Holding.{IsHardwareOf, IsInCycle, IsMoved, FinishedCycle, values_read, values_updated, reads_failed_in, writes_failed_in}
+use Rattle.cm_hardware.specs.Wiring.{Wired}
+use Rattle.sound_laws.proofs.ActiveLemmas.{from_active_order}
+use Rattle.sound_laws.proofs.ParamsLemmas.{all_each}
+use Rattle.sound_laws.proofs.RunLemmas.{ordered_once}
+use Rattle.sound_laws.proofs.ValidLemmas.{valid-IsChecked}
+use Rattle.stop_plan.specs.Ending.{IsEndingOf, HasFlags, told_in, erred_in}
+use Rattle.stop_plan.specs.declared.ending.Ending.{Ending}
+use Rattle.stop_plan.proofs.QuietLemmas.{none_stop}
+use Rattle.switch_plan.specs.Relations.{Related, relations_of}
+use Rattle.switch_plan.proofs.ElementLemmas.{any_from}
+use Rattle.ctl_slots.specs.Cycles.{IsAloftOf}
+use Rattle.ctl_slots.specs.Updates.{Aloft}
+use Rattle.ctl_places.specs.Placed.{Placed}
+use Rattle.rt_flight.specs.Stations.{flies, IsFitted}
+use Rattle.rt_flight.specs.Cells.{Seat, Flying, seat_gathered, step_of, with_step, flying_after, all_flown, seats_after, CanFly}
+use Rattle.rt_flight.specs.Flights.{FlightFacts, AreSeatsOf, IsAloftOver, IsAloft, IsComputed, AreSeatsAfter, member_in, HasMade, TellsNothing, IsEquipped, CanSettle}
+use Rattle.rt_flight.specs.declared.ground.Ground.{Ground}
+use Rattle.rt_flight.specs.Calls.Cycles.{LeavesFlight, IsToldOf, Decides, IsQuiet}
+use Rattle.rt_flight.proofs.CellLemmas.{Stands, AreLeft, IsFound, found_once, all_stand, seats_are}
+
+-- ---- The board
+
+-- as many interfaces stand on it as are described, between two cycles and in one
+board_of : (s : State) (w : Wired) → IsHardwareOf s w → length w.loans ≡ length (interfaces_of s.description)
+board_of s w is = ap length is.loans ∙ length-map s.values _ ∙ sym (length-map s.values (λ (v : InterfaceValue). v.interface)) ∙ ap length is.wired.interfaces
+
+board_in_cycle : (s : State) (values : List InterfaceValue) (w : Wired) → IsInCycle s values w → length w.loans ≡ length (interfaces_of s.description)
+board_in_cycle s values w is =
+    ap length is.loans ∙ length-map values _ ∙ sym (length-map values (λ (v : InterfaceValue). v.interface)) ∙ ap length is.wired.interfaces
+
+-- so each cell can be updated after the reads
+pub can_fly_each : (s : State) (values : List InterfaceValue) (w after : Wired) (number : ℕ) (cells : List Seat) (g : Ground) → IsHardwareOf s w → IsInCycle s values after
+    → AllByRecursion (CanFly g.places g.relations g.period_us (length w.loans)) cells → AllByRecursion (CanFly g.places g.relations g.period_us (length after.loans)) cells
+can_fly_each s values w after number cells g is inside each =
+    subst (λ (n : ℕ). AllByRecursion (CanFly g.places g.relations g.period_us n) cells) (board_of s w is ∙ sym (board_in_cycle s values after inside)) each
+
+-- and has a station that is fitted
+pub fitted_each : (placed : Placed) (related : Related) (period_us board : ℕ) (cells : List Seat) → AllByRecursion (CanFly placed related period_us board) cells → AllByRecursion (λ c. IsFitted placed c.station) cells
+fitted_each placed related period_us board [] each = tt
+fitted_each placed related period_us board (c ∷ cs) each = (each.0.seated.fitted, fitted_each placed related period_us board cs each.1)
+
+-- the turns of the cells leave the components as they are
+pub components_flown : (a : Aloft) (cs : List Seat) (f : Flying) → (all_flown a cs f).hardware.components ≡ f.hardware.components
+components_flown a [] f = refl
+components_flown a (c ∷ cs) f =
+    components_flown a cs (flying_after a c f)
+    ∙ either (flies a c.station) (with_step a c (step_of a (seat_gathered a.placed f.hardware.loans c)) f) refl
+  where
+    either : (b : Bool) (stepped : Flying) → stepped.hardware.components ≡ f.hardware.components
+        → (if b then stepped else f).hardware.components ≡ f.hardware.components
+    either true stepped same = same
+    either false stepped same = refl
+
+-- ---- The updates
+
+-- What the turns of all cells come to in the state.
+pub record HasFlown (s : State) (a : Aloft) (cells : List Seat) (f : Flying) : Type 0 where
+  pub stands : Stands s f.ran f.erred (updates s (values_read s)) (all_flown a cells f)
+  pub seats : AreSeatsAfter (updates s (values_read s)).loaded (configuration s).running (seats_after a cells f)
+
+pub has_flown : (s : State) (number : ℕ) (cells : List Seat) (g : Ground) (a : Aloft) (f : Flying) → IsAloftOver s number cells g → IsAloftOf s a → IsInCycle s (values_read s) f.hardware
+    → HasFlown s a cells f
+has_flown s number cells g a f is aloft inside =
+    let begun : Updates = record { loaded = s.loaded; values = values_read s; ran = [] } in
+    let stands : Stands s f.ran f.erred begun f = record { hardware = inside; ran = sym (append-nil f.ran); erred = sym (append-nil f.erred) } in
+    let left : AreLeft s (active_order s) cells = record {
+      seats = is.cells;
+      running = all_each (λ l. active s l.place ≡ true) (active_order s) (λ l within.
+          let loaded = from_active_order s l within in
+          any_from (λ (m : Loaded). is_active m && m.place == l.place) s.loaded l loaded.0 (and_from (is_active l) (l.place == l.place) loaded.1 (eq-eqb l.place l.place refl)));
+    } in
+    let found : AllByRecursion (IsFound s.loaded) (active_order s) =
+    all_each (IsFound s.loaded) (active_order s) (λ l within. found_once s.loaded l is.once (from_active_order s l within).0) in
+    record {
+      stands = all_stand s a is.valid aloft is.steady f.ran f.erred (active_order s) cells begun f stands left;
+      seats = seats_are s a is.valid aloft is.steady f.ran f.erred (active_order s) cells begun f stands left
+          (ordered_once s (valid-IsChecked s.description is.valid.no_fault).free is.once) found;
+    }
+
+-- ---- The cells after them
+
+-- they are the active controllers, in the order of updates
+pub members_are : (s : State) (ls : List Loaded) (cs : List Seat) → AreSeatsOf s.mails (map running_part ls) cs → map member_in cs ≡ map member_of ls
+members_are s [] [] are = refl
+members_are s [] (c ∷ cs) are = absurd are
+members_are s (l ∷ ls) [] are = absurd are
+members_are s (l ∷ ls) (c ∷ cs) are =
+    ap₂ (λ (m : Member) (ms : List Member). m ∷ ms) (ap₂ (λ (n p : ℕ). record { serial = n; place = p }) are.0.station.serial are.0.station.place) (members_are s ls cs are.1)
+
+-- ---- The whole
+
+-- this is the cycle that is aloft, once the reads were told
+pub round_is : (s : State) (number : ℕ) (cells : List Seat) (g : Ground) (a : Aloft) (none parts seen : List FailedPart) → IsAloftOver s number cells g
+    → a ≡ record { number = number; period_us = g.period_us; placed = g.places; related = g.relations; failed = seen }
+    → seen ≡ parts → parts ≡ none ++ reads_failed_in s → none ≡ [] → IsAloftOf s a
+round_is s number cells g a none parts seen is so same told empty = record {
+  number = ap (λ (x : Aloft). x.number) so ∙ is.number;
+  period = ap (λ (x : Aloft). x.period_us) so ∙ is.timed;
+  placed = ap (λ (x : Aloft). x.placed) so ∙ is.placed;
+  related = ap (λ (x : Aloft). x.related) so ∙ is.related;
+  failed = ap (λ (x : Aloft). x.failed) so ∙ same ∙ told ∙ ap (λ (ps : List FailedPart). ps ++ reads_failed_in s) empty;
+}
+
+-- What was made of the cycle: of the cells, of the hardware, and what is told.
+pub record WasMade (s : State) (seats : List Seat) (w : Wired) (parts : List FailedPart) (rans : List Ran) (states : List BodyState) (serials : List ℕ) : Type 0 where
+  pub cells : AreSeatsAfter (cycle s).loaded (configuration s).running seats
+  pub hardware : IsMoved (landed s (cycle s)) w
+  pub failed : parts ≡ failed_in s
+  pub ran : rans ≡ told_in s
+  pub bodies : states ≡ (cycle s).happened.bodies
+  pub erred : serials ≡ erred_in (told_in s)
+
+pub was_made : (s : State) (a : Aloft) (cells after : List Seat) (begun flown : Flying) (finished : Wired) (none first all : List FailedPart) (nothing states : List BodyState)
+    → HasFlown s a cells begun → after ≡ seats_after a cells begun → flown ≡ all_flown a cells begun
+    → begun.ran ≡ [] → begun.erred ≡ [] → none ≡ [] → nothing ≡ []
+    → first ≡ none ++ reads_failed_in s → FinishedCycle s finished first all nothing states
+    → WasMade s after finished all flown.ran states flown.erred
+unfolding cycle
+was_made s a cells after begun flown finished none first all nothing states has left come ran erred no_part no_body told done = record {
+  cells = subst (AreSeatsAfter (updates s (values_read s)).loaded (configuration s).running) (sym left) has.seats;
+  hardware = done.hardware;
+  failed = done.failed ∙ ap (λ (ps : List FailedPart). ps ++ writes_failed_in s) (told ∙ ap (λ (ps : List FailedPart). ps ++ reads_failed_in s) no_part);
+  ran = ap (λ (f : Flying). f.ran) come ∙ has.stands.ran ∙ ap (λ (rans : List Ran). rans ++ told_in s) ran;
+  bodies = done.bodies ∙ ap (λ (bodies : List BodyState). bodies ++ (cycle s).happened.bodies) no_body;
+  erred = ap (λ (f : Flying). f.erred) come ∙ has.stands.erred ∙ ap (λ (serials : List ℕ). serials ++ erred_in (told_in s)) erred;
+}
+
+-- so the hardware is that in the cycle, before its end
+pub flown_in_cycle : (s : State) (a : Aloft) (cells : List Seat) (begun flown : Flying) → HasFlown s a cells begun → flown ≡ all_flown a cells begun
+    → IsInCycle s (values_updated s) flown.hardware
+flown_in_cycle s a cells begun flown has come = subst (λ (f : Flying). IsInCycle s (values_updated s) f.hardware) (sym come) has.stands.hardware
+
+-- ---- Its record
+
+-- what is told is the record of the cycle, whoever stops
+pub outcome_is : (s : State) (failed : List FailedPart) (ran : List Ran) (states : List BodyState) (stopped : List ℕ) → failed ≡ failed_in s → ran ≡ told_in s → states ≡ (cycle s).happened.bodies
+    → stopped ≡ stops s (told_in s)
+    → record { cycle = s.ended; failed = failed; ran = ran; bodies = states; stops = stopped } ≡ (cycle s).happened
+unfolding cycle
+outcome_is s failed ran states stopped parts told bodies who = rw (parts, told, bodies, who) refl
+
+-- nobody stops where nothing failed
+pub quiet_stops : (s : State) → failed_in s ≡ [] → erred_in (told_in s) ≡ [] → stops s (told_in s) ≡ []
+quiet_stops s parts erred = none_stop s (told_in s) parts erred
+
+-- ---- The flight, once it is computed
+
+module _ (s : State) (f : FlightFacts) (order : List Member) (r made told : RecordRoom) (cells : List Seat) (g : Ground) (erred : List ℕ) (before ending : Ending) (failed : Bool) (room room' : ℕ)
+    (is : IsAloft s f) (same : order ≡ map member_in f.cells) (empty : TellsNothing r) (has : HasMade s cells g erred made) (leaves : LeavesFlight f.cells cells f.ground g r made room room')
+    (still : failed ≡ false → IsQuiet erred made told before ending) (decides : failed ≡ true → Decides g.relations order erred made told ending) where
+  related : g.relations ≡ relations_of s.description
+  related = ap (λ (x : Ground). x.relations) leaves.ground ∙ is.over.related
+
+  told_so : IsToldOf s g.relations order made.failed.items erred
+  told_so = record {
+    valid = is.over.valid;
+    steady = is.over.steady;
+    related = related;
+    order = same ∙ members_are s (active_order s) f.cells is.over.cells;
+    failed = has.failed;
+    erred = has.erred;
+  }
+
+  quiet : failed ≡ false → (failed_in s ≡ []) × (erred_in (told_in s) ≡ [])
+  quiet none = (sym has.failed ∙ (still none).failed, sym has.erred ∙ (still none).erred)
+
+  none_yet : made.stops.items ≡ []
+  none_yet = ap (λ stops. stops.items) leaves.stops ∙ empty.none_stopped
+
+  -- only who stops is told besides
+  tells : told ≡ record made { stops = told.stops }
+  tells = by_end failed refl
+    where
+      by_end : (b : Bool) → failed ≡ b → told ≡ record made { stops = told.stops }
+      by_end false e = rw ((still e).same) refl
+      by_end true e = (decides e).told
+
+  stops_are : told.stops.items ≡ stops s (told_in s)
+  stops_are = by_end failed refl
+    where
+      by_end : (b : Bool) → failed ≡ b → told.stops.items ≡ stops s (told_in s)
+      by_end false e = ap (λ (x : RecordRoom). x.stops.items) (still e).same ∙ none_yet ∙ sym (quiet_stops s (quiet e).0 (quiet e).1)
+      by_end true e = (decides e).stops s told_so ∙ ap (λ (ns : List ℕ). ns ++ stops s (told_in s)) none_yet
+
+  pub computed_is : (outcome : Happened)
+      → outcome ≡ record { cycle = f.number; failed = told.failed.items; ran = told.ran.rans; bodies = told.bodies.items; stops = told.stops.items }
+      → IsComputed s (record { number = f.number; cells = cells; ground = g; ending = ending; has_failed = failed; outcome = Some outcome })
+  computed_is outcome is_told = record {
+    number = is.over.number;
+    outcome = ap Some (is_told
+        ∙ ap (λ (n : ℕ). record { cycle = n; failed = told.failed.items; ran = told.ran.rans; bodies = told.bodies.items; stops = told.stops.items }) is.over.number
+        ∙ outcome_is s told.failed.items told.ran.rans told.bodies.items told.stops.items
+        (ap (λ (x : RecordRoom). x.failed.items) tells ∙ has.failed) (ap (λ (x : RecordRoom). x.ran.rans) tells ∙ has.ran) (ap (λ (x : RecordRoom). x.bodies.items) tells ∙ has.bodies) stops_are);
+    cells = has.cells;
+    fitted = subst (λ (p : Placed). AllByRecursion (λ c. IsFitted p c.station) cells) (sym (ap (λ (x : Ground). x.places) leaves.ground)) leaves.fitted;
+    hardware = has.hardware;
+    placed = ap (λ (x : Ground). x.places) leaves.ground ∙ is.over.placed;
+    related = related;
+    timed = ap (λ (x : Ground). x.period_us) leaves.ground ∙ is.over.timed;
+    quiet = quiet;
+    ending = λ some. (decides some).ending s told_so;
+  }
+
+-- ---- What it keeps
+
+-- the sets have their flags, whether it was decided who stops or not
+pub flags_after : (w : Related) (members : List Member) (serials : List ℕ) (made told : RecordRoom) (before ending : Ending) (failed : Bool) → HasFlags (length w.leaders) before
+    → (failed ≡ false → IsQuiet serials made told before ending) → (failed ≡ true → Decides w members serials made told ending) → HasFlags (length w.leaders) ending
+flags_after w members serials made told before ending false flags quiet decides = subst (HasFlags (length w.leaders)) (sym (quiet refl).ending) flags
+flags_after w members serials made told before ending true flags quiet decides = (decides refl).flags
+
+-- so all that a flight keeps is kept once the cycle is made
+pub equipped_after : (cells cells' : List Seat) (members : List Member) (g g' : Ground) (r made : RecordRoom) (before ending : Ending) (serials none : List ℕ) (capacity most later : ℕ)
+    → IsEquipped cells members g before serials capacity → LeavesFlight cells cells' g g' r made capacity most → HasFlags (length g'.relations.leaders) ending → none ≡ [] → later ≡ most
+    → IsEquipped cells' members g' ending none later
+equipped_after cells cells' members g g' r made before ending serials none capacity most later is leaves flags empty same =
+    let count : length cells' ≡ length cells = sym (length-map cells' member_in) ∙ ap length leaves.order ∙ length-map cells member_in in
+    record {
+      order = is.order ∙ sym leaves.order;
+      fitted = subst (λ (p : Placed). AllByRecursion (λ c. IsFitted p c.station) cells') (sym (ap (λ (x : Ground). x.places) leaves.ground)) leaves.fitted;
+      flags = flags;
+      none_erred = empty;
+      erred = omega (arith, is.erred, count, same, leaves.capacity);
+    }
+
+-- and it can be settled who stops
+pub can_settle_after : (cells cells' : List Seat) (members : List Member) (g g' : Ground) (r made : RecordRoom) (capacity most : ℕ) → CanSettle g.relations members r → LeavesFlight cells cells' g g' r made capacity most
+    → CanSettle g'.relations members made
+can_settle_after cells cells' members g g' r made capacity most can leaves =
+    let related : g.relations ≡ g'.relations = sym (ap (λ (x : Ground). x.relations) leaves.ground) in
+    let stops = ap (λ stops. stops.room) leaves.stops in
+    subst (λ (w : Related). CanSettle w members made) related (record {
+      followers = can.followers;
+      components = can.components;
+      within = can.within;
+      stops = omega (arith, can.stops, stops);
+    })

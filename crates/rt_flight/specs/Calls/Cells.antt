@@ -1,0 +1,48 @@
+-- What the parts of the turns of cells ask, and what they leave.
+use Rattle.std.specs.Prelude.{◌≡◌, ℕ, ◌+◌, ◌<◌, ◌≤◌, ◌^◌, List, length, map}
+use Rattle.std.specs.List.{AllByRecursion}
+use Rattle.cm_model.specs.Ran.{Filling}
+use Rattle.ctl_places.specs.Placed.{Placed}
+use Rattle.ctl_slots.specs.Updates.{Aloft, IsTimely}
+use Rattle.rt_flight.specs.Stations.{IsSeatedOn}
+use Rattle.rt_flight.specs.Cells.{Seat, Flying, seats_after, all_flown, post_of, CanFly, CanTell, CanBeTold}
+
+-- What a cell gave out can be put on a board of so many interfaces, and told; there is room for its serial beside so many others.
+pub record CanPut (placed : Placed) (board : ℕ) (c : Seat) (room : Filling) (count most : ℕ) : Type 0 where
+  pub seated : IsSeatedOn placed board c.station
+  pub few_states : length c.station.states < 2 ^ 8
+  pub few_outs : length c.station.outs < 2 ^ 8
+  pub told : CanBeTold c room
+  pub erred : count + 1 ≤ most
+
+-- the same of all of these
+pub record CanPutAll (placed : Placed) (board : ℕ) (cs : List Seat) (room : Filling) (count most : ℕ) : Type 0 where
+  pub seated : AllByRecursion (λ c. IsSeatedOn placed board c.station) cs
+  pub few_states : AllByRecursion (λ c. length c.station.states < 2 ^ 8) cs
+  pub few_outs : AllByRecursion (λ c. length c.station.outs < 2 ^ 8) cs
+  pub told : CanTell cs room
+  pub erred : count + length cs ≤ most
+
+-- Then the board is as large as before; of the room for what is told so much is left at least; and so many serials more stand there at
+-- most, within the same capacity.
+pub record LeavesPut (cells outs published : ℕ) (loans loans' : ℕ) (room room' : Filling) (count count' most most' : ℕ) : Type 0 where
+  pub board : loans' ≡ loans
+  pub heads : room.heads ≤ room'.heads + cells
+  pub values : room.values ≤ room'.values + outs
+  pub numbers : room.numbers ≤ room'.numbers + published
+  pub erred : count' ≤ count + cells
+  pub capacity : most' ≡ most
+
+-- These cells can have their turns on a board of so many interfaces.
+pub record CanTurn (a : Aloft) (board : ℕ) (cs : List Seat) (room : Filling) (count most : ℕ) : Type 0 where
+  pub timely : IsTimely a
+  pub each : AllByRecursion (CanFly a.placed a.related a.period_us board) cs
+  pub told : CanTell cs room
+  pub erred : count + length cs ≤ most
+
+-- They had their turns: they and the work come to what they come to one after the other, and who stands there and how much room each has
+-- is as before.
+pub record HaveTurned (a : Aloft) (cs cs' : List Seat) (f f' : Flying) : Type 0 where
+  pub cells : cs' ≡ seats_after a cs f
+  pub flying : f' ≡ all_flown a cs f
+  pub posts : map post_of cs' ≡ map post_of cs

@@ -1,0 +1,195 @@
+-- A flight: one cycle that has left the desk. What it is of a state, and what it makes of it.
+use Rattle.std.specs.Prelude.{◌≡◌, ℕ, ◌<◌, ◌≤◌, ◌==◌, Bool, true, false, not, List, [], ◌∷◌, length, map, find, is_some, Option, None, Some, option_map, IfSome}
+use Rattle.std.specs.List.{All, AllByRecursion, IsDistinct}
+use Rattle.joint_body.specs.declared.TheConstants.{LONGEST_STEP}
+use Rattle.cm_document.specs.Valid.{IsValid}
+use Rattle.cm_model.specs.Cycle.{period, failed_in, cycle, landed}
+use Rattle.cm_model.specs.Happened.{Happened}
+use Rattle.cm_model.specs.Sound.{Running, configuration}
+use Rattle.cm_model.specs.State.{State, Loaded, MailAloft}
+use Rattle.cm_model.specs.Steady.{IsSteady}
+use Rattle.cm_model.specs.declared.data.CtlData.{CtlData}
+use Rattle.cm_model.specs.declared.member.Member.{Member}
+use Rattle.cm_model.specs.declared.record_room.RecordRoom.{RecordRoom}
+use Rattle.cm_hardware.specs.Holding.{IsHardwareOf, IsMoved}
+use Rattle.cm_hardware.specs.Wiring.{most_failures, all_joints}
+use Rattle.ctl_places.specs.Placed.{placed_of}
+use Rattle.ctl_slots.specs.Mails.{mail_in}
+use Rattle.ctl_slots.specs.Updates.{Aloft, IsTimely}
+use Rattle.sound_laws.specs.Core.{core}
+use Rattle.stop_plan.specs.Ending.{IsEndingOf, HasFlags, told_in, erred_in}
+use Rattle.stop_plan.specs.declared.ending.Ending.{Ending}
+use Rattle.switch_plan.specs.Relations.{Related, relations_of}
+use Rattle.rt_flight.specs.Stations.{Standing, IsFitted}
+use Rattle.rt_flight.specs.Cells.{Seat, CanFly, CanTell}
+use Rattle.rt_flight.specs.declared.ground.Ground.{Ground}
+
+-- What is seen of a flight: the number of its cycle; its cells in the order of updates; the hardware, with what is worked out of the
+-- description; the sets of the end, and whether something failed; and the record of the cycle, once it is computed.
+pub record FlightFacts : Type 0 where
+  pub number : ℕ
+  pub cells : List Seat
+  pub ground : Ground
+  pub ending : Ending
+  pub has_failed : Bool
+  pub outcome : Option Happened
+
+-- ---- Of a state
+
+-- The station is that of this running controller.
+pub record IsStationOf (r : Running) (s : Standing) : Type 0 where
+  pub serial : s.serial ≡ r.serial
+  pub place : s.place ≡ r.place
+  pub divisor : Some s.divisor ≡ r.divisor
+
+-- So is the cell, with its data and the mail that is aloft for it.
+pub record IsSeatOf (mails : List MailAloft) (r : Running) (c : Seat) : Type 0 where
+  pub station : IsStationOf r c.station
+  pub ctl : c.ctl ≡ r.ctl
+  pub mail : c.mail ≡ mail_in mails r.serial
+
+-- these cells are those of these running controllers, one for each
+abbrev pub AreSeatsOf : List MailAloft → List Running → List Seat → Type 0
+AreSeatsOf mails [] [] = Unit {0}
+AreSeatsOf mails (r ∷ rs) (c ∷ cs) = IsSeatOf mails r c × AreSeatsOf mails rs cs
+AreSeatsOf mails _ _ = ⊥
+
+-- Over this ground the cycle of this number is aloft in the state, which is one of a valid description, steady and with serials that
+-- differ: the cells are those of its active controllers, in the order of updates, and the hardware is that of the state.
+pub record IsAloftOver (s : State) (count : ℕ) (seats : List Seat) (g : Ground) : Type 0 where
+  pub valid : IsValid s.description
+  pub steady : IsSteady s
+  pub once : IsDistinct (λ m n. m == n) (map (λ l. l.serial) s.loaded)
+  pub number : count ≡ s.ended
+  pub placed : g.places ≡ placed_of s.description
+  pub related : g.relations ≡ relations_of s.description
+  pub timed : g.period_us ≡ period s.description
+  pub hardware : IsHardwareOf s g.hardware
+  pub cells : AreSeatsOf s.mails (configuration s).running seats
+
+-- The flight is that of the cycle which is aloft in the state, not yet computed.
+pub record IsAloft (s : State) (f : FlightFacts) : Type 0 where
+  pub over : IsAloftOver s f.number f.cells f.ground
+  pub not_yet : f.outcome ≡ None
+
+-- Another state of the same cycle: steady, with serials that differ, and with the same core. A call of a console between a begin and its
+-- end leads to such a one.
+pub record IsAlike (s begun : State) : Type 0 where
+  pub steady : IsSteady s
+  pub once : IsDistinct (λ m n. m == n) (map (λ l. l.serial) s.loaded)
+  pub same : core s ≡ core begun
+
+-- whatever consoles call, the flight stays that of the cycle that is aloft
+abbrev pub StaysAloft : State → FlightFacts → Type 0
+StaysAloft begun f = (s : State) → IsAlike s begun → IsAloft s f
+
+-- the data of the controller of this serial among these
+abbrev pub data_under : ℕ → List Loaded → Option CtlData
+data_under serial loaded = option_map (λ l. l.ctl) (find (λ l. l.serial == serial) loaded)
+
+-- After a cycle the cell is that of this running controller, with the data that it has among these, and no mail any more.
+pub record IsSeatAfter (loaded : List Loaded) (r : Running) (c : Seat) : Type 0 where
+  pub station : IsStationOf r c.station
+  pub ctl : Some c.ctl ≡ data_under r.serial loaded
+  pub no_mail : c.mail ≡ None
+
+-- these cells are so those of these running controllers, one for each
+abbrev pub AreSeatsAfter : List Loaded → List Running → List Seat → Type 0
+AreSeatsAfter loaded [] [] = Unit {0}
+AreSeatsAfter loaded (r ∷ rs) (c ∷ cs) = IsSeatAfter loaded r c × AreSeatsAfter loaded rs cs
+AreSeatsAfter loaded _ _ = ⊥
+
+-- The flight is computed: its record is that of the cycle of the state; the cells are those of the active controllers, in the order of
+-- updates, with the data after the cycle; and the hardware is that of the state when the cycle has landed, before it is settled who
+-- stops. The sets say who does, where something failed.
+pub record IsComputed (s : State) (f : FlightFacts) : Type 0 where
+  pub number : f.number ≡ s.ended
+  pub outcome : f.outcome ≡ Some (cycle s).happened
+  pub cells : AreSeatsAfter (cycle s).loaded (configuration s).running f.cells
+  pub fitted : AllByRecursion (λ c. IsFitted f.ground.places c.station) f.cells
+  pub hardware : IsMoved (landed s (cycle s)) f.ground.hardware
+  pub placed : f.ground.places ≡ placed_of s.description
+  pub related : f.ground.relations ≡ relations_of s.description
+  pub timed : f.ground.period_us ≡ period s.description
+  pub quiet : f.has_failed ≡ false → (failed_in s ≡ []) × (erred_in (told_in s) ≡ [])
+  pub ending : f.has_failed ≡ true → IsEndingOf s f.ending
+
+-- and once it is computed, it stays so
+abbrev pub StaysComputed : State → FlightFacts → Type 0
+StaysComputed begun f = (s : State) → IsAlike s begun → IsComputed s f
+
+-- ---- What it keeps
+
+-- a controller in its cell, by its serial and place
+abbrev pub member_in : Seat → Member
+member_in c = record { serial = c.station.serial; place = c.station.place }
+
+-- Computed or not, it is known who flies; each station is fitted; the sets of the end have a flag for each described controller; and
+-- there is room for the serial of each controller that flies, of which none stands there.
+pub record IsEquipped (cells : List Seat) (members : List Member) (g : Ground) (ending : Ending) (serials : List ℕ) (capacity : ℕ) : Type 0 where
+  pub order : members ≡ map member_in cells
+  pub fitted : AllByRecursion (λ c. IsFitted g.places c.station) cells
+  pub flags : HasFlags (length g.relations.leaders) ending
+  pub none_erred : serials ≡ []
+  pub erred : length cells ≤ capacity
+
+-- what is the same for all its updates, before a read failed
+abbrev pub round_over : ℕ → Ground → Aloft
+round_over number g = record { number = number; period_us = g.period_us; placed = g.places; related = g.relations; failed = [] }
+
+-- Over this ground the cycle of a state can be made of these cells: each can be updated, and there is room to tell of all that can happen.
+pub record CanMake (number : ℕ) (cells : List Seat) (g : Ground) (r : RecordRoom) : Type 0 where
+  pub aloft : (s : State) × IsAloftOver s number cells g
+  pub timely : IsTimely (round_over number g)
+  pub short : g.period_us ≤ LONGEST_STEP
+  pub each : AllByRecursion (CanFly g.places g.relations g.period_us (length g.hardware.loans)) cells
+  pub told : CanTell cells r.ran
+  pub failures : most_failures g.hardware.components ≤ r.failed.room
+  pub joints : all_joints g.hardware.components ≤ r.bodies.room
+
+-- It can be settled who stops of these controllers.
+pub record CanSettle (related : Related) (order : List Member) (r : RecordRoom) : Type 0 where
+  pub followers : length related.followers ≡ length related.leaders
+  pub components : length related.components ≡ length related.leaders
+  pub within : All (λ m. m.place < length related.leaders) order
+  pub stops : length order ≤ r.stops.room
+
+-- nothing is told in it yet
+pub record TellsNothing (r : RecordRoom) : Type 0 where
+  pub no_failure : r.failed.items ≡ []
+  pub none_ran : r.ran.rans ≡ []
+  pub no_body : r.bodies.items ≡ []
+  pub none_stopped : r.stops.items ≡ []
+
+-- Until it is computed, all of it can be done, with this record to tell in.
+pub record IsReady (number : ℕ) (cells : List Seat) (members : List Member) (g : Ground) (r : RecordRoom) : Type 0 where
+  pub makes : CanMake number cells g r
+  pub settles : CanSettle g.relations members r
+  pub empty : TellsNothing r
+
+-- A flight has either a record to tell in or the record of its cycle.
+pub record IsFlight (number : ℕ) (cells : List Seat) (members : List Member) (g : Ground) (ending : Ending) (serials : List ℕ) (capacity : ℕ) (room : Option RecordRoom) (told : Option Happened)
+    : Type 0 where
+  pub equipped : IsEquipped cells members g ending serials capacity
+  pub one_of_two : is_some room ≡ not (is_some told)
+  pub ready : IfSome room (IsReady number cells members g)
+
+-- What a flight brings home: all that it took along as it is then, the record of its cycle, and whether something failed.
+pub record ComesHome (f : FlightFacts) (seats : List Seat) (members : List Member) (g : Ground) (sets : Ending) (failed : Bool) (serials : List ℕ) (capacity : ℕ) (happened : Happened) : Type 0 where
+  pub cells : seats ≡ f.cells
+  pub ground : g ≡ f.ground
+  pub ending : sets ≡ f.ending
+  pub has_failed : failed ≡ f.has_failed
+  pub told : Some happened ≡ f.outcome
+  pub equipped : IsEquipped seats members g sets serials capacity
+
+-- ---- In parts
+
+-- The cycle of the state was made, and is told of but for the stops.
+pub record HasMade (s : State) (seats : List Seat) (g : Ground) (serials : List ℕ) (r : RecordRoom) : Type 0 where
+  pub cells : AreSeatsAfter (cycle s).loaded (configuration s).running seats
+  pub hardware : IsMoved (landed s (cycle s)) g.hardware
+  pub failed : r.failed.items ≡ failed_in s
+  pub ran : r.ran.rans ≡ told_in s
+  pub bodies : r.bodies.items ≡ (cycle s).happened.bodies
+  pub erred : serials ≡ erred_in (told_in s)

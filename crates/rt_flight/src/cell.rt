@@ -1,0 +1,157 @@
+//! A running controller in its cell.
+
+ghost use Rattle.std.specs.Prelude.{◌≡◌, [], ◌∷◌, ◌++◌, ◌+◌, ◌<◌, ◌≤◌, length, vec_len, vec_capacity, None, Some};
+ghost use Rattle.std.specs.List.{list_any};
+ghost use Rattle.cm_document.specs.declared.life.Life.TheVariants.{Active};
+ghost use Rattle.cm_model.specs.Components.{is_listed};
+ghost use Rattle.ctl_slots.specs.Lives.{IsKept};
+ghost use Rattle.ctl_slots.specs.Updates.{IsTimely};
+ghost use Rattle.rt_flight.specs.Cells.{flying, flying_put, seat_read, seat_run, seat_put, seat_stepped, step_of, post_of, numbers_of, precedes_in, CanFly, CanStep};
+ghost use Rattle.rt_flight.specs.Calls.Cells.{CanPut, LeavesPut};
+
+use crate::round::Round;
+use crate::running::Running;
+use crate::station::Station;
+use cm_hardware::ResourceManager;
+use cm_model::{Done, Mail, RanRoom};
+use ctl_places::CtlPlaces;
+use ctl_trait::Controller;
+use std::marker::Model;
+use switch_plan::Relations;
+
+/// A controller that runs, in its cell: its box, where it stands, and the mail that went aloft for it. Contracts see it as `Seat`.
+#[derive(Drop)]
+pub struct Cell<C: Controller> {
+    station: Station,
+    running: Running<C>,
+    mail: Option<Mail>,
+    /// How its update went, while that is not told yet.
+    done: Option<Done>,
+}
+
+impl<C: Controller> Model for Cell<C> {
+    ghost use Rattle.rt_flight.specs.Cells.{Seat};
+
+    ghost Value = { Seat };
+
+    ghost view = { λ c. record { station = c.station; ctl = c.running; mail = c.mail; done = c.done } };
+}
+
+impl<C: Controller> Cell<C> {
+    /// A controller that runs comes to its station, with the mail that goes aloft for it. It takes no memory.
+    pub fn seat(station: Station, ctl: C, mail: Option<Mail>) -> Cell<C>
+        requires { IsKept Active (C.meaning ctl) }
+        ensures { result ≡ record { station = station; ctl = C.meaning ctl; mail = mail; done = None } }
+    {
+        Cell {
+            station,
+            running: Running::new(ctl),
+            mail,
+            done: None,
+        }
+    }
+
+    /// The station, and the box that leaves it. It takes no memory.
+    pub fn leave(self) -> (Station, C)
+        ensures station { result.0 ≡ self.station }
+        ensures ctl { C.meaning result.1 ≡ self.ctl }
+        ensures kept { IsKept Active (C.meaning result.1) }
+    {
+        (self.station, self.running.into_ctl())
+    }
+
+    /// Where it is updated in the cycle, its states and its references are read, as the interfaces hold them now. It takes no memory.
+    pub(crate) fn gather(&mut self, round: &Round<'_>, hardware: &ResourceManager)
+        requires { CanFly round.now.placed round.now.related round.now.period_us (length hardware.now.loans)
+            self.old }
+        ensures { self.new ≡ seat_read round.now hardware.now.loans self.old }
+    {
+        if round.updates(&self.station) {
+            self.station.gather(round.places, hardware);
+        }
+    }
+
+    /// Where it is updated in the cycle, it takes its mail and makes its step from what was read; else its mail is lost. It takes no memory.
+    pub(crate) fn step(&mut self, round: &Round<'_>)
+        requires timely { IsTimely round.now }
+        requires can { CanStep round.now.related round.now.period_us self.old }
+        ensures run { self.new ≡ seat_run round.now self.old }
+        ensures post { post_of self.new ≡ post_of self.old }
+    {
+        self.done = None;
+        if round.updates(&self.station) {
+            self.run(round);
+        }
+        self.mail = None;
+    }
+
+    /// Its step.
+    fn run(&mut self, round: &Round<'_>)
+        requires timely { IsTimely round.now }
+        requires can { CanStep round.now.related round.now.period_us self.old }
+        ensures run { self.new ≡ record (seat_stepped (step_of round.now self.old) self.old) {
+          done = Some (step_of round.now self.old).done;
+        } }
+        ensures post { post_of self.new ≡ post_of self.old }
+    {
+        let mail = self.mail.take();
+        let tick = round.tick(&self.station);
+        self.done = Some(self.station.step(&mut self.running, tick, mail));
+    }
+
+    /// What its step came to is told, and its claims hold what it gave out, unless it failed. It takes no memory.
+    pub(crate) fn scatter(
+        &mut self,
+        places: &CtlPlaces,
+        hardware: &mut ResourceManager,
+        ran: &mut RanRoom,
+        erred: &mut Vec<u32>,
+    )
+        requires { CanPut places.now (length hardware.old.loans) self.old ran.old (vec_len erred.old)
+            (vec_capacity erred.old) }
+        ensures cell { self.new ≡ seat_put self.old }
+        ensures flying { flying hardware.new ran.new.rans erred.new.items
+            ≡ flying_put places.now self.old (flying hardware.old ran.old.rans erred.old.items) }
+        ensures leaves { LeavesPut 1 (length self.old.station.outs) (numbers_of self.old) (length hardware.old.loans)
+            (length hardware.new.loans) ran.old ran.new (vec_len erred.old) (vec_len erred.new) (vec_capacity erred.old)
+            (vec_capacity erred.new) }
+    {
+        if let Some(done) = self.done.take() {
+            self.station.give_out(places, hardware, done);
+            self.station.tell(self.running.publishes(), done, ran);
+            push_erred(erred, self.station.serial(), done);
+        }
+    }
+
+    /// Whether a controller that precedes it stands in one of these cells.
+    pub(crate) fn follows(&self, cells: &[Cell<C>], relations: &Relations) -> bool
+        requires { self.now.station.place < length relations.now.leaders }
+        ensures { result ≡ list_any (λ c. precedes_in relations.now c self.now) cells.now }
+    {
+        let leaders = relations.leaders().row(self.station.place());
+        cells
+            .iter()
+            .any(|cell| leads(leaders, cell.station.place()))
+    }
+}
+
+/// Whether this place is one of these.
+fn leads(leaders: &[u32], place: u32) -> bool
+    ensures { result ≡ is_listed leaders.now place }
+{
+    leaders.iter().any(|leader| *leader == place)
+}
+
+/// The serial of a controller whose update failed is told.
+fn push_erred(erred: &mut Vec<u32>, serial: u32, done: Done)
+    requires { vec_len erred.old + 1 ≤ vec_capacity erred.old }
+    ensures erred { erred.new.items
+        ≡ elim done [ Done.Ok ↦ erred.old.items | Done.Error ↦ erred.old.items ++ serial ∷ [] ] }
+    ensures within { vec_len erred.new ≤ vec_len erred.old + 1 }
+    ensures capacity { vec_capacity erred.new ≡ vec_capacity erred.old }
+{
+    match done {
+        Done::Ok => {}
+        Done::Error => erred.push_reserved(serial),
+    }
+}

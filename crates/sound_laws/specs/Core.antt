@@ -1,0 +1,30 @@
+-- The core of a state: what a cycle rests on. Two states with one core have the same cycle.
+use Rattle.std.specs.Prelude.{false, List, [], map, filter, None}
+use Rattle.cm_model.specs.State.{State, Loaded, is_active}
+
+-- a controller without its rate, which counts when it is configured next, and without the mail that waits for it
+abbrev pub bare : Loaded → Loaded
+bare l = record l { rate = 0; mail = None }
+
+-- the active ones so, in the order of serials
+abbrev pub running_ones : List Loaded → List Loaded
+running_ones ls = map bare (filter is_active ls)
+
+-- the state with its active controllers alone, and without what no cycle looks at
+abbrev pub core : State → State
+core s = record {
+  description = s.description;
+  sessions = 0;
+  blanks = record { forward = 0; passthrough = 0; pid = 0; trajectory = 0; broadcaster = 0; mock = 0 };
+  loads = 0;
+  loaded = running_ones s.loaded;
+  lives = s.lives;
+  bodies = s.bodies;
+  values = s.values;
+  requests = [];
+  outcomes = [];
+  ended = s.ended;
+  aloft = false;
+  mails = s.mails;
+  closed = false;
+}

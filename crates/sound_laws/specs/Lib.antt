@@ -1,0 +1,2 @@
+-- What laws of soundness are said over, besides the written manager.
+pub mod Core
