@@ -8,3 +8,7 @@ pub mod UpdateStateLemmas
 pub mod ShapeLemmas
 pub mod SeatLemmas
 pub mod FitLemmas
+pub mod EachLemmas
+pub mod SlotsLemmas
+pub mod LentLemmas
+pub mod ParkLemmas

@@ -1,5 +1,5 @@
 -- What a loaded controller's lifecycle state says of its data.
-use Rattle.std.proofs.Common.{◌≡◌, true, false, Option, Some, None, refl, sym, ap}
+use Rattle.std.proofs.Common.{◌≡◌, true, false, Option, Some, None, refl, sym, ap, subst, ◌∙◌}
 use Rattle.std.specs.Prelude.{not, ◌&&◌, is_some, IsSomeAnd}
 use Rattle.cm_document.specs.declared.life.Life.{Life}
 use Rattle.cm_document.specs.declared.life.Life.TheVariants.{Unconfigured, Inactive, Active, Finalized}
@@ -77,3 +77,13 @@ idle_from ctl (Some p) (Some r) params run e = cc
 -- what is found inactive is so
 pub idle_where_inactive : (l : Loaded) → is_inactive l ≡ true → IsIdle l.ctl
 idle_where_inactive l e = idle_from l.ctl l.ctl.params l.ctl.run refl refl e
+
+-- what runs is in the state that is so
+pub kept_where_active : (life : Life) (ctl : CtlData) → IsKept life ctl → is_some ctl.run ≡ true → IsKept Active ctl
+kept_where_active life ctl h runs = subst (λ (l : Life). IsKept l ctl) (active_where life (active_in life ctl h.state ∙ runs)) h
+  where
+    active_where : (l : Life) → is_running l ≡ true → l ≡ Active
+    active_where Unconfigured e = cc
+    active_where Inactive e = cc
+    active_where Active e = refl
+    active_where Finalized e = cc

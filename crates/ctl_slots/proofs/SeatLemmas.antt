@@ -1,20 +1,18 @@
 -- Where the loaded controllers of a steady state of a valid description stand.
-use Rattle.std.proofs.Common.{◌≡◌, ℕ, zero, suc, ◌<◌, ◌≤◌, Bool, true, false, List, [], ◌∷◌, length, map, take, Option, Some, None, Ok, refl, sym, ap, ◌∙◌, true≢false, length-take, arith}
+use Rattle.std.proofs.Common.{◌≡◌, ℕ, zero, suc, ◌<◌, ◌≤◌, Bool, true, false, List, [], ◌∷◌, length, map, Option, Some, None, Ok, refl, sym, ap, ◌∙◌, true≢false, arith}
 use Rattle.std.specs.Prelude.{◌||◌, if◌then◌else◌, IfSome}
 use Rattle.std.specs.List.{AllByRecursion, IsDistinct}
-use Rattle.std.proofs.lemmas.List.{length-map}
 use Rattle.std.proofs.lemmas.Option.{slice_get-get_or}
 use Rattle.iface_names.specs.Interfaces.{same_interface, interface_text}
 use Rattle.iface_names.specs.Sameness.{same_interface-Decides, same_interface-IsEquivalence}
 use Rattle.iface_names.specs.declared.interface.IfaceName.{IfaceName}
 use Rattle.cm_document.specs.Described.{states_of}
-use Rattle.cm_document.specs.Links.{is_among, joints_of, references_of, refs_of, reference_for, exported_for}
+use Rattle.cm_document.specs.Links.{is_among, joints_of, references_of, refs_of}
 use Rattle.cm_document.specs.Places.{interfaces_of}
 use Rattle.cm_document.specs.Valid.{limited, few_enough, names_apart, interfaces_apart, links_apart, named_apart, repeated_after, valid, IsValid}
 use Rattle.cm_document.specs.declared.description.CtlDesc.{CtlDesc}
 use Rattle.cm_document.specs.declared.description.Description.{Description}
 use Rattle.cm_document.specs.declared.description.Params.{Params}
-use Rattle.cm_document.specs.declared.description.Params.TheVariants.{Forward, Passthrough, Pid, Trajectory, Broadcaster, Mock}
 use Rattle.cm_document.specs.declared.faults.CheckFault.TheVariants.{NameTwice}
 use Rattle.cm_document.specs.declared.faults.What.TheVariants.{Components, Joints, States}
 use Rattle.cm_document.proofs.DistinctLemmas.{all_so, repeated_after-IsDistinct}
@@ -119,17 +117,6 @@ few_reads d ok p =
     let most = distinct_most reads (states_of d.components) (valid_reads_distinct d ok.no_fault p) there in
     omega (arith, most, few_states d ok.no_fault)
 
--- ---- References
-
--- a controller has no more references than it has claims, or one
-references_most : (c : CtlDesc) (p : Params) → length c.claims ≤ 32 → length (map (reference_for c.name) (exported_for p c)) ≤ 32
-references_most c (Forward outs) few = omega arith
-references_most c (Passthrough outs) few = omega (arith, few, length-map c.claims (reference_for c.name))
-references_most c (Pid kp ki kd imax omax) few = omega (arith, length-map (take 1 c.reads) (reference_for c.name), length-take 1 c.reads)
-references_most c (Trajectory outs) few = omega arith
-references_most c (Broadcaster ins) few = omega arith
-references_most c (Mock outs refuse_config not_ready fail_update) few = omega arith
-
 -- ---- Seats
 
 module _ (d : Description) (ok : IsValid d) (l : Loaded) (described : l.place < length d.controllers) where
@@ -172,10 +159,6 @@ module _ (d : Description) (ok : IsValid d) (l : Loaded) (described : l.place < 
         counts = own_counts l.ctl.params own.described;
       }
 
-  -- And there is room for what it has.
+  -- And there is room for what it reads.
   pub own_room : HasRoom (placed_of d) widest l
-  own_room = record {
-    states = omega (arith, reads.count, few_reads d ok l.place);
-    references = omega (arith, references.count, references_most c c.params shape.few_claims);
-    outs = omega (arith, claims.count, shape.few_claims);
-  }
+  own_room = omega (arith, reads.count, few_reads d ok l.place)

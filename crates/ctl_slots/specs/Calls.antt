@@ -1,1 +1,3 @@
-pub mod Updates
+pub mod Commits
+pub mod Mails
+pub mod Slots

@@ -3,7 +3,7 @@ use Rattle.std.specs.Prelude.{◌≡◌, ℕ, ℤ, ◌<◌, ◌≤◌, ◌^◌, 
 use Rattle.fixed_num.specs.declared.value.Value.{Value}
 use Rattle.cm_document.specs.Places.{interfaces_of}
 use Rattle.cm_document.specs.declared.description.Description.{Description}
-use Rattle.cm_document.specs.declared.limits.TheConstants.{MOST_STATES, MOST_CLAIMS_OF_ONE}
+use Rattle.cm_document.specs.declared.limits.TheConstants.{MOST_STATES}
 use Rattle.cm_model.specs.Claims.{number_in}
 use Rattle.cm_model.specs.Controllers.{AreItsCounts}
 use Rattle.cm_model.specs.State.{Loaded}
@@ -45,18 +45,10 @@ pub record IsSeated (placed : Placed) (board : ℕ) (l : Loaded) : Type 0 where
   pub counts : IfSome l.ctl.params (λ params. AreItsCounts params
       (length (linked placed.reads l.place)) (length (linked placed.references l.place)) (length (linked placed.claims l.place)))
 
--- How many states, references and outputs of one controller there is room for.
-pub record Width : Type 0 where
-  pub states : ℕ
-  pub references : ℕ
-  pub outs : ℕ
+-- how many states a controller of a valid description reads at most
+abbrev pub widest : ℕ
+widest = MOST_STATES
 
--- as many as a controller of a valid description has at most
-abbrev pub widest : Width
-widest = record { states = MOST_STATES; references = MOST_CLAIMS_OF_ONE; outs = MOST_CLAIMS_OF_ONE }
-
--- there is room for those of this controller
-pub record HasRoom (placed : Placed) (width : Width) (l : Loaded) : Type 0 where
-  pub states : length (linked placed.reads l.place) ≤ width.states
-  pub references : length (linked placed.references l.place) ≤ width.references
-  pub outs : length (linked placed.claims l.place) ≤ width.outs
+-- there is room for those that this controller reads
+abbrev pub HasRoom : Placed → ℕ → Loaded → Type 0
+HasRoom placed room l = length (linked placed.reads l.place) ≤ room

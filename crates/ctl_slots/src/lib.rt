@@ -1,17 +1,16 @@
-//! The loaded controllers: one in its slot, and what becomes of all of them at once, at a commit and in a cycle.
+//! The loaded controllers: one in its slot, all with their boxes, and what becomes of them at a commit, and when a cycle takes off and
+//! comes home.
 #![tactic(auto)]
 
-pub use commits::commit;
-pub use cycle::CycleAloft;
-pub use mails::{MailAloft, send_off};
+pub use mails::{MailAloft, take_mail};
 pub use room::Room;
 pub use slot::Slot;
-pub use updates::update_all;
+pub use slots::Slots;
 
 mod commits;
-mod cycle;
 pub mod laws;
+mod lent;
 mod mails;
 mod room;
 mod slot;
-mod updates;
+mod slots;

@@ -1,10 +1,9 @@
 //! Mail that goes aloft with a cycle.
 
-ghost use Rattle.std.specs.Prelude.{◌≡◌, ◌<◌, ◌≤◌, ◌+◌, ◌++◌, ◌==◌, length, map, position, IfSome, filter_map, vec_len, vec_capacity};
+ghost use Rattle.std.specs.Prelude.{◌≡◌, ◌<◌, ◌≤◌, ◌+◌, ◌==◌, length, map, position, IfSome, vec_len, vec_capacity};
 ghost use Rattle.std.specs.List.{AllByRecursion};
-ghost use Rattle.cm_model.specs.Cycle.{mail_off, without_mail_off};
-ghost use Rattle.cm_model.specs.State.{State};
-ghost use Rattle.ctl_slots.specs.Mails.{mail_in, without_mail, is_due_in, goes_aloft, without_sent, with_sent, with_all_sent};
+ghost use Rattle.ctl_slots.specs.Calls.Mails.{HasSent};
+ghost use Rattle.ctl_slots.specs.Mails.{mail_in, without_mail, is_due_in, goes_aloft, without_sent, with_all_sent};
 ghost use Rattle.ctl_slots.specs.Updates.{HasTime};
 
 use crate::slot::Slot;
@@ -28,20 +27,12 @@ impl Model for MailAloft {
     ghost view = { λ m. record { serial = m.serial; mail = m.mail } };
 }
 
-/// The cycle of this number begins: the mail of each active controller that is due in it goes aloft. There is room for it: the call takes
-/// no memory.
-pub fn send_off<C: Controller>(slots: &mut [Slot<C>], cycle: u64, mails: &mut Vec<MailAloft>)
-    requires room { vec_len mails.old + length slots.old ≤ vec_capacity mails.old }
-    requires time { AllByRecursion HasTime slots.old }
-    ensures slots { (s : State) → s.ended ≡ cycle → slots.new ≡ map (without_mail_off s) slots.old }
-    ensures mails { (s : State) → s.ended ≡ cycle
-        → mails.new.items ≡ mails.old.items ++ filter_map (mail_off s) slots.old }
-{
-    send_each(slots, cycle, mails);
-}
-
-/// That of each, by the number of the cycle.
-fn send_each<C: Controller>(slots: &mut [Slot<C>], cycle: u64, mails: &mut Vec<MailAloft>)
+/// The mail of each active controller that is due in the cycle of this number goes aloft.
+pub(crate) fn send_each<C: Controller>(
+    slots: &mut [Slot<C>],
+    cycle: u64,
+    mails: &mut Vec<MailAloft>,
+)
     requires room { vec_len mails.old + length slots.old ≤ vec_capacity mails.old }
     requires time { AllByRecursion HasTime slots.old }
     ensures slots { slots.new ≡ map (without_sent cycle) slots.old }
@@ -56,10 +47,8 @@ fn send_each<C: Controller>(slots: &mut [Slot<C>], cycle: u64, mails: &mut Vec<M
 fn send_one<C: Controller>(slot: &mut Slot<C>, cycle: u64, mails: &mut Vec<MailAloft>)
     requires room { vec_len mails.old + 1 ≤ vec_capacity mails.old }
     requires time { HasTime slot.old }
-    ensures slot { slot.new ≡ without_sent cycle slot.old }
-    ensures mails { mails.new.items ≡ with_sent cycle slot.old mails.old.items }
-    ensures one { vec_len mails.new ≤ vec_len mails.old + 1 }
-    ensures room { vec_capacity mails.new ≡ vec_capacity mails.old }
+    ensures { HasSent cycle slot.old slot.new mails.old.items mails.new.items
+        (vec_capacity mails.old) (vec_capacity mails.new) }
 {
     if goes_aloft(slot, cycle) {
         let serial = slot.serial();
@@ -78,7 +67,7 @@ fn goes_aloft<C: Controller>(slot: &Slot<C>, cycle: u64) -> bool
 }
 
 /// Whether a controller is updated in this cycle, where it runs.
-pub(crate) fn is_due<C: Controller>(slot: &Slot<C>, cycle: u64) -> bool
+fn is_due<C: Controller>(slot: &Slot<C>, cycle: u64) -> bool
     requires { HasTime slot.now }
     ensures { result ≡ is_due_in cycle slot.now }
 {
@@ -89,7 +78,7 @@ pub(crate) fn is_due<C: Controller>(slot: &Slot<C>, cycle: u64) -> bool
 }
 
 /// The mail that is aloft for the controller of this serial, which it is handed now.
-pub(crate) fn take_mail(mails: &mut Vec<MailAloft>, serial: u32) -> Option<Mail>
+pub fn take_mail(mails: &mut Vec<MailAloft>, serial: u32) -> Option<Mail>
     ensures taken { result ≡ mail_in mails.old.items serial }
     ensures left { mails.new.items ≡ without_mail serial mails.old.items }
 {

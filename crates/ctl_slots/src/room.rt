@@ -1,34 +1,27 @@
-//! Room for what one controller is given, and for what it gives out.
+//! Room for the states that one controller is given.
 
 ghost use Rattle.std.specs.Prelude.{◌≡◌, ◌<◌, length, IfOk, All};
 ghost use Rattle.cm_model.specs.Claims.{number_in};
-ghost use Rattle.ctl_slots.specs.Seats.{numbers_at, held_at, widest};
+ghost use Rattle.ctl_slots.specs.Seats.{numbers_at, widest};
 
-use cm_document::{MOST_CLAIMS_OF_ONE, MOST_STATES};
+use cm_document::MOST_STATES;
 use cm_hardware::ResourceManager;
 use cm_model::{Fx, Memory, Value};
 use std::alloc::Global;
 use std::marker::Model;
 
-/// Room for the states, the references and the outputs of one controller after the other. What stands in it says nothing. Contracts see how much there is (`Width`).
+/// Room for the states of one controller after the other. What stands in it says nothing. Contracts see how many there is room for.
 #[derive(Debug, Drop)]
 pub struct Room {
     pub(crate) states: Vec<Fx>,
-    pub(crate) references: Vec<Value>,
-    pub(crate) outs: Vec<Value>,
 }
 
 impl Model for Room {
-    ghost use Rattle.std.specs.Prelude.{length};
-    ghost use Rattle.ctl_slots.specs.Seats.{Width};
+    ghost use Rattle.std.specs.Prelude.{ℕ, length};
 
-    ghost Value = { Width };
+    ghost Value = { ℕ };
 
-    ghost view = { λ r. record {
-      states = length r.states.items;
-      references = length r.references.items;
-      outs = length r.outs.items;
-    } };
+    ghost view = { λ r. length r.states.items };
 }
 
 impl Room {
@@ -38,8 +31,6 @@ impl Room {
     {
         Ok(Room {
             states: vec![in alloc; Fx::ZERO; MOST_STATES]?,
-            references: vec![in alloc; Value::Unset; MOST_CLAIMS_OF_ONE]?,
-            outs: vec![in alloc; Value::Unset; MOST_CLAIMS_OF_ONE]?,
         })
     }
 }
@@ -52,17 +43,6 @@ pub(crate) fn read_numbers(hardware: &ResourceManager, places: &[u32], states: &
 {
     for i in 0..places.len() {
         states[i] = number_in(hardware.value(places[i]));
-    }
-}
-
-/// What the interfaces at these places hold.
-pub(crate) fn read_values(hardware: &ResourceManager, places: &[u32], values: &mut [Value])
-    requires there { All (λ place. place < length hardware.now.loans) places.now }
-    requires room { length values.old ≡ length places.now }
-    ensures { values.new ≡ held_at hardware.now.loans places.now }
-{
-    for i in 0..places.len() {
-        values[i] = hardware.value(places[i]);
     }
 }
 

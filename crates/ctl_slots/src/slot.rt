@@ -1,34 +1,39 @@
-//! One loaded controller, with its box.
+//! What is kept of one loaded controller, beside its box.
 
-ghost use Rattle.std.specs.Prelude.{◌≡◌, ◌↔◌, ℤ, Bool, List, true, [], length, Some, None, Err, OnOk, OnErr, IfSome};
+ghost use Rattle.std.specs.Prelude.{◌≡◌, ◌↔◌, ℤ, Bool, List, true, length, Some, None, Err, OnOk, OnErr, option_map};
+ghost use Rattle.cm_document.specs.declared.life.Life.TheVariants.{Active};
 ghost use Rattle.cm_model.specs.Commit.{leaving};
 ghost use Rattle.cm_model.specs.Console.{is_inactive, after_cleanup, after_rate, after_send};
-ghost use Rattle.cm_model.specs.Controllers.{configured, activated, is_ready, ctl_step, put_out, IsBlank, IsIdle, IsRunning, CanBeConfigured, CanBeActivated};
+ghost use Rattle.cm_model.specs.Controllers.{activated, configured, is_ready, IsBlank, IsIdle, IsRunning, CanBeConfigured, CanBeActivated};
 ghost use Rattle.cm_model.specs.Kinds.{is_refused};
 ghost use Rattle.cm_model.specs.Scene.{is_running, is_configured};
 ghost use Rattle.cm_model.specs.State.{is_active, life_of};
-ghost use Rattle.ctl_trait.specs.Taking.{CanTake};
 ghost use Rattle.ctl_slots.specs.Commits.{come, CanCome};
-ghost use Rattle.ctl_slots.specs.Lives.{once_taken, publishes, published_by, CanBeStepped};
+ghost use Rattle.ctl_slots.specs.Lives.{IsKept};
 
-use cm_model::{CtlKind, Done, Fx, Life, Mail, Params, Tick, Value};
+use cm_model::{CtlKind, Fx, Life, Mail, Params};
 use ctl_trait::{CfgFault, Controller};
 use std::alloc::Global;
 use std::marker::Model;
+use std::snapshot::Snapshot;
 
-/// A loaded controller: its box, and what the manager keeps of it. Contracts see both (`Loaded`).
+/// A loaded controller in its slot: what the manager keeps of it beside its box, which stands apart, since it leaves for a cycle.
+/// Contracts see both (`Loaded`).
 #[derive(Drop)]
 pub struct Slot<C: Controller> {
     serial: u32,
     place: usize,
     rate: u32,
     divisor: Option<u32>,
+    kind: CtlKind,
     life: Life,
-    ctl: C,
     mail: Option<Mail>,
+    /// The box as it stands here, or as it was when it left. It takes no byte: contracts alone read it.
+    ctl: Snapshot<C>,
 }
 
 impl<C: Controller> Model for Slot<C> {
+    ghost use Rattle.std.specs.Prelude.{◌≡◌};
     ghost use Rattle.cm_model.specs.State.{Loaded};
     ghost use Rattle.ctl_slots.specs.Lives.{IsKept};
 
@@ -39,23 +44,23 @@ impl<C: Controller> Model for Slot<C> {
       place = s.place;
       rate = s.rate;
       divisor = s.divisor;
-      ctl = C.meaning s.ctl;
+      ctl = C.meaning s.ctl.value;
       mail = s.mail;
     } };
 
-    ghost invariant = { λ s. IsKept s.life (C.meaning s.ctl) };
+    ghost invariant = { λ s. IsKept s.life (C.meaning s.ctl.value) × (s.kind ≡ (C.meaning s.ctl.value).kind) };
 }
 
 impl<C: Controller> Slot<C> {
-    /// A controller as its load leaves it: a blank under a serial, described at this place with this rate.
-    pub fn new(serial: u32, place: usize, rate: u32, blank: C) -> Slot<C>
-        requires { IsBlank (C.meaning blank) }
+    /// The slot of a blank under a serial, described at this place with this rate.
+    pub(crate) fn new(serial: u32, place: usize, rate: u32, blank: &C) -> Slot<C>
+        requires { IsBlank (C.meaning blank.now) }
         ensures { result ≡ record {
           serial = serial;
           place = place;
           rate = rate;
           divisor = None;
-          ctl = C.meaning blank;
+          ctl = C.meaning blank.now;
           mail = None;
         } }
     {
@@ -64,9 +69,10 @@ impl<C: Controller> Slot<C> {
             place,
             rate,
             divisor: None,
+            kind: blank.kind(),
             life: Life::Unconfigured,
-            ctl: blank,
             mail: None,
+            ctl: Snapshot::of(blank),
         }
     }
 
@@ -102,14 +108,7 @@ impl<C: Controller> Slot<C> {
     pub fn kind(&self) -> CtlKind
         ensures { result ≡ self.now.ctl.kind }
     {
-        self.ctl.kind()
-    }
-
-    /// Whether it publishes what it reads: it is a broadcaster.
-    pub fn publishes(&self) -> bool
-        ensures { result ≡ publishes self.now.ctl.kind }
-    {
-        matches!(self.ctl.kind(), CtlKind::Broadcaster)
+        self.kind
     }
 
     /// Its lifecycle state.
@@ -124,7 +123,6 @@ impl<C: Controller> Slot<C> {
     #[tactic(auto, using(crate::proofs::LifeLemmas::active_is))]
     pub fn is_active(&self) -> bool
         ensures active { result ≡ is_active self.now }
-        ensures running { result ≡ true → IsRunning self.now.ctl }
     {
         is_running(self.life)
     }
@@ -137,89 +135,114 @@ impl<C: Controller> Slot<C> {
         is_configured(self.life) && !is_running(self.life)
     }
 
+    /// Its box is so from now on, in this lifecycle state.
+    fn keep(&mut self, ctl: &C, life: Life)
+        requires { IsKept life (C.meaning ctl.now) }
+        ensures { self.new ≡ record self.old { ctl = C.meaning ctl.now } }
+    {
+        self.kind = ctl.kind();
+        self.life = life;
+        self.ctl = Snapshot::of(ctl);
+    }
+
     /// It gets these parameters, of its kind, in place of those that it has, and is updated once in so many cycles. It refuses exactly
     /// where they say so; with any fault it stays as it was.
-    pub fn configure(
+    pub(crate) fn configure(
         &mut self,
+        berth: &mut Option<C>,
         alloc: Global,
         params: &Params,
         divisor: u32,
     ) -> Result<(), CfgFault>
-        requires { CanBeConfigured self.old.ctl params.now }
-        ensures configured { OnOk result
-            (self.new ≡ record self.old { ctl = configured self.old.ctl params.now; divisor = Some divisor }) }
+        requires { (option_map C.meaning berth.old ≡ Some self.old.ctl) × CanBeConfigured self.old.ctl params.now }
+        ensures made { OnOk result
+            (self.new ≡ record self.old { ctl = configured self.old.ctl params.now; divisor = Some divisor })
+            × OnErr result (self.new ≡ self.old) }
         ensures refused { (result ≡ Err CfgFault.Refused) ↔ (is_refused params.now ≡ true) }
-        ensures unchanged { OnErr result (self.new ≡ self.old) }
+        ensures home { option_map C.meaning berth.new ≡ Some self.new.ctl }
     {
-        self.ctl.configure(alloc, params)?;
-        self.life = Life::Inactive;
+        let Some(ctl) = berth else {
+            unreachable!();
+        };
+        ctl.configure(alloc, params)?;
+        self.keep(ctl, Life::Inactive);
         self.divisor = Some(divisor);
         Ok(())
     }
 
     /// It gives up its parameters.
-    pub fn cleanup(&mut self)
-        requires { IsIdle self.old.ctl }
-        ensures { self.new ≡ after_cleanup self.old }
+    pub(crate) fn cleanup(&mut self, berth: &mut Option<C>)
+        requires home { option_map C.meaning berth.old ≡ Some self.old.ctl }
+        requires idle { IsIdle self.old.ctl }
+        ensures slot { self.new ≡ after_cleanup self.old }
+        ensures home { option_map C.meaning berth.new ≡ Some self.new.ctl }
     {
-        self.ctl.cleanup();
-        self.life = Life::Unconfigured;
+        let Some(ctl) = berth else {
+            unreachable!();
+        };
+        ctl.cleanup();
+        self.keep(ctl, Life::Unconfigured);
         self.divisor = None;
     }
 
     /// It gets this rate in hertz, which counts at its next configure.
-    pub fn set_rate(&mut self, hz: u32)
+    pub(crate) fn set_rate(&mut self, hz: u32)
         ensures { self.new ≡ after_rate hz self.old }
     {
         self.rate = hz;
     }
 
     /// This mail waits for it, in place of any other.
-    pub fn post(&mut self, mail: Mail)
+    pub(crate) fn post(&mut self, mail: Mail)
         ensures { self.new ≡ after_send mail self.old }
     {
         self.mail = Some(mail);
     }
 
-    /// Whether it may be activated before this cycle.
-    pub fn is_ready(&self, cycle: u64) -> bool
-        ensures { result ≡ is_ready self.now.ctl cycle }
-    {
-        self.ctl.ready(cycle)
-    }
-
-    /// It comes to run, with the states of this moment, one for each that it reads, and told whether it takes its references from the
-    /// interfaces. No mail waits for it any more. It takes no memory.
+    /// It comes to run with its box, with the states of this moment, one for each that it reads, and told whether it takes its references
+    /// from the interfaces. No mail waits for it any more. It takes no memory.
     #[tactic(auto, using(crate::proofs::StepLemmas::kept_once_activated))]
-    pub fn activate(&mut self, states: &[Fx], chained: bool)
-        requires { CanBeActivated self.old.ctl (length states.now) }
-        ensures { self.new ≡ record self.old { ctl = activated self.old.ctl states.now chained; mail = None } }
+    fn activate(&mut self, berth: &mut Option<C>, states: &[Fx], chained: bool)
+        requires home { option_map C.meaning berth.old ≡ Some self.old.ctl }
+        requires can { CanBeActivated self.old.ctl (length states.now) }
+        ensures slot { self.new ≡ record self.old { ctl = activated self.old.ctl states.now chained; mail = None } }
+        ensures home { option_map C.meaning berth.new ≡ Some self.new.ctl }
     {
-        self.ctl.activate(states, chained);
-        self.life = Life::Active;
+        let Some(ctl) = berth else {
+            unreachable!();
+        };
+        ctl.activate(states, chained);
         self.mail = None;
+        self.keep(ctl, Life::Active);
     }
 
     /// It does not run any more, stays configured, and no mail waits for it. It takes no memory.
     #[tactic(auto, using(crate::proofs::StepLemmas::kept_once_deactivated))]
-    pub fn deactivate(&mut self)
-        requires { IsRunning self.old.ctl }
-        ensures { self.new ≡ leaving self.old }
+    fn deactivate(&mut self, berth: &mut Option<C>)
+        requires home { option_map C.meaning berth.old ≡ Some self.old.ctl }
+        requires running { IsRunning self.old.ctl }
+        ensures slot { self.new ≡ leaving self.old }
+        ensures home { option_map C.meaning berth.new ≡ Some self.new.ctl }
     {
-        self.ctl.deactivate();
-        self.life = Life::Inactive;
+        let Some(ctl) = berth else {
+            unreachable!();
+        };
+        ctl.deactivate();
         self.mail = None;
+        self.keep(ctl, Life::Inactive);
     }
 
     /// It does not run any more, whether it ran or not, and no mail waits for it. It takes no memory.
     #[tactic(auto, using(crate::proofs::CommitLemmas::still_as_it_is))]
-    pub fn leave(&mut self)
+    pub(crate) fn leave(&mut self, berth: &mut Option<C>)
+        requires { option_map C.meaning berth.old ≡ Some self.old.ctl }
         ensures left { self.new ≡ leaving self.old }
         ensures again { (states : List ℤ) (chained : Bool)
             → come states chained self.new ≡ come states chained self.old }
+        ensures home { option_map C.meaning berth.new ≡ Some self.new.ctl }
     {
         if is_running(self.life) {
-            self.deactivate();
+            self.deactivate(berth);
         } else {
             self.mail = None;
         }
@@ -227,76 +250,70 @@ impl<C: Controller> Slot<C> {
 
     /// It comes to run with these states, whether it ran before or not, where it is configured, and no mail waits for it. It takes no
     /// memory.
-    pub fn come(&mut self, states: &[Fx], chained: bool)
-        requires { CanCome (length states.now) self.old }
-        ensures { self.new ≡ come states.now chained self.old }
+    pub(crate) fn come(&mut self, berth: &mut Option<C>, states: &[Fx], chained: bool)
+        requires home { option_map C.meaning berth.old ≡ Some self.old.ctl }
+        requires can { CanCome (length states.now) self.old }
+        ensures slot { self.new ≡ come states.now chained self.old }
+        ensures home { option_map C.meaning berth.new ≡ Some self.new.ctl }
     {
-        self.leave();
-        self.enter(states, chained);
-    }
-
-    /// It comes to run with these states, where it is configured.
-    #[tactic(auto, using(crate::proofs::CommitLemmas::may_come, crate::proofs::CommitLemmas::cannot_come))]
-    fn enter(&mut self, states: &[Fx], chained: bool)
-        requires own { CanCome (length states.now) self.old }
-        requires idle { self.old.ctl.run ≡ None }
-        ensures { self.new ≡ come states.now chained self.old }
-    {
+        self.leave(berth);
         if self.is_inactive() {
-            self.activate(states, chained);
-        } else {
-            self.mail = None;
+            self.activate(berth, states, chained);
         }
     }
 
-    /// The mail that waits for it, which goes aloft; then none waits. It takes no memory.
-    pub fn take_mail(&mut self) -> Option<Mail>
+    /// Whether it may be activated before this cycle.
+    pub(crate) fn is_ready(&self, berth: &Option<C>, cycle: u64) -> bool
+        requires { option_map C.meaning berth.now ≡ Some self.now.ctl }
+        ensures { result ≡ is_ready self.now.ctl cycle }
+    {
+        match berth {
+            Some(ctl) => ctl.ready(cycle),
+            None => unreachable!(),
+        }
+    }
+
+    /// Its box, without the rest.
+    pub(crate) fn into_ctl(self, berth: Option<C>) -> C
+        requires { option_map C.meaning berth ≡ Some self.ctl }
+        ensures { C.meaning result ≡ self.ctl }
+    {
+        match berth {
+            Some(ctl) => ctl,
+            None => unreachable!(),
+        }
+    }
+
+    /// Its box leaves, while it runs.
+    pub(crate) fn lend(&self, berth: &mut Option<C>) -> C
+        requires { (is_active self.now ≡ true) × (option_map C.meaning berth.old ≡ Some self.now.ctl) }
+        ensures lent { C.meaning result ≡ self.now.ctl }
+        ensures kept { IsKept Active self.now.ctl }
+        ensures left { berth.new ≡ None }
+    {
+        let _ = &self.life;
+        match berth.take() {
+            Some(ctl) => ctl,
+            None => unreachable!(),
+        }
+    }
+
+    /// Its box comes back, which runs.
+    pub(crate) fn park(&mut self, berth: &mut Option<C>, ctl: C)
+        requires { IsKept Active (C.meaning ctl) }
+        ensures slot { self.new ≡ record self.old { ctl = C.meaning ctl } }
+        ensures home { option_map C.meaning berth.new ≡ Some (C.meaning ctl) }
+    {
+        self.keep(&ctl, Life::Active);
+        *berth = Some(ctl);
+    }
+
+    /// The mail that waits for it; then none waits.
+    pub(crate) fn take_mail(&mut self) -> Option<Mail>
         ensures taken { result ≡ self.old.mail }
         ensures none_left { self.new ≡ record self.old { mail = None } }
     {
         self.mail.take()
-    }
-
-    /// It takes the mail that went aloft for it, where there is some, and then computes, from the states that it reads and from its
-    /// references, a value for each of its claims. After an error the claims hold what they held. A broadcaster publishes the states,
-    /// and nobody else publishes. It takes no memory.
-    #[tactic(auto, using(crate::proofs::StepLemmas::can_be_updated_once_taken, crate::proofs::StepLemmas::step_is, crate::proofs::StepLemmas::kept_once_stepped, crate::proofs::StepLemmas::published_is, crate::proofs::StepLemmas::erred_gives_none))]
-    pub fn update(
-        &mut self,
-        tick: Tick,
-        states: &[Fx],
-        refs: &[Value],
-        mail: Option<Mail>,
-        outs: &mut [Value],
-    ) -> Done
-        requires { CanBeStepped self.old.ctl tick (length states.now) (length refs.now) (length outs.old) mail }
-        ensures after { self.new
-            ≡ record self.old { ctl = (ctl_step self.old.ctl tick states.now refs.now mail).after } }
-        ensures outputs { outs.new ≡ put_out (ctl_step self.old.ctl tick states.now refs.now mail) outs.old }
-        ensures answer { result ≡ (ctl_step self.old.ctl tick states.now refs.now mail).done }
-        ensures published { (ctl_step self.old.ctl tick states.now refs.now mail).published
-            ≡ published_by self.old.ctl.kind states.now }
-        ensures erred { result ≡ Done.Error → (ctl_step self.old.ctl tick states.now refs.now mail).outs ≡ [] }
-    {
-        hand(&mut self.ctl, mail);
-        self.ctl.update(tick, states, refs, outs)
-    }
-
-    /// Its box, without the rest.
-    pub fn into_ctl(self) -> C
-        ensures { C.meaning result ≡ self.ctl }
-    {
-        self.ctl
-    }
-}
-
-/// The controller takes the mail, where there is some.
-fn hand<C: Controller>(ctl: &mut C, mail: Option<Mail>)
-    requires { IfSome mail (CanTake (C.meaning ctl.old)) }
-    ensures { C.meaning ctl.new ≡ once_taken (C.meaning ctl.old) mail }
-{
-    if let Some(mail) = mail {
-        ctl.take(mail);
     }
 }
 
