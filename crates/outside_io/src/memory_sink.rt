@@ -80,7 +80,6 @@ impl Sink for MemSink {
     fn write(&mut self, piece: &[u8]) -> Result<usize, Failed>
         ensures some { IfOk result (IsSomeOf piece.now) }
         ensures bytes { WriteAppends (Some self.old.taken) (Some self.new.taken) result piece.now }
-        ensures flushed { Some self.new.flushed ≡ Some self.old.flushed }
         ensures cause { HasCause self.old.faults self.new.faults result }
         ensures takes { Takes self.old self.new piece.now result }
     {

@@ -2,8 +2,8 @@
 
 ghost use Rattle.std.specs.Prelude.{◌≡◌, ◌+◌, ◌^◌, ◌<◌, ◌≤◌, length, IfOk, OnOk, OnErr};
 ghost use Rattle.std.specs.Io.KnownBytes.{Appends};
-ghost use Rattle.outside_io.specs.Bytes.{AppendsPrefix, GivesAll, TakesAtMost};
-ghost use Rattle.outside_io.specs.Calls.ReadWhole.{ReadHasCause};
+ghost use Rattle.outside_io.specs.Bytes.{AppendsPrefix, TakesAtMost};
+ghost use Rattle.outside_io.specs.Calls.ReadWhole.{ReadsAll, ReadHasCause};
 ghost use Rattle.outside_io.specs.Faults.{HasCause};
 
 use crate::{Failed, Sink, Source};
@@ -37,8 +37,7 @@ pub fn read_whole<S: Source>(
     limit: usize,
 ) -> Result<Vec<u8>, ReadFault>
     requires { limit + 1 < 2 ^ 64 }
-    ensures whole { IfOk result (λ bytes. GivesAll (S.left source.old) (S.left source.new) bytes.items) }
-    ensures within { IfOk result (λ bytes. length bytes.items ≤ limit) }
+    ensures read { IfOk result (λ bytes. ReadsAll (S.left source.old) (S.left source.new) limit bytes.items) }
     ensures cause { ReadHasCause (S.left source.old) limit (S.faults source.old) (S.faults source.new) result }
     ensures at_most { TakesAtMost (S.left source.old) (S.left source.new) (limit + 1) }
 {

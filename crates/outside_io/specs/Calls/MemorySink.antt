@@ -15,6 +15,8 @@ pub record Takes {E : Type 0} (sink sink' : SinkView) (piece : List ℕ) (result
   pub fails_exactly : is_err result ≡ write_fails sink piece
   -- as many bytes as step, piece and room allow
   pub count : IfOk result (λ n. n ≡ min (min sink.step (length piece)) sink.room)
+  -- what is flushed stays so
+  pub flushed : sink'.flushed ≡ sink.flushed
   -- what it took is room no more
   pub room : sink'.room + length sink'.taken ≡ sink.room + length sink.taken
   pub stays : Stays sink sink'
