@@ -1,7 +1,8 @@
 //! The component and its calls.
 
 ghost use Rattle.std.specs.Prelude.{◌≡◌, ◌<◌, ◌≤◌, ◌&&◌, true, length, slice_get, Some, None};
-ghost use Rattle.cm_model.specs.Components.{read_runs, write_runs, ends, state_interfaces, command_interfaces, measured_states, mode_fault};
+ghost use Rattle.cm_model.specs.Components.{write_runs, ends, state_interfaces, command_interfaces, measured_states, mode_fault};
+ghost use Rattle.hw_component.specs.Calls.Reads.{CanRead};
 ghost use Rattle.hw_component.specs.Hardware.{IsHardware, Prepares, after_read, after_write, after_step, with_claims, moves, after_move};
 
 use crate::claims::{claim_joints, is_contested};
@@ -93,8 +94,7 @@ impl Component {
     /// Reads the component in a cycle: sets the places of its state interfaces, in their order, to what its bodies measure. A read
     /// that fails leaves them.
     pub fn read(&mut self, cycle: u64, states: &mut [Value]) -> Done
-        requires runs { read_runs self.old.life ≡ true }
-        requires places { length states.old ≡ length (state_interfaces self.old.description) }
+        requires { CanRead self.old states.old }
         ensures done { result ≡ ends self.old.description.fail_read cycle }
         ensures states { states.new ≡ after_read self.old cycle states.old }
         ensures kept { self.new ≡ self.old }
