@@ -1,8 +1,9 @@
 //! Where a trajectory's points lead at a time.
 
-ghost use Rattle.std.specs.Prelude.{◌≡◌, ◌<◌, ◌≤◌, ◌==◌, true, length, map};
+ghost use Rattle.std.specs.Prelude.{◌≡◌, ◌==◌, true, length, map};
 ghost use Rattle.fixed_num.specs.declared.value.Value.TheVariants.{Num};
 ghost use Rattle.cm_model.specs.Ways.{towards, on_way, led};
+ghost use Rattle.ctl_traj.specs.Calls.Leads.{IsAhead};
 ghost use Rattle.ctl_traj.specs.Led.{all_have};
 
 use crate::segment::on_segment;
@@ -45,10 +46,7 @@ fn lead_on(t: u64, from: &[Fx], points: &[Point2], outs: &mut [Value])
 
 /// Puts each value on its segment from where it was at `t0` to the point.
 fn lead_towards(t: u64, t0: u64, from: &[Fx], point: &Point2, outs: &mut [Value])
-    requires begun { t0 ≤ t }
-    requires ahead { t < point.now.at_us }
-    requires whole { length from.now ≡ length outs.old }
-    requires fit { length point.now.values ≡ length outs.old }
+    requires { IsAhead t t0 from.now point.now (length outs.old) }
     ensures { outs.new ≡ map Num (towards t t0 from.now point.now) }
 {
     let to = point.values.as_slice();
