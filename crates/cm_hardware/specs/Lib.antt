@@ -4,3 +4,4 @@ pub mod Listed
 pub mod Starting
 pub mod Outputs
 pub mod Committed
+pub mod Calls

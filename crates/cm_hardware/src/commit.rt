@@ -6,6 +6,7 @@ ghost use Rattle.std.specs.Option.{option_map_or};
 ghost use Rattle.cm_model.specs.Faults.{first_of};
 ghost use Rattle.cm_model.specs.Order.{set_of};
 ghost use Rattle.loan_board.specs.Loans.{with_loan};
+ghost use Rattle.cm_hardware.specs.Calls.Boards.{IsPlaceOf};
 ghost use Rattle.cm_hardware.specs.Committed.{Commits, serial_in, is_there, owner_in, is_freed_by, relent, all_relent, numbers_from, claims_on, performed, all_performed, with_loans, with_joints};
 ghost use Rattle.cm_hardware.specs.Wiring.{all_commands, commands_count, IsSameBuild};
 
@@ -70,9 +71,7 @@ fn lend(
     stopped: &PlaceSet,
     place: u32,
 )
-    requires place { place < length board.old }
-    requires claimers { place < length places.now.claimers }
-    requires exporters { place < length places.now.exporters }
+    requires { IsPlaceOf place board.old places.now }
     ensures board { board.new ≡ with_loan board.old place (relent places.now active.now stopped.now place) }
     ensures places { length board.new ≡ length board.old }
 {

@@ -4,8 +4,9 @@ ghost use Rattle.std.specs.Prelude.{◌≡◌, ◌+◌, ◌<◌, ◌≤◌, ◌+
 ghost use Rattle.cm_model.specs.Cycle.{period};
 ghost use Rattle.cm_model.specs.State.{State};
 ghost use Rattle.loan_board.specs.Loans.{loan_at, with_loan, set};
-ghost use Rattle.cm_hardware.specs.Wiring.{most_failures, writes_to_fail, all_joints, all_bodies, after_reads_in, components_run, after_run, failed_reads, failed_writes, AreSound, IsSameBuild};
-ghost use Rattle.cm_hardware.specs.Holding.{IsHardwareOf, IsInCycle, values_updated, IsStill, ReadInCycle, FinishedCycle, RanCycle};
+ghost use Rattle.cm_hardware.specs.Wiring.{most_failures, writes_to_fail, all_joints, after_reads_in, failed_reads, IsSameBuild};
+ghost use Rattle.cm_hardware.specs.Holding.{IsHardwareOf, IsStill, ReadInCycle, RanCycle};
+ghost use Rattle.cm_hardware.specs.Calls.Cycles.{CanCycle, Finishes, HasRun};
 
 use crate::hardware::{
     count_joints, fail_units, most_failures, read_units, step_units, write_units,
@@ -73,10 +74,8 @@ impl ResourceManager {
         requires time { (1 ≤ dt_us) × (dt_us ≤ LONGEST_STEP) }
         requires failures { writes_to_fail number self.old.components ≤ failed.old.room }
         requires joints { all_joints self.old.components ≤ bodies.old.room }
-        ensures finished { (s : State) → IsInCycle s (values_updated s) self.old → s.ended ≡ number
-            → period s.description ≡ dt_us
-            → FinishedCycle s self.new failed.old.items failed.new.items bodies.old.items bodies.new.items }
-        ensures build { IsSameBuild self.old self.new }
+        ensures { Finishes number dt_us self.old self.new failed.old.items failed.new.items
+            bodies.old.items bodies.new.items }
     {
         self.run(number, dt_us, failed, bodies);
     }
@@ -93,15 +92,11 @@ impl ResourceManager {
         failed: &mut ListRoom<FailedPart>,
         bodies: &mut ListRoom<BodyState>,
     )
-        requires some_time { 1 ≤ dt_us }
-        requires no_longer { dt_us ≤ LONGEST_STEP }
-        requires failures { most_failures self.old.components ≤ failed.old.room }
-        requires joints { all_joints self.old.components ≤ bodies.old.room }
+        requires { CanCycle dt_us self.old failed.old bodies.old }
         ensures ran { (s : State) → IsHardwareOf s self.old → IsStill s → s.ended ≡ number
             → period s.description ≡ dt_us
             → RanCycle s self.new failed.old.items failed.new.items bodies.old.items bodies.new.items }
-        ensures failures { most_failures self.new.components ≡ most_failures self.old.components }
-        ensures joints { all_joints self.new.components ≡ all_joints self.old.components }
+        ensures build { IsSameBuild self.old self.new }
     {
         self.read(number, failed);
         self.finish(number, dt_us, failed, bodies);
@@ -131,10 +126,8 @@ impl ResourceManager {
         requires time { (1 ≤ dt_us) × (dt_us ≤ LONGEST_STEP) }
         requires failures { writes_to_fail number self.old.components ≤ failed.old.room }
         requires joints { all_joints self.old.components ≤ bodies.old.room }
-        ensures hardware { self.new ≡ after_run number dt_us self.old }
-        ensures failed { failed.new.items ≡ failed.old.items ++ failed_writes number 0 self.old.components }
-        ensures bodies { bodies.new.items ≡ bodies.old.items ++ all_bodies (components_run number dt_us self.old) }
-        ensures sound { AreSound self.old.loans }
+        ensures { HasRun number dt_us self.old self.new failed.old.items failed.new.items
+            bodies.old.items bodies.new.items }
     {
         let units = self.units.as_mut_slice();
         write_units(units, &self.board, self.first_command, number, failed);

@@ -4,11 +4,11 @@ ghost use Rattle.std.specs.Prelude.{◌≡◌, ◌+◌, ◌<◌, ◌≤◌, ◌^
 ghost use Rattle.std.specs.List.{list_any};
 ghost use Rattle.cm_model.specs.Components.{is_available, measured_states};
 ghost use Rattle.loan_board.specs.Loans.{with_loan};
-ghost use Rattle.cm_hardware.specs.Wiring.{read, states_count, all_states, with_values, after_read_of, after_reads_of, failure, failed_reads, commands_count, all_commands, all_written, failed_writes, values_at, fails_read, fails_write, one_if, count, can_fail, most_failures, written, stepped_on, all_joints, all_bodies, AreFew, vacated, leaves, has_left, after_failure, after_failures_of};
+ghost use Rattle.cm_hardware.specs.Calls.Cycles.{CanRead, HasRead, CanWrite, CanStep, CanStepEach};
+ghost use Rattle.cm_hardware.specs.Wiring.{read, states_count, with_values, after_read_of, failure, commands_count, all_written, failed_writes, values_at, fails_write, one_if, can_fail, most_failures, written, stepped_on, all_joints, all_bodies, AreFew, vacated, leaves, has_left, after_failure, after_failures_of};
 
 use cm_model::{BodyState, CompDesc, Done, FailedPart, Life, ListRoom, Value};
 use hw_component::Component;
-use joint_body::LONGEST_STEP;
 use loan_board::Board;
 use std::marker::Model;
 
@@ -112,10 +112,7 @@ impl Unit {
 
     /// Steps the bodies of its joints, and tells of them.
     fn step(&mut self, dt_us: u32, bodies: &mut ListRoom<BodyState>)
-        requires some_time { 1 ≤ dt_us }
-        requires no_longer { dt_us ≤ LONGEST_STEP }
-        requires few { length self.old.hardware.description.joints < 2 ^ 32 }
-        requires room { length self.old.hardware.description.joints ≤ bodies.old.room }
+        requires { CanStep dt_us self.old bodies.old }
         ensures unit { self.new ≡ stepped_on dt_us self.old }
         ensures bodies { bodies.new.items ≡ bodies.old.items ++ self.new.hardware.bodies }
         ensures room { bodies.old.room ≤ bodies.new.room + length self.old.hardware.description.joints }
@@ -168,13 +165,8 @@ pub(crate) fn read_units(
     cycle: u64,
     failed: &mut ListRoom<FailedPart>,
 )
-    requires places { all_states units.old ≤ length board.old }
-    requires few { length units.old < 2 ^ 32 }
-    requires room { count (fails_read cycle) units.old ≤ failed.old.room }
-    ensures board { board.new ≡ after_reads_of cycle 0 board.old units.old }
-    ensures units { units.new ≡ map (read cycle) units.old }
-    ensures failed { failed.new.items ≡ failed.old.items ++ failed_reads cycle 0 units.old }
-    ensures room { failed.old.room ≤ failed.new.room + count (fails_read cycle) units.old }
+    requires { CanRead cycle units.old board.old failed.old }
+    ensures { HasRead cycle units.old units.new board.old board.new failed.old failed.new }
 {
     board.len();
     let mut at = 0u32;
@@ -194,9 +186,7 @@ pub(crate) fn write_units(
     cycle: u64,
     failed: &mut ListRoom<FailedPart>,
 )
-    requires places { first + all_commands units.old ≤ length board.now }
-    requires few { length units.old < 2 ^ 32 }
-    requires room { count (fails_write cycle) units.old ≤ failed.old.room }
+    requires { CanWrite cycle first units.old board.now failed.old }
     ensures units { units.new ≡ all_written cycle first board.now units.old }
     ensures failed { failed.new.items ≡ failed.old.items ++ failed_writes cycle 0 units.old }
 {
@@ -223,10 +213,7 @@ fn tell(failed: &mut ListRoom<FailedPart>, place: u32, reading: bool, has_failed
 
 /// Steps the bodies of every component, and tells of them, as described.
 pub(crate) fn step_units(units: &mut [Unit], dt_us: u32, bodies: &mut ListRoom<BodyState>)
-    requires some_time { 1 ≤ dt_us }
-    requires no_longer { dt_us ≤ LONGEST_STEP }
-    requires few { AreFew units.old }
-    requires room { all_joints units.old ≤ bodies.old.room }
+    requires { CanStepEach dt_us units.old bodies.old }
     ensures units { units.new ≡ map (stepped_on dt_us) units.old }
     ensures bodies { bodies.new.items ≡ bodies.old.items ++ all_bodies (map (stepped_on dt_us) units.old) }
 {

@@ -4,6 +4,7 @@ ghost use Rattle.std.specs.Prelude.{◌≡◌, ◌<◌, ◌≤◌, true, length}
 ghost use Rattle.cm_model.specs.Components.{is_available, has_move};
 ghost use Rattle.cm_model.specs.State.{State};
 ghost use Rattle.loan_board.specs.Loans.{with_loan, made_available};
+ghost use Rattle.cm_hardware.specs.Calls.Boards.{CanSettle};
 ghost use Rattle.cm_hardware.specs.Wiring.{all_states, AreSound, vacated, life_in, measured_of, moved_at, move_answer, is_of, changed_where, settled, after_move_at, IsSameBuild};
 ghost use Rattle.cm_hardware.specs.Holding.{IsHardwareOf, MovesComponent};
 
@@ -66,9 +67,7 @@ fn move_unit(units: &mut [Unit], place: u32, target: Life) -> Result<(), HwFault
 
 /// What the move of a component makes of the board, where its interfaces were available before or not.
 fn settle(units: &mut [Unit], board: &mut Board, places: &[Option<u32>], place: u32, had: bool)
-    requires place { place < length units.old }
-    requires places { length places.now ≤ length board.old }
-    requires states { all_states units.old ≤ length board.old }
+    requires { CanSettle place units.old places.now board.old }
     ensures units { units.new ≡ units.old }
     ensures board { board.new ≡ settled place had units.old places.now board.old }
 {

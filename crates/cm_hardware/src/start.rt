@@ -4,6 +4,7 @@ ghost use Rattle.std.specs.Prelude.{◌≡◌, ◌+◌, ◌<◌, ◌≤◌, ◌^
 ghost use Rattle.cm_model.specs.State.{boot};
 ghost use Rattle.cm_model.specs.declared.blanks.Blanks.{Blanks};
 ghost use Rattle.hw_component.specs.Hardware.{CanBeMade};
+ghost use Rattle.cm_hardware.specs.Calls.Boards.{CanOpen};
 ghost use Rattle.cm_hardware.specs.Holding.{IsHardwareOf};
 ghost use Rattle.cm_hardware.specs.Starting.{mounted, places_from, places_of, all_places, is_up, opened, after_measure_of, after_measures_of};
 ghost use Rattle.cm_hardware.specs.Wiring.{states_count, commands_count, all_states, AreFree};
@@ -126,8 +127,7 @@ fn push_times(
 /// The interfaces of inactive and active components become available.
 #[tactic(auto, using(crate::proofs::FreeLemmas::staying_free))]
 fn open(board: &mut Board, places: &[Option<u32>], units: &[Unit])
-    requires places { length places.now ≤ length board.old }
-    requires free { AreFree board.old }
+    requires { CanOpen places.now board.old }
     ensures board { board.new ≡ opened units.now 0 places.now board.old }
     ensures free { AreFree board.new }
     ensures places { length board.new ≡ length board.old }

@@ -8,13 +8,13 @@ use Rattle.cm_hardware.proofs.KeepLemmas.{alike_after, same_build}
 use Rattle.cm_hardware.proofs.manager.ResourceManager.finish.Goals as goal
 
 -- the end of a cycle of the hardware is that of the state
-pub returns-clause-finished : goal.returns-clause-finished
-returns-clause-finished c = λ (s : State) (is : IsInCycle s (values_updated s) c.args.self.now) (ended : s.ended ≡ c.args.number) (lasts : period s.description ≡ c.args.dt_us).
-    rw (c.run.ensures.hardware, c.run.ensures.failed, c.run.ensures.bodies, sym ended, sym lasts)
-    (finished s c.args.self.now c.args.failed.now.items c.args.bodies.now.items is c.run.ensures.sound)
-
-pub returns-clause-build : goal.returns-clause-build
-returns-clause-build c =
+pub returns : goal.returns
+returns c =
     let w = c.args.self.now in
-    rw (c.run.ensures.hardware)
-    (same_build w (after_run c.args.number c.args.dt_us w) (alike_after c.args.number c.args.dt_us (all_states w.components) w.loans w.components))
+    record {
+      finished = λ (s : State) (is : IsInCycle s (values_updated s) w) (ended : s.ended ≡ c.args.number) (lasts : period s.description ≡ c.args.dt_us).
+          rw (c.run.ensures.hardware, c.run.ensures.failed, c.run.ensures.bodies, sym ended, sym lasts)
+          (finished s w c.args.failed.now.items c.args.bodies.now.items is c.run.ensures.sound);
+      build = rw (c.run.ensures.hardware)
+          (same_build w (after_run c.args.number c.args.dt_us w) (alike_after c.args.number c.args.dt_us (all_states w.components) w.loans w.components));
+    }

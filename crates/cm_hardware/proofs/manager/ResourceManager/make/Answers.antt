@@ -8,19 +8,19 @@ use Rattle.cm_hardware.specs.Wiring.{all_states}
 use Rattle.cm_hardware.proofs.StartLemmas.{IsMade, places_are, places_fit, free_idle, whole, managed_is, start_is, whose_at}
 use Rattle.cm_hardware.proofs.manager.ResourceManager.make.Goals as goal
 
--- there are as many places as interfaces
-pub open-requires-clause-places : goal.open-requires-clause-places
-open-requires-clause-places c =
+-- there are as many places as interfaces, and nobody claims any
+pub open-requires : goal.open-requires
+open-requires c =
     let d = c.args.checked.now in
     let units : c.deref.result.now ≡ map mounted d.components =
     c.deref.ensures.value ∙ c.in_ok-units.ensures ∙ ap (map mounted) (c.as_slice.ensures ∙ ap (λ (x : Description). x.components) c.description.ensures.same) in
     let board : length c.in_ok-board.board ≡ length (interfaces_of d) = ap length c.in_ok-board.ensures ∙ length-map (interfaces_of d) idle_of in
     let places : length c.deref-2.result.now ≡ length (interfaces_of d) =
     ap length (c.deref-2.ensures.value ∙ c.in_ok-places.ensures ∙ ap₂ all_places units (c.len.ensures.count ∙ board) ∙ places_are d) ∙ length-map (interfaces_of d) whose_at in
-    omega (arith, board, places)
-
-pub open-requires-clause-free : goal.open-requires-clause-free
-open-requires-clause-free c = rw c.in_ok-board.ensures (free_idle (interfaces_of c.args.checked.now))
+    record {
+      places = omega (arith, board, places);
+      free = rw c.in_ok-board.ensures (free_idle (interfaces_of d));
+    }
 
 -- and as many as state and command interfaces, or more
 pub measure_units-requires : goal.measure_units-requires

@@ -32,13 +32,20 @@ returns-in_err-move_unit-clause-hardware c =
     ∙ sym (not_moved_at place target w none) ∙ ap (after_move_at place target) before
 
 -- there are places for all state interfaces
-pub settle-requires-clause-states : goal.settle-requires-clause-states
-settle-requires-clause-states c =
+pub settle-requires : goal.settle-requires
+settle-requires c =
     let k = c.self.inside in
+    let ms = k.units.items in
     let units : c.move_unit.new.units ≡ moved_at c.args.place c.args.target k.units.items = rw (c.as_mut_slice-units.ensures.value) at c.move_unit.ensures.units in
     let states : all_states c.move_unit.new.units ≡ all_states k.units.items =
     ap all_states units ∙ states_stay k.units.items (moved_at c.args.place c.args.target k.units.items) (alike_at c.args.place c.args.target k.units.items) in
-    omega (arith, states, c.self.invariant.first, c.self.invariant.fits)
+    let here : length ms ≡ length c.args.self.now.components = ap (λ (w : Wired). length w.components) c.self.view_is in
+    let long : length c.move_unit.new.units ≡ k.units.len = omega arith in
+    record {
+      place = omega (arith, long, k.units.ok.0, here, c.requires);
+      places = rw (c.deref.ensures.value) (omega (arith, c.self.invariant.places));
+      states = omega (arith, states, c.self.invariant.first, c.self.invariant.fits);
+    }
 
 -- and where the component moved
 pub invariant_of-self-2 : goal.invariant_of-self-2

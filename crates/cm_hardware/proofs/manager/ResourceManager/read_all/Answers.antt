@@ -6,12 +6,16 @@ use Rattle.cm_hardware.proofs.KeepLemmas.{managed_read}
 use Rattle.cm_hardware.proofs.manager.ResourceManager.read_all.Goals as goal
 
 -- no more failures than there is room for
-pub read_units-requires-clause-room : goal.read_units-requires-clause-room
-read_units-requires-clause-room c =
+pub read_units-requires : goal.read_units-requires
+read_units-requires c =
     let ms = c.self.inside.units.items in
     let here : ms ≡ c.args.self.now.components = ap (λ (w : Wired). w.components) c.self.view_is in
     let most : most_failures ms ≡ most_failures c.args.self.now.components = ap most_failures here in
-    rw (c.as_mut_slice-units.ensures.value) (omega (arith, failures_fit c.args.number ms, most, c.requires))
+    rw (c.as_mut_slice-units.ensures.value) (record {
+      places = omega (arith, c.self.invariant.first, c.self.invariant.fits);
+      few = c.self.invariant.few;
+      room = omega (arith, failures_fit c.args.number ms, most, c.requires);
+    })
 
 -- the hardware after the reads
 pub invariant_of-self : goal.invariant_of-self

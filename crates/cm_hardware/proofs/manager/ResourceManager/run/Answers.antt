@@ -5,22 +5,20 @@ use Rattle.cm_hardware.proofs.KeepLemmas.{joints_stay, few_stay, alike_run, mana
 use Rattle.cm_hardware.proofs.manager.ResourceManager.run.Goals as goal
 
 -- the components are described as before
-pub step_units-requires-clause-few : goal.step_units-requires-clause-few
-step_units-requires-clause-few c =
-    let k = c.self.inside in
-    let ms = k.units.items in
-    rw (c.write_units.ensures.units, c.as_mut_slice-units.ensures.value)
-    (few_stay ms (all_written c.args.number k.first_command k.board ms) (alike_run c.args.number k.first_command k.board ms) c.self.invariant.joints)
-
-pub step_units-requires-clause-room : goal.step_units-requires-clause-room
-step_units-requires-clause-room c =
+pub step_units-requires : goal.step_units-requires
+step_units-requires c =
     let k = c.self.inside in
     let ms = k.units.items in
     let here : ms ≡ c.args.self.now.components = ap (λ (w : Wired). w.components) c.self.view_is in
     let units : c.write_units.new.units ≡ all_written c.args.number k.first_command k.board ms = rw (c.as_mut_slice-units.ensures.value) at c.write_units.ensures.units in
     let joints : all_joints c.write_units.new.units ≡ all_joints c.args.self.now.components =
     ap all_joints units ∙ joints_stay ms (all_written c.args.number k.first_command k.board ms) (alike_run c.args.number k.first_command k.board ms) ∙ ap all_joints here in
-    omega (arith, joints, c.requires.joints)
+    record {
+      some_time = c.requires.time.0;
+      no_longer = c.requires.time.1;
+      few = rw units (few_stay ms (all_written c.args.number k.first_command k.board ms) (alike_run c.args.number k.first_command k.board ms) c.self.invariant.joints);
+      room = omega (arith, joints, c.requires.joints);
+    }
 
 -- the hardware after the cycle
 pub invariant_of-self : goal.invariant_of-self
