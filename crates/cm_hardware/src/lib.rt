@@ -1,6 +1,7 @@
 //! Components at work over the board of their interfaces.
 #![tactic(auto)]
 
+pub use lists::Lists;
 pub use manager::ResourceManager;
 
 mod commit;

@@ -221,7 +221,7 @@ module _ (s : State) (who : ℕ) (made : State × Reply) where
   closes None before enabled = tt
   closes (Some b) before enabled = absurd (none_closes (is_loop s who) s.aloft s.closed before.aloft enabled)
 
-  goes_on : (begun : Option State) → HasBegun begun s → (call : Call) → IsStep s call made → is_enabled s who call ≡ true → HasBegun (aloft_after begun (moment_of s call made) call) made.0
+  pub goes_on : (begun : Option State) → HasBegun begun s → (call : Call) → IsStep s call made → is_enabled s who call ≡ true → HasBegun (aloft_after begun (moment_of s call made) call) made.0
   goes_on begun before (Begin number) is enabled = record { aloft = ap (λ (t : State). t.aloft) is.next; same = refl }
   goes_on begun before (End number) is enabled = tt
   goes_on begun before Close is enabled = closes begun before enabled
