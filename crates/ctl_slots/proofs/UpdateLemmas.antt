@@ -1,10 +1,10 @@
--- What an update keeps, so that the others can be made.
-use Rattle.std.proofs.Common.{◌≡◌, ℕ, ◌+◌, ◌<◌, ℤ, true, false, List, [], ◌∷◌, length, get_or, drop, slice_set, Option, Some, None, option_map, refl, sym, ap, ap₂, ◌∙◌, arith}
+-- What an update makes of the board, and what it keeps of a controller.
+use Rattle.std.proofs.Common.{◌≡◌, ℕ, ◌+◌, ◌<◌, ℤ, true, false, List, [], ◌∷◌, length, get_or, drop, Option, Some, None, option_map, refl, sym, ap, ap₂, ◌∙◌, arith}
 use Rattle.std.specs.Prelude.{◌==◌, IsSomeAnd}
 use Rattle.std.specs.List.{list_any}
 use Rattle.std.proofs.lemmas.Bool.{eqb-true}
 use Rattle.std.proofs.lemmas.Option.{same_Some}
-use Rattle.std.proofs.lemmas.List.{drop_more, length-set}
+use Rattle.std.proofs.lemmas.List.{drop_more}
 use Rattle.sound_laws.proofs.UpdatedLemmas.{ctl_step_params}
 use Rattle.fixed_num.specs.declared.value.Value.{Value}
 use Rattle.cm_document.specs.declared.call.Mail.{Mail}
@@ -14,25 +14,16 @@ use Rattle.cm_model.proofs.ControllerLemmas.{ctl_step_keeps_chained}
 use Rattle.cm_model.specs.Controllers.{Stepped, runs_chained, ctl_step, CanBeMailed}
 use Rattle.cm_model.specs.declared.data.CtlData.{CtlData}
 use Rattle.cm_model.specs.declared.data.RunData.{RunData}
-use Rattle.cm_model.specs.declared.ran.Done.{Done}
-use Rattle.cm_model.specs.declared.ran.Done.TheVariants as done
 use Rattle.cm_model.specs.declared.record.FailedPart.{FailedPart}
 use Rattle.cm_model.specs.declared.tick.Tick.{Tick}
-use Rattle.loan_board.specs.Loans.{loan_at, with_loan, set}
-use Rattle.loan_board.specs.declared.board.Loan.{Loan}
+use Rattle.loan_board.specs.Loans.{with_loan, set}
 use Rattle.cm_hardware.specs.Wiring.{Wired}
 use Rattle.ctl_trait.specs.Taking.{CanTake, CanTakeAs}
 use Rattle.ctl_slots.specs.Lives.{once_taken}
-use Rattle.ctl_slots.specs.Updates.{put_on, board_after}
+use Rattle.ctl_slots.specs.Updates.{put_on}
 use Rattle.ctl_slots.proofs.StepLemmas.{kind_stepped, kind_once_taken, step_is}
 
 -- ---- The board
-
-put_count : (loans : List Loan) (places : List ℕ) (outs : List Value) → length (put_on loans places outs) ≡ length loans
-put_count loans [] outs = refl
-put_count loans (place ∷ places) [] = refl
-put_count loans (place ∷ places) (out ∷ outs) =
-    put_count (slice_set loans place (set out (loan_at loans place))) places outs ∙ length-set loans place (set out (loan_at loans place))
 
 -- the next output is set, and then the others
 pub put_more : (w : Wired) (claims : List ℕ) (outs : List Value) (i place : ℕ) (out : Value) → i < length claims → i < length outs → place ≡ get_or claims i place → out ≡ get_or outs i out
@@ -41,13 +32,6 @@ put_more w claims outs i place out within among here is =
     let places : drop i claims ≡ place ∷ drop (i + 1) claims = drop_more claims i place within ∙ ap (λ (n : ℕ). n ∷ drop (i + 1) claims) (sym here) in
     let values : drop i outs ≡ out ∷ drop (i + 1) outs = drop_more outs i out among ∙ ap (λ (v : Value). v ∷ drop (i + 1) outs) (sym is) in
     ap₂ (λ (ps : List ℕ) (vs : List Value). record w { loans = put_on w.loans ps vs }) (sym places) (sym values)
-
-pub board_count : (claims : List ℕ) (step : Stepped) (loans : List Loan) → length (board_after claims step loans) ≡ length loans
-board_count claims step loans = by_end step.done
-  where
-    by_end : (end : Done) → length {A = Loan} (elim end [ done.Ok ↦ put_on loans claims step.outs | done.Error ↦ loans ]) ≡ length loans
-    by_end done.Ok = put_count loans claims step.outs
-    by_end done.Error = refl
 
 -- ---- A step
 

@@ -1,4 +1,4 @@
--- That the updates by place are those of the written manager.
+-- That one update by place is that of the written manager.
 use Rattle.std.proofs.Common.{◌≡◌, ℕ, ◌*◌, ◌≤◌, Bool, true, false, List, [], ◌∷◌, ◌++◌, length, map, Option, inl, inr, refl, sym, ap, ap₂, ◌∙◌, append_assoc}
 use Rattle.std.specs.Prelude.{◌==◌, ◌||◌, if◌then◌else◌, filter, filter_map, unwrap_or}
 use Rattle.std.specs.List.{AllByRecursion, list_any}
@@ -18,7 +18,7 @@ use Rattle.cm_model.specs.Claims.{states_for, refs_for, given, given_by, uses}
 use Rattle.cm_model.specs.Commit.{described_of}
 use Rattle.cm_model.specs.Components.{read_fails}
 use Rattle.cm_model.specs.Controllers.{Stepped, ctl_step}
-use Rattle.cm_model.specs.Cycle.{component_is, is_due_now, is_held_off, tick_of, mail_for, step_of, ran_by}
+use Rattle.cm_model.specs.Cycle.{component_is, is_due_now, is_held_off, tick_of, mail_for, step_of, ran_by, is_error, erred_in}
 use Rattle.cm_model.specs.Faults.{component_with}
 use Rattle.cm_model.specs.Order.{controller_at, nobody}
 use Rattle.cm_model.specs.Ran.{Ran}
@@ -45,7 +45,7 @@ use Rattle.ctl_places.proofs.OutputLemmas.{given-any}
 use Rattle.ctl_slots.specs.Mails.{is_due_in}
 use Rattle.ctl_slots.specs.Seats.{numbers_at, held_at, IsShownOn}
 use Rattle.ctl_slots.specs.Updates.{Aloft, tick_in, is_held_in, step_in, put_on, board_after, with_erred}
-use Rattle.ctl_slots.specs.Cycles.{IsAloftOf, is_error, erred_in}
+use Rattle.ctl_slots.specs.Cycles.{IsAloftOf}
 use Rattle.ctl_slots.proofs.CommitStateLemmas.{numbers_are, values_are}
 
 -- ---- Who is held off

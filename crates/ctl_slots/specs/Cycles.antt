@@ -1,7 +1,6 @@
--- When the updates of a cycle are those of a state, and what they then come to.
+-- Which cycle is aloft in a state.
 use Rattle.std.specs.Prelude.{◌≡◌}
 use Rattle.cm_model.specs.Cycle.{period}
-pub use Rattle.cm_model.specs.Cycle.{is_error, erred_in}
 use Rattle.cm_model.specs.State.{State}
 use Rattle.cm_hardware.specs.Holding.{reads_failed_in}
 use Rattle.ctl_places.specs.Placed.{placed_of}

@@ -1,4 +1,4 @@
--- What the updates of a cycle make of the loaded controllers and of the board, by place.
+-- One update in a cycle, by place: when it is made, its step, and what that makes of the board.
 use Rattle.std.specs.Prelude.{ℕ, ◌*◌, ◌<◌, ◌≤◌, ◌^◌, Bool, ◌==◌, List, [], ◌∷◌, ◌++◌, Option, IfSome, unwrap_or}
 use Rattle.std.specs.List.{list_any}
 use Rattle.fixed_num.specs.declared.value.Value.{Value}
