@@ -3,7 +3,8 @@
 ghost use Rattle.std.specs.Prelude.{◌≡◌, ◌<◌, ◌↔◌, nat_lt, [], length, Err, IfOk, OnOk, OnErr};
 ghost use Rattle.std.specs.List.{prefix_len};
 ghost use Rattle.cm_model.specs.State.{blanks_of};
-ghost use Rattle.ctl_rack.specs.Berths.{IsFree, IsParked, IsParkedWith, IsLent, IsAt, after_load, with_parked, without};
+ghost use Rattle.ctl_rack.specs.Calls.Load.{CanLoad};
+ghost use Rattle.ctl_rack.specs.Berths.{IsParked, IsParkedWith, IsLent, IsAt, after_load, with_parked, without};
 
 use crate::berth::Seat;
 use crate::fault::RackFault;
@@ -60,8 +61,7 @@ impl<C: Controller> Rack<C> {
 
     /// A blank of the kind is loaded under a new serial, and stands in its berth. Without a blank of the kind the rack stays as it was.
     pub fn load(&mut self, kind: CtlKind, serial: u32) -> Result<(), RackFault>
-        requires free { IsFree serial self.old }
-        requires room { length self.old.berths < MOST_CONTROLLERS }
+        requires { CanLoad serial self.old }
         ensures loaded { OnOk result (self.new ≡ after_load serial kind self.old) }
         ensures sold_out { (result ≡ Err RackFault.StockEmpty) ↔ (blanks_of self.old.blanks kind ≡ 0) }
         ensures unchanged { OnErr result (self.new ≡ self.old) }

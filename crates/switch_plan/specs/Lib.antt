@@ -7,3 +7,4 @@ pub mod Proposals
 pub mod Changes
 pub mod Lists
 pub mod Laws
+pub mod Calls

@@ -7,6 +7,7 @@ ghost use Rattle.cm_model.specs.Scene.{controllers_in, claims_at, is_claimed_by}
 ghost use Rattle.cm_model.specs.Switches.{planned};
 ghost use Rattle.cm_model.specs.BestEffort.{Joined, stays, stays_more, kept_drop, join, joining, best_leaving, best_asked, best};
 ghost use Rattle.chain_order.specs.Links.{each_below};
+ghost use Rattle.switch_plan.specs.Calls.Members.{CanJoin};
 ghost use Rattle.switch_plan.specs.View.{scene_of, IsPlace, HavePlaces, HasFlags};
 ghost use Rattle.switch_plan.specs.Settings.{set_scene, IsSetting};
 
@@ -251,9 +252,7 @@ fn join(
     member: &Member,
     dropped: &mut Vec<Dropped>,
 ) -> Result<PlaceSet, Memory>
-    requires setting { IsSetting setting.now }
-    requires within { IsPlace (set_scene setting.now) member.now.place }
-    requires flags { HasFlags (set_scene setting.now) set }
+    requires { CanJoin setting.now member.now set }
     ensures length { IfOk result (λ after. HasFlags (set_scene setting.now) after) }
     ensures joined { IfOk result (λ after. record { set = set_of after; dropped = dropped.new.items }
         ≡ join (set_scene setting.now) (set_of on.now)

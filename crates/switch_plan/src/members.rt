@@ -3,6 +3,7 @@
 ghost use Rattle.std.specs.Prelude.{◌≡◌, ◌<◌, ◌^◌, not, ◌&&◌, ◌==◌, ◌++◌, ◌∷◌, [], length, map, filter, find, Option, option_map, IfOk, IfSome, OnOk, All};
 ghost use Rattle.std.specs.List.{list_any};
 ghost use Rattle.cm_model.specs.Scene.{controllers_in, is_running, is_configured, is_ready, loaded_of, loaded_all, member};
+ghost use Rattle.switch_plan.specs.Calls.Members.{IsLoadedAs};
 ghost use Rattle.switch_plan.specs.View.{scene_of, IsView, IsPlace, HavePlaces};
 
 use crate::view::{View, described};
@@ -50,8 +51,7 @@ pub fn push_seen(
     seen: Option<Seen>,
     list: &mut Vec<Member>,
 ) -> Result<(), Memory>
-    requires found { seen ≡ loaded_of (scene_of view.now) name.now }
-    requires place { IfSome seen (λ l. IsPlace (scene_of view.now) l.place) }
+    requires seen { IsLoadedAs (scene_of view.now) name.now seen }
     requires within { HavePlaces (scene_of view.now) list.old.items }
     ensures within { OnOk result (HavePlaces (scene_of view.now) list.new.items) }
     ensures list { OnOk result (list.new.items ≡ list.old.items ++ loaded_all (scene_of view.now) (name.now ∷ [])) }

@@ -3,6 +3,7 @@
 ghost use Rattle.std.specs.Prelude.{◌≡◌, ℕ, ◌<◌, length, map, filter, IfOk, All};
 ghost use Rattle.cm_model.specs.Order.{set_of, in_order};
 ghost use Rattle.cm_model.specs.Scene.{controllers_in, is_running, active, member, members, order};
+ghost use Rattle.switch_plan.specs.Calls.Members.{CanOrder};
 ghost use Rattle.switch_plan.specs.View.{scene_of, IsView, HavePlaces, HasFlags};
 ghost use Rattle.switch_plan.specs.Settings.{set_scene, IsSetting};
 
@@ -88,9 +89,7 @@ pub fn in_order_of(
     set: &PlaceSet,
     list: &[Member],
 ) -> Result<Vec<Member>, Memory>
-    requires setting { IsSetting setting.now }
-    requires length { HasFlags (set_scene setting.now) set.now }
-    requires within { HavePlaces (set_scene setting.now) list.now }
+    requires { CanOrder setting.now set.now list.now }
     ensures within { IfOk result (λ ordered. HavePlaces (set_scene setting.now) ordered.items) }
     ensures order { IfOk result (λ ordered. ordered.items
         ≡ in_order (controllers_in (set_scene setting.now)) (set_of set.now) list.now) }

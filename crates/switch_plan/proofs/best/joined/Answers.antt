@@ -17,12 +17,13 @@ loop-member-init c =
           (c.deref-member-items.ensures.value ∙ c.in_ok-ordered.ensures ∙ by_heights scene c.deref.result.now c.args.coming.now (c.deref.ensures.value ∙ c.in_ok-heights.ensures) c.requires.within);
     }
 
-pub join-requires-clause-within : goal.join-requires-clause-within
-join-requires-clause-within c =
+pub join-requires : goal.join-requires
+join-requires c =
     let n = length (controllers_in (set_scene c.args.setting.now)) in
-    All-get_or (λ m. m.place < n) c.deref-member-items.result.now c.loop-member.member-index (record { serial = 0; place = 0 }) c.loop-member-test.true
+    let within = All-get_or (λ m. m.place < n) c.deref-member-items.result.now c.loop-member.member-index (record { serial = 0; place = 0 }) c.loop-member-test.true
     (rw (c.deref-member-items.ensures.value ∙ c.in_ok-ordered.ensures)
-    (by_rank-all (λ m. m.place < n) (λ m. get_or c.deref.result.now m.place 0) (suc (length c.deref.result.now)) c.args.coming.now c.requires.within))
+    (by_rank-all (λ m. m.place < n) (λ m. get_or c.deref.result.now m.place 0) (suc (length c.deref.result.now)) c.args.coming.now c.requires.within)) in
+    record { setting = c.requires.setting; within = within; flags = c.loop-member.invariant.long }
 
 pub loop-member-preserved : goal.loop-member-preserved
 loop-member-preserved c =
