@@ -1,7 +1,8 @@
 -- In reading order: the requests as they are kept, why a component is not moved, what a decision rests on, what is done for a request,
--- and the plan for all that wait.
+-- the plan for all that wait, and what calls ask and promise.
 pub mod Requests
 pub mod Moves
 pub mod Stands
 pub mod Acts
 pub mod Plans
+pub mod Calls

@@ -5,9 +5,8 @@ ghost use Rattle.iface_names.specs.Names.{same_name};
 ghost use Rattle.cm_model.specs.Boundary.{component_place, move_fault};
 ghost use Rattle.cm_model.specs.State.{State};
 ghost use Rattle.cm_model.specs.declared.request.Request.TheVariants as asks;
-ghost use Rattle.switch_plan.specs.Relations.{relations_of};
-ghost use Rattle.request_plan.specs.Stands.{IsStand, IsSeenOf};
-ghost use Rattle.request_plan.specs.Acts.{IsConclusionOf, IsActWithin};
+ghost use Rattle.request_plan.specs.Calls.Conclude.{CanDecide, Concludes};
+ghost use Rattle.request_plan.specs.Stands.{IsSeenOf};
 
 use crate::acts::{Act, Conclusion};
 use crate::moves::move_fault;
@@ -25,11 +24,8 @@ pub(crate) fn conclude_move(
     component: &Name,
     target: Life,
 ) -> Result<Conclusion, Memory>
-    requires relations { relations.now ≡ relations_of checked.now }
-    requires stand { IsStand checked.now stand.now }
-    ensures concluded { IfOk result (λ c. (s : State) → IsSeenOf s checked.now stand.now
-        → IsConclusionOf s (asks.Hardware component.now target) c) }
-    ensures within { IfOk result (λ c. IsActWithin (length stand.now.lives.items) c.act) }
+    requires { CanDecide checked.now relations.now stand.now }
+    ensures { IfOk result (Concludes checked.now stand.now (asks.Hardware component.now target)) }
 {
     match component_place(checked, component) {
         Some(place) => {
@@ -55,13 +51,10 @@ fn conclude_at(
     place: u32,
     target: Life,
 ) -> Result<Conclusion, Memory>
-    requires relations { relations.now ≡ relations_of checked.now }
-    requires stand { IsStand checked.now stand.now }
+    requires can { CanDecide checked.now relations.now stand.now }
     requires at { component_place checked.now component.now ≡ Some place }
     requires within { place < length stand.now.lives.items }
-    ensures concluded { IfOk result (λ c. (s : State) → IsSeenOf s checked.now stand.now
-        → IsConclusionOf s (asks.Hardware component.now target) c) }
-    ensures within { IfOk result (λ c. IsActWithin (length stand.now.lives.items) c.act) }
+    ensures { IfOk result (Concludes checked.now stand.now (asks.Hardware component.now target)) }
 {
     match fault_at(alloc, checked, relations, stand, place, target)? {
         Some(cause) => {
@@ -89,8 +82,7 @@ fn fault_at(
     place: u32,
     target: Life,
 ) -> Result<Option<Cause>, Memory>
-    requires relations { relations.now ≡ relations_of checked.now }
-    requires stand { IsStand checked.now stand.now }
+    requires can { CanDecide checked.now relations.now stand.now }
     requires within { place < length stand.now.lives.items }
     ensures { IfOk result (λ fault. (s : State) → IsSeenOf s checked.now stand.now
         → fault ≡ move_fault s place target) }

@@ -3,9 +3,8 @@
 ghost use Rattle.std.specs.Prelude.{◌≡◌, ◌+◌, ◌<◌, ◌^◌, length, map, IfOk};
 ghost use Rattle.cm_model.specs.Boundary.{decisions_from};
 ghost use Rattle.cm_model.specs.State.{State};
-ghost use Rattle.switch_plan.specs.Relations.{relations_of};
+ghost use Rattle.request_plan.specs.Calls.Conclude.{CanDecide, Concludes};
 ghost use Rattle.request_plan.specs.Stands.{IsStand, IsSeenOf};
-ghost use Rattle.request_plan.specs.Acts.{IsConclusionOf, IsActWithin};
 ghost use Rattle.request_plan.specs.Plans.{IsPlanOf, AreConcluded};
 
 use crate::acts::Conclusion;
@@ -37,8 +36,7 @@ pub(crate) fn plan_all(
     first: u32,
     waiting: &[Request],
 ) -> Result<Plan, Memory>
-    requires relations { relations.now ≡ relations_of checked.now }
-    requires stand { IsStand checked.now stand }
+    requires can { CanDecide checked.now relations.now stand }
     requires tickets { first + length waiting.now < 2 ^ 32 }
     ensures { IfOk result (λ plan. (s : State) → IsSeenOf s checked.now stand → length s.outcomes ≡ first
         → IsPlanOf s waiting.now plan) }
@@ -62,8 +60,7 @@ fn conclude_all(
     stand: &mut Stand,
     waiting: &[Request],
 ) -> Result<Vec<Conclusion>, Memory>
-    requires relations { relations.now ≡ relations_of checked.now }
-    requires stand { IsStand checked.now stand.old }
+    requires { CanDecide checked.now relations.now stand.old }
     ensures stand { IfOk result (λ _. IsStand checked.now stand.new) }
     ensures count { IfOk result (λ list. length list.items ≡ length waiting.now) }
     ensures concluded { IfOk result (λ list. (s : State) → IsSeenOf s checked.now stand.old
@@ -86,11 +83,8 @@ fn conclude(
     stand: &Stand,
     request: &Request,
 ) -> Result<Conclusion, Memory>
-    requires relations { relations.now ≡ relations_of checked.now }
-    requires stand { IsStand checked.now stand.now }
-    ensures concluded { IfOk result (λ c. (s : State) → IsSeenOf s checked.now stand.now
-        → IsConclusionOf s request.now c) }
-    ensures within { IfOk result (λ c. IsActWithin (length stand.now.lives.items) c.act) }
+    requires { CanDecide checked.now relations.now stand.now }
+    ensures { IfOk result (Concludes checked.now stand.now request.now) }
 {
     match request {
         Request::Switch(switch) => conclude_switch(alloc, checked, relations, stand, switch),

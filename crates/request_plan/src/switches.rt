@@ -4,12 +4,11 @@ ghost use Rattle.std.specs.Prelude.{◌≡◌, ◌<◌, length, map, filter, IfO
 ghost use Rattle.cm_model.specs.Components.{is_listed};
 ghost use Rattle.cm_model.specs.Order.{set_of};
 ghost use Rattle.cm_model.specs.Scene.{is_chained_in, member};
-ghost use Rattle.cm_model.specs.State.{State};
 ghost use Rattle.cm_model.specs.declared.request.Request.TheVariants as asks;
 ghost use Rattle.chain_order.specs.Links.{leaders_of, each_below};
-ghost use Rattle.switch_plan.specs.Relations.{relations_of};
-ghost use Rattle.request_plan.specs.Stands.{IsStand, IsSeenOf, of_serials, running};
-ghost use Rattle.request_plan.specs.Acts.{is_carried_out, HaveFlags, AreSetsOf, IsPlannedAct, IsConclusionOf, IsActWithin};
+ghost use Rattle.request_plan.specs.Calls.Conclude.{CanDecide, CanSwitch, Concludes};
+ghost use Rattle.request_plan.specs.Stands.{of_serials, running};
+ghost use Rattle.request_plan.specs.Acts.{is_carried_out, HaveFlags, AreSetsOf, IsPlannedAct};
 
 use crate::acts::{Act, Conclusion, Switched};
 use crate::stand::{Stand, as_set, member, running};
@@ -26,11 +25,8 @@ pub(crate) fn conclude_switch(
     stand: &Stand,
     request: &SwitchRequest,
 ) -> Result<Conclusion, Memory>
-    requires relations { relations.now ≡ relations_of checked.now }
-    requires stand { IsStand checked.now stand.now }
-    ensures concluded { IfOk result (λ c. (s : State) → IsSeenOf s checked.now stand.now
-        → IsConclusionOf s (asks.Switch request.now) c) }
-    ensures within { IfOk result (λ c. IsActWithin (length stand.now.lives.items) c.act) }
+    requires { CanDecide checked.now relations.now stand.now }
+    ensures { IfOk result (Concludes checked.now stand.now (asks.Switch request.now)) }
 {
     let plan = plan_with(alloc, &stand.view(checked), relations, request)?;
     let act = act_of(alloc, checked, relations, &stand.loaded, &plan)?;
@@ -48,8 +44,7 @@ fn act_of(
     loaded: &[Seen],
     plan: &Planned,
 ) -> Result<Act, Memory>
-    requires relations { relations.now ≡ relations_of checked.now }
-    requires within { All (λ l. l.place < length checked.now.controllers) loaded.now }
+    requires { CanSwitch checked.now relations.now loaded.now }
     ensures { IfOk result (IsPlannedAct checked.now loaded.now plan.now) }
 {
     if !is_carried_out(&plan.outcome) {
@@ -76,8 +71,7 @@ fn switched(
     off: &[u32],
     on: &[u32],
 ) -> Result<Switched, Memory>
-    requires relations { relations.now ≡ relations_of checked.now }
-    requires within { All (λ l. l.place < length checked.now.controllers) loaded.now }
+    requires { CanSwitch checked.now relations.now loaded.now }
     ensures flags { IfOk result (λ c. HaveFlags (length checked.now.controllers) c) }
     ensures sets { IfOk result (λ c. AreSetsOf loaded.now off.now on.now c) }
     ensures chained { IfOk result (λ c. set_of c.chained

@@ -6,7 +6,7 @@ use Rattle.request_plan.proofs.ActLemmas.{fault_is, places_within}
 use Rattle.request_plan.proofs.components.fault_at.Goals as goal
 
 pub order-requires-clause-within : goal.order-requires-clause-within
-order-requires-clause-within c = rw c.deref.ensures.value c.requires.stand.within
+order-requires-clause-within c = rw c.deref.ensures.value c.requires.can.stand.within
 
 pub move_fault-requires-clause-within : goal.move_fault-requires-clause-within
 move_fault-requires-clause-within c =

@@ -10,17 +10,17 @@ plan_with-requires-clause-view c = rw (c.view.ensures.loaded, c.view.ensures.che
 pub plan_with-requires-clause-relations : goal.plan_with-requires-clause-relations
 plan_with-requires-clause-relations c = c.requires.relations ∙ ap relations_of (sym c.view.ensures.checked)
 
-pub act_of-requires-clause-within : goal.act_of-requires-clause-within
-act_of-requires-clause-within c = rw c.deref.ensures.value c.requires.stand.within
+pub act_of-requires : goal.act_of-requires
+act_of-requires c = record { relations = c.requires.relations; within = rw c.deref.ensures.value c.requires.stand.within }
 
-pub returns-clause-concluded : goal.returns-clause-concluded
-returns-clause-concluded c = λ s seen.
+pub returns : goal.returns
+returns c =
     let d = c.args.checked.now in
     let stand = c.args.stand.now in
     let r = c.args.request.now in
     let planned_so = c.in_ok-plan.ensures
     ∙ ap (λ scene. plan_of scene r) (scene_of_view c.view.result d stand.loaded.items stand.lives.items c.view.ensures.checked c.view.ensures.loaded c.view.ensures.lives) in
-    switch_concluded s d stand seen r c.in_ok-plan.plan planned_so c.in_ok-act.act (rw c.deref.ensures.value at c.in_ok-act.ensures)
-
-pub returns-clause-within : goal.returns-clause-within
-returns-clause-within c = switch_within c.args.checked.now c.deref.result.now c.in_ok-plan.plan (length c.args.stand.now.lives.items) c.in_ok-act.act c.in_ok-act.ensures
+    record {
+      concluded = λ s seen. switch_concluded s d stand seen r c.in_ok-plan.plan planned_so c.in_ok-act.act (rw c.deref.ensures.value at c.in_ok-act.ensures);
+      within = switch_within d c.deref.result.now c.in_ok-plan.plan (length stand.lives.items) c.in_ok-act.act c.in_ok-act.ensures;
+    }
