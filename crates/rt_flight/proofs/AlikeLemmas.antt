@@ -41,7 +41,7 @@ stays_aloft begun s f is alike =
         placed = is.over.placed ∙ ap placed_of (sym description);
         related = is.over.related ∙ ap relations_of (sym description);
         timed = is.over.timed ∙ ap period (sym description);
-        hardware = running_hardware begun s description lives (same_runners s begun same) f.ground.hardware is.over.hardware bodies values;
+        hardware = running_hardware begun s description lives (same_runners s begun same) f.plant.hardware is.over.hardware bodies values;
         cells = subst (λ (k : Configuration). AreSeatsOf k.mails k.running f.cells) (sym flown) is.over.cells;
       };
       not_yet = is.not_yet;

@@ -35,7 +35,7 @@ use Rattle.ctl_places.specs.Placed.{Placed}
 use Rattle.rt_flight.specs.Stations.{flies, IsFitted}
 use Rattle.rt_flight.specs.Cells.{Seat, Flying, seat_gathered, step_of, with_step, flying_after, all_flown, seats_after, CanFly}
 use Rattle.rt_flight.specs.Flights.{FlightFacts, AreSeatsOf, IsAloftOver, IsAloft, IsComputed, AreSeatsAfter, member_in, HasMade, TellsNothing, IsEquipped, CanSettle}
-use Rattle.rt_flight.specs.declared.ground.Ground.{Ground}
+use Rattle.rt_flight.specs.declared.plant.Plant.{Plant}
 use Rattle.rt_flight.specs.Calls.Cycles.{LeavesFlight, IsToldOf, Decides, IsQuiet}
 use Rattle.rt_flight.proofs.CellLemmas.{Stands, AreLeft, IsFound, found_once, all_stand, seats_are}
 
@@ -50,7 +50,7 @@ board_in_cycle s values w is =
     ap length is.loans ∙ length-map values _ ∙ sym (length-map values (λ (v : InterfaceValue). v.interface)) ∙ ap length is.wired.interfaces
 
 -- so each cell can be updated after the reads
-pub can_fly_each : (s : State) (values : List InterfaceValue) (w after : Wired) (number : ℕ) (cells : List Seat) (g : Ground) → IsHardwareOf s w → IsInCycle s values after
+pub can_fly_each : (s : State) (values : List InterfaceValue) (w after : Wired) (number : ℕ) (cells : List Seat) (g : Plant) → IsHardwareOf s w → IsInCycle s values after
     → AllByRecursion (CanFly g.places g.relations g.period_us (length w.loans)) cells → AllByRecursion (CanFly g.places g.relations g.period_us (length after.loans)) cells
 can_fly_each s values w after number cells g is inside each =
     subst (λ (n : ℕ). AllByRecursion (CanFly g.places g.relations g.period_us n) cells) (board_of s w is ∙ sym (board_in_cycle s values after inside)) each
@@ -79,7 +79,7 @@ pub record HasFlown (s : State) (a : Aloft) (cells : List Seat) (f : Flying) : T
   pub stands : Stands s f.ran f.erred (updates s (values_read s)) (all_flown a cells f)
   pub seats : AreSeatsAfter (updates s (values_read s)).loaded (configuration s).running (seats_after a cells f)
 
-pub has_flown : (s : State) (number : ℕ) (cells : List Seat) (g : Ground) (a : Aloft) (f : Flying) → IsAloftOver s number cells g → IsAloftOf s a → IsInCycle s (values_read s) f.hardware
+pub has_flown : (s : State) (number : ℕ) (cells : List Seat) (g : Plant) (a : Aloft) (f : Flying) → IsAloftOver s number cells g → IsAloftOf s a → IsInCycle s (values_read s) f.hardware
     → HasFlown s a cells f
 has_flown s number cells g a f is aloft inside =
     let begun : Updates = record { loaded = s.loaded; values = values_read s; ran = [] } in
@@ -111,7 +111,7 @@ members_are s (l ∷ ls) (c ∷ cs) are =
 -- ---- The whole
 
 -- this is the cycle that is aloft, once the reads were told
-pub round_is : (s : State) (number : ℕ) (cells : List Seat) (g : Ground) (a : Aloft) (none parts seen : List FailedPart) → IsAloftOver s number cells g
+pub round_is : (s : State) (number : ℕ) (cells : List Seat) (g : Plant) (a : Aloft) (none parts seen : List FailedPart) → IsAloftOver s number cells g
     → a ≡ record { number = number; period_us = g.period_us; placed = g.places; related = g.relations; failed = seen }
     → seen ≡ parts → parts ≡ none ++ reads_failed_in s → none ≡ [] → IsAloftOf s a
 round_is s number cells g a none parts seen is so same told empty = record {
@@ -166,11 +166,11 @@ quiet_stops s parts erred = none_stop s (told_in s) parts erred
 
 -- ---- The flight, once it is computed
 
-module _ (s : State) (f : FlightFacts) (order : List Member) (r made told : RecordRoom) (cells : List Seat) (g : Ground) (erred : List ℕ) (before ending : Ending) (failed : Bool) (room room' : ℕ)
-    (is : IsAloft s f) (same : order ≡ map member_in f.cells) (empty : TellsNothing r) (has : HasMade s cells g erred made) (leaves : LeavesFlight f.cells cells f.ground g r made room room')
+module _ (s : State) (f : FlightFacts) (order : List Member) (r made told : RecordRoom) (cells : List Seat) (g : Plant) (erred : List ℕ) (before ending : Ending) (failed : Bool) (room room' : ℕ)
+    (is : IsAloft s f) (same : order ≡ map member_in f.cells) (empty : TellsNothing r) (has : HasMade s cells g erred made) (leaves : LeavesFlight f.cells cells f.plant g r made room room')
     (still : failed ≡ false → IsQuiet erred made told before ending) (decides : failed ≡ true → Decides g.relations order erred made told ending) where
   related : g.relations ≡ relations_of s.description
-  related = ap (λ (x : Ground). x.relations) leaves.ground ∙ is.over.related
+  related = ap (λ (x : Plant). x.relations) leaves.plant ∙ is.over.related
 
   told_so : IsToldOf s g.relations order made.failed.items erred
   told_so = record {
@@ -205,7 +205,7 @@ module _ (s : State) (f : FlightFacts) (order : List Member) (r made told : Reco
 
   pub computed_is : (outcome : Happened)
       → outcome ≡ record { cycle = f.number; failed = told.failed.items; ran = told.ran.rans; bodies = told.bodies.items; stops = told.stops.items }
-      → IsComputed s (record { number = f.number; cells = cells; ground = g; ending = ending; has_failed = failed; outcome = Some outcome })
+      → IsComputed s (record { number = f.number; cells = cells; plant = g; ending = ending; has_failed = failed; outcome = Some outcome })
   computed_is outcome is_told = record {
     number = is.over.number;
     outcome = ap Some (is_told
@@ -213,11 +213,11 @@ module _ (s : State) (f : FlightFacts) (order : List Member) (r made told : Reco
         ∙ outcome_is s told.failed.items told.ran.rans told.bodies.items told.stops.items
         (ap (λ (x : RecordRoom). x.failed.items) tells ∙ has.failed) (ap (λ (x : RecordRoom). x.ran.rans) tells ∙ has.ran) (ap (λ (x : RecordRoom). x.bodies.items) tells ∙ has.bodies) stops_are);
     cells = has.cells;
-    fitted = subst (λ (p : Placed). AllByRecursion (λ c. IsFitted p c.station) cells) (sym (ap (λ (x : Ground). x.places) leaves.ground)) leaves.fitted;
+    fitted = subst (λ (p : Placed). AllByRecursion (λ c. IsFitted p c.station) cells) (sym (ap (λ (x : Plant). x.places) leaves.plant)) leaves.fitted;
     hardware = has.hardware;
-    placed = ap (λ (x : Ground). x.places) leaves.ground ∙ is.over.placed;
+    placed = ap (λ (x : Plant). x.places) leaves.plant ∙ is.over.placed;
     related = related;
-    timed = ap (λ (x : Ground). x.period_us) leaves.ground ∙ is.over.timed;
+    timed = ap (λ (x : Plant). x.period_us) leaves.plant ∙ is.over.timed;
     quiet = quiet;
     ending = λ some. (decides some).ending s told_so;
   }
@@ -231,24 +231,24 @@ flags_after w members serials made told before ending false flags quiet decides 
 flags_after w members serials made told before ending true flags quiet decides = (decides refl).flags
 
 -- so all that a flight keeps is kept once the cycle is made
-pub equipped_after : (cells cells' : List Seat) (members : List Member) (g g' : Ground) (r made : RecordRoom) (before ending : Ending) (serials none : List ℕ) (capacity most later : ℕ)
+pub equipped_after : (cells cells' : List Seat) (members : List Member) (g g' : Plant) (r made : RecordRoom) (before ending : Ending) (serials none : List ℕ) (capacity most later : ℕ)
     → IsEquipped cells members g before serials capacity → LeavesFlight cells cells' g g' r made capacity most → HasFlags (length g'.relations.leaders) ending → none ≡ [] → later ≡ most
     → IsEquipped cells' members g' ending none later
 equipped_after cells cells' members g g' r made before ending serials none capacity most later is leaves flags empty same =
     let count : length cells' ≡ length cells = sym (length-map cells' member_in) ∙ ap length leaves.order ∙ length-map cells member_in in
     record {
       order = is.order ∙ sym leaves.order;
-      fitted = subst (λ (p : Placed). AllByRecursion (λ c. IsFitted p c.station) cells') (sym (ap (λ (x : Ground). x.places) leaves.ground)) leaves.fitted;
+      fitted = subst (λ (p : Placed). AllByRecursion (λ c. IsFitted p c.station) cells') (sym (ap (λ (x : Plant). x.places) leaves.plant)) leaves.fitted;
       flags = flags;
       none_erred = empty;
       erred = omega (arith, is.erred, count, same, leaves.capacity);
     }
 
 -- and it can be settled who stops
-pub can_settle_after : (cells cells' : List Seat) (members : List Member) (g g' : Ground) (r made : RecordRoom) (capacity most : ℕ) → CanSettle g.relations members r → LeavesFlight cells cells' g g' r made capacity most
+pub can_settle_after : (cells cells' : List Seat) (members : List Member) (g g' : Plant) (r made : RecordRoom) (capacity most : ℕ) → CanSettle g.relations members r → LeavesFlight cells cells' g g' r made capacity most
     → CanSettle g'.relations members made
 can_settle_after cells cells' members g g' r made capacity most can leaves =
-    let related : g.relations ≡ g'.relations = sym (ap (λ (x : Ground). x.relations) leaves.ground) in
+    let related : g.relations ≡ g'.relations = sym (ap (λ (x : Plant). x.relations) leaves.plant) in
     let stops = ap (λ stops. stops.room) leaves.stops in
     subst (λ (w : Related). CanSettle w members made) related (record {
       followers = can.followers;

@@ -126,14 +126,14 @@ module _ (a : Aloft) (loans : List Loan) (board : ℕ) (c : Seat) (can : CanFly 
     where
       by_turn : (b : Bool) → post_of (if b then seat_gathered a.placed loans c else c) ≡ post_of c
       by_turn true = ap₂ (λ (n m : ℕ). record {
-          serial = c.station.serial;
-          place = c.station.place;
-          divisor = c.station.divisor;
-          kind = c.ctl.kind;
-          states = n;
-          references = m;
-          outs = length c.station.outs;
-        }) states_count references_count
+        serial = c.station.serial;
+        place = c.station.place;
+        divisor = c.station.divisor;
+        kind = c.ctl.kind;
+        states = n;
+        references = m;
+        outs = length c.station.outs;
+      }) states_count references_count
       by_turn false = refl
 
   -- and can make its step

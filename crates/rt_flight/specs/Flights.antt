@@ -22,14 +22,14 @@ use Rattle.stop_plan.specs.declared.ending.Ending.{Ending}
 use Rattle.switch_plan.specs.Relations.{Related, relations_of}
 use Rattle.rt_flight.specs.Stations.{Standing, IsFitted}
 use Rattle.rt_flight.specs.Cells.{Seat, CanFly, CanTell}
-use Rattle.rt_flight.specs.declared.ground.Ground.{Ground}
+use Rattle.rt_flight.specs.declared.plant.Plant.{Plant}
 
 -- What is seen of a flight: the number of its cycle; its cells in the order of updates; the hardware, with what is worked out of the
 -- description; the sets of the end, and whether something failed; and the record of the cycle, once it is computed.
 pub record FlightFacts : Type 0 where
   pub number : ℕ
   pub cells : List Seat
-  pub ground : Ground
+  pub plant : Plant
   pub ending : Ending
   pub has_failed : Bool
   pub outcome : Option Happened
@@ -54,9 +54,9 @@ AreSeatsOf mails [] [] = Unit {0}
 AreSeatsOf mails (r ∷ rs) (c ∷ cs) = IsSeatOf mails r c × AreSeatsOf mails rs cs
 AreSeatsOf mails _ _ = ⊥
 
--- Over this ground the cycle of this number is aloft in the state, which is one of a valid description, steady and with serials that
+-- Over this plant the cycle of this number is aloft in the state, which is one of a valid description, steady and with serials that
 -- differ: the cells are those of its active controllers, in the order of updates, and the hardware is that of the state.
-pub record IsAloftOver (s : State) (count : ℕ) (seats : List Seat) (g : Ground) : Type 0 where
+pub record IsAloftOver (s : State) (count : ℕ) (seats : List Seat) (g : Plant) : Type 0 where
   pub valid : IsValid s.description
   pub steady : IsSteady s
   pub once : IsDistinct (λ m n. m == n) (map (λ l. l.serial) s.loaded)
@@ -69,7 +69,7 @@ pub record IsAloftOver (s : State) (count : ℕ) (seats : List Seat) (g : Ground
 
 -- The flight is that of the cycle which is aloft in the state, not yet computed.
 pub record IsAloft (s : State) (f : FlightFacts) : Type 0 where
-  pub over : IsAloftOver s f.number f.cells f.ground
+  pub over : IsAloftOver s f.number f.cells f.plant
   pub not_yet : f.outcome ≡ None
 
 -- Another state of the same cycle: steady, with serials that differ, and with the same core. A call of a console between a begin and its
@@ -106,11 +106,11 @@ pub record IsComputed (s : State) (f : FlightFacts) : Type 0 where
   pub number : f.number ≡ s.ended
   pub outcome : f.outcome ≡ Some (cycle s).happened
   pub cells : AreSeatsAfter (cycle s).loaded (configuration s).running f.cells
-  pub fitted : AllByRecursion (λ c. IsFitted f.ground.places c.station) f.cells
-  pub hardware : IsMoved (landed s (cycle s)) f.ground.hardware
-  pub placed : f.ground.places ≡ placed_of s.description
-  pub related : f.ground.relations ≡ relations_of s.description
-  pub timed : f.ground.period_us ≡ period s.description
+  pub fitted : AllByRecursion (λ c. IsFitted f.plant.places c.station) f.cells
+  pub hardware : IsMoved (landed s (cycle s)) f.plant.hardware
+  pub placed : f.plant.places ≡ placed_of s.description
+  pub related : f.plant.relations ≡ relations_of s.description
+  pub timed : f.plant.period_us ≡ period s.description
   pub quiet : f.has_failed ≡ false → (failed_in s ≡ []) × (erred_in (told_in s) ≡ [])
   pub ending : f.has_failed ≡ true → IsEndingOf s f.ending
 
@@ -126,7 +126,7 @@ member_in c = record { serial = c.station.serial; place = c.station.place }
 
 -- Computed or not, it is known who flies; each station is fitted; the sets of the end have a flag for each described controller; and
 -- there is room for the serial of each controller that flies, of which none stands there.
-pub record IsEquipped (cells : List Seat) (members : List Member) (g : Ground) (ending : Ending) (serials : List ℕ) (capacity : ℕ) : Type 0 where
+pub record IsEquipped (cells : List Seat) (members : List Member) (g : Plant) (ending : Ending) (serials : List ℕ) (capacity : ℕ) : Type 0 where
   pub order : members ≡ map member_in cells
   pub fitted : AllByRecursion (λ c. IsFitted g.places c.station) cells
   pub flags : HasFlags (length g.relations.leaders) ending
@@ -134,11 +134,11 @@ pub record IsEquipped (cells : List Seat) (members : List Member) (g : Ground) (
   pub erred : length cells ≤ capacity
 
 -- what is the same for all its updates, before a read failed
-abbrev pub round_over : ℕ → Ground → Aloft
+abbrev pub round_over : ℕ → Plant → Aloft
 round_over number g = record { number = number; period_us = g.period_us; placed = g.places; related = g.relations; failed = [] }
 
--- Over this ground the cycle of a state can be made of these cells: each can be updated, and there is room to tell of all that can happen.
-pub record CanMake (number : ℕ) (cells : List Seat) (g : Ground) (r : RecordRoom) : Type 0 where
+-- Over this plant the cycle of a state can be made of these cells: each can be updated, and there is room to tell of all that can happen.
+pub record CanMake (number : ℕ) (cells : List Seat) (g : Plant) (r : RecordRoom) : Type 0 where
   pub aloft : (s : State) × IsAloftOver s number cells g
   pub timely : IsTimely (round_over number g)
   pub short : g.period_us ≤ LONGEST_STEP
@@ -162,22 +162,22 @@ pub record TellsNothing (r : RecordRoom) : Type 0 where
   pub none_stopped : r.stops.items ≡ []
 
 -- Until it is computed, all of it can be done, with this record to tell in.
-pub record IsReady (number : ℕ) (cells : List Seat) (members : List Member) (g : Ground) (r : RecordRoom) : Type 0 where
+pub record IsReady (number : ℕ) (cells : List Seat) (members : List Member) (g : Plant) (r : RecordRoom) : Type 0 where
   pub makes : CanMake number cells g r
   pub settles : CanSettle g.relations members r
   pub empty : TellsNothing r
 
 -- A flight has either a record to tell in or the record of its cycle.
-pub record IsFlight (number : ℕ) (cells : List Seat) (members : List Member) (g : Ground) (ending : Ending) (serials : List ℕ) (capacity : ℕ) (room : Option RecordRoom) (told : Option Happened)
+pub record IsFlight (number : ℕ) (cells : List Seat) (members : List Member) (g : Plant) (ending : Ending) (serials : List ℕ) (capacity : ℕ) (room : Option RecordRoom) (told : Option Happened)
     : Type 0 where
   pub equipped : IsEquipped cells members g ending serials capacity
   pub one_of_two : is_some room ≡ not (is_some told)
   pub ready : IfSome room (IsReady number cells members g)
 
 -- What a flight brings home: all that it took along as it is then, the record of its cycle, and whether something failed.
-pub record ComesHome (f : FlightFacts) (seats : List Seat) (members : List Member) (g : Ground) (sets : Ending) (failed : Bool) (serials : List ℕ) (capacity : ℕ) (happened : Happened) : Type 0 where
+pub record ComesHome (f : FlightFacts) (seats : List Seat) (members : List Member) (g : Plant) (sets : Ending) (failed : Bool) (serials : List ℕ) (capacity : ℕ) (happened : Happened) : Type 0 where
   pub cells : seats ≡ f.cells
-  pub ground : g ≡ f.ground
+  pub plant : g ≡ f.plant
   pub ending : sets ≡ f.ending
   pub has_failed : failed ≡ f.has_failed
   pub told : Some happened ≡ f.outcome
@@ -186,7 +186,7 @@ pub record ComesHome (f : FlightFacts) (seats : List Seat) (members : List Membe
 -- ---- In parts
 
 -- The cycle of the state was made, and is told of but for the stops.
-pub record HasMade (s : State) (seats : List Seat) (g : Ground) (serials : List ℕ) (r : RecordRoom) : Type 0 where
+pub record HasMade (s : State) (seats : List Seat) (g : Plant) (serials : List ℕ) (r : RecordRoom) : Type 0 where
   pub cells : AreSeatsAfter (cycle s).loaded (configuration s).running seats
   pub hardware : IsMoved (landed s (cycle s)) g.hardware
   pub failed : r.failed.items ≡ failed_in s

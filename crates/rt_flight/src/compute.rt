@@ -8,7 +8,7 @@ ghost use Rattle.rt_flight.specs.Calls.Cycles.{LeavesFlight, IsQuiet, Decides};
 
 use crate::cell::Cell;
 use crate::cells::update_all;
-use crate::ground::Ground;
+use crate::plant::Plant;
 use crate::round::Round;
 use cm_model::{FailedPart, Member, RecordRoom};
 use ctl_trait::Controller;
@@ -19,28 +19,28 @@ use switch_plan::Relations;
 /// components that failed go to their states on error. It takes no memory.
 pub(crate) fn make_cycle<C: Controller>(
     cells: &mut [Cell<C>],
-    ground: &mut Ground,
+    plant: &mut Plant,
     number: u64,
     erred: &mut Vec<u32>,
     room: &mut RecordRoom,
 )
-    requires can { CanMake number cells.old ground.old room.old }
+    requires can { CanMake number cells.old plant.old room.old }
     requires erred { (erred.old.items ≡ []) × (length cells.old ≤ vec_capacity erred.old) }
-    ensures made { (s : State) → IsAloftOver s number cells.old ground.old → TellsNothing room.old
-        → HasMade s cells.new ground.new erred.new.items room.new }
-    ensures kept { LeavesFlight cells.old cells.new ground.old ground.new room.old room.new (vec_capacity erred.old)
+    ensures made { (s : State) → IsAloftOver s number cells.old plant.old → TellsNothing room.old
+        → HasMade s cells.new plant.new erred.new.items room.new }
+    ensures kept { LeavesFlight cells.old cells.new plant.old plant.new room.old room.new (vec_capacity erred.old)
         (vec_capacity erred.new) }
 {
-    ground.hardware.read(number, &mut room.failed);
+    plant.hardware.read(number, &mut room.failed);
     let round = Round {
         number,
-        period_us: ground.period_us,
-        places: &ground.places,
-        relations: &ground.relations,
+        period_us: plant.period_us,
+        places: &plant.places,
+        relations: &plant.relations,
         failed: room.failed.as_slice(),
     };
-    update_all(cells, &round, &mut ground.hardware, &mut room.ran, erred);
-    ground.hardware.finish(number, ground.period_us, &mut room.failed, &mut room.bodies);
+    update_all(cells, &round, &mut plant.hardware, &mut room.ran, erred);
+    plant.hardware.finish(number, plant.period_us, &mut room.failed, &mut room.bodies);
 }
 
 /// Who stops at the end of a cycle of these controllers, where a component or an update failed; it answers whether one did. It takes no

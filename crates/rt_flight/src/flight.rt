@@ -6,7 +6,7 @@ ghost use Rattle.rt_flight.specs.Flights.{IsEquipped, IsReady, IsAloft, IsComput
 
 use crate::cell::Cell;
 use crate::compute::{make_cycle, settle};
-use crate::ground::Ground;
+use crate::plant::Plant;
 use cm_model::{CycleParts, CycleRecord, Member, RecordRoom};
 use ctl_trait::Controller;
 use std::marker::Model;
@@ -23,7 +23,7 @@ pub struct Payload<C: Controller> {
     /// The same, by serial and place.
     pub order: Vec<Member>,
     /// What they work on.
-    pub ground: Ground,
+    pub plant: Plant,
     /// The sets of the end of a cycle.
     pub ending: Ending,
     /// No serial yet, and room for those of the updates that fail.
@@ -40,7 +40,7 @@ pub struct Landing<C: Controller> {
     /// The same, by serial and place.
     pub order: Vec<Member>,
     /// What they worked on.
-    pub ground: Ground,
+    pub plant: Plant,
     /// Who stops, stays and restarts, where something failed.
     pub ending: Ending,
     /// Whether a component or an update failed.
@@ -60,7 +60,7 @@ pub struct Flight<C: Controller> {
     number: u64,
     cells: Vec<Cell<C>>,
     order: Vec<Member>,
-    ground: Ground,
+    plant: Plant,
     ending: Ending,
     has_failed: bool,
     erred: Vec<u32>,
@@ -80,26 +80,26 @@ impl<C: Controller> Model for Flight<C> {
     ghost view = { λ f. record {
       number = f.number;
       cells = f.cells.items;
-      ground = f.ground;
+      plant = f.plant;
       ending = f.ending;
       has_failed = f.has_failed;
       outcome = f.record;
     } };
 
-    ghost invariant = { λ f. IsFlight f.number f.cells.items f.order.items f.ground f.ending f.erred.items
+    ghost invariant = { λ f. IsFlight f.number f.cells.items f.order.items f.plant f.ending f.erred.items
         (vec_capacity f.erred) f.room f.record };
 }
 
 impl<C: Controller> Flight<C> {
     /// A flight with this payload. It takes no memory.
     pub fn take_off(payload: Payload<C>) -> Flight<C>
-        requires equipped { IsEquipped payload.cells.items payload.order.items payload.ground payload.ending
+        requires equipped { IsEquipped payload.cells.items payload.order.items payload.plant payload.ending
             payload.erred.items (vec_capacity payload.erred) }
-        requires ready { IsReady payload.number payload.cells.items payload.order.items payload.ground payload.room }
+        requires ready { IsReady payload.number payload.cells.items payload.order.items payload.plant payload.room }
         ensures { result ≡ record {
           number = payload.number;
           cells = payload.cells.items;
-          ground = payload.ground;
+          plant = payload.plant;
           ending = payload.ending;
           has_failed = false;
           outcome = None;
@@ -109,7 +109,7 @@ impl<C: Controller> Flight<C> {
             number,
             cells,
             order,
-            ground,
+            plant,
             ending,
             erred,
             room,
@@ -118,7 +118,7 @@ impl<C: Controller> Flight<C> {
             number,
             cells,
             order,
-            ground,
+            plant,
             ending,
             has_failed: false,
             erred,
@@ -152,7 +152,7 @@ impl<C: Controller> Flight<C> {
         let mut room = take_room(&mut self.room);
         make_cycle(
             self.cells.as_mut_slice(),
-            &mut self.ground,
+            &mut self.plant,
             self.number,
             &mut self.erred,
             &mut room,
@@ -160,7 +160,7 @@ impl<C: Controller> Flight<C> {
         let has_failed = settle(
             &mut self.ending,
             &self.order,
-            &self.ground.relations,
+            &self.plant.relations,
             &self.erred,
             &mut room,
         );
@@ -185,13 +185,13 @@ impl<C: Controller> Flight<C> {
     /// It comes home, with all that it took along and the record of its cycle. It takes no memory.
     pub fn come_home(self) -> Landing<C>
         requires { is_some self.outcome ≡ true }
-        ensures { ComesHome self result.cells.items result.order.items result.ground result.ending result.has_failed
+        ensures { ComesHome self result.cells.items result.order.items result.plant result.ending result.has_failed
             result.erred.items (vec_capacity result.erred) result.record }
     {
         let Flight {
             cells,
             order,
-            ground,
+            plant,
             ending,
             has_failed,
             erred,
@@ -205,7 +205,7 @@ impl<C: Controller> Flight<C> {
         Landing {
             cells,
             order,
-            ground,
+            plant,
             ending,
             has_failed,
             erred,

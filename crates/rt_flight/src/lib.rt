@@ -3,15 +3,15 @@
 
 pub use cell::Cell;
 pub use flight::{Flight, Landing, Payload};
-pub use ground::Ground;
+pub use plant::Plant;
 pub use station::Station;
 
 mod cell;
 mod cells;
 mod compute;
 mod flight;
-mod ground;
 pub mod laws;
+mod plant;
 mod round;
 mod running;
 mod station;

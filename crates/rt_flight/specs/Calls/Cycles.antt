@@ -15,13 +15,13 @@ use Rattle.switch_plan.specs.Relations.{Related, relations_of}
 use Rattle.rt_flight.specs.Stations.{IsFitted}
 use Rattle.rt_flight.specs.Cells.{Seat}
 use Rattle.rt_flight.specs.Flights.{member_in}
-use Rattle.rt_flight.specs.declared.ground.Ground.{Ground}
+use Rattle.rt_flight.specs.declared.plant.Plant.{Plant}
 
--- A cycle that was made leaves who flies, stations that are fitted, the ground but for its hardware, who stopped, and the room for serials.
-pub record LeavesFlight (cells cells' : List Seat) (g g' : Ground) (room room' : RecordRoom) (most most' : ℕ) : Type 0 where
+-- A cycle that was made leaves who flies, stations that are fitted, the plant but for its hardware, who stopped, and the room for serials.
+pub record LeavesFlight (cells cells' : List Seat) (g g' : Plant) (room room' : RecordRoom) (most most' : ℕ) : Type 0 where
   pub order : map member_in cells' ≡ map member_in cells
   pub fitted : AllByRecursion (λ c. IsFitted g.places c.station) cells'
-  pub ground : g' ≡ record g { hardware = g'.hardware }
+  pub plant : g' ≡ record g { hardware = g'.hardware }
   pub stops : room'.stops ≡ room.stops
   pub capacity : most' ≡ most
 

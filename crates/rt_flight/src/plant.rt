@@ -7,7 +7,7 @@ use switch_plan::Relations;
 /// The hardware, and what is worked out of the description: where the controllers stand to the board and to each other, and the time from
 /// one cycle to the next in microseconds.
 #[derive(Drop)]
-pub struct Ground {
+pub struct Plant {
     /// The components, and the board of their interfaces.
     pub hardware: ResourceManager,
     /// Where the interfaces of the described controllers stand on the board.
