@@ -1,18 +1,18 @@
 -- That a controller which does not precede another claims nothing that the other reads.
-use Rattle.std.proofs.Common.{◌≡◌, ℕ, ◌<◌, Bool, true, false, List, [], ◌∷◌, length, Option, None, Some, refl, sym, ap, ap₂, subst, ◌∙◌, true≢false}
-use Rattle.std.specs.Prelude.{◌==◌, ◌&&◌, ◌||◌, not, filter_map}
+use Rattle.std.proofs.Common.{◌≡◌, ℕ, true, false, List, [], ◌∷◌, length, Option, None, Some, refl, sym, ap, ◌∙◌, true≢false}
+use Rattle.std.specs.Prelude.{◌==◌, ◌&&◌, not, filter_map}
 use Rattle.std.specs.List.{list_any, AllByRecursion}
 use Rattle.std.specs.Option.{option_map_or}
 use Rattle.std.proofs.lemmas.Bool.{and_parts, and_from, eqb-true, eq-eqb, false_from_ne_true, not-true, or_from, or_parts}
 use Rattle.std.proofs.lemmas.Option.{same_Some}
 use Rattle.iface_names.specs.declared.interface.IfaceName.{IfaceName}
-use Rattle.cm_document.specs.Links.{is_among, refs_of, precedes}
+use Rattle.cm_document.specs.Links.{is_among, refs_of}
 use Rattle.cm_document.specs.Places.{Called, Interface, interfaces_of}
 use Rattle.cm_document.specs.declared.description.CtlDesc.{CtlDesc}
 use Rattle.cm_document.specs.declared.description.Description.{Description}
 use Rattle.cm_model.specs.Claims.{is_state_named, is_command_named}
 use Rattle.cm_model.specs.Components.{is_listed}
-use Rattle.cm_model.specs.Order.{controller_at, precedes_at, some_below}
+use Rattle.cm_model.specs.Order.{controller_at, precedes_at}
 use Rattle.chain_order.specs.Links.{linked, leaders_of}
 use Rattle.chain_order.proofs.DepthLemmas.{precedes_at-first, precedes_at-second}
 use Rattle.chain_order.proofs.LinkLemmas.{linked-rows_of}
@@ -24,7 +24,7 @@ use Rattle.ctl_places.proofs.PlacedLemmas.{reads_row, references_row, claims_row
 use Rattle.switch_plan.specs.Relations.{relations_of}
 use Rattle.switch_plan.proofs.ClearLemmas.{any_found}
 use Rattle.switch_plan.proofs.TestLemmas.{some_below-from}
-use Rattle.rt_flight.specs.Cells.{AreApart, TellsApart}
+use Rattle.rt_flight.specs.Cells.{TellsApart}
 
 -- who does not stand in the row of those that precede a controller does not precede it
 not_before : (cs : List CtlDesc) (p q : ℕ) → is_listed (linked (leaders_of cs) q) p ≡ false → precedes_at cs p q ≡ false

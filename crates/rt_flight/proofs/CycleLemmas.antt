@@ -1,20 +1,17 @@
 -- That a flight makes the cycle of the state from which it began.
-use Rattle.std.proofs.Common.{◌≡◌, ◌≤◌, ℕ, Bool, true, false, List, [], ◌∷◌, ◌++◌, length, map, Option, None, Some, refl, sym, ap, ap₂, subst, ◌∙◌, arith}
+use Rattle.std.proofs.Common.{◌≡◌, ℕ, Bool, true, false, List, [], ◌∷◌, ◌++◌, length, map, Some, refl, sym, ap, ap₂, subst, ◌∙◌, arith}
 use Rattle.std.specs.Prelude.{◌==◌, ◌&&◌, if◌then◌else◌}
 use Rattle.std.specs.List.{AllByRecursion}
 use Rattle.std.proofs.lemmas.Bool.{and_from, eq-eqb}
 use Rattle.std.proofs.lemmas.List.{append-nil, length-map}
 use Rattle.fixed_num.specs.declared.value.BodyState.{BodyState}
 use Rattle.cm_document.specs.Places.{interfaces_of}
-use Rattle.cm_document.specs.Valid.{IsValid}
-use Rattle.cm_model.specs.Cycle.{failed_in, active_order, updates, Updates, cycle, landed, stops, members_in_order, member_of}
+use Rattle.cm_model.specs.Cycle.{failed_in, active_order, updates, Updates, cycle, landed, stops, member_of}
 use Rattle.cm_model.specs.Happened.{Happened}
 use Rattle.cm_model.specs.Ran.{Ran}
 use Rattle.cm_model.specs.Sound.{running_part, configuration}
 use Rattle.cm_model.specs.State.{State, Loaded, is_active, active}
-use Rattle.cm_model.specs.Steady.{IsSteady}
 use Rattle.cm_model.specs.Values.{InterfaceValue}
-use Rattle.cm_model.specs.declared.data.CtlData.{CtlData}
 use Rattle.cm_model.specs.declared.member.Member.{Member}
 use Rattle.cm_model.specs.declared.record.FailedPart.{FailedPart}
 use Rattle.cm_model.specs.declared.record_room.RecordRoom.{RecordRoom}
@@ -24,7 +21,7 @@ use Rattle.sound_laws.proofs.ActiveLemmas.{from_active_order}
 use Rattle.sound_laws.proofs.ParamsLemmas.{all_each}
 use Rattle.sound_laws.proofs.RunLemmas.{ordered_once}
 use Rattle.sound_laws.proofs.ValidLemmas.{valid-IsChecked}
-use Rattle.stop_plan.specs.Ending.{IsEndingOf, HasFlags, told_in, erred_in}
+use Rattle.stop_plan.specs.Ending.{HasFlags, told_in, erred_in}
 use Rattle.stop_plan.specs.declared.ending.Ending.{Ending}
 use Rattle.stop_plan.proofs.QuietLemmas.{none_stop}
 use Rattle.switch_plan.specs.Relations.{Related, relations_of}
@@ -243,16 +240,3 @@ equipped_after cells cells' members g g' r made before ending serials none capac
       none_erred = empty;
       erred = omega (arith, is.erred, count, same, leaves.capacity);
     }
-
--- and it can be settled who stops
-pub can_settle_after : (cells cells' : List Seat) (members : List Member) (g g' : Plant) (r made : RecordRoom) (capacity most : ℕ) → CanSettle g.relations members r → LeavesFlight cells cells' g g' r made capacity most
-    → CanSettle g'.relations members made
-can_settle_after cells cells' members g g' r made capacity most can leaves =
-    let related : g.relations ≡ g'.relations = sym (ap (λ (x : Plant). x.relations) leaves.plant) in
-    let stops = ap (λ stops. stops.room) leaves.stops in
-    subst (λ (w : Related). CanSettle w members made) related (record {
-      followers = can.followers;
-      components = can.components;
-      within = can.within;
-      stops = omega (arith, can.stops, stops);
-    })

@@ -1,5 +1,5 @@
 -- That cells of which none precedes another come to the same together as one after the other.
-use Rattle.std.proofs.Common.{◌≡◌, ℕ, ◌+◌, ◌≤◌, ◌*◌, ℤ, length, Bool, true, false, List, [], ◌∷◌, ◌++◌, map, Option, None, Some, inl, inr, refl, sym, ap, ap₂, subst, ◌∙◌, get_or-set_other}
+use Rattle.std.proofs.Common.{◌≡◌, ℕ, ℤ, length, Bool, true, false, List, [], ◌∷◌, ◌++◌, map, Option, None, Some, refl, sym, ap, ap₂, subst, ◌∙◌, get_or-set_other}
 use Rattle.std.proofs.Math.Nat.{mul-le-mul}
 use Rattle.std.specs.Prelude.{◌==◌, if◌then◌else◌, IfSome, IsSomeAnd}
 use Rattle.std.specs.List.{AllByRecursion}
@@ -8,7 +8,7 @@ use Rattle.fixed_num.specs.declared.value.Value.{Value}
 use Rattle.cm_document.specs.declared.life.Life.TheVariants.{Active}
 use Rattle.cm_model.specs.Claims.{number_in}
 use Rattle.cm_model.specs.Components.{is_listed}
-use Rattle.cm_model.specs.Controllers.{Stepped, ctl_step, CanBeUpdated}
+use Rattle.cm_model.specs.Controllers.{Stepped, CanBeUpdated}
 use Rattle.cm_model.specs.Ran.{Ran}
 use Rattle.cm_model.specs.declared.ran.Done.{Done}
 use Rattle.cm_model.specs.declared.ran.Done.TheVariants as done
@@ -16,13 +16,13 @@ use Rattle.loan_board.specs.Loans.{idle, set, loan_at, with_loan}
 use Rattle.loan_board.specs.declared.board.Loan.{Loan}
 use Rattle.chain_order.specs.Links.{linked}
 use Rattle.ctl_places.specs.Placed.{Placed}
-use Rattle.ctl_slots.specs.Lives.{publishes, published_by}
+use Rattle.ctl_slots.specs.Lives.{published_by}
 use Rattle.ctl_slots.specs.Seats.{numbers_at, held_at}
 use Rattle.ctl_slots.specs.Updates.{Aloft, put_on, board_after, IsTimely}
 use Rattle.ctl_slots.proofs.StepLemmas.{step_is, kind_stepped, kind_once_taken, published_is, erred_gives_none}
 use Rattle.switch_plan.specs.Relations.{Related}
-use Rattle.rt_flight.specs.Stations.{Standing, gathered, flies, tick_at, told_of}
-use Rattle.rt_flight.specs.Cells.{Seat, Flying, seat_gathered, seat_stepped, seat_after, step_of, ran_in, with_step, flying_after, all_flown, seats_after, seat_read, seat_run, seat_put, put_with, flying_put, all_put, precedes_in, NonePrecedes, AreApart, TellsApart, CanStep}
+use Rattle.rt_flight.specs.Stations.{Standing, gathered, flies, tick_at}
+use Rattle.rt_flight.specs.Cells.{Seat, Flying, seat_gathered, seat_stepped, seat_after, step_of, with_step, flying_after, all_flown, seats_after, seat_read, seat_run, seat_put, put_with, flying_put, all_put, precedes_in, NonePrecedes, AreApart, TellsApart, CanStep}
 use Rattle.rt_flight.proofs.CellLemmas.{put_so, told_so}
 
 -- ---- The board

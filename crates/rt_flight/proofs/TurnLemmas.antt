@@ -1,9 +1,10 @@
 -- The turns of some cells and of the others; and what goes by who stands where, and by how much room each has.
 use Rattle.std.proofs.Common.{◌≡◌, ℕ, ◌+◌, ◌<◌, ◌^◌, Bool, true, false, List, [], ◌∷◌, ◌++◌, length, map, refl, sym, ap, ap₂, subst, ◌∙◌, arith}
-use Rattle.std.specs.Prelude.{if◌then◌else◌, IfSome}
+use Rattle.std.specs.Prelude.{◌==◌, if◌then◌else◌, IfSome}
 use Rattle.std.specs.List.{All, list_any, AllByRecursion}
-use Rattle.std.proofs.lemmas.Bool.{or_parts}
+use Rattle.std.proofs.lemmas.Bool.{or_parts, eqb-true}
 use Rattle.std.proofs.lemmas.List.{length-map}
+use Rattle.cm_model.specs.Components.{is_listed}
 use Rattle.cm_model.specs.Controllers.{AreItsCounts}
 use Rattle.cm_model.specs.declared.member.Member.{Member}
 use Rattle.loan_board.specs.declared.board.Loan.{Loan}
@@ -13,8 +14,8 @@ use Rattle.ctl_slots.specs.Lives.{publishes}
 use Rattle.ctl_slots.specs.Updates.{Aloft}
 use Rattle.sequence.proofs.ListLemmas.{map_twice, head_same, tail_same}
 use Rattle.switch_plan.specs.Relations.{Related}
-use Rattle.rt_flight.specs.Stations.{Standing, gathered, flies, HasRows, IsFitted, IsSeatedOn}
-use Rattle.rt_flight.specs.Cells.{Seat, Flying, Post, post_of, seat_gathered, seat_read, seat_put, seat_after, flying_after, all_flown, seats_after, numbers_of, all_outs, all_numbers, precedes_in, NonePrecedes, CanStep, CanFly}
+use Rattle.rt_flight.specs.Stations.{gathered, flies, HasRows, IsFitted, IsSeatedOn}
+use Rattle.rt_flight.specs.Cells.{Seat, Flying, Post, post_of, seat_gathered, seat_read, seat_put, seat_after, flying_after, all_flown, seats_after, all_outs, all_numbers, precedes_in, NonePrecedes, CanStep, CanFly}
 use Rattle.rt_flight.specs.Flights.{member_in}
 
 -- ---- Some and the others
@@ -49,6 +50,12 @@ none_push related (c ∷ cs) d none follows =
     each : (es : List Seat) → AllByRecursion (λ e. precedes_in related c e ≡ false) es → precedes_in related c d ≡ false → AllByRecursion (λ e. precedes_in related c e ≡ false) (es ++ d ∷ [])
     each [] none last = (last, tt)
     each (e ∷ es) none last = (none.0, each es none.1 last)
+
+-- where nobody precedes a controller, none of these does
+pub none_lead : (row : List ℕ) (cs : List Seat) → (length row == 0) ≡ true → list_any (λ c. is_listed row c.station.place) cs ≡ false
+none_lead [] [] e = refl
+none_lead [] (c ∷ cs) e = none_lead [] cs e
+none_lead (k ∷ ks) cs e = let none = eqb-true (length (k ∷ ks)) 0 e in absurd (omega (arith, none))
 
 -- ---- Who stands where
 

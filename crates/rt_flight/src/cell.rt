@@ -129,6 +129,9 @@ impl<C: Controller> Cell<C> {
         ensures { result ≡ list_any (λ c. precedes_in relations.now c self.now) cells.now }
     {
         let leaders = relations.leaders().row(self.station.place());
+        if leaders.is_empty() {
+            return false;
+        }
         cells
             .iter()
             .any(|cell| leads(leaders, cell.station.place()))

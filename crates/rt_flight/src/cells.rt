@@ -67,8 +67,8 @@ fn update_layer<C: Controller>(
     ensures turned { HaveTurned round.now cells.old cells.new (flying hardware.old ran.old.rans erred.old.items)
         (flying hardware.new ran.new.rans erred.new.items) }
     ensures leaves { LeavesPut (length cells.old) (all_outs cells.old) (all_numbers cells.old)
-        (length hardware.old.loans) (length hardware.new.loans) ran.old ran.new (vec_len erred.old) (vec_len erred.new) (vec_capacity erred.old)
-        (vec_capacity erred.new) }
+        (length hardware.old.loans) (length hardware.new.loans) ran.old ran.new (vec_len erred.old) (vec_len erred.new)
+        (vec_capacity erred.old) (vec_capacity erred.new) }
 {
     gather_all(cells, round, hardware);
     step_all(cells, round);
@@ -112,8 +112,8 @@ fn scatter_all<C: Controller>(
     ensures flying { flying hardware.new ran.new.rans erred.new.items
         ≡ all_put places.now cells.old (flying hardware.old ran.old.rans erred.old.items) }
     ensures leaves { LeavesPut (length cells.old) (all_outs cells.old) (all_numbers cells.old)
-        (length hardware.old.loans) (length hardware.new.loans) ran.old ran.new (vec_len erred.old) (vec_len erred.new) (vec_capacity erred.old)
-        (vec_capacity erred.new) }
+        (length hardware.old.loans) (length hardware.new.loans) ran.old ran.new (vec_len erred.old) (vec_len erred.new)
+        (vec_capacity erred.old) (vec_capacity erred.new) }
 {
     for cell in cells.iter_mut() {
         cell.scatter(places, hardware, ran, erred);

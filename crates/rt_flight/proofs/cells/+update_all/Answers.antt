@@ -1,7 +1,7 @@
 use Rattle.std.proofs.Common.{◌≡◌, ℕ, ◌<◌, ◌+◌, ◌++◌, List, length, map, vec_len, vec_capacity, sym, ap, ap₂, subst, ◌∙◌, arith}
 use Rattle.std.specs.List.{AllByRecursion}
 use Rattle.std.proofs.lemmas.List.{length-append, map-append}
-use Rattle.rt_flight.specs.Cells.{Seat, Flying, flying, seats_after, all_flown, all_outs, all_numbers, post_of, CanFly}
+use Rattle.rt_flight.specs.Cells.{Seat, flying, seats_after, all_flown, all_outs, all_numbers, post_of, CanFly}
 use Rattle.rt_flight.specs.Calls.Cells.{CanTurn}
 use Rattle.rt_flight.proofs.TurnLemmas.{seats_append, flown_append, all_parts, outs_append, numbers_append}
 use Rattle.rt_flight.proofs.cells.+update_all.Goals as goal

@@ -1,10 +1,10 @@
-use Rattle.std.proofs.Common.{◌≡◌, ◌+◌, ◌<◌, ◌^◌, List, length, vec_len, vec_capacity, map, sym, ap, subst, ◌∙◌, arith}
+use Rattle.std.proofs.Common.{◌≡◌, ◌<◌, ◌^◌, List, length, vec_len, vec_capacity, map, sym, ap, subst, ◌∙◌, arith}
 use Rattle.std.specs.List.{AllByRecursion}
 use Rattle.ctl_places.specs.Placed.{Placed}
 use Rattle.ctl_slots.specs.Updates.{Aloft}
 use Rattle.rt_flight.specs.Calls.Cells.{CanPutAll}
 use Rattle.rt_flight.specs.Stations.{IsSeatedOn}
-use Rattle.rt_flight.specs.Cells.{Seat, seat_read, seat_run, seat_put, all_put, all_outs, all_numbers, post_of, flying, CanStep}
+use Rattle.rt_flight.specs.Cells.{Seat, seat_read, seat_run, seat_put, all_put, post_of, flying, CanStep}
 use Rattle.rt_flight.proofs.LayerLemmas.{all_apart, together, reads_itself}
 use Rattle.rt_flight.proofs.TurnLemmas.{all_by_posts, seated_by, few_states_by, few_outs_by, outs_by, numbers_by, count_by, read_posts, read_can_steps, put_posts, each_of}
 use Rattle.rt_flight.proofs.cells.update_layer.Goals as goal
