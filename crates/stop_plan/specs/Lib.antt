@@ -3,3 +3,4 @@ pub mod Ending
 pub mod Reports
 pub mod Spread
 pub mod Settled
+pub mod Calls

@@ -1,11 +1,8 @@
 //! What the end of a cycle changes.
 
-ghost use Rattle.std.specs.Prelude.{◌≡◌, ◌<◌, ◌≤◌, ◌++◌, length, IfOk, All};
-ghost use Rattle.cm_document.specs.Valid.{IsValid};
-ghost use Rattle.cm_model.specs.Cycle.{stops};
-ghost use Rattle.cm_model.specs.State.{State};
-ghost use Rattle.cm_model.specs.Steady.{IsSteady};
-ghost use Rattle.stop_plan.specs.Ending.{IsReportOf, IsEndingOf, HasFlags, told_in};
+ghost use Rattle.std.specs.Prelude.{◌<◌, ◌≤◌, length, IfOk, All};
+ghost use Rattle.stop_plan.specs.Calls.Decide.{Decides};
+ghost use Rattle.stop_plan.specs.Ending.{HasFlags};
 ghost use Rattle.stop_plan.specs.Reports.{IsReport, count_in};
 ghost use Rattle.stop_plan.specs.Settled.{IsSettled};
 
@@ -56,11 +53,7 @@ impl Ending {
         requires report { IsReport report.now }
         requires flags { HasFlags (count_in report.now) self.old }
         requires room { length report.now.order.now ≤ serials.old.room }
-        ensures flags { HasFlags (count_in report.now) self.new }
-        ensures stops { (s : State) → IsValid s.description → IsReportOf s report.now
-            → serials.new.items ≡ serials.old.items ++ stops s (told_in s) }
-        ensures sets { (s : State) → IsValid s.description → IsSteady s → IsReportOf s report.now
-            → IsEndingOf s self.new }
+        ensures { Decides report.now self.new serials.old.items serials.new.items }
     {
         gather(&mut self.active, report.order);
         gather_struck(&mut self.fallen, report);
