@@ -2,3 +2,4 @@
 pub mod Counted
 pub mod Summary
 pub mod Few
+pub mod Calls

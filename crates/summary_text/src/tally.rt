@@ -1,6 +1,7 @@
 //! What is counted of a history.
 
 ghost use Rattle.std.specs.Prelude.{◌≡◌, ◌+◌, ◌-◌, ◌<◌, ◌≤◌, ◌^◌, length};
+ghost use Rattle.summary_text.specs.Calls.Count.{CanCount};
 ghost use Rattle.summary_text.specs.Counted.{Counted, nothing, counted, with_entry, with_cycle, with_decisions, with_outcome};
 ghost use Rattle.summary_text.specs.Few.{AreFew, outcomes};
 
@@ -75,8 +76,7 @@ impl<'a> Tally<'a> {
     /// Counts an entry: a record is that of a cycle that ended, and decisions say what became of requests.
     #[tactic(auto, using(crate::proofs::CountLemmas::counting))]
     fn count_entry(&mut self, entry: &'a Entry)
-        requires few { AreFew self.old }
-        requires room { self.old.entries < 2 ^ 64 }
+        requires { CanCount self.old }
         ensures counted { self.new ≡ with_entry entry.now self.old }
         ensures few { AreFew self.new }
         ensures entries { self.new.entries ≡ self.old.entries + 1 }
