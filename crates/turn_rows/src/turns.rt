@@ -1,10 +1,10 @@
 //! A book of lines that passes write in turns: eight at once, one alone, and as many as a lock has.
 
 ghost use Rattle.std.specs.Prelude.{◌≡◌, ◌+◌, ◌<◌, ◌≤◌, ◌^◌, ℕ, true, false, length, All, IfOk};
-ghost use Rattle.turn_lock.specs.Passes.{view, IsReady, HasTurn, IsSamePass, EachStays};
-ghost use Rattle.turn_lock.specs.Calls.Put.{IsSettled};
+ghost use Rattle.turn_lock.specs.Passes.{view, IsReady, IsSamePass, EachStays};
 ghost use Rattle.turn_lock.specs.Calls.Finish.{AreAll};
 ghost use Rattle.turn_lock.specs.declared.TheConstants.{MOST_SEATS};
+ghost use Rattle.ground_rows.specs.Calls.Turns.{IsAtWork};
 
 use fixed_num::Memory;
 use std::alloc::Global;
@@ -69,11 +69,9 @@ fn write_line<R: Wait>(rt: &R, lock: &TurnLock<Book>, pass: &mut TurnPass<Book>,
 
 /// A line more, counted and published, if there is room.
 fn append(lock: &TurnLock<Book>, pass: &mut TurnPass<Book>, book: &mut Book, turn: u32)
-    requires turn { HasTurn lock.now pass.old }
-    requires settled { IsSettled pass.old book.old }
+    requires { IsAtWork lock.now pass.old book.old }
     ensures same { IsSamePass pass.old pass.new }
-    ensures turn { HasTurn lock.now pass.new }
-    ensures settled { IsSettled pass.new book.new }
+    ensures at_work { IsAtWork lock.now pass.new book.new }
 {
     let who = pass.number();
     let lines = book.lines.len();
