@@ -1,0 +1,244 @@
+//! The program `cm_draw`: a document from standard input, and a page of SVG that shows its run to standard output.
+#![tactic(auto)]
+
+ghost use Rattle.std.specs.Prelude.{◌≡◌, ◌*◌, ◌≤◌, ℕ, suc, length, OnOk};
+ghost use Rattle.cm_document.specs.declared.limits.TheConstants.{LONGEST_DOCUMENT};
+ghost use Rattle.cm_document.specs.ScriptLaws.{MeetsRules};
+ghost use Rattle.cm_model.specs.State.{fresh};
+ghost use Rattle.cm_draw.specs.Stock.{AreBlank};
+
+use crate::page::page_of;
+use crate::unkept::Unkept;
+use cm_document::LONGEST_DOCUMENT;
+use cm_model::{CtlKind, Description, Document, DocumentFault, Entry, Memory, Script};
+use cm_top::{Job, JobKind, Status, Stock, read_document, run_document};
+use ctl_bcast::Broadcaster;
+use ctl_forward::{Forward, Passthrough};
+use ctl_mock::Mock;
+use ctl_pid::PidCtl;
+use ctl_trait::Controller;
+use ctl_traj::TrajCtl;
+use outside_io::{ReadFault, Sink, Source, StdSink, StdSource, read_whole, write_whole};
+use std::alloc::Global;
+use std::io::Eprint;
+use std::process::ExitCode;
+use std::rt::Env;
+use std::{env, io};
+
+mod axis;
+mod causes;
+mod course;
+mod curves;
+mod keys;
+mod lanes;
+mod layout;
+mod links;
+mod links_picture;
+mod marks;
+mod numbers;
+mod page;
+mod ports;
+mod present;
+mod replay;
+mod rows;
+mod run_picture;
+mod style;
+mod svg;
+#[cfg(test)]
+mod tests;
+mod unkept;
+
+/// How many blanks of each kind are in stock, as in `cm_main`.
+pub const BLANKS: u32 = 32;
+
+fn main(rt: HostRuntime) -> ExitCode {
+    let mut source = StdSource::make(rt.reader());
+    let mut sink = StdSink::make(io::writer(&rt));
+    let status = match job_of(&rt) {
+        Ok(kind) => draw_stocked(rt.alloc(), kind, &mut source, &mut sink).unwrap_or(
+            Status::Memory,
+        ),
+        Err(status) => status,
+    };
+    ExitCode::from(report(&rt, &status))
+}
+
+/// Draws over the program's stock, which is that of `cm`.
+fn draw_stocked<S: Source, K: Sink>(
+    alloc: Global,
+    kind: JobKind,
+    source: &mut S,
+    sink: &mut K,
+) -> Result<Status, Memory> {
+    let mut blanks: Vec<Box<dyn Controller + Send>> = Vec::new(alloc);
+    for _number in 0..BLANKS {
+        add(
+            &mut blanks,
+            CtlKind::Forward,
+            Box::new(alloc, Forward::blank())?,
+        )?;
+        add(
+            &mut blanks,
+            CtlKind::Passthrough,
+            Box::new(alloc, Passthrough::blank())?,
+        )?;
+        add(&mut blanks, CtlKind::Pid, Box::new(alloc, PidCtl::blank())?)?;
+        add(
+            &mut blanks,
+            CtlKind::Trajectory,
+            Box::new(alloc, TrajCtl::blank())?,
+        )?;
+        add(
+            &mut blanks,
+            CtlKind::Broadcaster,
+            Box::new(alloc, Broadcaster::blank())?,
+        )?;
+        add(&mut blanks, CtlKind::Mock, Box::new(alloc, Mock::blank())?)?;
+    }
+    Ok(draw_over(alloc, kind, source, sink, blanks))
+}
+
+/// Draws over a stock of these blanks.
+fn draw_over<S: Source, K: Sink, C: Controller>(
+    alloc: Global,
+    kind: JobKind,
+    source: &mut S,
+    sink: &mut K,
+    blanks: Vec<C>,
+) -> Status
+    requires { AreBlank C.meaning blanks.items (6 * BLANKS) }
+{
+    draw(alloc, kind, source, sink, Stock::make(blanks))
+}
+
+/// One blank more, of this kind.
+fn add<C: Controller>(blanks: &mut Vec<C>, kind: CtlKind, blank: C) -> Result<(), Memory>
+    requires { C.meaning blank ≡ fresh kind }
+    ensures { OnOk result ((n : ℕ) → AreBlank C.meaning blanks.old.items n
+        → AreBlank C.meaning blanks.new.items (suc n)) }
+{
+    blanks.push(blank)?;
+    Ok(())
+}
+
+/// The job that the words after the program's name ask for: none or `run`, or `steps`.
+fn job_of<E: Env + AllocGlobal>(rt: &E) -> Result<JobKind, Status> {
+    let Ok(args) = env::args(rt) else {
+        return Err(Status::BadWords);
+    };
+    let words: Vec<String> = match args.skip(1).collect(rt.alloc()) {
+        Ok(words) => words,
+        Err(_) => return Err(Status::Memory),
+    };
+    kind_of(words.as_slice())
+}
+
+/// The job of these words.
+fn kind_of(words: &[String]) -> Result<JobKind, Status> {
+    let Some((word, others)) = words.split_first() else {
+        return Ok(JobKind::Run);
+    };
+    match word.as_str() {
+        "run" if others.is_empty() => Ok(JobKind::Run),
+        "steps" if others.is_empty() => Ok(JobKind::Steps),
+        _ => Err(Status::BadWords),
+    }
+}
+
+/// Reads a document, runs it by this job, and writes its page. A document that is refused writes nothing.
+fn draw<S: Source, K: Sink, C: Controller>(
+    alloc: Global,
+    kind: JobKind,
+    source: &mut S,
+    sink: &mut K,
+    stock: Stock<C>,
+) -> Status {
+    match read_whole(alloc, source, LONGEST_DOCUMENT) {
+        Ok(bytes) => draw_bytes(alloc, kind, bytes.as_slice(), sink, stock),
+        Err(ReadFault::Failed) => Status::ReadFault,
+        Err(ReadFault::TooLong) => Status::TooLong,
+        Err(ReadFault::Memory) => Status::Memory,
+    }
+}
+
+/// Draws the document that these bytes are.
+fn draw_bytes<K: Sink, C: Controller>(
+    alloc: Global,
+    kind: JobKind,
+    bytes: &[u8],
+    sink: &mut K,
+    stock: Stock<C>,
+) -> Status
+    requires { length bytes.now ≤ LONGEST_DOCUMENT }
+{
+    match read_document(alloc, bytes) {
+        Ok(document) => draw_document(alloc, kind, document, sink, stock),
+        Err(DocumentFault::Description(problem)) => Status::BadDescription(problem),
+        Err(DocumentFault::Script(fault)) => Status::BadScript(fault),
+        Err(DocumentFault::Memory) => Status::Memory,
+    }
+}
+
+/// A document's own parts, for the picture: the run takes the document.
+#[derive(Drop)]
+struct Described {
+    description: Description,
+    script: Script,
+}
+
+fn parts_of(document: &Document) -> Result<Described, Memory> {
+    Ok(Described {
+        description: document.description.description().clone()?,
+        script: document.script.clone()?,
+    })
+}
+
+/// Runs an accepted document over the program's stock, and draws its book.
+fn draw_document<K: Sink, C: Controller>(
+    alloc: Global,
+    kind: JobKind,
+    document: Document,
+    sink: &mut K,
+    stock: Stock<C>,
+) -> Status
+    requires rules { MeetsRules document.script }
+{
+    let Ok(described) = parts_of(&document) else {
+        return Status::Memory;
+    };
+    let job = Job { kind, make: None };
+    match run_document(alloc, job, document, &mut Unkept, stock) {
+        (Status::Ok, Some(book)) => write_page(alloc, sink, &described, book.history.as_slice()),
+        (status, _) => status,
+    }
+}
+
+/// Draws a history, and writes the page.
+fn write_page<K: Sink>(
+    alloc: Global,
+    sink: &mut K,
+    described: &Described,
+    history: &[Entry],
+) -> Status {
+    let Ok(text) = page_of(alloc, &described.description, &described.script, history) else {
+        return Status::Memory;
+    };
+    if write_whole(sink, text.as_bytes()).is_err() || sink.flush().is_err() {
+        return Status::WriteFault;
+    }
+    Status::Ok
+}
+
+/// Tells a status that is not `Ok` on standard error, as `cm` does, and gives the number that the program ends with.
+fn report<R: Eprint>(rt: &R, status: &Status) -> u8 {
+    match status {
+        Status::Ok => {}
+        Status::BadWords => {
+            let _ = eprintln!(rt; "cm: usage: draw [run|steps]");
+        }
+        fault => {
+            let _ = eprintln!(rt; "cm: {fault}");
+        }
+    }
+    status.code()
+}
