@@ -5,7 +5,7 @@ use cm_model::{Description, JointDesc, Kind, Memory, Value};
 use std::alloc::Global;
 
 /// Where a joint was in a column, in micro-units.
-#[derive(Clone, Copy, Debug, PartialEq, Eq)]
+#[derive(Clone, Copy)]
 pub struct Sample {
     /// The least position.
     pub least: i64,
@@ -18,7 +18,7 @@ pub struct Sample {
 }
 
 /// A position that a controller gave out.
-#[derive(Clone, Copy, Debug)]
+#[derive(Clone, Copy)]
 struct Given {
     /// The place of the controller.
     by: usize,
@@ -27,7 +27,7 @@ struct Given {
 }
 
 /// The course of a joint: a sample for each column that was reached.
-#[derive(Debug, Drop)]
+#[derive(Drop)]
 pub struct Course {
     /// Where it was before the first cycle, in micro-units.
     pub start: i64,

@@ -20,7 +20,7 @@ const BETWEEN_CURVES: u64 = 18;
 const ROOM_FOR_A_DOT: u64 = 8;
 
 /// The range of numbers that a curve has, in micro-units.
-#[derive(Clone, Copy, Debug)]
+#[derive(Clone, Copy)]
 struct Scale {
     least: i64,
     most: i64,

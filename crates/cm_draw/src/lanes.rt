@@ -14,7 +14,7 @@ pub const LANE_HEIGHT: u64 = 18;
 const MOST_LANES: usize = 14;
 
 /// Where the words of a request stand.
-#[derive(Debug, Drop)]
+#[derive(Drop)]
 struct Placed {
     /// Its line, from the uppermost down.
     lane: usize,
@@ -27,7 +27,7 @@ struct Placed {
 }
 
 /// The lines of what became of requests.
-#[derive(Debug, Drop)]
+#[derive(Drop)]
 pub struct Lanes {
     placed: Vec<Placed>,
     /// The right end of what stands in each line so far.

@@ -22,7 +22,7 @@ pub const MOST_COLUMNS: u64 = 2_000;
 const WIDEST_COLUMN: u64 = 128;
 
 /// A length on the page, or a distance from its left or top, in hundredths of a pixel.
-#[derive(Clone, Copy, Debug, PartialEq, Eq)]
+#[derive(Clone, Copy)]
 pub struct Px(u64);
 
 impl Px {
@@ -98,7 +98,7 @@ impl Display for Px {
 }
 
 /// A point of the page.
-#[derive(Clone, Copy, Debug, PartialEq, Eq)]
+#[derive(Clone, Copy)]
 pub struct Point {
     /// From the left.
     pub x: Px,
@@ -117,7 +117,7 @@ impl Point {
 }
 
 /// An area of the page.
-#[derive(Clone, Copy, Debug, PartialEq, Eq)]
+#[derive(Clone, Copy)]
 pub struct Area {
     /// From the left.
     pub x: Px,
@@ -130,7 +130,7 @@ pub struct Area {
 }
 
 /// The columns in which a run is drawn: each is a cycle, or as many as it takes to have no more than `MOST_COLUMNS`.
-#[derive(Clone, Copy, Debug)]
+#[derive(Clone, Copy)]
 pub struct Columns {
     cycles: u64,
     each: u64,

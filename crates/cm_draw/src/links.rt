@@ -4,7 +4,7 @@ use cm_model::{CtlDesc, Description, IfaceName, JointDesc, Kind, Memory, Name};
 use std::alloc::Global;
 
 /// What a claim or a read is of.
-#[derive(Clone, Copy, Debug, PartialEq, Eq)]
+#[derive(Clone, Copy)]
 pub struct Link {
     /// The place of the joint among all joints.
     pub joint: usize,
@@ -15,7 +15,7 @@ pub struct Link {
 }
 
 /// What one controller claims and reads, in written order.
-#[derive(Debug, Drop)]
+#[derive(Drop)]
 pub struct Links {
     /// The command interfaces and references that it claims.
     pub claims: Vec<Link>,

@@ -23,7 +23,7 @@ const BOX_HEIGHT: u64 = 46;
 const REFERENCE_HEIGHT: u64 = 18;
 
 /// What the picture is drawn from.
-#[derive(Clone, Copy, Debug)]
+#[derive(Clone, Copy)]
 pub struct Linked<'a> {
     /// The description.
     pub description: &'a Description,
@@ -223,7 +223,7 @@ fn controller_title(alloc: Global, controller: &CtlDesc) -> Result<String, Memor
 // ---- Edges
 
 /// What a line of the picture stands for.
-#[derive(Clone, Copy, Debug, PartialEq, Eq)]
+#[derive(Clone, Copy)]
 enum Edge {
     /// A controller claims a reference of another.
     Leads,
@@ -236,7 +236,7 @@ enum Edge {
 }
 
 /// A line, from the right of a box to where it leads.
-#[derive(Clone, Copy, Debug)]
+#[derive(Clone, Copy)]
 struct Ended {
     edge: Edge,
     to: Point,
@@ -247,7 +247,7 @@ struct Ended {
 }
 
 /// Where a controller's lines begin: at the right of its box; and below what those pass that would lie behind others.
-#[derive(Clone, Copy, Debug)]
+#[derive(Clone, Copy)]
 struct Start {
     area: Area,
     below: Option<Px>,

@@ -25,7 +25,7 @@ const MOST_LETTERS: usize = 44;
 const FEWEST_TOGETHER: usize = 4;
 
 /// An interface of a joint: its command, its state, or both.
-#[derive(Clone, Copy, Debug)]
+#[derive(Clone, Copy)]
 pub struct Port {
     /// The place of its component.
     pub component: usize,
@@ -57,7 +57,7 @@ impl Port {
 }
 
 /// A component of the picture.
-#[derive(Clone, Copy, Debug)]
+#[derive(Clone, Copy)]
 pub struct Group {
     /// Where those read that read all of it.
     pub at: Point,
@@ -84,7 +84,7 @@ impl Group {
 }
 
 /// All components with their interfaces.
-#[derive(Debug, Drop)]
+#[derive(Drop)]
 pub struct Ports {
     ports: Vec<Port>,
     groups: Vec<Group>,

@@ -6,7 +6,7 @@ use cm_model::{Call, Description, FailedPart, Life, Memory, Name, Reply, Script,
 use std::alloc::Global;
 
 /// A request as a session makes it.
-#[derive(Clone, Copy, Debug)]
+#[derive(Clone, Copy)]
 pub struct Asked<'a> {
     /// The session's name.
     pub who: &'a Name,
@@ -15,16 +15,16 @@ pub struct Asked<'a> {
 }
 
 /// What stands while a history is read.
-#[derive(Debug, Drop)]
+#[derive(Drop)]
 pub struct Present<'a> {
     /// The description of the run.
     pub description: &'a Description,
     /// What each controller claims and reads, by place.
     pub links: &'a [Links],
     /// The lifecycle state of each controller that is loaded, by place.
-    pub lives: Vec<Option<Life>>,
+    lives: Vec<Option<Life>>,
     /// Whether each is chained, by place.
-    pub chained: Vec<bool>,
+    chained: Vec<bool>,
     /// The lifecycle state of each component, by place.
     pub components: Vec<Life>,
     /// How many cycles have ended.
@@ -113,6 +113,16 @@ impl<'a> Present<'a> {
                 *own = life;
             }
         }
+    }
+
+    /// The lifecycle state of the controller at this place, where it is loaded.
+    pub fn life_at(&self, place: usize) -> Option<Life> {
+        *self.lives.get(place)?
+    }
+
+    /// Whether the controller at this place is chained.
+    pub fn is_chained(&self, place: usize) -> bool {
+        self.chained.get(place).copied().unwrap_or(false)
     }
 
     /// What was asked under a ticket.

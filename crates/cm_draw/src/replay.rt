@@ -15,7 +15,7 @@ use cm_model::{
 use std::alloc::Global;
 
 /// A request that was decided.
-#[derive(Clone, Copy, Debug)]
+#[derive(Clone, Copy)]
 pub struct Decided<'a> {
     /// The cycle at whose begin it was decided; the number of cycles where the close ended it.
     pub cycle: u64,
@@ -28,7 +28,7 @@ pub struct Decided<'a> {
 }
 
 /// How often things happened in a run.
-#[derive(Clone, Copy, Debug)]
+#[derive(Clone, Copy)]
 pub struct Counts {
     /// Requests that were carried out, wholly or without some names.
     pub done: u64,
@@ -43,7 +43,7 @@ pub struct Counts {
 }
 
 /// A run as it is drawn.
-#[derive(Debug, Drop)]
+#[derive(Drop)]
 pub struct Replay<'a> {
     /// The requests that were decided, in that order.
     pub decided: Vec<Decided<'a>>,
@@ -283,15 +283,8 @@ impl<'a> Replay<'a> {
 
     /// What each controller and component was in this column.
     fn show(&mut self, column: usize) {
-        let states = self.present.lives.iter().zip(&self.present.chained);
-        for (row, (life, chained)) in self.controllers.iter_mut().zip(states) {
-            if let Some(life) = life {
-                row.show(column, Shown::of(*life, *chained));
-            }
-        }
-        for (row, life) in self.components.iter_mut().zip(&self.present.components) {
-            row.show(column, Shown::of(*life, false));
-        }
+        show_controllers(&mut self.controllers, &self.present, column);
+        show_components(&mut self.components, &self.present, column);
     }
 
     fn read_stops(&mut self, stops: &[u32], column: usize, cycle: u64) {
@@ -308,6 +301,22 @@ impl<'a> Replay<'a> {
         if !stops.is_empty() {
             self.present.link();
         }
+    }
+}
+
+/// What each controller was in this column.
+fn show_controllers(rows: &mut Vec<Row>, present: &Present<'_>, column: usize) {
+    for (place, row) in rows.iter_mut().enumerate() {
+        if let Some(life) = present.life_at(place) {
+            row.show(column, Shown::of(life, present.is_chained(place)));
+        }
+    }
+}
+
+/// What each component was in this column.
+fn show_components(rows: &mut Vec<Row>, present: &Present<'_>, column: usize) {
+    for (row, life) in rows.iter_mut().zip(&present.components) {
+        row.show(column, Shown::of(*life, false));
     }
 }
 

@@ -4,7 +4,7 @@ use cm_model::{Life, Memory};
 use std::alloc::Global;
 
 /// What is shown of a controller or a component in a column, the least serious first.
-#[derive(Clone, Copy, Debug, PartialEq, Eq)]
+#[derive(Clone, Copy, PartialEq, Eq)]
 pub enum Shown {
     /// It is not loaded.
     Nothing,
@@ -46,7 +46,7 @@ impl Shown {
 }
 
 /// What happened, the least serious first.
-#[derive(Clone, Copy, Debug, PartialEq, Eq)]
+#[derive(Clone, Copy, PartialEq, Eq)]
 pub enum Event {
     /// Nothing that is marked.
     Nothing,
@@ -69,7 +69,7 @@ pub enum Event {
 }
 
 /// What a row has to show in a column.
-#[derive(Clone, Copy, Debug, PartialEq, Eq)]
+#[derive(Clone, Copy)]
 pub struct Cell {
     /// The most serious that it was there.
     pub shown: Shown,
@@ -86,7 +86,7 @@ pub struct Cell {
 }
 
 /// A row: its columns.
-#[derive(Debug, Drop)]
+#[derive(Drop)]
 pub struct Row {
     cells: Vec<Cell>,
 }

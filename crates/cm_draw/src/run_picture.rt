@@ -21,7 +21,7 @@ const HEADING_HEIGHT: u64 = 22;
 const ROOM_FOR_SIDES: u64 = 40;
 
 /// What a run is drawn from.
-#[derive(Clone, Copy, Debug)]
+#[derive(Clone, Copy)]
 pub struct Run<'a> {
     /// Its columns.
     pub columns: Columns,
@@ -33,10 +33,12 @@ pub struct Run<'a> {
 
 /// Draws the run from this height on, and gives where it ends.
 pub fn draw_run(alloc: Global, svg: &mut Svg, top: Px, run: Run<'_>) -> Result<Px, Memory> {
-    let lanes = Lanes::of(alloc, &run.columns, run.replay.decided.as_slice())?;
+    let columns = run.columns;
+    let decided = run.replay.decided.as_slice();
+    let lanes = Lanes::of(alloc, &columns, decided)?;
     let rows = top.plus(lanes.height()).plus(Px::of(6));
     let bottom = rows.plus(height(run));
-    draw_axis(alloc, svg, &run.columns, rows, bottom)?;
+    draw_axis(alloc, svg, &columns, rows, bottom)?;
     lanes.draw(svg, top, rows.plus(Px::of(ROW_HEIGHT / 2)))?;
     draw_rows(alloc, svg, rows, run)?;
     Ok(bottom.plus(Px::of(24)))
@@ -113,7 +115,7 @@ fn draw_row(
 // ---- What it was
 
 /// Neighbouring columns in which a row shows the same.
-#[derive(Clone, Copy, Debug)]
+#[derive(Clone, Copy)]
 struct Stretch {
     from: usize,
     to: usize,
@@ -156,12 +158,9 @@ fn draw_stretch(
     if word.is_empty() {
         return Ok(());
     }
+    let title = stretch_title(alloc, columns, name, stretch)?;
     let x = columns.left_of(stretch.from);
     let width = columns.left_of(stretch.to).minus(x);
-    let (first, _) = columns.cycles_of(stretch.from);
-    let (_, last) = columns.cycles_of(stretch.to.saturating_sub(1));
-    let mut title = format!(in alloc; "{name}: {word} in ")?;
-    push_cycles(&mut title, first, last)?;
     let (above, height) = band(stretch.shown);
     let area = Area {
         x,
@@ -171,15 +170,7 @@ fn draw_stretch(
     };
     svg.rect(word, area, title.as_str())?;
     if stretch.shown == Shown::Chained {
-        let y = top.plus(Px::of(ROW_HEIGHT / 2 + 6));
-        svg.line(
-            "link",
-            Point { x, y },
-            Point {
-                x: x.plus(width),
-                y,
-            },
-        )?;
+        draw_link(svg, area)?;
     }
     if Px::letters(word.len().saturating_add(2)).reaches(width) {
         return Ok(());
@@ -189,6 +180,28 @@ fn draw_stretch(
         y: top.plus(Px::of(18)),
     };
     svg.words(on_band(stretch.shown), at, word, title.as_str())
+}
+
+/// The name of a row, what it was, and in which cycles.
+fn stretch_title(
+    alloc: Global,
+    columns: &Columns,
+    name: &str,
+    stretch: Stretch,
+) -> Result<String, Memory> {
+    let word = stretch.shown.word();
+    let (first, _) = columns.cycles_of(stretch.from);
+    let (_, last) = columns.cycles_of(stretch.to.saturating_sub(1));
+    let mut title = format!(in alloc; "{name}: {word} in ")?;
+    push_cycles(&mut title, first, last)?;
+    Ok(title)
+}
+
+/// The links along the band of who is chained.
+fn draw_link(svg: &mut Svg, area: Area) -> Result<(), Memory> {
+    let y = area.y.plus(Px::of(17));
+    let end = area.x.plus(area.width);
+    svg.line("link", Point { x: area.x, y }, Point { x: end, y })
 }
 
 /// How far below a row's top its band begins, and how high it is: who is active stands out.

@@ -5,7 +5,7 @@ use cm_model::Memory;
 use std::alloc::Global;
 
 /// The elements of a page so far. What is drawn later lies above.
-#[derive(Debug, Drop)]
+#[derive(Drop)]
 pub struct Svg {
     text: String,
 }

@@ -3,7 +3,7 @@
 use outside_io::{Failed, Sink};
 
 /// Takes all bytes, and keeps none.
-#[derive(Clone, Copy, Debug)]
+#[derive(Clone, Copy)]
 pub struct Unkept;
 
 impl Sink for Unkept {
