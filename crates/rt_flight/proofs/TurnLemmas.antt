@@ -1,10 +1,9 @@
 -- The turns of some cells and of the others; and what goes by who stands where, and by how much room each has.
 use Rattle.std.proofs.Common.{◌≡◌, ℕ, ◌+◌, ◌<◌, ◌^◌, Bool, true, false, List, [], ◌∷◌, ◌++◌, length, map, refl, sym, ap, ap₂, subst, ◌∙◌, arith}
-use Rattle.std.specs.Prelude.{◌==◌, if◌then◌else◌, IfSome}
+use Rattle.std.specs.Prelude.{◌||◌, if◌then◌else◌, IfSome}
 use Rattle.std.specs.List.{All, list_any, AllByRecursion}
-use Rattle.std.proofs.lemmas.Bool.{or_parts, eqb-true}
+use Rattle.std.proofs.lemmas.Bool.{or_parts}
 use Rattle.std.proofs.lemmas.List.{length-map}
-use Rattle.cm_model.specs.Components.{is_listed}
 use Rattle.cm_model.specs.Controllers.{AreItsCounts}
 use Rattle.cm_model.specs.declared.member.Member.{Member}
 use Rattle.loan_board.specs.declared.board.Loan.{Loan}
@@ -51,11 +50,24 @@ none_push related (c ∷ cs) d none follows =
     each [] none last = (last, tt)
     each (e ∷ es) none last = (none.0, each es none.1 last)
 
--- where nobody precedes a controller, none of these does
-pub none_lead : (row : List ℕ) (cs : List Seat) → (length row == 0) ≡ true → list_any (λ c. is_listed row c.station.place) cs ≡ false
-none_lead [] [] e = refl
-none_lead [] (c ∷ cs) e = none_lead [] cs e
-none_lead (k ∷ ks) cs e = let none = eqb-true (length (k ∷ ks)) 0 e in absurd (omega (arith, none))
+any_none : {A : Type 0} (xs : List A) → list_any (λ (x : A). false) xs ≡ false
+any_none [] = refl
+any_none (x ∷ xs) = any_none xs
+
+any_either : {A : Type 0} (p q : A → Bool) (xs : List A) → (list_any p xs || list_any q xs) ≡ list_any (λ x. p x || q x) xs
+any_either p q [] = refl
+any_either p q (x ∷ xs) = parted (p x) (list_any p xs) (q x) (list_any q xs) ∙ ap (λ (b : Bool). (p x || q x) || b) (any_either p q xs)
+  where
+    parted : (a b c d : Bool) → ((a || b) || (c || d)) ≡ ((a || c) || (b || d))
+    parted true b c d = refl
+    parted false true true d = refl
+    parted false true false d = refl
+    parted false false c d = refl
+
+-- to look for one of some for whom there is one of others is to look the other way round
+pub any_swapped : {A B : Type 0} (r : A → B → Bool) (xs : List A) (ys : List B) → list_any (λ x. list_any (r x) ys) xs ≡ list_any (λ y. list_any (λ x. r x y) xs) ys
+any_swapped r [] ys = sym (any_none ys)
+any_swapped r (x ∷ xs) ys = ap (λ (b : Bool). list_any (r x) ys || b) (any_swapped r xs ys) ∙ any_either (r x) (λ y. list_any (λ x. r x y) xs) ys
 
 -- ---- Who stands where
 

@@ -1,5 +1,5 @@
 -- A flight: one cycle that has left the desk. What it is of a state, and what it makes of it.
-use Rattle.std.specs.Prelude.{◌≡◌, ℕ, ◌<◌, ◌≤◌, ◌==◌, Bool, true, false, not, List, [], ◌∷◌, length, map, find, is_some, Option, None, Some, option_map, IfSome}
+use Rattle.std.specs.Prelude.{◌≡◌, ℕ, ◌<◌, ◌≤◌, ◌==◌, Bool, true, false, not, List, [], ◌∷◌, length, map, is_some, Option, None, Some, IfSome}
 use Rattle.std.specs.List.{All, AllByRecursion, IsDistinct}
 use Rattle.joint_body.specs.declared.TheConstants.{LONGEST_STEP}
 use Rattle.cm_document.specs.Valid.{IsValid}
@@ -8,13 +8,13 @@ use Rattle.cm_model.specs.Happened.{Happened}
 use Rattle.cm_model.specs.Sound.{Running, configuration}
 use Rattle.cm_model.specs.State.{State, Loaded, MailAloft}
 use Rattle.cm_model.specs.Steady.{IsSteady}
-use Rattle.cm_model.specs.declared.data.CtlData.{CtlData}
 use Rattle.cm_model.specs.declared.member.Member.{Member}
 use Rattle.cm_model.specs.declared.record_room.RecordRoom.{RecordRoom}
 use Rattle.cm_hardware.specs.Holding.{IsHardwareOf, IsMoved}
 use Rattle.cm_hardware.specs.Wiring.{most_failures, all_joints}
 use Rattle.ctl_places.specs.Placed.{placed_of}
 use Rattle.ctl_slots.specs.Mails.{mail_in}
+use Rattle.ctl_slots.specs.Slots.{data_under}
 use Rattle.ctl_slots.specs.Updates.{Aloft, IsTimely}
 use Rattle.sound_laws.specs.Core.{core}
 use Rattle.stop_plan.specs.Ending.{IsEndingOf, HasFlags, told_in, erred_in}
@@ -82,10 +82,6 @@ pub record IsAlike (s begun : State) : Type 0 where
 -- whatever consoles call, the flight stays that of the cycle that is aloft
 abbrev pub StaysAloft : State → FlightFacts → Type 0
 StaysAloft begun f = (s : State) → IsAlike s begun → IsAloft s f
-
--- the data of the controller of this serial among these
-abbrev pub data_under : ℕ → List Loaded → Option CtlData
-data_under serial loaded = option_map (λ l. l.ctl) (find (λ l. l.serial == serial) loaded)
 
 -- After a cycle the cell is that of this running controller, with the data that it has among these, and no mail any more.
 pub record IsSeatAfter (loaded : List Loaded) (r : Running) (c : Seat) : Type 0 where

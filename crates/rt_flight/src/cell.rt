@@ -1,9 +1,8 @@
 //! A running controller in its cell.
 
-ghost use Rattle.std.specs.Prelude.{◌≡◌, [], ◌∷◌, ◌++◌, ◌+◌, ◌<◌, ◌≤◌, length, vec_len, vec_capacity, None, Some};
+ghost use Rattle.std.specs.Prelude.{◌≡◌, [], ◌∷◌, ◌++◌, ◌+◌, ◌<◌, ◌≤◌, ◌==◌, length, vec_len, vec_capacity, None, Some};
 ghost use Rattle.std.specs.List.{list_any};
 ghost use Rattle.cm_document.specs.declared.life.Life.TheVariants.{Active};
-ghost use Rattle.cm_model.specs.Components.{is_listed};
 ghost use Rattle.ctl_slots.specs.Lives.{IsKept};
 ghost use Rattle.ctl_slots.specs.Updates.{IsTimely};
 ghost use Rattle.rt_flight.specs.Cells.{flying, flying_put, seat_read, seat_run, seat_put, seat_stepped, step_of, post_of, numbers_of, precedes_in, CanFly, CanStep};
@@ -129,20 +128,22 @@ impl<C: Controller> Cell<C> {
         ensures { result ≡ list_any (λ c. precedes_in relations.now c self.now) cells.now }
     {
         let leaders = relations.leaders().row(self.station.place());
-        if leaders.is_empty() {
-            return false;
-        }
-        cells
-            .iter()
-            .any(|cell| leads(leaders, cell.station.place()))
+        one_stands_in(cells, leaders)
     }
 }
 
-/// Whether this place is one of these.
-fn leads(leaders: &[u32], place: u32) -> bool
-    ensures { result ≡ is_listed leaders.now place }
+/// Whether the controller at one of these places of the description stands in one of these cells.
+fn one_stands_in<C: Controller>(cells: &[Cell<C>], places: &[u32]) -> bool
+    ensures { result ≡ list_any (λ place. list_any (λ c. place == c.station.place) cells.now) places.now }
 {
-    leaders.iter().any(|leader| *leader == place)
+    places.iter().any(|place| stands_in(cells, *place))
+}
+
+/// Whether the controller at this place of the description stands in one of these cells.
+fn stands_in<C: Controller>(cells: &[Cell<C>], place: u32) -> bool
+    ensures { result ≡ list_any (λ c. place == c.station.place) cells.now }
+{
+    cells.iter().any(|cell| place == cell.station.place())
 }
 
 /// The serial of a controller whose update failed is told.

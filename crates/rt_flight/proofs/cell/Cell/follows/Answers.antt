@@ -1,10 +1,20 @@
-use Rattle.std.proofs.Common.{◌≡◌, false, List, sym, ap, subst, ◌∙◌}
+use Rattle.std.proofs.Common.{◌≡◌, ℕ, List, ap, ◌∙◌}
+use Rattle.std.specs.Prelude.{◌==◌}
 use Rattle.std.specs.List.{list_any}
 use Rattle.cm_model.specs.Components.{is_listed}
-use Rattle.rt_flight.specs.Cells.{Seat}
-use Rattle.rt_flight.proofs.TurnLemmas.{none_lead}
+use Rattle.chain_order.specs.Links.{linked}
+use Rattle.rt_flight.specs.Cells.{Seat, precedes_in}
+use Rattle.rt_flight.proofs.TurnLemmas.{any_swapped}
 use Rattle.rt_flight.proofs.cell.Cell.follows.Goals as goal
 
--- where nobody precedes it, nobody in the cells does
-pub returns-then-is_empty : goal.returns-then-is_empty
-returns-then-is_empty g c = ?
+-- looked for the other way round
+pub returns : goal.returns
+returns g c =
+    let w = c.args.relations.now in
+    let cells = c.args.cells.now in
+    let row : c.row-leaders.result.now ≡ linked w.leaders c.self.inside.station.place =
+    c.row-leaders.ensures.row ∙ ap (λ (rows : List (List ℕ)). linked rows c.place.result) c.leaders.ensures ∙ ap (linked w.leaders) c.place.ensures in
+    c.one_stands_in.ensures
+    ∙ any_swapped (λ (place : ℕ) (d : Seat). place == d.station.place) c.row-leaders.result.now cells
+    ∙ ap (λ (places : List ℕ). list_any (λ (d : Seat). is_listed places d.station.place) cells) row
+    ∙ ap (λ (me : Seat). list_any (λ (d : Seat). precedes_in w d me) cells) c.self.view_is
