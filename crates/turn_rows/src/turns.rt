@@ -4,7 +4,7 @@ ghost use Rattle.std.specs.Prelude.{◌≡◌, ◌+◌, ◌<◌, ◌≤◌, ◌^
 ghost use Rattle.turn_lock.specs.Passes.{view, IsReady, IsSamePass, EachStays};
 ghost use Rattle.turn_lock.specs.Calls.Finish.{AreAll};
 ghost use Rattle.turn_lock.specs.declared.TheConstants.{MOST_SEATS};
-ghost use Rattle.ground_rows.specs.Calls.Turns.{IsAtWork};
+ghost use Rattle.turn_rows.specs.Calls.Turns.{IsAtWork};
 
 use fixed_num::Memory;
 use std::alloc::Global;
