@@ -1,5 +1,5 @@
 -- What is done for a request, with the parts of the desk.
-use Rattle.std.proofs.Common.{◌≡◌, ℕ, ◌<◌, Bool, List, [], ◌∷◌, length, map, Some, refl, sym, ap, ◌∙◌}
+use Rattle.std.proofs.Common.{◌≡◌, ℕ, ◌<◌, Bool, List, [], ◌∷◌, length, map, Some, refl, sym, ap, subst, ◌∙◌}
 use Rattle.std.specs.Prelude.{◌&&◌, slice_get}
 use Rattle.std.specs.List.{All, AllByRecursion}
 use Rattle.std.proofs.lemmas.List.Elements.{All-from_recursion, recursion_from_All}
@@ -9,11 +9,12 @@ use Rattle.cm_document.specs.declared.life.Life.{Life}
 use Rattle.cm_model.specs.Boundary.{concluded}
 use Rattle.cm_model.specs.Commit.{seen, described_of}
 use Rattle.cm_model.specs.Controllers.{is_ready}
-use Rattle.cm_model.specs.Order.{set_of, nobody}
+use Rattle.cm_model.specs.Order.{Places, set_of, nobody}
 use Rattle.cm_model.specs.State.{State, Loaded, life_of, is_active, is_chained}
 use Rattle.cm_model.specs.Steady.{IsSteady}
 use Rattle.cm_model.specs.declared.request.Request.{Request}
 use Rattle.cm_model.specs.declared.seen.Seen.{Seen}
+use Rattle.cm_hardware.specs.Wiring.{Wired}
 use Rattle.cm_hardware.proofs.LentLemmas.{held_is_moved}
 use Rattle.cm_hardware.proofs.PresentLemmas.{owned_is_available}
 use Rattle.ctl_places.specs.Placed.{Placed}
@@ -22,14 +23,12 @@ use Rattle.request_plan.specs.Stands.{IsStand, IsSeenOf}
 use Rattle.request_plan.specs.declared.acts.Conclusion.{Conclusion}
 use Rattle.request_plan.specs.declared.acts.Switched.{Switched}
 use Rattle.request_plan.specs.declared.stand.Stand.{Stand}
-use Rattle.stop_plan.specs.declared.ending.Ending.{Ending}
-use Rattle.switch_plan.specs.Relations.{Related}
 use Rattle.sound_laws.proofs.BoundaryLemmas.{concluded_steady}
 use Rattle.sound_laws.proofs.SerialLemmas.{IsNumbered}
+use Rattle.cm_desk.specs.Bay.{Base}
 use Rattle.cm_desk.specs.Begin.{IsNext, CanAct}
 use Rattle.cm_desk.specs.Roster.{Listed}
 use Rattle.cm_desk.specs.Works.{IsAsDescribed, IsKept, CanCommit}
-use Rattle.cm_desk.specs.declared.flight.Flight.{Flight}
 use Rattle.cm_desk.proofs.CommitLemmas.{places_within}
 
 -- ---- What requests are decided by
@@ -69,16 +68,16 @@ seen_as s l c serial place life chained ready there same_serial same_place same_
 -- ---- What is done
 
 -- a switch that is done can be committed
-pub can_switch : (s after : State) (c : Switched) (names : List (List ℕ)) (related : Related) (placed : Placed) (flight : Flight) (listed : Listed) (ending : Ending)
-    → IsKept s names related placed flight listed ending → IsSteady s → (is : IsSwitchOf s after c)
-    → CanCommit s (set_of c.set) is.again placed flight.room s.loaded flight.hardware listed c.chained c.stopped c.started
-can_switch s after c names related placed flight listed ending kept steady is = record {
+pub can_switch : (s after : State) (c : Switched) (names : List (List ℕ)) (base : Base) (listed : Listed)
+    → IsKept s names base listed → IsSteady s → (is : IsSwitchOf s after c)
+    → CanCommit s (set_of c.set) is.again base.plant.places base.room s.loaded base.plant.hardware listed c.chained c.stopped c.started
+can_switch s after c names base listed kept steady is = record {
   valid = kept.worked_out.valid;
   placed = kept.worked_out.placed;
-  wide = kept.roomy.wide;
+  wide = kept.based.wide;
   loaded = refl;
   described = kept.described;
-  hardware = held_is_moved s flight.hardware (owned_is_available s kept.worked_out.valid steady.together steady.in_order.described) kept.hardware;
+  hardware = held_is_moved s base.plant.hardware (owned_is_available s kept.worked_out.valid steady.together steady.in_order.described) kept.hardware;
   listed = kept.listed.active.counted;
   told = record { chained = is.chained; stopped = is.stopped; started = is.started };
   in_order = steady.in_order;
@@ -90,3 +89,12 @@ can_switch s after c names related placed flight listed ending kept steady is = 
 -- what is concluded of a request can be done
 pub can_act : (s : State) (asked : Request) (later : List Request) (c : Conclusion) → IsSteady s → IsNext s asked later c → CanAct s (concluded s asked).state c.act
 can_act s asked later c steady next = record { act = next.concluded.act; steady = concluded_steady s asked steady }
+
+-- it can be with what works in a cycle as it is at home
+pub can_there : (s : State) (set again : Places) (places : Placed) (room : ℕ) (slots : List Loaded) (w : Wired) (looked : Listed) (chains stops starts : List Bool) (places' : Placed) (room' : ℕ) (w' : Wired)
+    → CanCommit s set again places room slots w looked chains stops starts → places' ≡ places → room' ≡ room → w' ≡ w
+    → CanCommit s set again places' room' slots w' looked chains stops starts
+can_there s set again places room slots w looked chains stops starts places' room' w' can at_places of_room of_hardware =
+    subst (λ (p : Placed). CanCommit s set again p room' slots w' looked chains stops starts) (sym at_places)
+    (subst (λ (n : ℕ). CanCommit s set again places n slots w' looked chains stops starts) (sym of_room)
+    (subst (λ (x : Wired). CanCommit s set again places room slots x looked chains stops starts) (sym of_hardware) can))

@@ -1,71 +1,128 @@
 -- What the desk keeps of its state after a commit, after a move of a component, and after a cycle.
-use Rattle.std.proofs.Common.{◌≡◌, ℕ, ◌+◌, Bool, true, false, List, [], None, refl, sym, ap, ◌∙◌, arith}
+use Rattle.std.proofs.Common.{◌≡◌, ℕ, ◌+◌, Bool, true, false, List, [], length, Option, Some, None, refl, sym, ap, subst, ◌∙◌, arith}
+use Rattle.std.specs.Prelude.{not, is_some, IfSome, IsSomeAnd}
+use Rattle.std.specs.List.{AllByRecursion}
 use Rattle.cm_document.specs.Valid.{IsValid}
 use Rattle.cm_document.specs.declared.description.Description.{Description}
 use Rattle.cm_document.specs.declared.life.Life.{Life}
 use Rattle.cm_model.specs.Commit.{commit}
 use Rattle.cm_model.specs.Cycle.{cycle, landed, after_cycle, moved, stays_active}
 use Rattle.cm_model.specs.Order.{Places}
-use Rattle.cm_model.specs.State.{State, Loaded}
+use Rattle.cm_model.specs.State.{State, Loaded, MailAloft}
 use Rattle.cm_model.specs.Steady.{IsSteady}
 use Rattle.cm_model.specs.declared.blanks.Blanks.{Blanks}
 use Rattle.cm_model.specs.declared.member.Member.{Member}
-use Rattle.cm_model.specs.declared.record_room.RecordRoom.{RecordRoom}
 use Rattle.cm_hardware.specs.Holding.{IsHardwareOf, IsMoved}
 use Rattle.cm_hardware.specs.Listed.{with_hardware}
 use Rattle.cm_hardware.specs.Wiring.{Wired}
 use Rattle.cm_hardware.proofs.LentLemmas.{moved_is_held}
 use Rattle.cm_hardware.proofs.ListLemmas.{state_is}
 use Rattle.cm_hardware.proofs.PresentLemmas.{owned_is_available}
-use Rattle.ctl_places.specs.Placed.{Placed}
 use Rattle.ctl_slots.specs.Fit.{AreFit}
+use Rattle.ctl_slots.specs.Slots.{Slotted}
 use Rattle.ctl_slots.proofs.FitLemmas.{fit_committed, fit_landed}
 use Rattle.request_plan.specs.Requests.{Asked}
-use Rattle.stop_plan.specs.Ending.{told_in, nobody_again}
+use Rattle.rt_flight.specs.Stations.{IsFitted}
+use Rattle.rt_flight.specs.declared.plant.Plant.{Plant}
+use Rattle.stop_plan.specs.Ending.{HasFlags, told_in, nobody_again}
 use Rattle.stop_plan.specs.declared.ending.Ending.{Ending}
-use Rattle.switch_plan.specs.Relations.{Related}
+use Rattle.cm_desk.specs.Bay.{Base, base_of, IsAtHome, IsBased, IsHome, IsRewired, IsUsedUp}
 use Rattle.cm_desk.specs.End.{HasSettled}
 use Rattle.cm_desk.specs.Roster.{Listed, serial_in}
-use Rattle.cm_desk.specs.Works.{IsKept, IsRoomy, HasCommitted, state_with}
-use Rattle.cm_desk.specs.declared.flight.Flight.{Flight}
-use Rattle.cm_desk.proofs.StayLemmas.{all_staying, commit_stays, landed_stays, count_stays, described_stay}
+use Rattle.cm_desk.specs.Works.{IsKept, IsWorkedOut, HasCommitted, state_with}
+use Rattle.cm_desk.specs.declared.bay.Bay.{Bay}
+use Rattle.cm_desk.specs.declared.bay.Hangar.{Hangar}
+use Rattle.cm_desk.specs.declared.bay.Spare.{Spare}
+use Rattle.cm_desk.proofs.StayLemmas.{all_staying, commit_stays, landed_stays, count_stays, described_stay, divided_stay}
 
--- there is as much room with these parts of a flight
-roomy_with : (d : Description) (placed : Placed) (before after : Flight) (was order : List Member) (ending : Ending)
-    → IsRoomy d placed before was ending → after.room ≡ before.room → after.begun ≡ before.begun → after.erred ≡ before.erred → order ≡ was → IsRoomy d placed after order ending
-roomy_with d placed before after was order ending roomy room begun erred same = record {
-  wide = room ∙ roomy.wide;
-  flags = roomy.flags;
-  told = rw (begun, same) roomy.told;
-  none_erred = rw erred roomy.none_erred;
-  erred = rw (begun, same, erred) roomy.erred;
+-- What else is kept of a base goes by these parts of it, where it is at home.
+pub record IsSameBase (before after : Base) : Type 0 where
+  pub plant : after.plant ≡ record before.plant { hardware = after.plant.hardware }
+  pub ending : after.ending ≡ before.ending
+  pub home : IsSomeAnd after.hangar (IsHome after.plant after.ending)
+  pub mails : after.mails ≡ before.mails
+  pub stations : after.stations ≡ before.stations
+  pub lists : after.lists ≡ before.lists
+  pub room : after.room ≡ before.room
+
+-- so it is of a bay whose hardware changed
+pub rewired : (b b' : Bay) (berths : ℕ) → IsRewired b b' → IsSameBase (base_of b berths) (base_of b' berths)
+rewired b b' berths is = record {
+  plant = is.plant;
+  ending = is.ending;
+  home = is.home;
+  mails = is.mails;
+  stations = ap (λ (x : Spare). x.stations.items) is.spare;
+  lists = is.lists;
+  room = is.room;
+}
+
+-- where no cycle is aloft all is at home
+home_from : (plant : Plant) (ending : Ending) (o : Option Hangar) → is_some o ≡ true → IfSome o (IsHome plant ending) → IsSomeAnd o (IsHome plant ending)
+home_from plant ending None some home = cc
+home_from plant ending (Some h) some home = home
+
+pub at_home : (d : Description) (order : List Member) (b : Bay) (berths : ℕ) (aloft : Bool) → IsBased d aloft order (base_of b berths) → aloft ≡ false → IsAtHome b
+at_home d order b berths aloft based down = home_from b.plant.value b.ending.value b.hangar (based.home_is ∙ ap not down) based.home
+
+some_home : (plant : Plant) (ending : Ending) (o : Option Hangar) → IsSomeAnd o (IsHome plant ending) → (is_some o ≡ true) × IfSome o (IsHome plant ending)
+some_home plant ending None home = absurd home
+some_home plant ending (Some h) home = (refl, home)
+
+based_with : (d : Description) (was order : List Member) (before after : Base) → IsBased d false was before → IsSameBase before after → IsBased d false order after
+based_with d was order before after based same =
+    let home = some_home after.plant after.ending after.hangar same.home in
+    let places : after.plant.places ≡ before.plant.places = ap (λ (g : Plant). g.places) same.plant in
+    record {
+      wide = same.room ∙ based.wide;
+      flags = rw (same.ending) based.flags;
+      home = home.1;
+      home_is = home.0;
+      fitted = rw (places, same.stations) based.fitted;
+      lines = rw (same.lists) based.lines;
+      shown = λ away. (let no : false ≡ true = sym away ∙ home.0 in cc);
+      stands = λ aloft. cc;
+      berths = λ aloft. cc;
+    }
+
+worked_with : (d : Description) (names : List (List ℕ)) (before after : Plant) → IsWorkedOut d names before → after ≡ record before { hardware = after.hardware } → IsWorkedOut d names after
+worked_with d names before after is same = record {
+  valid = is.valid;
+  named = is.named;
+  related = ap (λ (g : Plant). g.relations) same ∙ is.related;
+  placed = ap (λ (g : Plant). g.places) same ∙ is.placed;
+  timed = ap (λ (g : Plant). g.period_us) same ∙ is.timed;
 }
 
 -- ---- A commit
 
 -- with these controllers and this hardware the state is the one after the commit
-pub view_committed : (s : State) (set again : Places) (slots : List Loaded) (w : Wired) (looked : Listed) → HasCommitted s set again slots w looked
-    → with_hardware (record s { loaded = slots }) w ≡ commit s set again
+pub view_committed : (s : State) (set again : Places) (slots slots' : Slotted) (before after : Base) (looked : Listed) → s.aloft ≡ slots.aloft → s.mails ≡ before.mails
+    → HasCommitted s set again slots'.loaded after.plant.hardware looked → slots' ≡ record slots { loaded = slots'.loaded } → IsSameBase before after
+    → with_hardware (record s { loaded = slots'.loaded; aloft = slots'.aloft; mails = after.mails }) after.plant.hardware ≡ commit s set again
 unfolding commit
-view_committed s set again slots w looked made =
-    ap (λ (ls : List Loaded). with_hardware (record s { loaded = ls }) w) made.loaded ∙ sym (state_is (commit s set again) w made.hardware)
+view_committed s set again slots slots' before after looked aloft mails made stays same =
+    ap (λ (b : Bool). with_hardware (record s { loaded = slots'.loaded; aloft = b; mails = after.mails }) after.plant.hardware) (ap (λ (x : Slotted). x.aloft) stays ∙ sym aloft)
+    ∙ ap (λ (ms : List MailAloft). with_hardware (record s { loaded = slots'.loaded; mails = ms }) after.plant.hardware) (same.mails ∙ sym mails)
+    ∙ ap (λ (ls : List Loaded). with_hardware (record s { loaded = ls }) after.plant.hardware) made.loaded ∙ sym (state_is (commit s set again) after.plant.hardware made.hardware)
 
-pub kept_committed : (s : State) (set again : Places) (slots : List Loaded) (w : Wired) (names : List (List ℕ)) (related : Related) (placed : Placed) (before after : Flight) (was looked : Listed) (ending : Ending)
-    → IsKept s names related placed before was ending → s.aloft ≡ false → HasCommitted s set again slots w looked → looked.order ≡ was.order
-    → after.hardware ≡ w → after.period_us ≡ before.period_us → after.room ≡ before.room → after.begun ≡ before.begun → after.erred ≡ before.erred
-    → IsKept (commit s set again) names related placed after looked ending
+pub kept_committed : (s : State) (set again : Places) (slots : List Loaded) (names : List (List ℕ)) (before after : Base) (was looked : Listed)
+    → IsKept s names before was → s.aloft ≡ false → HasCommitted s set again slots after.plant.hardware looked → looked.order ≡ was.order → IsSameBase before after
+    → IsKept (commit s set again) names after looked
 unfolding commit
-kept_committed s set again slots w names related placed before after was looked ending kept down made order hardware timed room begun erred =
+kept_committed s set again slots names before after was looked kept down made order same =
     let stays = commit_stays s set again in
+    let based : IsBased s.description false was.order before = subst (λ (b : Bool). IsBased s.description b was.order before) down kept.based in
     record {
-      worked_out = kept.worked_out;
+      worked_out = worked_with s.description names before.plant after.plant kept.worked_out same.plant;
       described = described_stay s.description s.loaded (commit s set again).loaded stays kept.described;
+      divided = divided_stay s.loaded (commit s set again).loaded stays kept.divided;
       counted = kept.counted;
       few = omega (arith, kept.few, count_stays s.loaded (commit s set again).loaded stays);
-      hardware = rw hardware made.hardware;
-      timed = timed ∙ kept.timed;
+      hardware = made.hardware;
       within = λ aloft. (let no : false ≡ true = sym down ∙ aloft in cc);
       ordered = λ aloft. (let no : false ≡ true = sym down ∙ aloft in cc);
+      unclosed = kept.unclosed;
       no_mail = kept.no_mail;
       listed = record {
         active = record { counted = made.active.counted; told = λ p below. made.active.told p below ∙ ap (λ ls. serial_in ls p) made.loaded };
@@ -73,7 +130,7 @@ kept_committed s set again slots w names related placed before after was looked 
         run = λ now. (let no : false ≡ true = sym made.stale ∙ now in cc);
       };
       fit = fit_committed s set again (kept.no_mail down) kept.fit;
-      roomy = roomy_with s.description placed before after was.order looked.order ending kept.roomy room begun erred order;
+      based = subst (λ (b : Bool). IsBased s.description b looked.order after) (sym down) (based_with s.description was.order looked.order before after based same);
     }
 
 -- ---- A move
@@ -83,37 +140,41 @@ pub held_when_steady : (s : State) (lives : List Life) (w : Wired) → IsValid s
 held_when_steady s lives w valid steady is =
     moved_is_held (moved s lives) w (owned_is_available (moved s lives) valid steady.together steady.in_order.described) is
 
-pub view_moved : (s : State) (lives : List Life) (w : Wired) → IsHardwareOf (moved s lives) w → with_hardware s w ≡ moved s lives
-view_moved s lives w is = sym (state_is (moved s lives) w is)
+pub view_moved : (s : State) (lives : List Life) (before after : Base) → s.mails ≡ before.mails → IsSameBase before after → IsHardwareOf (moved s lives) after.plant.hardware
+    → with_hardware (record s { mails = after.mails }) after.plant.hardware ≡ moved s lives
+view_moved s lives before after mails same is =
+    ap (λ (ms : List MailAloft). with_hardware (record s { mails = ms }) after.plant.hardware) (same.mails ∙ sym mails) ∙ sym (state_is (moved s lives) after.plant.hardware is)
 
-pub kept_moved : (s : State) (lives : List Life) (w : Wired) (names : List (List ℕ)) (related : Related) (placed : Placed) (before after : Flight) (listed : Listed) (ending : Ending)
-    → IsKept s names related placed before listed ending → IsHardwareOf (moved s lives) w
-    → after.hardware ≡ w → after.period_us ≡ before.period_us → after.room ≡ before.room → after.begun ≡ before.begun → after.erred ≡ before.erred
-    → IsKept (moved s lives) names related placed after listed ending
-kept_moved s lives w names related placed before after listed ending kept is hardware timed room begun erred = record {
-  worked_out = kept.worked_out;
-  described = kept.described;
-  counted = kept.counted;
-  few = kept.few;
-  hardware = rw hardware is;
-  timed = timed ∙ kept.timed;
-  within = kept.within;
-  ordered = kept.ordered;
-  no_mail = kept.no_mail;
-  listed = record { active = kept.listed.active; order = kept.listed.order; run = kept.listed.run };
-  fit = record { timed = kept.fit.timed; waiting = kept.fit.waiting; aloft = kept.fit.aloft };
-  roomy = roomy_with s.description placed before after listed.order listed.order ending kept.roomy room begun erred refl;
-}
+pub kept_moved : (s : State) (lives : List Life) (names : List (List ℕ)) (before after : Base) (listed : Listed)
+    → IsKept s names before listed → s.aloft ≡ false → IsHardwareOf (moved s lives) after.plant.hardware → IsSameBase before after
+    → IsKept (moved s lives) names after listed
+kept_moved s lives names before after listed kept down is same =
+    let based : IsBased s.description false listed.order before = subst (λ (b : Bool). IsBased s.description b listed.order before) down kept.based in
+    record {
+      worked_out = worked_with s.description names before.plant after.plant kept.worked_out same.plant;
+      described = kept.described;
+      divided = kept.divided;
+      counted = kept.counted;
+      few = kept.few;
+      hardware = is;
+      within = kept.within;
+      ordered = kept.ordered;
+      unclosed = kept.unclosed;
+      no_mail = kept.no_mail;
+      listed = record { active = kept.listed.active; order = kept.listed.order; run = kept.listed.run };
+      fit = record { timed = kept.fit.timed; waiting = kept.fit.waiting; aloft = kept.fit.aloft };
+      based = subst (λ (b : Bool). IsBased s.description b listed.order after) (sym down) (based_with s.description listed.order listed.order before after based same);
+    }
 
 -- ---- A cycle
 
 -- with these controllers and this hardware, and nothing aloft, the state is the one after the cycle
-pub view_ended : (s : State) (slots : List Loaded) (flight : Flight) (looked : Listed) (ending : Ending) (r : RecordRoom) → HasSettled s slots flight looked ending r
-    → with_hardware (record s { loaded = slots; ended = s.ended + 1; aloft = false; mails = [] }) flight.hardware ≡ after_cycle s (cycle s)
+view_ended : (s : State) (slots : List Loaded) (w : Wired) (looked : Listed) → HasSettled s slots w looked
+    → with_hardware (record s { loaded = slots; ended = s.ended + 1; aloft = false; mails = [] }) w ≡ after_cycle s (cycle s)
 unfolding after_cycle commit
-view_ended s slots flight looked ending r made =
-    ap (λ (ls : List Loaded). with_hardware (record s { loaded = ls; ended = s.ended + 1; aloft = false; mails = [] }) flight.hardware) made.loaded
-    ∙ sym (state_is (after_cycle s (cycle s)) flight.hardware made.hardware)
+view_ended s slots w looked made =
+    ap (λ (ls : List Loaded). with_hardware (record s { loaded = ls; ended = s.ended + 1; aloft = false; mails = [] }) w) made.loaded
+    ∙ sym (state_is (after_cycle s (cycle s)) w made.hardware)
 
 ended_stays : (s : State) → all_staying (after_cycle s (cycle s)).loaded ≡ all_staying s.loaded
 unfolding after_cycle
@@ -123,56 +184,101 @@ ended_fit : (s : State) → AreFit s → AreFit (after_cycle s (cycle s))
 unfolding after_cycle
 ended_fit s fit = fit_committed (landed s (cycle s)) (stays_active s (told_in s)) nobody_again refl (fit_landed s fit)
 
-pub kept_ended : (s : State) (slots : List Loaded) (settled after : Flight) (r : RecordRoom) (names : List (List ℕ)) (related : Related) (placed : Placed) (before : Flight) (was looked : Listed) (old ending : Ending)
-    → IsKept s names related placed before was old → HasSettled s slots settled looked ending r
-    → after.hardware ≡ settled.hardware → after.period_us ≡ before.period_us → after.room ≡ before.room → after.begun ≡ None → after.erred.items ≡ []
-    → IsKept (after_cycle s (cycle s)) names related placed after looked ending
+-- What is kept of a base that is at home again.
+pub record IsHomeBase (d : Description) (before after : Base) : Type 0 where
+  pub home : IsSomeAnd after.hangar (IsHome after.plant after.ending)
+  pub flags : HasFlags (length d.controllers) after.ending
+  pub fitted : AllByRecursion (IsFitted after.plant.places) after.stations
+  pub lists : after.lists ≡ before.lists
+  pub room : after.room ≡ before.room
+
+based_at_home : (d : Description) (aloft : Bool) (was order : List Member) (before after : Base) → IsBased d aloft was before → IsHomeBase d before after → IsBased d false order after
+based_at_home d aloft was order before after based is =
+    let home = some_home after.plant after.ending after.hangar is.home in
+    record {
+      wide = is.room ∙ based.wide;
+      flags = is.flags;
+      home = home.1;
+      home_is = home.0;
+      fitted = is.fitted;
+      lines = rw (is.lists) based.lines;
+      shown = λ away. (let no : false ≡ true = sym away ∙ home.0 in cc);
+      stands = λ yet. cc;
+      berths = λ yet. cc;
+    }
+
+pub kept_ended : (s : State) (slots : List Loaded) (names : List (List ℕ)) (before after : Base) (was looked : Listed)
+    → IsKept s names before was → HasSettled s slots after.plant.hardware looked → IsWorkedOut s.description names after.plant → IsHomeBase s.description before after
+    → IsKept (after_cycle s (cycle s)) names after looked
 unfolding after_cycle commit
-kept_ended s slots settled after r names related placed before was looked old ending kept made hardware timed room down erred =
+kept_ended s slots names before after was looked kept made worked is =
     let stays = ended_stays s in
     record {
-      worked_out = kept.worked_out;
+      worked_out = worked;
       described = described_stay s.description s.loaded (after_cycle s (cycle s)).loaded stays kept.described;
+      divided = divided_stay s.loaded (after_cycle s (cycle s)).loaded stays kept.divided;
       counted = kept.counted;
       few = omega (arith, kept.few, count_stays s.loaded (after_cycle s (cycle s)).loaded stays);
-      hardware = rw hardware made.hardware;
-      timed = timed ∙ kept.timed;
+      hardware = made.hardware;
       within = λ aloft. cc;
       ordered = λ aloft. cc;
+      unclosed = λ aloft. cc;
       no_mail = λ still. refl;
       listed = made.listed;
       fit = ended_fit s kept.fit;
-      roomy = record { wide = room ∙ kept.roomy.wide; flags = made.flags; told = rw down tt; none_erred = erred; erred = λ aloft. (let no : false ≡ true = rw down at aloft in cc) };
+      based = based_at_home s.description s.aloft was.order looked.order before after kept.based is;
     }
 
 -- the same, of what the desk is seen as
-pub ended_view : (d : Description) (blanks : Blanks) (sessions loads : ℕ) (loaded slots : List Loaded) (asked : Asked) (before settled after : Flight) (ended count : ℕ) (closed : Bool)
-    (looked : Listed) (ending : Ending) (r : RecordRoom)
-    → HasSettled (state_with d blanks sessions loads loaded asked before ended closed) slots settled looked ending r
-    → after.hardware ≡ settled.hardware → after.begun ≡ None → after.mails.items ≡ [] → count ≡ ended + 1
-    → state_with d blanks sessions loads slots asked after count closed
-    ≡ after_cycle (state_with d blanks sessions loads loaded asked before ended closed) (cycle (state_with d blanks sessions loads loaded asked before ended closed))
-ended_view d blanks sessions loads loaded slots asked before settled after ended count closed looked ending r made hardware down none_aloft more =
-    rw (hardware, down, none_aloft, more)
-    (view_ended (state_with d blanks sessions loads loaded asked before ended closed) slots settled looked ending r made)
+pub ended_view : (d : Description) (blanks : Blanks) (sessions loads : ℕ) (slots slots' : Slotted) (asked : Asked) (before after : Base) (ended count : ℕ) (closed : Bool) (looked : Listed)
+    → HasSettled (state_with d blanks sessions loads slots asked before ended closed) slots'.loaded after.plant.hardware looked
+    → slots'.aloft ≡ false → after.mails ≡ [] → count ≡ ended + 1
+    → state_with d blanks sessions loads slots' asked after count closed
+    ≡ after_cycle (state_with d blanks sessions loads slots asked before ended closed) (cycle (state_with d blanks sessions loads slots asked before ended closed))
+ended_view d blanks sessions loads slots slots' asked before after ended count closed looked made down none_aloft more =
+    rw (down, none_aloft, more) (view_ended (state_with d blanks sessions loads slots asked before ended closed) slots'.loaded after.plant.hardware looked made)
 
--- ---- A flight
+-- ---- Between two cycles
 
--- what is kept goes by these parts of a flight
-pub kept_with : (s : State) (names : List (List ℕ)) (related : Related) (placed : Placed) (before after : Flight) (listed : Listed) (ending : Ending)
-    → IsKept s names related placed before listed ending → after.hardware ≡ before.hardware → after.period_us ≡ before.period_us → after.room ≡ before.room → after.begun ≡ before.begun → after.erred ≡ before.erred
-    → IsKept s names related placed after listed ending
-kept_with s names related placed before after listed ending kept hardware timed room begun erred = record {
-  worked_out = kept.worked_out;
+-- what is kept goes by these parts of a base, where no cycle is aloft
+pub kept_idle : (s : State) (names : List (List ℕ)) (before after : Base) (looked : Listed) → IsKept s names before looked → s.aloft ≡ false
+    → after.plant ≡ before.plant → after.ending ≡ before.ending → after.hangar ≡ before.hangar → after.lists ≡ before.lists → after.room ≡ before.room
+    → AllByRecursion (IsFitted after.plant.places) after.stations → IsKept s names after looked
+kept_idle s names before after looked kept down plant ending hangar lists room fitted = record {
+  worked_out = rw plant kept.worked_out;
   described = kept.described;
+  divided = kept.divided;
   counted = kept.counted;
   few = kept.few;
-  hardware = rw hardware kept.hardware;
-  timed = timed ∙ kept.timed;
+  hardware = rw plant kept.hardware;
   within = kept.within;
   ordered = kept.ordered;
+  unclosed = kept.unclosed;
   no_mail = kept.no_mail;
   listed = kept.listed;
   fit = kept.fit;
-  roomy = roomy_with s.description placed before after listed.order listed.order ending kept.roomy room begun erred refl;
+  based = record {
+    wide = room ∙ kept.based.wide;
+    flags = rw ending kept.based.flags;
+    home = rw (plant, ending, hangar) kept.based.home;
+    home_is = ap (λ (o : Option Hangar). is_some o) hangar ∙ kept.based.home_is;
+    fitted = fitted;
+    lines = rw lists kept.based.lines;
+    shown = λ away. rw (plant, lists) (kept.based.shown (sym (ap (λ (o : Option Hangar). is_some o) hangar) ∙ away));
+    stands = λ aloft. (let no : false ≡ true = sym down ∙ aloft in cc);
+    berths = λ aloft. (let no : false ≡ true = sym down ∙ aloft in cc);
+  };
 }
+
+-- where only what was left over is used up, the state is as before
+pub used_view : (d : Description) (blanks : Blanks) (sessions loads : ℕ) (slots : Slotted) (asked : Asked) (before b : Bay) (m n : ℕ) (ended : ℕ) (closed : Bool) → b ≡ record before { spare = b.spare }
+    → state_with d blanks sessions loads slots asked (base_of b n) ended closed ≡ state_with d blanks sessions loads slots asked (base_of before m) ended closed
+used_view d blanks sessions loads slots asked before b m n ended closed used =
+    subst (λ (x : Bay). state_with d blanks sessions loads slots asked (base_of x n) ended closed ≡ state_with d blanks sessions loads slots asked (base_of before m) ended closed) (sym used) refl
+
+-- and is kept
+pub used_idle : (s : State) (names : List (List ℕ)) (before b : Bay) (m n : ℕ) (looked : Listed) → IsKept s names (base_of before m) looked → s.aloft ≡ false → IsUsedUp before b
+    → IsKept s names (base_of b n) looked
+used_idle s names before b m n looked kept down used =
+    kept_idle s names (base_of before m) (base_of b n) looked kept down (ap (λ (x : Bay). x.plant.value) used.bay) (ap (λ (x : Bay). x.ending.value) used.bay) (ap (λ (x : Bay). x.hangar) used.bay)
+    (ap (λ (x : Bay). x.lists) used.bay) (ap (λ (x : Bay). x.room) used.bay) (rw (used.stations) tt)

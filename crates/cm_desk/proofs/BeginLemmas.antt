@@ -1,52 +1,51 @@
 -- The begin of a cycle: each request that waits in the state that the one before it left, and then the cycle goes aloft.
 use Rattle.std.proofs.Common.{◌≡◌, ℕ, zero, suc, ◌+◌, ◌<◌, ◌≤◌, Bool, true, false, List, [], ◌∷◌, ◌++◌, length, drop, map, Option, Some, None, refl, sym, ap, ap₂, subst, ◌∙◌, arith}
-use Rattle.std.specs.Prelude.{◌==◌, ◌&&◌, if◌then◌else◌, not, nat_lt, filter_map, is_some, IfSome, vec_capacity}
+use Rattle.std.specs.Prelude.{◌==◌, ◌&&◌, if◌then◌else◌, not, nat_lt}
 use Rattle.std.specs.List.{All, AllByRecursion}
 use Rattle.std.proofs.lemmas.Bool.{and_parts, eqb-true, ltb-true}
+use Rattle.std.proofs.lemmas.Bool.Decides.{nat_tests}
 use Rattle.std.proofs.Math.Seq.{drop-length}
 use Rattle.std.proofs.lemmas.List.{length_push}
 use Rattle.cm_document.specs.declared.call.Call.TheVariants.{Begin}
 use Rattle.cm_document.specs.declared.description.Description.{Description}
 use Rattle.cm_document.specs.declared.life.Life.{Life}
 use Rattle.cm_model.specs.BestEffort.{decided}
-use Rattle.cm_model.specs.Boundary.{waiting, with_switch, with_move_unless, with_move, component_place, move_fault, concluded, with_outcome, all_concluded, boundary, decisions_from, decisions_between, begin_effect}
+use Rattle.cm_model.specs.Boundary.{waiting, with_switch, with_move_unless, with_move, component_place, move_fault, concluded, with_outcome, all_concluded, boundary, decisions_from, decisions_between, begin_effect, begin_reply}
 use Rattle.cm_model.specs.Commit.{scene_of, commit}
-use Rattle.cm_model.specs.Cycle.{begun, mail_off, without_mail_off, is_due_now}
-use Rattle.cm_model.specs.Machine.{can_begin, effect}
-use Rattle.cm_model.specs.State.{State, Loaded, MailAloft, is_active}
+use Rattle.cm_model.specs.Cycle.{begun, without_mail_off, is_due_now}
+use Rattle.cm_document.specs.Valid.{IsValid}
+use Rattle.cm_model.specs.Machine.{can_begin, can_close, effect, step}
+use Rattle.cm_model.specs.State.{State, Loaded, is_active}
 use Rattle.cm_model.specs.Steady.{IsSteady}
 use Rattle.cm_model.specs.Switches.{Decided, refused, done}
 use Rattle.cm_model.specs.declared.cause.Cause.{Cause}
 use Rattle.cm_model.specs.declared.blanks.Blanks.{Blanks}
 use Rattle.cm_model.specs.declared.cause.Outcome.{Outcome}
-use Rattle.cm_model.specs.declared.record_room.RecordRoom.{RecordRoom}
+use Rattle.cm_model.specs.declared.member.Member.{Member}
 use Rattle.cm_model.specs.declared.reply.Reply.TheVariants as reply
 use Rattle.cm_model.specs.declared.request.Request.{Request}
 use Rattle.cm_model.specs.declared.request.Request.TheVariants as request
 use Rattle.cm_model.proofs.StayLemmas.{boundary-SameLoop}
-use Rattle.cm_hardware.specs.Listed.{with_hardware}
-use Rattle.cm_hardware.specs.Wiring.{Wired}
-use Rattle.ctl_places.specs.Placed.{Placed}
+use Rattle.cm_hardware.specs.Shown.{Shows}
+use Rattle.ctl_slots.specs.Slots.{Slotted}
 use Rattle.request_plan.specs.Plans.{AreConclusionsOf, IsPlanOf}
 use Rattle.request_plan.specs.Requests.{Asked}
 use Rattle.request_plan.specs.declared.acts.Conclusion.{Conclusion}
 use Rattle.request_plan.specs.declared.plans.Plan.{Plan}
 use Rattle.stop_plan.specs.Ending.{members_in_order}
-use Rattle.stop_plan.specs.declared.ending.Ending.{Ending}
 use Rattle.sound_laws.proofs.BoundaryLemmas.{concluded_steady, outcome_steady}
+use Rattle.sound_laws.proofs.HistoryLemmas.{step_steady}
 use Rattle.sound_laws.proofs.SerialLemmas.{AreNumbered, IsNumbered, renumbered_numbered, effect_renumbered}
-use Rattle.switch_plan.specs.Relations.{Related}
 use Rattle.cm_desk.specs.Begin.{none_waits, IsNext}
 use Rattle.ctl_slots.specs.Fit.{IsTimedIn}
 use Rattle.ctl_slots.specs.Updates.{HasTime}
-use Rattle.cm_desk.specs.Flight.{HasRoom}
+use Rattle.cm_desk.specs.Bay.{Base, HasLines, IsBased}
 use Rattle.cm_desk.specs.Roster.{Listed, IsListedOf, actives}
 use Rattle.cm_desk.specs.Works.{IsAsDescribed, IsKept, state_with}
-use Rattle.cm_desk.specs.declared.flight.Flight.{Flight}
 use Rattle.cm_desk.proofs.ActiveLemmas.{IsSameOne, actives_map, same_serial, same_order, hardware_stays}
 use Rattle.ctl_slots.proofs.FitLemmas.{fit_begun}
 use Rattle.cm_desk.proofs.OrderLemmas.{order_within}
-use Rattle.cm_desk.proofs.StayLemmas.{all_staying, begun_stays, serials_stay, count_stays, described_stay, concluded_stays}
+use Rattle.cm_desk.proofs.StayLemmas.{all_staying, begun_stays, serials_stay, count_stays, described_stay, divided_stay, concluded_stays}
 
 -- ---- When a cycle can begin
 
@@ -58,9 +57,31 @@ begins_down s can = first s.aloft s.closed (s.ended == s.ended) (nat_lt s.ended 
     first true closed now within can = cc
     first false closed now within can = refl
 
+-- the loop is open,
+pub begins_open : (s : State) → can_begin s s.ended ≡ true → s.closed ≡ false
+begins_open s can = second s.aloft s.closed (s.ended == s.ended) (nat_lt s.ended s.description.cycles) can
+  where
+    second : (aloft closed now within : Bool) → (((not aloft && not closed) && now) && within) ≡ true → closed ≡ false
+    second true closed now within can = cc
+    second false true now within can = cc
+    second false false now within can = refl
+
 -- and the next one is described
 pub begins_within : (s : State) → can_begin s s.ended ≡ true → s.ended < s.description.cycles
 begins_within s can = ltb-true s.ended s.description.cycles (and_parts ((not s.aloft && not s.closed) && s.ended == s.ended) (nat_lt s.ended s.description.cycles) can).1
+
+-- it closes where none is aloft
+pub closes_down : (s : State) → can_close s ≡ true → s.aloft ≡ false
+closes_down s can = first s.aloft s.closed can
+  where
+    first : (aloft closed : Bool) → (not aloft && not closed) ≡ true → aloft ≡ false
+    first true closed can = cc
+    first false closed can = refl
+
+-- and none is aloft where the loop is closed
+pub down_where_closed : (aloft closed : Bool) → (aloft ≡ true → closed ≡ false) → closed ≡ true → aloft ≡ false
+down_where_closed false closed unclosed shut = refl
+down_where_closed true closed unclosed shut = let no : true ≡ false = sym shut ∙ unclosed refl in cc
 
 -- ---- Where nothing waits
 
@@ -208,29 +229,45 @@ boundary_stays s [] = refl
 boundary_stays s (asked ∷ later) = boundary_stays (with_outcome (concluded s asked)) later ∙ concluded_stays s asked
 
 -- serials go on to differ
+begun_numbered : (s : State) → IsNumbered s → IsNumbered (begin_effect s)
+begun_numbered s numbered = renumbered_numbered s (effect s (Begin 0) reply.Done) (effect_renumbered s (Begin 0) reply.Done) numbered
+
 boundary_numbered : (s : State) → IsNumbered s → IsNumbered (boundary s)
 boundary_numbered s numbered =
-    let begins : IsNumbered (begin_effect s) = renumbered_numbered s (effect s (Begin 0) reply.Done) (effect_renumbered s (Begin 0) reply.Done) numbered in
-    subst (AreNumbered (boundary s).loads) (serials_stay (boundary s).loaded (begun (boundary s)).loaded (begun_stays (boundary s))) begins
+    subst (AreNumbered (boundary s).loads) (serials_stay (boundary s).loaded (begun (boundary s)).loaded (begun_stays (boundary s))) (begun_numbered s numbered)
 
--- What is known of the state after all that waited is decided: a cycle can begin in it.
+pub loop_itself : (n : ℕ) → (n == n) ≡ true
+loop_itself n = grind (arith, nat_tests)
+
+-- the loop begins a cycle where it can
+pub begin_step : (s : State) (n : ℕ) → can_begin s n ≡ true → step s s.sessions (Begin n) ≡ Some (begin_effect s, begin_reply s)
+unfolding step
+begin_step s n can = rw (loop_itself s.sessions, can) refl
+
+-- What is known of the state after all that waited is decided: a cycle can begin in it, which leaves it steady and its serials apart.
 pub record HasDecided (s t : State) : Type 0 where
   pub description : t.description ≡ s.description
   pub down : t.aloft ≡ false
+  pub unclosed : t.closed ≡ false
   pub within : t.ended < t.description.cycles
   pub numbered : IsNumbered t
   pub counted : length t.loaded ≡ length s.loaded
+  pub steady_then : IsSteady (begun t)
+  pub numbered_then : IsNumbered (begun t)
 
-pub has_decided : (s t : State) → t ≡ boundary s → can_begin s s.ended ≡ true → IsNumbered s → HasDecided s t
-has_decided s t is can numbered =
+pub has_decided : (s t : State) → t ≡ boundary s → IsValid s.description → can_begin s s.ended ≡ true → IsSteady s → IsNumbered s → HasDecided s t
+has_decided s t is valid can steady numbered =
     let loop = boundary-SameLoop s in
     let few : s.ended < s.description.cycles = begins_within s can in
     subst (HasDecided s) (sym is) (record {
       description = loop.description;
       down = loop.aloft ∙ begins_down s can;
+      unclosed = loop.closed ∙ begins_open s can;
       within = rw (loop.ended, loop.description) few;
       numbered = boundary_numbered s numbered;
       counted = count_stays s.loaded (boundary s).loaded (boundary_stays s (waiting s));
+      steady_then = step_steady s s.sessions (Begin s.ended) (begin_effect s, begin_reply s) valid steady (begin_step s s.ended can);
+      numbered_then = begun_numbered s numbered;
     })
 
 -- in it is updated in the order that was planned who is active in it
@@ -244,35 +281,6 @@ order_decided s described =
     let still = described_stay s.description s.loaded (boundary s).loaded (boundary_stays s (waiting s)) described in
     subst (λ (d : Description). All (λ m. m.place < length d.controllers) (members_in_order (boundary s))) same
     (order_within (boundary s) (subst (λ (d : Description). All (IsAsDescribed d) (boundary s).loaded) (sym same) still))
-
--- ---- While none is aloft
-
--- what is kept then goes by these parts of a flight
-pub kept_still : (s t : State) (names : List (List ℕ)) (related : Related) (placed : Placed) (before after : Flight) (listed : Listed) (ending : Ending)
-    → IsKept s names related placed before listed ending → t ≡ s → is_some before.begun ≡ false
-    → after.hardware ≡ before.hardware → after.period_us ≡ before.period_us → after.room ≡ before.room → after.begun ≡ before.begun → after.erred.items ≡ []
-    → IsKept t names related placed after listed ending
-kept_still s t names related placed before after listed ending kept same down hardware timed room begun none_erred =
-    subst (λ (u : State). IsKept u names related placed after listed ending) (sym same) (record {
-      worked_out = kept.worked_out;
-      described = kept.described;
-      counted = kept.counted;
-      few = kept.few;
-      hardware = rw hardware kept.hardware;
-      timed = timed ∙ kept.timed;
-      within = kept.within;
-      ordered = kept.ordered;
-      no_mail = kept.no_mail;
-      listed = kept.listed;
-      fit = kept.fit;
-      roomy = record {
-        wide = room ∙ kept.roomy.wide;
-        flags = kept.roomy.flags;
-        told = rw begun kept.roomy.told;
-        none_erred = none_erred;
-        erred = λ aloft. (let no : false ≡ true = sym down ∙ ap (λ (o : Option RecordRoom). is_some o) (sym begun) ∙ aloft in cc);
-      };
-    })
 
 -- ---- The cycle goes aloft
 
@@ -288,67 +296,57 @@ mail_leaves s l = either (is_active l && is_due_now s l)
     either true = record { serial = refl; place = refl; active = refl }
     either false = record { serial = refl; place = refl; active = refl }
 
-begun_actives : (s : State) → actives (begun s).loaded ≡ actives s.loaded
+pub begun_actives : (s : State) → actives (begun s).loaded ≡ actives s.loaded
 begun_actives s = actives_map (without_mail_off s) (mail_leaves s) s.loaded
 
 -- What is kept then, when the order of updates is the one of now.
-pub kept_aloft : (s : State) (names : List (List ℕ)) (related : Related) (placed : Placed) (before after : Flight) (was listed : Listed) (ending : Ending)
-    → IsKept s names related placed before was ending → IsNumbered s → s.aloft ≡ false → s.ended < s.description.cycles
-    → IsListedOf s listed → listed.fresh ≡ true
-    → after.hardware ≡ before.hardware → after.period_us ≡ before.period_us → after.room ≡ before.room
-    → IfSome after.begun (HasRoom s.description placed listed.order) → after.erred.items ≡ [] → length listed.order ≤ vec_capacity after.erred
-    → IsKept (begun s) names related placed after listed ending
-kept_aloft s names related placed before after was listed ending kept numbered down within is fresh hardware timed room told none_erred erred =
-    let same = begun_actives s in
+pub kept_aloft : (s : State) (names : List (List ℕ)) (before after : Base) (was listed : Listed)
+    → IsKept s names before was → IsNumbered s → s.aloft ≡ false → s.closed ≡ false → s.ended < s.description.cycles
+    → IsListedOf s listed → listed.fresh ≡ true → after.plant ≡ before.plant → IsBased s.description true listed.order after
+    → IsKept (begun s) names after listed
+kept_aloft s names before after was listed kept numbered down unclosed within is fresh same based =
+    let actives = begun_actives s in
     let stays = begun_stays s in
     record {
-      worked_out = kept.worked_out;
+      worked_out = rw same kept.worked_out;
       described = described_stay s.description s.loaded (begun s).loaded stays kept.described;
+      divided = divided_stay s.loaded (begun s).loaded stays kept.divided;
       counted = kept.counted;
       few = omega (arith, kept.few, count_stays s.loaded (begun s).loaded stays);
-      hardware = rw hardware (hardware_stays s (begun s) same refl before.hardware refl refl refl kept.hardware);
-      timed = timed ∙ kept.timed;
+      hardware = rw same (hardware_stays s (begun s) actives refl before.plant.hardware refl refl refl kept.hardware);
       within = λ aloft. within;
       ordered = λ aloft. fresh;
+      unclosed = λ aloft. unclosed;
       no_mail = λ still. cc;
       listed = record {
-        active = record { counted = is.active.counted; told = λ p below. is.active.told p below ∙ sym (same_serial s (begun s) same refl p) };
-        order = λ now. is.order now ∙ sym (same_order s (begun s) same refl);
+        active = record { counted = is.active.counted; told = λ p below. is.active.told p below ∙ sym (same_serial s (begun s) actives refl p) };
+        order = λ now. is.order now ∙ sym (same_order s (begun s) actives refl);
         run = λ now. rw (serials_stay s.loaded (begun s).loaded stays) (is.run now);
       };
       fit = fit_begun s numbered (kept.no_mail down) kept.fit;
-      roomy = record { wide = rw room kept.roomy.wide; flags = kept.roomy.flags; told = told; none_erred = none_erred; erred = λ aloft. erred };
+      based = based;
     }
 
--- It is so when a cycle went aloft with this record, in the flight that there was room in.
-pub kept_flown : (s : State) (names : List (List ℕ)) (related : Related) (placed : Placed) (before mid after : Flight) (was listed : Listed) (ending : Ending) (room : RecordRoom)
-    → IsKept s names related placed before was ending → IsNumbered s → s.aloft ≡ false → s.ended < s.description.cycles
-    → IsListedOf s listed → listed.fresh ≡ true
-    → mid.hardware ≡ before.hardware → mid.period_us ≡ before.period_us → mid.room ≡ before.room → mid.erred.items ≡ [] → length listed.order ≤ vec_capacity mid.erred
-    → HasRoom s.description placed listed.order room → after ≡ record mid { begun = Some room; mails = after.mails }
-    → IsKept (begun s) names related placed after listed ending
-kept_flown s names related placed before mid after was listed ending room kept numbered down within is fresh hardware timed wide none_erred erred told flown =
-    let aloft : after.begun ≡ Some room = ap (λ (f : Flight). f.begun) flown in
-    let places : vec_capacity after.erred ≡ vec_capacity mid.erred = ap (λ (f : Flight). vec_capacity f.erred) flown in
-    kept_aloft s names related placed before after was listed ending kept numbered down within is fresh
-    (ap (λ (f : Flight). f.hardware) flown ∙ hardware) (ap (λ (f : Flight). f.period_us) flown ∙ timed) (ap (λ (f : Flight). f.room) flown ∙ wide)
-    (subst (λ (o : Option RecordRoom). IfSome o (HasRoom s.description placed listed.order)) (sym aloft) told)
-    (ap (λ (f : Flight). f.erred.items) flown ∙ none_erred) (omega (arith, places, erred))
-
--- a state with what is aloft in it
-abbrev aloft_with : State → List Loaded → Wired → Bool → List MailAloft → State
-aloft_with s loaded w aloft mails = with_hardware (record s { loaded = loaded; aloft = aloft; mails = mails }) w
+-- What is kept of a base that is away.
+pub based_aloft : (d : Description) (was order : List Member) (before after : Base) → IsBased d false was before
+    → after.room ≡ before.room → after.ending ≡ before.ending → after.hangar ≡ None → after.stations ≡ [] → HasLines d after.lists → Shows after.plant.hardware after.lists
+    → length order ≤ after.stands → length order ≤ after.berths → IsBased d true order after
+based_aloft d was order before after based room ending away none lines shown stands berths = record {
+  wide = room ∙ based.wide;
+  flags = rw ending based.flags;
+  home = rw away tt;
+  home_is = rw away refl;
+  fitted = rw none tt;
+  lines = lines;
+  shown = λ gone. shown;
+  stands = λ aloft. stands;
+  berths = λ aloft. berths;
+}
 
 -- and the state is the one of the cycle that begins
-pub view_flown : (d : Description) (blanks : Blanks) (sessions loads : ℕ) (loaded slots : List Loaded) (asked : Asked) (before mid after : Flight) (ended : ℕ) (closed : Bool) (room : RecordRoom)
-    → slots ≡ map (without_mail_off (state_with d blanks sessions loads loaded asked before ended closed)) loaded
-    → after.mails.items ≡ filter_map (mail_off (state_with d blanks sessions loads loaded asked before ended closed)) loaded
-    → mid.hardware ≡ before.hardware → after ≡ record mid { begun = Some room; mails = after.mails }
-    → state_with d blanks sessions loads slots asked after ended closed ≡ begun (state_with d blanks sessions loads loaded asked before ended closed)
-view_flown d blanks sessions loads loaded slots asked before mid after ended closed room left off hardware flown =
-    let s = state_with d blanks sessions loads loaded asked before ended closed in
-    let went = map (without_mail_off s) loaded in
-    ap (λ (ls : List Loaded). aloft_with s ls after.hardware (is_some after.begun) after.mails.items) left
-    ∙ ap (λ (w : Wired). aloft_with s went w (is_some after.begun) after.mails.items) (ap (λ (f : Flight). f.hardware) flown ∙ hardware)
-    ∙ ap (λ (o : Option RecordRoom). aloft_with s went before.hardware (is_some o) after.mails.items) (ap (λ (f : Flight). f.begun) flown)
-    ∙ ap (λ (ms : List MailAloft). aloft_with s went before.hardware true ms) off
+pub view_flown : (d : Description) (blanks : Blanks) (sessions loads : ℕ) (slots slots' : Slotted) (asked : Asked) (before after : Base) (ended : ℕ) (closed : Bool)
+    → slots' ≡ record slots { loaded = (begun (state_with d blanks sessions loads slots asked before ended closed)).loaded; aloft = true }
+    → after.mails ≡ (begun (state_with d blanks sessions loads slots asked before ended closed)).mails
+    → after.plant ≡ before.plant
+    → state_with d blanks sessions loads slots' asked after ended closed ≡ begun (state_with d blanks sessions loads slots asked before ended closed)
+view_flown d blanks sessions loads slots slots' asked before after ended closed left off same = rw (left, off, same) refl

@@ -1,28 +1,34 @@
 -- The desk at boot.
-use Rattle.std.proofs.Common.{◌≡◌, ℕ, zero, suc, ◌<◌, ◌^◌, true, false, List, [], ◌++◌, length, refl, sym, ap, ◌∙◌, arith}
+use Rattle.std.proofs.Common.{◌≡◌, ℕ, zero, suc, ◌<◌, ◌^◌, true, false, List, [], ◌++◌, length, map, refl, sym, ap, ◌∙◌, arith}
+use Rattle.std.proofs.lemmas.List.{length-map}
+use Rattle.cm_document.specs.Places.{interfaces_of}
+use Rattle.cm_document.specs.Valid.{IsValid}
 use Rattle.cm_document.specs.declared.description.Description.{Description}
 use Rattle.cm_model.specs.Order.{by_rank, depth}
-use Rattle.cm_model.specs.State.{Loaded, boot, active}
+use Rattle.cm_model.specs.State.{State, boot, active}
+use Rattle.cm_model.specs.Values.{InterfaceValue}
 use Rattle.cm_model.specs.declared.blanks.Blanks.{Blanks}
 use Rattle.cm_model.specs.declared.member.Member.{Member}
+use Rattle.cm_hardware.specs.Holding.{IsHardwareOf}
+use Rattle.cm_hardware.specs.Shown.{HasLinesFor}
+use Rattle.cm_hardware.specs.Wiring.{Wired, Mounted}
+use Rattle.cm_hardware.specs.declared.lists.Lists.{Lists}
 use Rattle.cm_hardware.proofs.ListLemmas.{state_is}
-use Rattle.ctl_places.specs.Placed.{Placed}
 use Rattle.ctl_rack.specs.Stocks.{total}
 use Rattle.request_plan.specs.Requests.{Asked}
-use Rattle.stop_plan.specs.Ending.{HasFlags, members_in_order}
-use Rattle.stop_plan.specs.declared.ending.Ending.{Ending}
-use Rattle.switch_plan.specs.Relations.{Related}
-use Rattle.cm_desk.specs.Flight.{IsAtStart}
+use Rattle.ctl_slots.specs.Slots.{Slotted}
+use Rattle.stop_plan.specs.Ending.{members_in_order}
+use Rattle.cm_desk.specs.Bay.{base_of, HasLines, IsAtStart}
 use Rattle.cm_desk.specs.Roster.{Listed, IsOfNobody}
-use Rattle.cm_desk.specs.Works.{IsKept, IsWorkedOut, state_with}
-use Rattle.cm_desk.specs.declared.flight.Flight.{Flight}
+use Rattle.cm_desk.specs.Works.{IsKept, state_with}
+use Rattle.cm_desk.specs.declared.bay.Bay.{Bay}
 use Rattle.cm_desk.proofs.ActiveLemmas.{order_is}
 
 -- with nothing loaded, and the hardware at start, the state is that at boot
-pub booted : (d : Description) (blanks left : Blanks) (sessions : ℕ) (loaded : List Loaded) (asked : Asked) (f : Flight) → left ≡ blanks → loaded ≡ [] → asked ≡ record { requests = []; outcomes = [] }
-    → IsAtStart d f → state_with d left sessions 0 loaded asked f 0 false ≡ boot d blanks sessions
-booted d blanks left sessions loaded asked f all none nothing start =
-    rw (all, none, nothing, start.down, start.no_mail) (sym (state_is (boot d blanks sessions) f.hardware (start.hardware blanks sessions)))
+pub booted : (d : Description) (blanks left : Blanks) (sessions : ℕ) (slots : Slotted) (asked : Asked) (b : Bay) (berths : ℕ) → left ≡ blanks → slots ≡ record slots { loaded = []; aloft = false }
+    → asked ≡ record { requests = []; outcomes = [] } → IsAtStart d b → state_with d left sessions 0 slots asked (base_of b berths) 0 false ≡ boot d blanks sessions
+booted d blanks left sessions slots asked b berths all none nothing start =
+    rw (all, none, nothing, start.no_mail) (sym (state_is (boot d blanks sessions) b.plant.value.hardware (start.hardware blanks sessions)))
 
 ranked_none : (rank : Member → ℕ) (n : ℕ) → by_rank rank n [] ≡ []
 ranked_none rank zero = refl
@@ -33,18 +39,19 @@ nobody_in_order d blanks sessions =
     order_is (boot d blanks sessions) ∙ ranked_none (λ (m : Member). depth d.controllers (active (boot d blanks sessions)) m.place) (suc (length d.controllers))
 
 -- what is kept then
-pub kept_at_boot : (d : Description) (blanks : Blanks) (sessions : ℕ) (names : List (List ℕ)) (related : Related) (placed : Placed) (f : Flight) (listed : Listed) (ending : Ending)
-    → IsWorkedOut d names related placed → total blanks < 2 ^ 32 → IsAtStart d f → IsOfNobody (length d.controllers) listed → HasFlags (length d.controllers) ending
-    → IsKept (boot d blanks sessions) names related placed f listed ending
-kept_at_boot d blanks sessions names related placed f listed ending worked_out few start nobody flags = record {
-  worked_out = worked_out;
+pub kept_at_boot : (d : Description) (blanks : Blanks) (sessions : ℕ) (names : List (List ℕ)) (b : Bay) (berths : ℕ) (listed : Listed)
+    → IsValid d → names ≡ map (λ c. c.name) d.controllers → total blanks < 2 ^ 32 → IsAtStart d b → IsOfNobody (length d.controllers) listed
+    → IsKept (boot d blanks sessions) names (base_of b berths) listed
+kept_at_boot d blanks sessions names b berths listed valid named few start nobody = record {
+  worked_out = record { valid = valid; named = named; related = start.related; placed = start.placed; timed = start.timed };
   described = λ i l within. absurd (omega (arith, within));
+  divided = λ i l within. absurd (omega (arith, within));
   counted = omega (arith, few);
   few = omega arith;
   hardware = start.hardware blanks sessions;
-  timed = start.timed;
   within = λ aloft. cc;
   ordered = λ aloft. cc;
+  unclosed = λ aloft. cc;
   no_mail = λ down. refl;
   listed = record {
     active = record { counted = nobody.counted; told = λ p below. nobody.nobody p };
@@ -52,5 +59,17 @@ kept_at_boot d blanks sessions names related placed f listed ending worked_out f
     run = λ now. rw (nobody.order, nobody.run) refl;
   };
   fit = record { timed = tt; waiting = tt; aloft = tt };
-  roomy = record { wide = start.wide; flags = flags; told = rw (start.down) tt; none_erred = start.nobody_erred; erred = λ aloft. (let no : false ≡ true = rw (start.down) at aloft in cc) };
+  based = rw (nobody.order) (start.based berths);
 }
+
+-- on the board stands what is described
+pub loans_count : (s : State) (w : Wired) → IsHardwareOf s w → length w.loans ≡ length (interfaces_of s.description)
+loans_count s w is = ap length is.loans ∙ length-map s.values _ ∙ sym (length-map s.values (λ (v : InterfaceValue). v.interface)) ∙ ap length is.wired.interfaces
+
+-- room for the lists of the hardware at start is room for those of its description
+pub lines_at_start : (d : Description) (w : Wired) (l : Lists) → ((blanks : Blanks) (sessions : ℕ) → IsHardwareOf (boot d blanks sessions) w) → HasLinesFor w l → HasLines d l
+lines_at_start d w l starts room =
+    let is = starts (record { forward = 0; passthrough = 0; pid = 0; trajectory = 0; broadcaster = 0; mock = 0 }) 0 in record {
+      components = omega (arith, room.components, ap length is.wired.components, length-map w.components (λ (m : Mounted). m.hardware.description));
+      interfaces = omega (arith, room.interfaces, loans_count (boot d (record { forward = 0; passthrough = 0; pid = 0; trajectory = 0; broadcaster = 0; mock = 0 }) 0) w is);
+    }

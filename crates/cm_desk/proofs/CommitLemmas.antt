@@ -18,7 +18,7 @@ use Rattle.cm_hardware.specs.Wiring.{Wired}
 use Rattle.cm_hardware.proofs.OutputLemmas.{held_when_moved}
 use Rattle.ctl_places.specs.Placed.{Placed, HasAllRows, placed_of}
 use Rattle.ctl_places.proofs.PlacedLemmas.{placed_of-HasAllRows}
-use Rattle.ctl_slots.specs.Seats.{Width, widest, IsSeated, IsShownOn, HasRoom}
+use Rattle.ctl_slots.specs.Seats.{widest, IsSeated, IsShownOn, HasRoom}
 use Rattle.ctl_slots.proofs.SeatLemmas.{own_seat, own_room}
 use Rattle.cm_desk.specs.Roster.{Listed, TellsActive, serial_in}
 use Rattle.cm_desk.specs.Works.{IsAsDescribed, CanCommit, HasCommitted}
@@ -61,7 +61,7 @@ rooms s valid described =
 
 -- ---- The commit
 
-module _ (s : State) (set again : Places) (placed : Placed) (room : Width) (loaded : List Loaded) (w : Wired) (listed : Listed) (chains stops starts : List Bool)
+module _ (s : State) (set again : Places) (placed : Placed) (room : ℕ) (loaded : List Loaded) (w : Wired) (listed : Listed) (chains stops starts : List Bool)
     (can : CanCommit s set again placed room loaded w listed chains stops starts) where
   pub can_seated : AllByRecursion (IsSeated placed (length w.loans)) loaded
   can_seated = rw (can.placed, can.loaded, board_count s w can.in_order can.hardware) (seats s can.valid can.in_order can.described)

@@ -8,16 +8,13 @@ use Rattle.sequence.proofs.ListLemmas.{head_same, tail_same}
 use Rattle.cm_model.specs.State.{State, Loaded, is_active}
 use Rattle.cm_model.specs.declared.blanks.Blanks.{Blanks}
 use Rattle.cm_model.specs.declared.member.Member.{Member}
-use Rattle.ctl_places.specs.Placed.{Placed}
 use Rattle.ctl_rack.specs.Stocks.{total}
-use Rattle.switch_plan.specs.Relations.{Related}
-use Rattle.stop_plan.specs.declared.ending.Ending.{Ending}
 use Rattle.sound_laws.proofs.SerialLemmas.{serials_set}
 use Rattle.ctl_slots.specs.Fit.{AreFit}
 use Rattle.stop_plan.specs.Ending.{members_in_order}
+use Rattle.cm_desk.specs.Bay.{Base}
 use Rattle.cm_desk.specs.Roster.{Listed, AreAt, IsListedOf, actives, serials_of, is_listed}
-use Rattle.cm_desk.specs.Works.{IsAsDescribed, IsKept}
-use Rattle.cm_desk.specs.declared.flight.Flight.{Flight}
+use Rattle.cm_desk.specs.Works.{IsAsDescribed, IsDivided, IsKept}
 use Rattle.cm_desk.proofs.ActiveLemmas.{IsSameOne, actives_set, actives_push, actives_remove, same_serial, same_order, hardware_stays}
 use Rattle.ctl_slots.proofs.FitLemmas.{fit_pushed, fit_removed}
 use Rattle.cm_desk.proofs.OrderLemmas.{order_loaded}
@@ -48,24 +45,25 @@ listed_stays s t before after same listed active order fresh run = record {
   run = λ now. run (sym fresh ∙ now);
 }
 
-pub kept_from : (s t : State) (names : List (List ℕ)) (related : Related) (placed : Placed) (flight : Flight) (before after : Listed) (ending : Ending)
-    → IsKept s names related placed flight before ending → IsSameFor s t
-    → All (IsAsDescribed t.description) t.loaded → t.loads + total t.blanks < 2 ^ 32 → length t.loaded ≤ t.loads → AreFit t → IsListedOf t after
+pub kept_from : (s t : State) (names : List (List ℕ)) (base : Base) (before after : Listed)
+    → IsKept s names base before → IsSameFor s t
+    → All (IsAsDescribed t.description) t.loaded → All IsDivided t.loaded → (t.aloft ≡ true → t.closed ≡ false) → t.loads + total t.blanks < 2 ^ 32 → length t.loaded ≤ t.loads → AreFit t → IsListedOf t after
     → after.order ≡ before.order → after.fresh ≡ before.fresh
-    → IsKept t names related placed flight after ending
-kept_from s t names related placed flight before after ending kept same described counted few fit listed order fresh = record {
+    → IsKept t names base after
+kept_from s t names base before after kept same described divided unclosed counted few fit listed order fresh = record {
   worked_out = rw same.description kept.worked_out;
   described = described;
+  divided = divided;
   counted = counted;
   few = few;
-  hardware = hardware_stays s t same.actives same.description flight.hardware same.lives same.bodies same.values kept.hardware;
-  timed = rw same.description kept.timed;
+  hardware = hardware_stays s t same.actives same.description base.plant.hardware same.lives same.bodies same.values kept.hardware;
   within = λ aloft. rw (same.ended, same.description) (kept.within (sym same.aloft ∙ aloft));
   ordered = λ aloft. fresh ∙ kept.ordered (sym same.aloft ∙ aloft);
+  unclosed = unclosed;
   no_mail = λ down. same.mails ∙ kept.no_mail (sym same.aloft ∙ down);
   listed = listed;
   fit = fit;
-  roomy = rw (same.description, order) kept.roomy;
+  based = rw (same.description, same.aloft, order) kept.based;
 }
 
 -- ---- Where controllers stand
@@ -105,48 +103,48 @@ same_parts : (s : State) (loaded' : List Loaded) → actives loaded' ≡ actives
 same_parts s loaded' same = record { description = refl; actives = same; lives = refl; bodies = refl; values = refl; ended = refl; aloft = refl; mails = refl }
 
 -- One was changed, which stays of its kind, under its serial and at its place, and active or not.
-pub kept_after_change : (s : State) (names : List (List ℕ)) (related : Related) (placed : Placed) (flight : Flight) (listed : Listed) (ending : Ending) (i : ℕ) (l after : Loaded)
-    → IsKept s names related placed flight listed ending → slice_get s.loaded i ≡ Some l → IsAsDescribed s.description after → IsSameOne l after
+pub kept_after_change : (s : State) (names : List (List ℕ)) (base : Base) (listed : Listed) (i : ℕ) (l after : Loaded)
+    → IsKept s names base listed → slice_get s.loaded i ≡ Some l → IsAsDescribed s.description after → IsDivided after → IsSameOne l after
     → AreFit (record s { loaded = slice_set s.loaded i after })
-    → IsKept (record s { loaded = slice_set s.loaded i after }) names related placed flight listed ending
-kept_after_change s names related placed flight listed ending i l after kept there kind one fit =
+    → IsKept (record s { loaded = slice_set s.loaded i after }) names base listed
+kept_after_change s names base listed i l after kept there kind divided one fit =
     let t : State = record s { loaded = slice_set s.loaded i after } in
     let same = same_parts s t.loaded (actives_set s.loaded i l after there one) in
-    kept_from s t names related placed flight listed listed ending kept same
-    (All-set (IsAsDescribed s.description) s.loaded i after kind kept.described) kept.counted (omega (arith, kept.few, length-set s.loaded i after)) fit
+    kept_from s t names base listed listed kept same
+    (All-set (IsAsDescribed s.description) s.loaded i after kind kept.described) (All-set IsDivided s.loaded i after divided kept.divided) kept.unclosed kept.counted (omega (arith, kept.few, length-set s.loaded i after)) fit
     (listed_stays s t listed listed same kept.listed refl refl refl (λ now. rw (serials_set s.loaded i l after there one.serial) (kept.listed.run now))) refl refl
 
 -- One was loaded, which is not active.
-pub kept_after_load : (s : State) (names : List (List ℕ)) (related : Related) (placed : Placed) (flight : Flight) (listed : Listed) (ending : Ending) (blanks : Blanks) (l : Loaded)
-    → IsKept s names related placed flight listed ending → IsAsDescribed s.description l → is_active l ≡ false → l.serial ≡ s.loads → l.divisor ≡ None → l.mail ≡ None → total blanks + 1 ≡ total s.blanks
-    → IsKept (record s { blanks = blanks; loads = s.loads + 1; loaded = s.loaded ++ l ∷ [] }) names related placed flight listed ending
-kept_after_load s names related placed flight listed ending blanks l kept kind idle serial divisor mail less =
+pub kept_after_load : (s : State) (names : List (List ℕ)) (base : Base) (listed : Listed) (blanks : Blanks) (l : Loaded)
+    → IsKept s names base listed → IsAsDescribed s.description l → IsDivided l → is_active l ≡ false → l.serial ≡ s.loads → l.divisor ≡ None → l.mail ≡ None → total blanks + 1 ≡ total s.blanks
+    → IsKept (record s { blanks = blanks; loads = s.loads + 1; loaded = s.loaded ++ l ∷ [] }) names base listed
+kept_after_load s names base listed blanks l kept kind divided idle serial divisor mail less =
     let t : State = record s { blanks = blanks; loads = s.loads + 1; loaded = s.loaded ++ l ∷ [] } in
     let same : IsSameFor s t = record { description = refl; actives = actives_push s.loaded l idle; lives = refl; bodies = refl; values = refl; ended = refl; aloft = refl; mails = refl } in
-    kept_from s t names related placed flight listed listed ending kept same
-    (All-push (IsAsDescribed s.description) s.loaded l kept.described kind) (omega (arith, kept.counted, less)) (omega (arith, kept.few, length_push s.loaded l))
+    kept_from s t names base listed listed kept same
+    (All-push (IsAsDescribed s.description) s.loaded l kept.described kind) (All-push IsDivided s.loaded l kept.divided divided) kept.unclosed (omega (arith, kept.counted, less)) (omega (arith, kept.few, length_push s.loaded l))
     (fit_pushed s blanks l serial divisor mail kept.fit)
     (listed_stays s t listed listed same kept.listed refl refl refl (λ now. rw (map-append (λ (k : Loaded). k.serial) s.loaded (l ∷ [])) (found_before (serials_of s.loaded) (l.serial ∷ []) listed.order listed.run (kept.listed.run now)))) refl refl
 
 -- One was unloaded, which was not active, and it was looked up anew where the others stand.
-pub kept_after_unload : (s : State) (names : List (List ℕ)) (related : Related) (placed : Placed) (flight : Flight) (before after : Listed) (ending : Ending) (i : ℕ) (l : Loaded)
-    → IsKept s names related placed flight before ending → slice_get s.loaded i ≡ Some l → is_active l ≡ false
+pub kept_after_unload : (s : State) (names : List (List ℕ)) (base : Base) (before after : Listed) (i : ℕ) (l : Loaded)
+    → IsKept s names base before → slice_get s.loaded i ≡ Some l → is_active l ≡ false
     → after.active ≡ before.active → after.order ≡ before.order → after.fresh ≡ before.fresh → (before.fresh ≡ true → AreAt (serials_of (remove s.loaded i)) before.order after.run)
-    → IsKept (record s { loaded = remove s.loaded i }) names related placed flight after ending
-kept_after_unload s names related placed flight before after ending i l kept there idle active order fresh run =
+    → IsKept (record s { loaded = remove s.loaded i }) names base after
+kept_after_unload s names base before after i l kept there idle active order fresh run =
     let t : State = record s { loaded = remove s.loaded i } in
     let same = same_parts s t.loaded (actives_remove s.loaded i l there idle) in
-    kept_from s t names related placed flight before after ending kept same
-    (All-remove (IsAsDescribed s.description) s.loaded i kept.described) kept.counted (omega (arith, kept.few, length_remove s.loaded i)) (fit_removed s i kept.fit)
+    kept_from s t names base before after kept same
+    (All-remove (IsAsDescribed s.description) s.loaded i kept.described) (All-remove IsDivided s.loaded i kept.divided) kept.unclosed kept.counted (omega (arith, kept.few, length_remove s.loaded i)) (fit_removed s i kept.fit)
     (listed_stays s t before after same kept.listed active order fresh (λ now. rw order (run now))) order fresh
 
 -- ---- The loop
 
 -- A request was asked or decided, or the loop closed.
-pub kept_after_ask : (s t : State) (names : List (List ℕ)) (related : Related) (placed : Placed) (flight : Flight) (listed : Listed) (ending : Ending)
-    → IsKept s names related placed flight listed ending → t ≡ record s { requests = t.requests; outcomes = t.outcomes; closed = t.closed }
-    → IsKept t names related placed flight listed ending
-kept_after_ask s t names related placed flight listed ending kept is = subst (λ (u : State). IsKept u names related placed flight listed ending) (sym is) with_these
+pub kept_after_ask : (s t : State) (names : List (List ℕ)) (base : Base) (listed : Listed)
+    → IsKept s names base listed → t ≡ record s { requests = t.requests; outcomes = t.outcomes; closed = t.closed }
+    → (s.aloft ≡ true → t.closed ≡ false) → IsKept t names base listed
+kept_after_ask s t names base listed kept is unclosed = subst (λ (u : State). IsKept u names base listed) (sym is) with_these
   where
     u : State
     u = record s { requests = t.requests; outcomes = t.outcomes; closed = t.closed }
@@ -154,8 +152,8 @@ kept_after_ask s t names related placed flight listed ending kept is = subst (λ
     same : IsSameFor s u
     same = record { description = refl; actives = refl; lives = refl; bodies = refl; values = refl; ended = refl; aloft = refl; mails = refl }
 
-    with_these : IsKept u names related placed flight listed ending
+    with_these : IsKept u names base listed
     with_these =
-        kept_from s u names related placed flight listed listed ending kept same kept.described kept.counted kept.few
+        kept_from s u names base listed listed kept same kept.described kept.divided unclosed kept.counted kept.few
         (record { timed = kept.fit.timed; waiting = kept.fit.waiting; aloft = kept.fit.aloft })
         (listed_stays s u listed listed same kept.listed refl refl refl kept.listed.run) refl refl

@@ -1,5 +1,5 @@
 pub mod RosterLemmas
-pub mod FlightLemmas
+pub mod SuppliesLemmas
 pub mod AnswerLemmas
 pub mod ActiveLemmas
 pub mod KeptLemmas
@@ -7,7 +7,12 @@ pub mod StayLemmas
 pub mod WorksLemmas
 pub mod CommitLemmas
 pub mod BeginLemmas
+pub mod BoardingLemmas
+pub mod FlightLemmas
+pub mod TakeOffLemmas
 pub mod EndLemmas
+pub mod LandLemmas
+pub mod BegunLemmas
 pub mod RecordLemmas
 mod DeskRows
 pub mod ChangeLemmas

@@ -90,3 +90,10 @@ pub run_is : (s : State) (order : List Member) (run : List ℕ) → IsDistinct (
     → map (slice_get s.loaded) run ≡ map Some (active_order s)
 run_is s order run once is at =
     stand_there s.loaded once (active_order s) run (λ l inside. (from_active_order s l inside).0) (subst (λ ms. AreAt (serials_of s.loaded) ms run) is at)
+
+-- ---- Each is as described
+
+pub order_described : (s : State) → All (IsAsDescribed s.description) s.loaded → AllByRecursion (IsAsDescribed s.description) (active_order s)
+order_described s described =
+    all_ranked (IsAsDescribed s.description) (λ l. depth s.description.controllers (active s) l.place) (suc (length s.description.controllers)) (filter is_active s.loaded)
+    (all_filter (IsAsDescribed s.description) is_active s.loaded (recursion_from_All (IsAsDescribed s.description) s.loaded described))

@@ -30,7 +30,7 @@ use Rattle.sound_laws.proofs.HistoryLemmas.{legal_sound, step_steady}
 use Rattle.sound_laws.proofs.SerialLemmas.{IsNumbered, renumbered_numbered, effect_renumbered}
 use Rattle.cm_hardware.specs.Wiring.{one_if}
 use Rattle.cm_desk.specs.Desk.{owed, seen, Keeps, Grows, CanBeCalled}
-use Rattle.cm_desk.proofs.BeginLemmas.{boundary_stays}
+use Rattle.cm_desk.proofs.BeginLemmas.{boundary_stays, loop_itself}
 use Rattle.cm_desk.proofs.StayLemmas.{begun_stays, count_stays}
 
 -- ---- One entry more
@@ -227,14 +227,6 @@ await_step s who n less reached = rw (session_itself s who less, reached) refl
 pub await_waits : (s : State) (who n : ℕ) → who < s.sessions → is_reached s n ≡ false → step s who (Await n) ≡ None
 unfolding step
 await_waits s who n less unreached = rw (session_itself s who less, unreached) refl
-
-pub loop_itself : (n : ℕ) → (n == n) ≡ true
-loop_itself n = grind (arith, nat_tests)
-
--- the loop begins a cycle where it can
-pub begin_step : (s : State) (n : ℕ) → can_begin s n ≡ true → step s s.sessions (Begin n) ≡ Some (begin_effect s, begin_reply s)
-unfolding step
-begin_step s n can = rw (loop_itself s.sessions, can) refl
 
 -- it ends the cycle that is aloft
 pub end_step : (s : State) → s.aloft ≡ true → step s s.sessions (End s.ended) ≡ Some (after_cycle s (cycle s), reply.Cycle (cycle s).happened)

@@ -1,10 +1,12 @@
--- What commits, moves and cycles leave of each loaded controller: its serial, its place and its kind.
+-- What commits, moves and cycles leave of each loaded controller: its serial, its place and its kind, its divisor, and whether it has
+-- parameters.
 use Rattle.std.proofs.Common.{◌≡◌, ℕ, ℤ, Bool, true, false, List, [], ◌∷◌, length, map, Option, Some, None, refl, sym, ap, ap₂, subst, ◌∙◌}
-use Rattle.std.specs.Prelude.{◌==◌, ◌&&◌, if◌then◌else◌, slice_get, option_map}
+use Rattle.std.specs.Prelude.{◌==◌, ◌&&◌, if◌then◌else◌, slice_get, option_map, is_some}
 use Rattle.std.specs.List.{All, AllByRecursion}
 use Rattle.std.proofs.lemmas.List.{length-map}
 use Rattle.std.proofs.lemmas.List.Elements.{All-from_recursion, recursion_from_All}
 use Rattle.ctl_slots.proofs.UpdateLemmas.{step_kind}
+use Rattle.sound_laws.proofs.UpdatedLemmas.{ctl_step_params}
 use Rattle.cm_document.specs.Params.{kind_of}
 use Rattle.cm_document.specs.declared.description.CtlKind.{CtlKind}
 use Rattle.cm_document.specs.declared.description.Description.{Description}
@@ -28,7 +30,7 @@ use Rattle.cm_model.specs.declared.request.Request.{Request}
 use Rattle.cm_model.specs.declared.request.Request.TheVariants as request
 use Rattle.cm_model.proofs.UpdateLemmas.{updates_keep}
 use Rattle.cm_desk.specs.Roster.{serials_of}
-use Rattle.cm_desk.specs.Works.{IsAsDescribed}
+use Rattle.cm_desk.specs.Works.{IsAsDescribed, IsDivided}
 
 -- ---- One controller
 
@@ -37,20 +39,33 @@ pub record Staying : Type 0 where
   pub serial : ℕ
   pub place : ℕ
   pub kind : CtlKind
+  pub divisor : Option ℕ
+  pub configured : Bool
 
 abbrev pub staying : Loaded → Staying
-staying l = record { serial = l.serial; place = l.place; kind = l.ctl.kind }
+staying l = record { serial = l.serial; place = l.place; kind = l.ctl.kind; divisor = l.divisor; configured = is_some l.ctl.params }
+
+-- it stays so with data of its kind, where it has parameters or not as before
+same_staying : (l : Loaded) (ctl : CtlData) → ctl.kind ≡ l.ctl.kind → is_some ctl.params ≡ is_some l.ctl.params → staying (record l { ctl = ctl }) ≡ staying l
+same_staying l ctl kind params =
+    ap₂ (λ (k : CtlKind) (b : Bool). record { serial = l.serial; place = l.place; kind = k; divisor = l.divisor; configured = b }) kind params
 
 activated_kind : (ctl : CtlData) (params : Option Params) (states : List ℤ) (chained : Bool) → ctl.params ≡ params → (activated ctl states chained).kind ≡ ctl.kind
 activated_kind ctl None states chained e = rw e refl
 activated_kind ctl (Some p) states chained e = rw e refl
 
+activated_params : (ctl : CtlData) (params : Option Params) (states : List ℤ) (chained : Bool) → ctl.params ≡ params → is_some (activated ctl states chained).params ≡ is_some ctl.params
+activated_params ctl None states chained e = rw e refl
+activated_params ctl (Some p) states chained e = rw e refl
+
 committed_stays : (s : State) (set stopped started : Places) (l : Loaded) → staying (committed s set stopped started l) ≡ staying l
 committed_stays s set stopped started l = either (started l.place) (stopped l.place)
   where
     either : (comes goes : Bool) → staying (if comes then coming s set l else (if goes then leaving l else l)) ≡ staying l
-    either true goes = ap (λ (k : CtlKind). record { serial = l.serial; place = l.place; kind = k })
+    either true goes =
+        same_staying l (activated l.ctl (states_for s.values (described_of s l)) (is_chained_in s.description.controllers set l.place))
         (activated_kind l.ctl l.ctl.params (states_for s.values (described_of s l)) (is_chained_in s.description.controllers set l.place) refl)
+        (activated_params l.ctl l.ctl.params (states_for s.values (described_of s l)) (is_chained_in s.description.controllers set l.place) refl)
     either false true = refl
     either false false = refl
 
@@ -58,8 +73,10 @@ pub stepped_stays : (s : State) (values : List InterfaceValue) (serial : ℕ) (l
 stepped_stays s values serial l = either (l.serial == serial)
   where
     either : (b : Bool) → staying (if b then record l { ctl = (step_of s values l).after } else l) ≡ staying l
-    either true = ap (λ (k : CtlKind). record { serial = l.serial; place = l.place; kind = k })
+    either true =
+        same_staying l (step_of s values l).after
         (step_kind l.ctl (tick_of s l) (states_for values (described_of s l)) (refs_for values (described_of s l)) (mail_for s l.serial))
+        (ap (λ (o : Option Params). is_some o) (ctl_step_params l.ctl (tick_of s l) (states_for values (described_of s l)) (refs_for values (described_of s l)) (mail_for s l.serial)))
     either false = refl
 
 mail_stays : (s : State) (l : Loaded) → staying (without_mail_off s l) ≡ staying l
@@ -140,3 +157,20 @@ pub described_stay : (d : Description) (ls ms : List Loaded) → all_staying ms 
 described_stay d ls ms same described =
     All-from_recursion (IsAsDescribed d) ms
     (described_back d ms (subst (AllByRecursion (IsKindOf d)) (sym same) (described_so d ls (recursion_from_All (IsAsDescribed d) ls described))))
+
+-- and so each has a divisor where it has parameters
+abbrev IsDividedIn : Staying → Type 0
+IsDividedIn x = x.configured ≡ true → is_some x.divisor ≡ true
+
+divided_so : (ls : List Loaded) → AllByRecursion IsDivided ls → AllByRecursion IsDividedIn (all_staying ls)
+divided_so [] divided = tt
+divided_so (l ∷ ls) divided = (divided.0, divided_so ls divided.1)
+
+divided_back : (ls : List Loaded) → AllByRecursion IsDividedIn (all_staying ls) → AllByRecursion IsDivided ls
+divided_back [] divided = tt
+divided_back (l ∷ ls) divided = (divided.0, divided_back ls divided.1)
+
+pub divided_stay : (ls ms : List Loaded) → all_staying ms ≡ all_staying ls → All IsDivided ls → All IsDivided ms
+divided_stay ls ms same divided =
+    All-from_recursion IsDivided ms
+    (divided_back ms (subst (AllByRecursion IsDividedIn) (sym same) (divided_so ls (recursion_from_All IsDivided ls divided))))

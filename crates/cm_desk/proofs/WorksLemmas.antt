@@ -1,5 +1,5 @@
 -- What the desk's calls make of the loaded controllers.
-use Rattle.std.proofs.Common.{◌≡◌, ℕ, suc, ◌+◌, ◌<◌, Bool, true, false, Result, Ok, Err, List, length, get_or, take, drop, set, Option, Some, None, refl, sym, subst, ap, ◌∙◌, arith}
+use Rattle.std.proofs.Common.{◌≡◌, ℕ, zero, suc, ◌+◌, ◌<◌, Bool, true, false, Result, Ok, Err, List, [], ◌∷◌, length, get_or, take, drop, set, Option, Some, None, refl, sym, subst, ap, ◌∙◌, arith}
 use Rattle.std.specs.Prelude.{◌==◌, ◌↔◌, slice_get, option_map, IsSomeAnd, OnOk, OnErr}
 use Rattle.std.specs.List.{All, remove}
 use Rattle.std.proofs.lemmas.List.{set-get_or}
@@ -23,7 +23,8 @@ use Rattle.cm_model.specs.declared.reply.Reply.TheVariants as reply
 use Rattle.cm_model.specs.declared.reply.Why.{Why}
 use Rattle.ctl_rack.specs.Stocks.{total}
 use Rattle.ctl_slots.proofs.LifeLemmas.{none_is}
-use Rattle.cm_desk.specs.Works.{IsAsDescribed, IsConfigured}
+use Rattle.ctl_slots.specs.Slots.{Slotted}
+use Rattle.cm_desk.specs.Works.{IsAsDescribed, IsDivided, IsConfigured}
 use Rattle.cm_desk.proofs.ActiveLemmas.{IsSameOne}
 use Rattle.ctl_trait.specs.declared.fault.CfgFault.{CfgFault}
 use Rattle.ctl_trait.specs.declared.fault.CfgFault.TheVariants.{Refused, Memory}
@@ -65,6 +66,11 @@ pub sold_out : (s : State) (place : ℕ) (c : CtlDesc) → slice_get s.descripti
 sold_out s place c e = rw e refl
 
 -- ---- What stands somewhere
+
+pub get_there : {X : Type 0} (xs : List X) (i : ℕ) → i < length xs → (x : X) × (slice_get xs i ≡ Some x)
+get_there [] i within = absurd (omega (arith, within))
+get_there (x ∷ xs) zero within = (x, refl)
+get_there (x ∷ xs) (suc i) within = get_there xs i (omega (arith, within))
 
 there_from : {X : Type 0} (P : X → Type 0) (xs : List X) (i : ℕ) (x : X) (o : Option X) → slice_get xs i ≡ o → IsSomeAnd o P → x ≡ get_or xs i x
     → (slice_get xs i ≡ Some x) × P x
@@ -153,6 +159,32 @@ configured_there old new i l after c n (Err Memory) there idle described rate ne
 pub stands_here : (d : Description) (ls : List Loaded) (i : ℕ) (l : Loaded) → All (IsAsDescribed d) ls → i < length ls → l ≡ get_or ls i l
     → (slice_get ls i ≡ Some l) × IsAsDescribed d l
 stands_here d ls i l described within read = (slice_get_read ls (length ls) i l refl within read, subst (IsAsDescribed d) (sym read) (described i l within))
+
+-- something stands there, as described,
+pub stands_at : (d : Description) (ls : List Loaded) (i : ℕ) → All (IsAsDescribed d) ls → i < length ls
+    → (l : Loaded) × ((slice_get ls i ≡ Some l) × IsAsDescribed d l)
+stands_at d ls i described within =
+    let found = get_there ls i within in
+    (found.0, (found.1, kept_there d ls i found.0 described found.1))
+
+-- with a divisor where it has parameters
+pub divided_here : (ls : List Loaded) (i : ℕ) (l : Loaded) → All IsDivided ls → slice_get ls i ≡ Some l → IsDivided l
+divided_here ls i l divided there = subst IsDivided (get_or_from_slice_get ls i l l there) (divided i l (slice_get_within ls i l there))
+
+-- so has one that was configured, or was not
+pub still_divided : (l after : Loaded) (p : Params) (n : ℕ) (result : Result (Unit {0}) CfgFault)
+    → OnOk result (after ≡ record l { ctl = configured l.ctl p; divisor = Some n }) → OnErr result (after ≡ l) → IsDivided l → IsDivided after
+still_divided l after p n (Ok u) made kept divided = rw made (λ some. refl)
+still_divided l after p n (Err e) made kept divided = rw kept divided
+
+-- what a configure made of the slots, by what it made of the one that stands there
+pub configured_slots : (old new : Slotted) (i : ℕ) (l : Loaded) (p : Params) (n : ℕ) (result : Result (Unit {0}) CfgFault) → slice_get old.loaded i ≡ Some l
+    → OnOk result (new ≡ record old { loaded = set old.loaded i (record l { ctl = configured l.ctl p; divisor = Some n }) }) → OnErr result (new ≡ old)
+    → (after : Loaded) × ((new ≡ record old { loaded = set old.loaded i after })
+    × (OnOk result (after ≡ record l { ctl = configured l.ctl p; divisor = Some n }) × OnErr result (after ≡ l)))
+configured_slots old new i l p n (Ok u) there made kept = (record l { ctl = configured l.ctl p; divisor = Some n }, (made, (refl, tt)))
+configured_slots old new i l p n (Err e) there made kept =
+    (l, (kept ∙ ap (λ x. record old { loaded = x }) (sym (put_back old.loaded i l l (sym (get_or_from_slice_get old.loaded i l l there)))), (tt, refl)))
 
 -- what is read there twice is the same
 pub same_read : {X : Type 0} (xs : List X) (i : ℕ) (first again : X) → i < length xs → first ≡ get_or xs i first → again ≡ get_or xs i again → first ≡ again

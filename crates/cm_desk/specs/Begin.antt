@@ -1,13 +1,35 @@
--- How the requests that wait are decided at a begin.
-use Rattle.std.specs.Prelude.{◌≡◌, ◌==◌, Bool, List, ◌∷◌, length, drop}
-use Rattle.cm_model.specs.Boundary.{waiting}
+-- How a cycle begins: how the requests that wait are decided, and how it takes off.
+use Rattle.std.specs.Prelude.{◌≡◌, ℕ, ◌<◌, ◌≤◌, ◌==◌, Bool, true, false, List, [], ◌∷◌, length, drop, None, vec_capacity}
+use Rattle.std.specs.List.{All}
+use Rattle.cm_document.specs.Valid.{IsValid}
+use Rattle.cm_model.specs.Boundary.{waiting, begin_effect, begin_reply}
+use Rattle.cm_model.specs.Cycle.{begun, members_in_order}
+use Rattle.cm_model.specs.Machine.{can_begin}
 use Rattle.cm_model.specs.State.{State}
 use Rattle.cm_model.specs.Steady.{IsSteady}
+use Rattle.cm_model.specs.declared.cause.Decision.{Decision}
+use Rattle.cm_model.specs.declared.reply.Reply.TheVariants as reply
+use Rattle.cm_model.specs.declared.data.CtlData.{CtlData}
+use Rattle.cm_model.specs.declared.member.Member.{Member}
 use Rattle.cm_model.specs.declared.cause.Outcome.{Outcome}
 use Rattle.cm_model.specs.declared.request.Request.{Request}
 use Rattle.request_plan.specs.Acts.{IsActOf, IsConclusionOf}
 use Rattle.request_plan.specs.declared.acts.Act.{Act}
 use Rattle.request_plan.specs.declared.acts.Conclusion.{Conclusion}
+use Rattle.cm_hardware.specs.Holding.{IsHardwareOf}
+use Rattle.cm_hardware.specs.Shown.{Shows}
+use Rattle.ctl_slots.specs.Fit.{AreFit}
+use Rattle.ctl_slots.specs.Slots.{Slotted}
+use Rattle.rt_flight.specs.Cells.{Seat}
+use Rattle.rt_flight.specs.Flights.{FlightFacts, IsAloft}
+use Rattle.sound_laws.proofs.SerialLemmas.{IsNumbered}
+use Rattle.stop_plan.specs.Ending.{HasFlags}
+use Rattle.cm_desk.specs.Bay.{HasLines, IsAtHome}
+use Rattle.cm_desk.specs.Roster.{AreAt, serials_of}
+use Rattle.cm_desk.specs.Supplies.{AreSupplies}
+use Rattle.cm_desk.specs.Works.{IsAsDescribed, IsDivided, IsWorkedOut}
+use Rattle.cm_desk.specs.declared.bay.Bay.{Bay}
+use Rattle.cm_desk.specs.declared.supplies.Supplies.{Supplies}
 
 -- none of these requests waits for an outcome
 abbrev pub none_waits : List Request → List Outcome → Bool
@@ -22,3 +44,59 @@ pub record IsNext (s : State) (asked : Request) (later : List Request) (c : Conc
 pub record CanAct (s after : State) (done : Act) : Type 0 where
   pub act : IsActOf s after done
   pub steady : IsSteady after
+
+-- ---- The whole begin
+
+-- The next cycle can begin in this state, which is steady and whose serials differ.
+pub record CanBegin (s : State) : Type 0 where
+  pub can : can_begin s s.ended ≡ true
+  pub steady : IsSteady s
+  pub numbered : IsNumbered s
+
+-- It began, and this was decided; the flight is that of the cycle which is aloft then.
+pub record HasBegun (before after : State) (flight : FlightFacts) (decisions : List Decision) : Type 0 where
+  pub begun : after ≡ begin_effect before
+  pub told : reply.Decisions decisions ≡ begin_reply before
+  pub aloft : IsAloft after flight
+
+-- ---- The take-off
+
+-- With these a cycle of the state can take off, when all is decided: its controllers, none of which is away; the indices of those that
+-- run, in the order of updates; what a cycle works on, which is at home; room for a box of each and an empty list for their cells; and
+-- all else that a cycle takes. The state that comes of it is valid, steady and numbered, and all that is kept of controllers holds in it.
+pub record CanTakeOff (s : State) (slots : Slotted) (indices : List ℕ) (b : Bay) (boxes : List CtlData) (berth_room : ℕ) (cells : List Seat) (cell_room count : ℕ) (all : Supplies)
+    : Type 0 where
+  pub valid : IsValid s.description
+  pub steady : IsSteady (begun s)
+  pub numbered : IsNumbered (begun s)
+  pub fit : AreFit s
+  pub fit_then : AreFit (begun s)
+  pub described : All (IsAsDescribed s.description) (begun s).loaded
+  pub divided : All IsDivided (begun s).loaded
+  pub within : s.ended < s.description.cycles
+  pub number : count ≡ s.ended
+  pub down : slots.aloft ≡ false
+  pub loaded : slots.loaded ≡ s.loaded
+  pub run : AreAt (serials_of (begun s).loaded) (members_in_order (begun s)) indices
+  pub hardware : IsHardwareOf (begun s) b.plant.value.hardware
+  pub worked_out : (names : List (List ℕ)) × IsWorkedOut s.description names b.plant.value
+  pub home : IsAtHome b
+  pub flags : HasFlags (length s.description.controllers) b.ending.value
+  pub lines : HasLines s.description b.lists
+  pub supplies : AreSupplies s.description b.plant.value.places (members_in_order (begun s)) (length s.loaded) all
+  pub no_box : boxes ≡ []
+  pub berths : length (members_in_order (begun s)) ≤ berth_room
+  pub no_cell : cells ≡ []
+  pub places : length (members_in_order (begun s)) ≤ cell_room
+
+-- It took off: the flight is that of the cycle that is aloft. The plant and the sets of the end are away, as they were; the lists are
+-- written down; and there is room for the stations.
+pub record HasTakenOff (s : State) (before after : Slotted) (b b' : Bay) (f : FlightFacts) : Type 0 where
+  pub slots : after ≡ record before { loaded = (begun s).loaded; aloft = true }
+  pub bay : b' ≡ record b { hangar = None; mails = b'.mails; spare = b'.spare; lists = b'.lists }
+  pub mails : b'.mails.value.items ≡ (begun s).mails
+  pub none_stands : b'.spare.stations.items ≡ []
+  pub stands : length (members_in_order (begun s)) ≤ vec_capacity b'.spare.stations
+  pub lines : HasLines s.description b'.lists
+  pub shown : Shows b.plant.value.hardware b'.lists
+  pub flight : IsAloft (begun s) f

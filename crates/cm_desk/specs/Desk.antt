@@ -1,12 +1,12 @@
 -- What contracts see of the desk, and what its type keeps.
-use Rattle.std.specs.Prelude.{◌≡◌, ℕ, ◌+◌, ◌≤◌, Bool, true, false, not, List, length, Option, Some, None}
+use Rattle.std.specs.Prelude.{◌≡◌, ℕ, ◌+◌, ◌≤◌, Bool, true, false, not, List, [], ◌∷◌, length, Option, Some, None, IsSomeAnd}
 use Rattle.cm_document.specs.Valid.{IsValid}
 use Rattle.cm_document.specs.declared.call.Call.{Call}
 use Rattle.cm_document.specs.declared.call.Call.TheVariants.{Load, Configure, Cleanup, Unload, Rate, Send, Switch, Hardware, ListControllers, ListInterfaces, ListComponents}
 use Rattle.cm_model.specs.Console.{moves_out}
 use Rattle.cm_model.specs.Machine.{LegalFrom, state_after, reply_of, effect, step}
 use Rattle.cm_model.specs.Scheduled.{with_entry}
-use Rattle.cm_model.specs.Sound.{moments, AreSound}
+use Rattle.cm_model.specs.Sound.{Moment, moments, aloft_after, AreSound}
 use Rattle.cm_model.specs.State.{State, boot}
 use Rattle.cm_model.specs.Steady.{IsSteady}
 use Rattle.cm_model.specs.declared.blanks.Blanks.{Blanks}
@@ -15,6 +15,7 @@ use Rattle.cm_model.specs.declared.entry.Entry.{Entry}
 use Rattle.cm_model.specs.declared.reply.Reply.{Reply}
 use Rattle.cm_model.specs.declared.reply.Reply.TheVariants as reply
 use Rattle.cm_hardware.specs.Wiring.{one_if}
+use Rattle.rt_flight.specs.Flights.{FlightFacts, StaysAloft, StaysComputed}
 use Rattle.sound_laws.proofs.SerialLemmas.{IsNumbered}
 
 -- ---- A history
@@ -42,6 +43,26 @@ Waits old new who call = (step (now_of old) who call ≡ None) × (new ≡ old)
 abbrev pub GrowsWhere : Bool → History → History → ℕ → Call → Reply → Type 0
 GrowsWhere true old new who call r = Grows old new who call r
 GrowsWhere false old new who call r = Waits old new who call
+
+-- ---- Flights
+
+-- the state that the last begin left, where no end has come after it
+abbrev pub begun_among : Option State → List Moment → Option State
+begun_among begun [] = begun
+begun_among begun (moment ∷ moments) = begun_among (aloft_after begun moment moment.call) moments
+
+abbrev pub begun_of : History → Option State
+begun_of h = begun_among None (moments h.opening h.made)
+
+-- The flight is out, and not computed yet: it is that of the cycle which the history has begun and not ended, whatever consoles have
+-- called since.
+pub record IsOut (h : History) (f : FlightFacts) : Type 0 where
+  pub aloft : IsSomeAnd (begun_of h) (λ begun. StaysAloft begun f)
+  pub not_yet : f.outcome ≡ None
+
+-- It may land: it is that of this cycle, and computed.
+abbrev pub MayLand : History → FlightFacts → Type 0
+MayLand h f = IsSomeAnd (begun_of h) (λ begun. StaysComputed begun f)
 
 -- ---- Calls
 

@@ -1,77 +1,82 @@
--- The end of a cycle, in its parts: it is made, and then those are stopped that failed.
-use Rattle.std.specs.Prelude.{◌≡◌, ℕ, ◌<◌, ◌≤◌, ◌==◌, List, [], length, map, slice_get, true, Some, vec_capacity}
-use Rattle.std.specs.List.{All, IsDistinct}
+-- The landing of a flight, in its parts: the boxes and what works in a cycle come home, and then those are stopped that failed.
+use Rattle.std.specs.Prelude.{◌≡◌, ℕ, ◌≤◌, Bool, true, false, List, [], length, vec_capacity}
+use Rattle.std.specs.List.{All, AllByRecursion}
 use Rattle.cm_document.specs.Valid.{IsValid}
-use Rattle.cm_model.specs.Cycle.{period, failed_in, active_order, cycle, landed, after_cycle, stops}
+use Rattle.cm_model.specs.Cycle.{cycle, landed, after_cycle, failed_in}
 use Rattle.cm_model.specs.State.{State, Loaded}
 use Rattle.cm_model.specs.Steady.{IsSteady}
-use Rattle.cm_model.specs.declared.record_room.RecordRoom.{RecordRoom}
 use Rattle.cm_hardware.specs.Holding.{IsHardwareOf, IsMoved}
-use Rattle.ctl_places.specs.Placed.{Placed, placed_of}
-use Rattle.stop_plan.specs.Ending.{HasFlags, told_in, erred_in, members_in_order}
-use Rattle.stop_plan.specs.declared.ending.Ending.{Ending}
-use Rattle.switch_plan.specs.Relations.{Related, relations_of}
-use Rattle.ctl_slots.specs.Fit.{AreFit}
+use Rattle.cm_hardware.specs.Wiring.{Wired}
+use Rattle.ctl_places.specs.Placed.{placed_of}
 use Rattle.ctl_slots.specs.Seats.{widest}
-use Rattle.cm_desk.specs.Flight.{HasRoom}
-use Rattle.cm_desk.specs.Roster.{Listed, IsListedOf, serials_of}
+use Rattle.ctl_slots.specs.Slots.{Slotted}
+use Rattle.rt_flight.specs.Flights.{FlightFacts, IsComputed}
+use Rattle.rt_flight.specs.Stations.{IsFitted}
+use Rattle.rt_flight.specs.declared.plant.Plant.{Plant}
+use Rattle.sound_laws.proofs.SerialLemmas.{IsNumbered}
+use Rattle.stop_plan.specs.Ending.{HasFlags, IsEndingOf, told_in, erred_in}
+use Rattle.stop_plan.specs.declared.ending.Ending.{Ending}
+use Rattle.cm_desk.specs.Bay.{IsAtHome}
+use Rattle.cm_desk.specs.Roster.{Listed, IsListedOf}
 use Rattle.cm_desk.specs.Works.{IsAsDescribed}
-use Rattle.cm_desk.specs.declared.flight.Flight.{Flight}
+use Rattle.cm_desk.specs.declared.bay.Bay.{Bay}
 
--- With these the cycle can be made that is aloft in the state: its controllers, its hardware and its mail; the indices of the active
--- controllers in the order of updates; and a record with room.
-pub record IsFlying (s : State) (slots : List Loaded) (flight : Flight) (indices : List ℕ) (places : Placed) (relations : Related) (count : ℕ) (r : RecordRoom) : Type 0 where
-  pub valid : IsValid s.description
+-- The flight can land in this state, whose cycle is aloft, which is steady and whose serials differ: it is computed.
+pub record CanLand (s : State) (flight : FlightFacts) : Type 0 where
+  pub aloft : s.aloft ≡ true
   pub steady : IsSteady s
-  pub once : IsDistinct (λ m n. m == n) (serials_of s.loaded)
-  pub fit : AreFit s
-  pub described : All (IsAsDescribed s.description) s.loaded
-  pub within : s.ended < s.description.cycles
-  pub number : count ≡ s.ended
-  pub placed : places ≡ placed_of s.description
-  pub related : relations ≡ relations_of s.description
-  pub loaded : slots ≡ s.loaded
-  pub run : map (slice_get s.loaded) indices ≡ map Some (active_order s)
-  pub hardware : IsHardwareOf s flight.hardware
-  pub timed : flight.period_us ≡ period s.description
-  pub mails : flight.mails.items ≡ s.mails
-  pub wide : flight.room ≡ widest
-  pub room : HasRoom s.description places (members_in_order s) r
-  pub none_erred : flight.erred.items ≡ []
-  pub erred : length indices ≤ vec_capacity flight.erred
+  pub numbered : IsNumbered s
+  pub computed : IsComputed s flight
 
--- It was made, and is told of but for the stops.
-pub record HasRun (s : State) (slots : List Loaded) (flight : Flight) (r : RecordRoom) : Type 0 where
-  pub loaded : slots ≡ (landed s (cycle s)).loaded
-  pub hardware : IsMoved (landed s (cycle s)) flight.hardware
-  pub no_mail : flight.mails.items ≡ []
-  pub failed : r.failed.items ≡ failed_in s
-  pub ran : r.ran.rans ≡ told_in s
-  pub bodies : r.bodies.items ≡ (cycle s).happened.bodies
-  pub erred : flight.erred.items ≡ erred_in (told_in s)
-
--- So it can be settled who stops and who stays.
-pub record HasLanded (s : State) (slots : List Loaded) (flight : Flight) (looked : Listed) (ending : Ending) (places : Placed) (relations : Related) (r : RecordRoom) : Type 0 where
+-- The cycle of the state has landed with these, so it can be settled who stops and who stays: its controllers, its hardware, which may have
+-- moved, and who was looked up as active.
+pub record HasLanded (s : State) (slots : List Loaded) (w : Wired) (width : ℕ) (looked : Listed) : Type 0 where
   pub valid : IsValid s.description
   pub steady : IsSteady s
   pub described : All (IsAsDescribed s.description) s.loaded
-  pub placed : places ≡ placed_of s.description
-  pub related : relations ≡ relations_of s.description
   pub loaded : slots ≡ (landed s (cycle s)).loaded
-  pub hardware : IsMoved (landed s (cycle s)) flight.hardware
-  pub wide : flight.room ≡ widest
+  pub hardware : IsMoved (landed s (cycle s)) w
+  pub wide : width ≡ widest
   pub listed : IsListedOf s looked
-  pub fresh : looked.fresh ≡ true
-  pub flags : HasFlags (length s.description.controllers) ending
-  pub failed : r.failed.items ≡ failed_in s
-  pub erred : flight.erred.items ≡ erred_in (told_in s)
-  pub none_stopped : r.stops.items ≡ []
-  pub stops : length looked.order ≤ r.stops.room
 
 -- And so it is settled.
-pub record HasSettled (s : State) (slots : List Loaded) (flight : Flight) (looked : Listed) (ending : Ending) (r : RecordRoom) : Type 0 where
+pub record HasSettled (s : State) (slots : List Loaded) (w : Wired) (looked : Listed) : Type 0 where
   pub loaded : slots ≡ (after_cycle s (cycle s)).loaded
-  pub hardware : IsHardwareOf (after_cycle s (cycle s)) flight.hardware
+  pub hardware : IsHardwareOf (after_cycle s (cycle s)) w
   pub listed : IsListedOf (after_cycle s (cycle s)) looked
-  pub flags : HasFlags (length s.description.controllers) ending
-  pub stops : r.stops.items ≡ stops s (told_in s)
+
+-- So it can be settled, with these sets where something failed.
+pub record CanSettle (s : State) (slots : Slotted) (g : Plant) (width : ℕ) (looked : Listed) (sets : Ending) (failed : Bool) : Type 0 where
+  pub landed : HasLanded s slots.loaded g.hardware width looked
+  pub down : slots.aloft ≡ false
+  pub placed : g.places ≡ placed_of s.description
+  pub quiet : failed ≡ false → (failed_in s ≡ []) × (erred_in (told_in s) ≡ [])
+  pub ending : failed ≡ true → IsEndingOf s sets
+
+-- ---- All of it
+
+-- The flight comes home to these: the controllers of the state, whose boxes are away; who was looked up as active; and a bay with room for
+-- the stations and for the boxes.
+pub record CanComeHome (s : State) (slots : Slotted) (looked : Listed) (b : Bay) (berth_room : ℕ) (flight : FlightFacts) : Type 0 where
+  pub lands : CanLand s flight
+  pub valid : IsValid s.description
+  pub described : All (IsAsDescribed s.description) s.loaded
+  pub loaded : slots.loaded ≡ s.loaded
+  pub away : slots.aloft ≡ true
+  pub listed : IsListedOf s looked
+  pub fresh : looked.fresh ≡ true
+  pub wide : b.room ≡ widest
+  pub stands : length looked.order ≤ vec_capacity b.spare.stations
+  pub berths : length looked.order ≤ berth_room
+
+-- It came home: all is as after the cycle, and at home.
+pub record HasComeHome (s : State) (before after : Slotted) (looked : Listed) (b b' : Bay) (flight : FlightFacts) : Type 0 where
+  pub settled : HasSettled s after.loaded b'.plant.value.hardware looked
+  pub slots : after ≡ record before { loaded = after.loaded; aloft = false }
+  pub plant : b'.plant.value ≡ record flight.plant { hardware = b'.plant.value.hardware }
+  pub home : IsAtHome b'
+  pub flags : HasFlags (length s.description.controllers) b'.ending.value
+  pub fitted : AllByRecursion (IsFitted b'.plant.value.places) b'.spare.stations.items
+  pub no_mail : b'.mails.value.items ≡ []
+  pub lists : b'.lists ≡ b.lists
+  pub room : b'.room ≡ b.room

@@ -1,8 +1,10 @@
--- In reading order: what a cycle needs, who is active, then all that the desk keeps, and how a cycle begins and ends.
-pub mod Flight
+-- In reading order: what a cycle takes along, what it works on, who is active, then all that the desk keeps, and how a cycle begins, how
+-- controllers come to their cells, and how it ends.
 pub mod Supplies
+pub mod Bay
 pub mod Roster
 pub mod Works
 pub mod Begin
+pub mod Boarding
 pub mod End
 pub mod Desk

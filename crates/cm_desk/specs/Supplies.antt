@@ -1,12 +1,87 @@
 -- The memory that a cycle takes when it goes aloft.
-use Rattle.std.specs.Prelude.{◌≡◌, ℕ, ◌≤◌, [], vec_capacity}
+use Rattle.std.specs.Prelude.{◌≡◌, ℕ, ◌≤◌, ◌<◌, ◌+◌, if◌then◌else◌, List, [], ◌∷◌, length, map, sum_by, vec_capacity}
+use Rattle.std.specs.List.{All, AllByRecursion}
+use Rattle.cm_document.specs.Params.{kind_of}
+use Rattle.cm_document.specs.declared.description.CompDesc.{CompDesc}
+use Rattle.cm_document.specs.declared.description.Description.{Description}
+use Rattle.cm_model.specs.Order.{controller_at}
+use Rattle.cm_model.specs.declared.member.Member.{Member}
+use Rattle.cm_model.specs.declared.record_room.RecordRoom.{RecordRoom}
+use Rattle.cm_hardware.specs.Wiring.{Wired, one_if, can_fail}
+use Rattle.chain_order.specs.Links.{linked}
+use Rattle.ctl_places.specs.Placed.{Placed, placed_of}
+use Rattle.ctl_slots.specs.Lives.{publishes}
+use Rattle.rt_flight.specs.Stations.{Standing, IsFitted}
+use Rattle.rt_flight.specs.declared.plant.Plant.{Plant}
 use Rattle.cm_desk.specs.declared.supplies.Supplies.{Supplies}
 
--- There are empty lists for what it works on: for the mail of so many loaded controllers, and of so many active ones for the serials of
--- those that fail and for where they stand.
-pub record HasLists (loaded active : ℕ) (s : Supplies) : Type 0 where
+-- ---- Room to tell of a cycle
+
+-- of how many components a read or a write can fail
+abbrev pub failing : List CompDesc → ℕ
+failing [] = 0
+failing (c ∷ cs) = one_if (can_fail c) + failing cs
+
+-- how many joints they have
+abbrev pub joints : List CompDesc → ℕ
+joints [] = 0
+joints (c ∷ cs) = length c.joints + joints cs
+
+-- this is hardware of those components
+abbrev pub IsBuiltAs : Description → Wired → Type 0
+IsBuiltAs d w = d.components ≡ map (λ m. m.hardware.description) w.components
+
+-- how many values a controller gives out, by its place in the description, and how many numbers it publishes
+abbrev pub outs_at : Placed → Member → ℕ
+outs_at placed m = length (linked placed.claims m.place)
+
+abbrev pub numbers_at : Description → Placed → Member → ℕ
+numbers_at d placed m = if publishes (kind_of (controller_at d.controllers m.place).params) then length (linked placed.reads m.place) else 0
+
+-- Nothing is told yet in this record, and it has room for all that a cycle can tell when these controllers are active.
+pub record HasRoom (d : Description) (placed : Placed) (order : List Member) (r : RecordRoom) : Type 0 where
+  pub no_failure : r.failed.items ≡ []
+  pub failures : failing d.components ≤ r.failed.room
+  pub no_body : r.bodies.items ≡ []
+  pub bodies : joints d.components ≤ r.bodies.room
+  pub none_ran : r.ran.rans ≡ []
+  pub heads : length order ≤ r.ran.heads
+  pub values : sum_by (outs_at placed) order ≤ r.ran.values
+  pub numbers : sum_by (numbers_at d placed) order ≤ r.ran.numbers
+  pub none_stopped : r.stops.items ≡ []
+  pub stops : length order ≤ r.stops.room
+
+-- ---- All of it
+
+-- the station is that of this controller, but for when it is updated
+pub record IsStandOf (m : Member) (s : Standing) : Type 0 where
+  pub serial : s.serial ≡ m.serial
+  pub place : s.place ≡ m.place
+
+-- these are the stations of these controllers, one for each
+abbrev pub AreStandsOf : List Member → List Standing → Type 0
+AreStandsOf [] [] = Unit {0}
+AreStandsOf (m ∷ ms) (s ∷ ss) = IsStandOf m s × AreStandsOf ms ss
+AreStandsOf _ _ = ⊥
+
+-- and each is fitted
+pub record AreStations (placed : Placed) (order : List Member) (stations : List Standing) : Type 0 where
+  pub stands : AreStandsOf order stations
+  pub fitted : AllByRecursion (IsFitted placed) stations
+
+-- A cycle can be supplied on this plant in which these controllers are active: it is that of the description, and each is described.
+pub record CanSupply (d : Description) (g : Plant) (order : List Member) : Type 0 where
+  pub places : g.places ≡ placed_of d
+  pub build : IsBuiltAs d g.hardware
+  pub within : All (λ m. m.place < length d.controllers) order
+
+-- There are the stations of these controllers; the same controllers once more, for the flight; room for the serials of those
+-- that fail, and for the mail of so many that are loaded; and a record with room.
+pub record AreSupplies (d : Description) (placed : Placed) (members : List Member) (loaded : ℕ) (s : Supplies) : Type 0 where
+  pub stations : AreStations placed members s.stations.items
+  pub order : s.order.items ≡ members
+  pub none_erred : s.erred.items ≡ []
+  pub erred : length members ≤ vec_capacity s.erred
   pub no_mail : s.mails.items ≡ []
   pub mails : loaded ≤ vec_capacity s.mails
-  pub none_erred : s.erred.items ≡ []
-  pub erred : active ≤ vec_capacity s.erred
-  pub run : active ≤ vec_capacity s.run
+  pub told : HasRoom d placed members s.room

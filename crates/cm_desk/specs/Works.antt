@@ -1,5 +1,5 @@
 -- What the desk keeps, and how it answers.
-use Rattle.std.specs.Prelude.{◌≡◌, ℕ, ◌+◌, ◌<◌, ◌≤◌, ◌^◌, Bool, true, false, List, [], length, map, slice_get, is_some, Some, option_map, Result, Ok, Err, IfSome, vec_capacity}
+use Rattle.std.specs.Prelude.{◌≡◌, ℕ, ◌+◌, ◌<◌, ◌≤◌, ◌^◌, Bool, true, false, List, [], length, map, slice_get, is_some, Some, option_map, Result, Ok, Err}
 use Rattle.std.specs.List.{All}
 use Rattle.cm_document.specs.Params.{kind_of}
 use Rattle.cm_document.specs.Valid.{IsValid}
@@ -8,11 +8,10 @@ use Rattle.cm_model.specs.Commit.{commit}
 use Rattle.cm_model.specs.Console.{unless_refused, place_of, reply_on, with_changed, configure_refusals, after_configure}
 use Rattle.cm_model.specs.Cycle.{period}
 use Rattle.cm_model.specs.Machine.{load_refusals}
-use Rattle.cm_model.specs.Order.{Places}
+use Rattle.cm_model.specs.Order.{Places, set_of}
 use Rattle.cm_model.specs.State.{State, Loaded}
 use Rattle.cm_model.specs.Steady.{IsInOrder, AreLoaded, AreConfigured}
 use Rattle.cm_model.specs.Sound.{CanRunTogether}
-use Rattle.cm_model.specs.declared.member.Member.{Member}
 use Rattle.cm_model.specs.declared.blanks.Blanks.{Blanks}
 use Rattle.cm_model.specs.declared.reply.Reply.{Reply}
 use Rattle.cm_model.specs.declared.reply.Reply.TheVariants as reply
@@ -23,82 +22,81 @@ use Rattle.cm_hardware.specs.Listed.{with_hardware}
 use Rattle.ctl_places.specs.Placed.{Placed, placed_of}
 use Rattle.ctl_rack.specs.Stocks.{total}
 use Rattle.ctl_slots.specs.Commits.{TellCommit}
-use Rattle.ctl_slots.specs.Seats.{Width, widest}
-use Rattle.switch_plan.specs.Relations.{Related, relations_of}
+use Rattle.ctl_slots.specs.Seats.{widest}
+use Rattle.switch_plan.specs.Relations.{relations_of}
 pub use Rattle.request_plan.specs.Requests.{IsAnswered}
 use Rattle.request_plan.specs.Requests.{Asked}
-use Rattle.stop_plan.specs.Ending.{HasFlags}
-use Rattle.stop_plan.specs.declared.ending.Ending.{Ending}
 use Rattle.ctl_slots.specs.Fit.{AreFit}
-use Rattle.cm_desk.specs.Flight.{HasRoom}
+use Rattle.ctl_slots.specs.Slots.{Slotted}
+use Rattle.request_plan.specs.declared.acts.Switched.{Switched}
+use Rattle.rt_flight.specs.declared.plant.Plant.{Plant}
+use Rattle.cm_desk.specs.Bay.{Base, IsAtHome, IsBased}
 use Rattle.cm_desk.specs.Roster.{Listed, IsListedOf, TellsActive}
-use Rattle.cm_desk.specs.declared.flight.Flight.{Flight}
+use Rattle.cm_desk.specs.declared.bay.Bay.{Bay}
 use Rattle.ctl_trait.specs.declared.fault.CfgFault.{CfgFault}
 use Rattle.ctl_trait.specs.declared.fault.CfgFault.TheVariants.{Refused, Memory}
 
--- The state with these controllers loaded, by so many loads, and these requests, over this flight, when so many cycles have ended.
-abbrev pub state_with : Description → Blanks → ℕ → ℕ → List Loaded → Asked → Flight → ℕ → Bool → State
-state_with description blanks sessions loads loaded asked flight ended closed = with_hardware (record {
+-- The state with these controllers loaded, by so many loads, and these requests, over this base, when so many cycles have ended.
+abbrev pub state_with : Description → Blanks → ℕ → ℕ → Slotted → Asked → Base → ℕ → Bool → State
+state_with description blanks sessions loads slots asked base ended closed = with_hardware (record {
   description = description;
   sessions = sessions;
   blanks = blanks;
   loads = loads;
-  loaded = loaded;
+  loaded = slots.loaded;
   lives = [];
   bodies = [];
   values = [];
   requests = asked.requests;
   outcomes = asked.outcomes;
   ended = ended;
-  aloft = is_some flight.begun;
-  mails = flight.mails.items;
+  aloft = slots.aloft;
+  mails = base.mails;
   closed = closed;
-}) flight.hardware
+}) base.plant.hardware
 
 -- the controller is of the kind that is described at its place
 abbrev pub IsAsDescribed : Description → Loaded → Type 0
 IsAsDescribed d l = option_map (λ c. kind_of c.params) (slice_get d.controllers l.place) ≡ Some l.ctl.kind
 
--- What is worked out of the description once: the names of its controllers, whom and what each has to do with, and where their
--- interfaces stand on the board.
-pub record IsWorkedOut (d : Description) (names : List (List ℕ)) (relations : Related) (places : Placed) : Type 0 where
+-- one that has parameters is updated once in some cycles
+abbrev pub IsDivided : Loaded → Type 0
+IsDivided l = is_some l.ctl.params ≡ true → is_some l.divisor ≡ true
+
+-- What is worked out of the description once: the names of its controllers; and over this plant, whom and what each has to do with, where
+-- their interfaces stand on the board, and the time from one cycle to the next.
+pub record IsWorkedOut (d : Description) (names : List (List ℕ)) (g : Plant) : Type 0 where
   pub valid : IsValid d
   pub named : names ≡ map (λ c. c.name) d.controllers
-  pub related : relations ≡ relations_of d
-  pub placed : places ≡ placed_of d
+  pub related : g.relations ≡ relations_of d
+  pub placed : g.places ≡ placed_of d
+  pub timed : g.period_us ≡ period d
 
--- There is room for what each controller is given; the sets of the end have a flag for each described controller; and while a cycle is
--- aloft, there is room for all that it can tell, and for each active controller, whose update can fail.
-pub record IsRoomy (d : Description) (places : Placed) (flight : Flight) (order : List Member) (ending : Ending) : Type 0 where
-  pub wide : flight.room ≡ widest
-  pub flags : HasFlags (length d.controllers) ending
-  pub told : IfSome flight.begun (HasRoom d places order)
-  pub none_erred : flight.erred.items ≡ []
-  pub erred : is_some flight.begun ≡ true → length order ≤ vec_capacity flight.erred
-
--- What the desk keeps of its state. Each loaded controller is of its described kind; the blanks that are left are few enough that each can
--- still get a serial; the hardware is that of the state, and the time of a cycle is the period; a cycle that is aloft is one of the
--- described ones, and its order of updates is the one of now; no mail is aloft between two cycles; and what is looked up is so.
-pub record IsKept (s : State) (names : List (List ℕ)) (relations : Related) (places : Placed) (flight : Flight) (looked : Listed) (ending : Ending) : Type 0 where
-  pub worked_out : IsWorkedOut s.description names relations places
+-- What the desk keeps of its state. Each loaded controller is of its described kind, and has a divisor where it has parameters; the blanks
+-- that are left are few enough that each can still get a serial; the hardware is that of the state; a cycle that is aloft is one of the
+-- described ones, its order of updates is the one of now, and the loop is not closed; no mail is aloft between two cycles; and what is looked
+-- up is so.
+pub record IsKept (s : State) (names : List (List ℕ)) (base : Base) (looked : Listed) : Type 0 where
+  pub worked_out : IsWorkedOut s.description names base.plant
   pub described : All (IsAsDescribed s.description) s.loaded
+  pub divided : All IsDivided s.loaded
   pub counted : s.loads + total s.blanks < 2 ^ 32
   pub few : length s.loaded ≤ s.loads
-  pub hardware : IsHardwareOf s flight.hardware
-  pub timed : flight.period_us ≡ period s.description
+  pub hardware : IsHardwareOf s base.plant.hardware
   pub within : s.aloft ≡ true → s.ended < s.description.cycles
   pub ordered : s.aloft ≡ true → looked.fresh ≡ true
+  pub unclosed : s.aloft ≡ true → s.closed ≡ false
   pub no_mail : s.aloft ≡ false → s.mails ≡ []
   pub listed : IsListedOf s looked
   pub fit : AreFit s
-  pub roomy : IsRoomy s.description places flight looked.order ending
+  pub based : IsBased s.description s.aloft looked.order base
 
 -- ---- A commit
 
 -- A commit of this state can be made with these: its controllers and its hardware, which may have moved, where nobody has what is not
 -- available; the places of interfaces, room for each controller, and who was looked up as active. The flags tell the commit, after which
 -- this set is active, with some restarted by name.
-pub record CanCommit (s : State) (set again : Places) (places : Placed) (room : Width) (slots : List Loaded) (w : Wired) (looked : Listed)
+pub record CanCommit (s : State) (set again : Places) (places : Placed) (room : ℕ) (slots : List Loaded) (w : Wired) (looked : Listed)
     (chains stops starts : List Bool) : Type 0 where
   pub valid : IsValid s.description
   pub placed : places ≡ placed_of s.description
@@ -119,6 +117,26 @@ pub record HasCommitted (s : State) (set again : Places) (slots : List Loaded) (
   pub hardware : IsHardwareOf (commit s set again) w
   pub active : TellsActive (length s.description.controllers) slots looked.active
   pub stale : looked.fresh ≡ false
+
+-- and else nothing changed: of what is looked up, the order and the indices; the room; and of the slots, whether a cycle is aloft
+pub record KeepsRest (before after : Listed) (m n : ℕ) (old new : Slotted) : Type 0 where
+  pub order : after.order ≡ before.order
+  pub run : after.run ≡ before.run
+  pub width : n ≡ m
+  pub slots : new ≡ record old { loaded = new.loaded }
+
+-- A switch can be done with these: what works in a cycle is at home, and the sets tell a commit that can be made.
+pub record CanSwitch (b : Bay) (slots : Slotted) (looked : Listed) (c : Switched) : Type 0 where
+  pub home : IsAtHome b
+  pub down : slots.aloft ≡ false
+  pub can : (s : State) × (again : Places)
+      × CanCommit s (set_of c.set) again b.plant.value.places b.room slots.loaded b.plant.value.hardware looked c.chained c.stopped c.started
+
+-- it was done
+abbrev pub HasSwitched : Bay → Bay → Slotted → Slotted → Listed → Listed → Switched → Type 0
+HasSwitched b b' slots slots' looked looked' c = (s : State) (again : Places)
+    → CanCommit s (set_of c.set) again b.plant.value.places b.room slots.loaded b.plant.value.hardware looked c.chained c.stopped c.started
+    → HasCommitted s (set_of c.set) again slots'.loaded b'.plant.value.hardware looked'
 
 -- ---- Answers
 

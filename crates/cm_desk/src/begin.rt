@@ -1,106 +1,110 @@
 //! The begin of a cycle: the requests that wait are decided, and what the cycle needs is taken.
 
-ghost use Rattle.std.specs.Prelude.{◌≡◌, ◌≤◌, ◌&&◌, [], true, false, length, map, filter_map, vec_capacity, Some, List, IfOk, OnOk, OnErr};
-ghost use Rattle.std.specs.List.{AllByRecursion};
-ghost use Rattle.cm_model.specs.Boundary.{waiting, concluded, with_outcome, boundary, begin_effect, begin_reply};
+ghost use Rattle.std.specs.Prelude.{◌≡◌, ◌<◌, ◌≤◌, ◌&&◌, [], true, false, length, map, slice_get, vec_capacity, Some, List, IfOk, OnOk, OnErr};
+ghost use Rattle.cm_model.specs.Boundary.{waiting, concluded, with_outcome, boundary};
 ghost use Rattle.cm_model.specs.Commit.{seen};
-ghost use Rattle.cm_model.specs.Cycle.{mail_off, without_mail_off};
-ghost use Rattle.cm_model.specs.Machine.{can_begin};
-ghost use Rattle.cm_model.specs.State.{State, is_active, is_chained};
+ghost use Rattle.cm_model.specs.State.{State, Loaded, is_active, is_chained};
 ghost use Rattle.cm_model.specs.Steady.{IsSteady};
 ghost use Rattle.cm_model.specs.declared.request.Request.{Request};
-ghost use Rattle.cm_model.specs.declared.reply.Reply.TheVariants as reply;
 ghost use Rattle.request_plan.specs.Acts.{IsSwitchOf, IsMoveOf};
 ghost use Rattle.request_plan.specs.Plans.{IsPlanOf, AreConclusionsOf};
 ghost use Rattle.sound_laws.proofs.SerialLemmas.{IsNumbered};
-ghost use Rattle.ctl_slots.specs.Updates.{HasTime};
-ghost use Rattle.cm_desk.specs.Works.{IsAsDescribed};
-ghost use Rattle.cm_desk.specs.Begin.{IsNext, CanAct, none_waits};
+ghost use Rattle.cm_desk.specs.Begin.{IsNext, CanAct, CanBegin, HasBegun, CanTakeOff, HasTakenOff, none_waits};
 
-use crate::commits::commit;
-use crate::flight::{Flight, record_for};
+use crate::bay::Bay;
+use crate::boarding::board;
 use crate::roster::Roster;
-use crate::supplies::supplies_for;
+use crate::supplies::Supplies;
 use crate::works::{Works, described_at};
-use cm_model::{CtlDesc, Decision, Life, Memory, Rare, RecordRoom, Seen};
-use ctl_slots::{Slot, send_off};
+use cm_model::{CtlDesc, Decision, Life, Memory, Rare, Seen};
+use ctl_slots::{Slot, Slots};
 use ctl_trait::Controller;
 use request_plan::{Act, Conclusion, Plan, Requests, Stand, Switched};
+use rt_flight::{Cell, Flight, Payload};
 use std::alloc::Global;
+use std::snapshot::Snapshot;
 
 impl<C: Controller> Works<C> {
-    /// The next cycle begins: the requests that wait are decided one after the other, each in the state that the one before it left, and
-    /// the mail of those that are due goes aloft. All memory that this and the cycle need is taken before anything changes. It tells what
-    /// was decided.
-    pub fn begin(&mut self, alloc: Global) -> Result<Rare<Decision>, Memory>
-        requires can { can_begin self.old self.old.ended ≡ true }
-        requires steady { IsSteady self.old }
-        requires numbered { IsNumbered self.old }
-        ensures begun { OnOk result (self.new ≡ begin_effect self.old) }
-        ensures told { IfOk result (λ decisions. reply.Decisions decisions ≡ begin_reply self.old) }
+    /// The next cycle begins: the requests that wait are decided one after the other, each in the state that the one before it left, and the
+    /// controllers that run then go aloft in a flight, with the mail of those that are due. All memory that this and the cycle need is taken
+    /// before anything changes. It hands out the flight, and tells what was decided.
+    pub fn begin(&mut self, alloc: Global) -> Result<(Flight<C>, Rare<Decision>), Memory>
+        requires { CanBegin self.old }
+        ensures begun { IfOk result (λ begun. HasBegun self.old self.new begun.0 begun.1) }
         ensures kept { OnErr result (self.new ≡ self.old) }
     {
         if !is_settled(&self.roster, &self.requests) {
             return self.begin_anew(alloc);
         }
-        self.flight.mails.reserve(self.slots.len())?;
-        self.flight.erred.reserve(self.roster.order().len())?;
-        let left_over = self.flight.left_over.take();
-        let room = record_for(
+        let count = self.roster.order().len();
+        make_places(&mut self.cells, &mut self.boxes, count)?;
+        let supplies = self.bay.supply(
             alloc,
             &self.checked,
-            &self.places,
-            &self.flight.hardware,
             self.roster.order(),
-            left_over,
+            self.slots.len(),
         )?;
-        fly(&mut self.slots, &mut self.flight, self.ended, room);
-        Ok(Rare::none())
+        let cells = std::mem::replace(&mut self.cells, Vec::new(alloc));
+        let flight = take_off(
+            &mut self.slots,
+            self.roster.run(),
+            &mut self.bay,
+            &mut self.boxes,
+            cells,
+            self.ended,
+            supplies,
+        );
+        Ok((flight, Rare::none()))
     }
 
     /// The same, where requests wait or others may be active than in the cycle before.
-    fn begin_anew(&mut self, alloc: Global) -> Result<Rare<Decision>, Memory>
-        requires can { can_begin self.old self.old.ended ≡ true }
-        requires steady { IsSteady self.old }
-        requires numbered { IsNumbered self.old }
-        ensures begun { OnOk result (self.new ≡ begin_effect self.old) }
-        ensures told { IfOk result (λ decisions. reply.Decisions decisions ≡ begin_reply self.old) }
+    fn begin_anew(&mut self, alloc: Global) -> Result<(Flight<C>, Rare<Decision>), Memory>
+        requires { CanBegin self.old }
+        ensures begun { IfOk result (λ begun. HasBegun self.old self.new begun.0 begun.1) }
         ensures kept { OnErr result (self.new ≡ self.old) }
     {
         let plan = self.plan(alloc)?;
-        let left_over = self.flight.left_over.take();
-        let supplies = supplies_for(
-            alloc,
-            &self.checked,
-            &self.places,
-            &self.flight.hardware,
-            self.slots.len(),
-            &plan.order,
-            left_over,
-        )?;
+        let count = plan.order.len();
+        make_places(&mut self.cells, &mut self.boxes, count)?;
+        let run = Vec::with_capacity(alloc, count)?;
+        let supplies = self
+            .bay
+            .supply(alloc, &self.checked, &plan.order, self.slots.len())?;
+        let cells = std::mem::replace(&mut self.cells, Vec::new(alloc));
+        let boxes = std::mem::replace(&mut self.boxes, Vec::new(alloc));
         self.carry_out(plan.conclusions);
-        self.roster.put(plan.order, supplies.run, &self.slots);
-        self.flight.mails = supplies.mails;
-        self.flight.erred = supplies.erred;
-        fly(&mut self.slots, &mut self.flight, self.ended, supplies.room);
-        Ok(plan.decisions)
+        self.roster.put(plan.order, run, self.slots.as_slice());
+        self.boxes = boxes;
+        let flight = take_off(
+            &mut self.slots,
+            self.roster.run(),
+            &mut self.bay,
+            &mut self.boxes,
+            cells,
+            self.ended,
+            supplies,
+        );
+        Ok((flight, plan.decisions))
     }
 
     /// What becomes of the requests that wait, and the order of updates after that. Nothing is touched.
     fn plan(&self, alloc: Global) -> Result<Plan, Memory>
+        requires down { self.now.aloft ≡ false }
         requires steady { IsSteady self.now }
         requires numbered { IsNumbered self.now }
         ensures { IfOk result (λ plan. IsPlanOf self.now (waiting self.now) plan) }
     {
         let stand = self.stand(alloc)?;
-        let plan = self
-            .requests
-            .plan(alloc, &self.checked, &self.relations, stand)?;
-        Ok(plan)
+        let Some(hangar) = &self.bay.hangar else {
+            unreachable!();
+        };
+        let relations = &hangar.plant.relations;
+        Ok(self.requests.plan(alloc, &self.checked, relations, stand)?)
     }
 
     /// What the requests are decided by.
     fn stand(&self, alloc: Global) -> Result<Stand, Memory>
+        requires down { self.now.aloft ≡ false }
         ensures loaded { IfOk result (λ stand. stand.loaded.items ≡ map (seen self.now) self.now.loaded) }
         ensures lives { IfOk result (λ stand. stand.lives.items ≡ self.now.lives) }
     {
@@ -112,27 +116,30 @@ impl<C: Controller> Works<C> {
 
     /// The loaded controllers, as a request is decided by them.
     fn seen_all(&self, alloc: Global) -> Result<Vec<Seen>, Memory>
+        requires { self.now.aloft ≡ false }
         ensures { IfOk result (λ list. list.items ≡ map (seen self.now) self.now.loaded) }
     {
         let mut list = Vec::with_capacity(alloc, self.slots.len())?;
-        for slot in &self.slots {
-            list.push(self.seen(slot))?;
+        for index in 0..self.slots.len() {
+            list.push(self.seen(index))?;
         }
         Ok(list)
     }
 
-    /// One of them.
-    fn seen(&self, slot: &Slot<C>) -> Seen
-        requires { IsAsDescribed self.now.description slot.now }
-        ensures { result ≡ seen self.now slot.now }
+    /// The one at this index.
+    fn seen(&self, index: usize) -> Seen
+        requires within { index < length self.now.loaded }
+        requires down { self.now.aloft ≡ false }
+        ensures { (l : Loaded) → slice_get self.now.loaded index ≡ Some l → result ≡ seen self.now l }
     {
+        let slot = &self.slots.as_slice()[index];
         let controller = described_at(&self.checked, slot.place());
         Seen {
             serial: slot.serial(),
             place: slot.place() as u32,
             life: slot.life(),
             chained: self.runs_chained(slot, controller),
-            ready: slot.is_ready(self.ended),
+            ready: self.slots.is_ready(index, self.ended),
         }
     }
 
@@ -147,7 +154,7 @@ impl<C: Controller> Works<C> {
     fn lives(&self, alloc: Global) -> Result<Vec<Life>, Memory>
         ensures { IfOk result (λ lives. lives.items ≡ self.now.lives) }
     {
-        let lines = self.flight.hardware.component_lines(alloc)?;
+        let lines = self.bay.component_lines(alloc)?;
         let mut lives = Vec::with_capacity(alloc, lines.as_slice().len())?;
         for line in lines.as_slice() {
             lives.push(line.life)?;
@@ -200,24 +207,16 @@ impl<C: Controller> Works<C> {
         requires can { (after : State) × IsSwitchOf self.old after switched.now }
         ensures { (after : State) → IsSwitchOf self.old after switched.now → self.new ≡ after }
     {
-        commit(
-            &mut self.slots,
-            &mut self.flight.hardware,
-            &self.places,
-            &mut self.flight.room,
-            &mut self.roster,
-            &switched.chained,
-            &switched.stopped,
-            &switched.started,
-        );
+        self.bay.switch(&mut self.slots, &mut self.roster, switched);
     }
 
     /// A component comes to a lifecycle state.
     fn move_component(&mut self, component: u32, target: Life)
+        requires down { self.old.aloft ≡ false }
         requires can { (after : State) × (IsMoveOf self.old after component target × IsSteady after) }
         ensures { (after : State) → IsMoveOf self.old after component target → self.new ≡ after }
     {
-        match self.flight.hardware.move_component(component, target) {
+        match self.bay.move_component(component, target) {
             Ok(()) => {}
             Err(_) => unreachable!(),
         }
@@ -231,15 +230,70 @@ fn is_settled(roster: &Roster, requests: &Requests) -> bool
     roster.is_fresh() && requests.waiting().is_empty()
 }
 
-/// The cycle of this number goes aloft, with the mail of those that are due and a record to tell of it. It takes no memory.
-fn fly<C: Controller>(slots: &mut [Slot<C>], flight: &mut Flight, cycle: u64, room: RecordRoom)
-    requires no_mail { flight.old.mails.items ≡ [] }
-    requires room { length slots.old ≤ vec_capacity flight.old.mails }
-    requires time { AllByRecursion HasTime slots.old }
-    ensures slots { (s : State) → s.ended ≡ cycle → slots.new ≡ map (without_mail_off s) slots.old }
-    ensures mails { (s : State) → s.ended ≡ cycle → flight.new.mails.items ≡ filter_map (mail_off s) slots.old }
-    ensures flight { flight.new ≡ record flight.old { begun = Some room; mails = flight.new.mails } }
+/// There is room for the cells and the boxes of so many.
+fn make_places<C: Controller>(
+    cells: &mut Vec<Cell<C>>,
+    boxes: &mut Vec<C>,
+    count: usize,
+) -> Result<(), Memory>
+    ensures cells { OnOk result ((cells.new.items ≡ []) × (count ≤ vec_capacity cells.new)) }
+    ensures boxes { OnOk result ((boxes.new.items ≡ []) × (count ≤ vec_capacity boxes.new)) }
 {
-    send_off(slots, cycle, &mut flight.mails);
-    flight.begun = Some(room);
+    cells.clear();
+    cells.reserve(count)?;
+    boxes.clear();
+    boxes.reserve(count)?;
+    Ok(())
+}
+
+/// The cycle of this number takes off: the mail of those that are due goes aloft, the boxes of those that run leave their slots, and come
+/// to their cells with what works in the cycle; the lists are written down. It takes no memory.
+fn take_off<C: Controller>(
+    slots: &mut Slots<C>,
+    run: &[u32],
+    bay: &mut Bay,
+    boxes: &mut Vec<C>,
+    cells: Vec<Cell<C>>,
+    number: u64,
+    supplies: Supplies,
+) -> Flight<C>
+    requires { (s : State) × CanTakeOff s slots.old run.now bay.old (map C.meaning boxes.old.items)
+        (vec_capacity boxes.old) cells.items (vec_capacity cells) number supplies }
+    ensures off { (s : State) → CanTakeOff s slots.old run.now bay.old (map C.meaning boxes.old.items)
+        (vec_capacity boxes.old) cells.items (vec_capacity cells) number supplies
+        → HasTakenOff s slots.old slots.new bay.old bay.new result }
+    ensures room { vec_capacity boxes.new ≡ vec_capacity boxes.old }
+{
+    let Supplies {
+        stations,
+        order,
+        erred,
+        mails,
+        room,
+    } = supplies;
+    let mut cells = cells;
+    bay.spare.stations = stations;
+    bay.spare.mails = mails;
+    slots.send_off(number, &mut bay.spare.mails);
+    bay.mails = Snapshot::of(&bay.spare.mails);
+    slots.lend(run, boxes);
+    board(
+        slots.as_slice(),
+        run,
+        &mut bay.spare.mails,
+        &mut bay.spare.stations,
+        boxes,
+        &mut cells,
+    );
+    let hangar = bay.leave();
+    hangar.plant.hardware.show(&mut bay.lists);
+    Flight::take_off(Payload {
+        number,
+        cells,
+        order,
+        plant: hangar.plant,
+        ending: hangar.ending,
+        erred,
+        room,
+    })
 }

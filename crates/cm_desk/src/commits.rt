@@ -1,21 +1,21 @@
 //! A commit: a set of controllers becomes active, and all that goes by it.
 
-ghost use Rattle.std.specs.Prelude.{◌≡◌};
+ghost use Rattle.std.specs.Prelude.{◌≡◌, false};
 ghost use Rattle.cm_model.specs.Order.{Places};
 ghost use Rattle.cm_model.specs.State.{State};
-ghost use Rattle.cm_desk.specs.Works.{CanCommit, HasCommitted};
+ghost use Rattle.cm_desk.specs.Works.{CanCommit, HasCommitted, KeepsRest};
 
 use crate::roster::Roster;
 use chain_order::PlaceSet;
 use cm_hardware::ResourceManager;
 use ctl_places::CtlPlaces;
-use ctl_slots::{Room, Slot};
+use ctl_slots::{Room, Slots};
 use ctl_trait::Controller;
 
 /// A set of controllers becomes active: those that are stopped are deactivated, and those that are started activated, as these flags say; the
 /// board and the joints go by it, and who is active is looked up anew. It takes no memory.
 pub(crate) fn commit<C: Controller>(
-    slots: &mut [Slot<C>],
+    slots: &mut Slots<C>,
     hardware: &mut ResourceManager,
     places: &CtlPlaces,
     room: &mut Room,
@@ -24,17 +24,17 @@ pub(crate) fn commit<C: Controller>(
     stopped: &PlaceSet,
     started: &PlaceSet,
 )
+    requires down { slots.old.aloft ≡ false }
     requires can { (s : State) × (set : Places) × (again : Places)
-        × CanCommit s set again places.now room.old slots.old hardware.old roster.old
+        × CanCommit s set again places.now room.old slots.old.loaded hardware.old roster.old
         chained.now stopped.now started.now }
     ensures committed { (s : State) (set again : Places)
-        → CanCommit s set again places.now room.old slots.old hardware.old roster.old
+        → CanCommit s set again places.now room.old slots.old.loaded hardware.old roster.old
         chained.now stopped.now started.now
-        → HasCommitted s set again slots.new hardware.new roster.new }
-    ensures order { (roster.new.order ≡ roster.old.order) × (roster.new.run ≡ roster.old.run) }
-    ensures room { room.new ≡ room.old }
+        → HasCommitted s set again slots.new.loaded hardware.new roster.new }
+    ensures rest { KeepsRest roster.old roster.new room.old room.new slots.old slots.new }
 {
-    ctl_slots::commit(slots, hardware, places, room, chained, stopped, started);
-    roster.look(slots);
+    slots.commit(hardware, places, room, chained, stopped, started);
+    roster.look(slots.as_slice());
     hardware.commit(places, roster.active(), stopped);
 }

@@ -25,7 +25,7 @@ impl<C: Controller> Works<C> {
         let Some(index) = self.slot_of(name) else {
             return Ok(Reply::Not(Why::NotLoaded));
         };
-        if self.slots[index].is_active() {
+        if self.slots.as_slice()[index].is_active() {
             return Ok(Reply::Not(Why::Active));
         }
         match self.configure_at(alloc, index) {
@@ -41,10 +41,11 @@ impl<C: Controller> Works<C> {
         requires { IsSomeAnd (slice_get self.old.loaded index) (λ l. is_active l ≡ false) }
         ensures { IsConfigured self.old index self.new result }
     {
-        let slot = &mut self.slots[index];
+        let slot = &self.slots.as_slice()[index];
         let controller = described(&self.checked, slot);
         let divisor = divisor(self.checked.description().update_rate, slot.rate());
-        slot.configure(alloc, &controller.params, divisor)
+        self.slots
+            .configure(index, alloc, &controller.params, divisor)
     }
 
     /// The controller gives up its parameters. It takes no memory.
@@ -55,10 +56,10 @@ impl<C: Controller> Works<C> {
         let Some(index) = self.slot_of(name) else {
             return Reply::Not(Why::NotLoaded);
         };
-        if !self.slots[index].is_inactive() {
+        if !self.slots.as_slice()[index].is_inactive() {
             return Reply::Not(Why::NotInactive);
         }
-        self.slots[index].cleanup();
+        self.slots.cleanup(index);
         Reply::Done
     }
 
@@ -70,12 +71,12 @@ impl<C: Controller> Works<C> {
         let Some(index) = self.slot_of(name) else {
             return (Reply::Not(Why::NotLoaded), None);
         };
-        if self.slots[index].is_active() {
+        if self.slots.as_slice()[index].is_active() {
             return (Reply::Not(Why::Active), None);
         }
-        let slot = self.slots.remove(index);
-        self.roster.reindex(&self.slots);
-        (Reply::Done, Some(slot.into_ctl()))
+        let ctl = self.slots.unload(index);
+        self.roster.reindex(self.slots.as_slice());
+        (Reply::Done, Some(ctl))
     }
 
     /// The controller gets this rate in hertz, which counts at its next configure. It takes no memory.
@@ -85,10 +86,10 @@ impl<C: Controller> Works<C> {
         let Some(index) = self.slot_of(name) else {
             return Reply::Not(Why::NotLoaded);
         };
-        if self.slots[index].is_active() {
+        if self.slots.as_slice()[index].is_active() {
             return Reply::Not(Why::Active);
         }
-        self.slots[index].set_rate(hz);
+        self.slots.set_rate(index, hz);
         Reply::Done
     }
 
@@ -103,7 +104,7 @@ impl<C: Controller> Works<C> {
         if let Some(why) = self.mail_refusal(index, &mail) {
             return Reply::Not(why);
         }
-        self.slots[index].post(mail);
+        self.slots.post(index, mail);
         Reply::Done
     }
 
@@ -115,7 +116,7 @@ impl<C: Controller> Works<C> {
             (reply_on (send_refusals self.now mail.now) (slice_get self.now.loaded index) ≡ Reply.Done)
             (λ why. reply_on (send_refusals self.now mail.now) (slice_get self.now.loaded index) ≡ Reply.Not why) }
     {
-        let slot = &self.slots[index];
+        let slot = &self.slots.as_slice()[index];
         if !slot.is_active() {
             return Some(Why::NotActive);
         }

@@ -7,13 +7,14 @@ ghost use Rattle.cm_model.specs.Cycle.{cycle};
 ghost use Rattle.cm_model.specs.Machine.{LegalFrom, can_begin, can_close};
 ghost use Rattle.cm_model.specs.Sound.{moments, AreSound};
 ghost use Rattle.cm_model.specs.State.{boot};
-ghost use Rattle.cm_desk.specs.Desk.{now_of, Grows, Waits, GrowsWhere, CanBeCalled, hands_out};
+ghost use Rattle.cm_desk.specs.Desk.{now_of, Grows, Waits, GrowsWhere, CanBeCalled, hands_out, IsOut, MayLand};
 
 use crate::book::Book;
 use crate::works::Works;
 use cm_model::{Blanks, Boxed, Call, Checked, Entry, KeptCall, Memory, Outcome, Reply};
 use ctl_rack::Stock;
 use ctl_trait::Controller;
+use rt_flight::Flight;
 use std::alloc::Global;
 use std::marker::Model;
 
@@ -142,36 +143,39 @@ impl<C: Controller> Desk<C> {
         Ok(true)
     }
 
-    /// The loop begins the next cycle: the requests that wait are decided, and all memory is taken that the cycle needs. Want of memory
-    /// changes nothing.
-    pub fn begin(&mut self, alloc: Global) -> Result<(), Memory>
+    /// The loop begins the next cycle: the requests that wait are decided, all memory is taken that the cycle needs, and its flight is handed
+    /// out, which is computed wherever it is moved to. Want of memory changes nothing. A flight that is dropped leaves the desk aloft for
+    /// good: console calls go on, and no cycle begins and the loop does not close any more.
+    pub fn begin(&mut self, alloc: Global) -> Result<Flight<C>, Memory>
         requires can { can_begin (now_of self.old) (now_of self.old).ended ≡ true }
         ensures made { OnOk result
             (Grows self.old self.new self.old.opening.sessions (call.Begin (now_of self.old).ended)
             (begin_reply (now_of self.old))) }
+        ensures flight { IfOk result (IsOut self.new) }
         ensures kept { OnErr result (self.new ≡ self.old) }
     {
         self.history.reserve(ENTRIES_AHEAD)?;
         let who = self.works.sessions();
         let cycle = self.works.ended();
-        let decisions = self.works.begin(alloc)?;
+        let (flight, decisions) = self.works.begin(alloc)?;
         self.history.push_reserved(Entry {
             who,
             call: KeptCall::begin(cycle),
             reply: Reply::Decisions(decisions),
         });
-        Ok(())
+        Ok(flight)
     }
 
-    /// The loop ends the cycle that is aloft. It takes no memory.
-    pub fn end(&mut self)
-        requires aloft { (now_of self.old).aloft ≡ true }
+    /// The flight of the cycle that is aloft lands, which is computed, and the loop ends the cycle with the record of the flight. The boxes
+    /// are back then, with what works in a cycle. It takes no memory.
+    pub fn land(&mut self, flight: Flight<C>)
+        requires flight { MayLand self.old flight }
         ensures made { Grows self.old self.new self.old.opening.sessions (call.End (now_of self.old).ended)
             (Reply.Cycle (cycle (now_of self.old)).happened) }
     {
         let who = self.works.sessions();
         let cycle = self.works.ended();
-        let record = self.works.end();
+        let record = self.works.land(flight);
         self.history.push_reserved(Entry {
             who,
             call: KeptCall::end(cycle),

@@ -17,7 +17,7 @@ impl<C: Controller> Works<C> {
         ensures { IfOk result (λ lines. lines ≡ controller_lines self.now) }
     {
         let mut lines = Seq::from_vec(Vec::with_capacity(alloc, self.slots.len())?);
-        for slot in &self.slots {
+        for slot in self.slots.as_slice() {
             push_if_some(&mut lines, self.line(slot)?)?;
         }
         Ok(lines)
@@ -50,7 +50,8 @@ impl<C: Controller> Works<C> {
     pub(crate) fn is_chained(&self, controller: &CtlDesc) -> bool
         ensures { result ≡ is_chained self.now controller.now }
     {
-        self.slots.iter().any(|slot| slot.is_active() && self.is_precedent(slot, controller))
+        self.slots.as_slice().iter().any(|slot| slot.is_active()
+            && self.is_precedent(slot, controller))
     }
 
     /// Whether the loaded controller precedes this described one: it claims one of its references.

@@ -1,46 +1,206 @@
 //! The memory that a cycle takes when it goes aloft.
 
-ghost use Rattle.std.specs.Prelude.{◌≡◌, ◌<◌, length, IfOk, All};
+ghost use Rattle.std.specs.Prelude.{◌≡◌, ◌+◌, ◌≤◌, ◌<◌, [], true, length, sum_by, vec_capacity, IfOk, OnOk, All};
+ghost use Rattle.std.specs.List.{AllByRecursion};
 ghost use Rattle.ctl_places.specs.Placed.{placed_of};
-ghost use Rattle.cm_desk.specs.Flight.{HasRoom, IsBuiltAs};
-ghost use Rattle.cm_desk.specs.Supplies.{HasLists};
+ghost use Rattle.rt_flight.specs.Stations.{HasRows, IsFitted};
+ghost use Rattle.cm_desk.specs.Supplies.{AreStandsOf, AreStations, AreSupplies, CanSupply, HasRoom, IsBuiltAs, IsStandOf, outs_at, numbers_at};
 
-use crate::flight::record_for;
+use crate::bay::Spare;
+use crate::works::described_at;
 use cm_hardware::ResourceManager;
-use cm_model::{Checked, CycleParts, Member, Memory, RecordRoom};
+use cm_model::{Checked, CycleParts, Member, Memory, Params, RecordRoom, RecordSize};
 use ctl_places::CtlPlaces;
 use ctl_slots::MailAloft;
+use rt_flight::{Plant, Station};
 use std::alloc::Global;
 
-/// All memory that a cycle takes when it goes aloft: its record, and empty lists for what it works on.
+/// All that a cycle takes along, or works on, but for the hardware and the boxes.
 #[derive(Drop)]
 pub(crate) struct Supplies {
-    pub(crate) room: RecordRoom,
-    pub(crate) mails: Vec<MailAloft>,
+    /// The stations of those that fly, in the order of updates.
+    pub(crate) stations: Vec<Station>,
+    /// Who flies.
+    pub(crate) order: Vec<Member>,
+    /// Room for the serials of those whose update fails.
     pub(crate) erred: Vec<u32>,
-    pub(crate) run: Vec<u32>,
+    /// Room for the mail that goes aloft.
+    pub(crate) mails: Vec<MailAloft>,
+    /// Its record, with room for all that it can tell.
+    pub(crate) room: RecordRoom,
 }
 
-/// The memory that a cycle takes in which these controllers are active, of so many that are loaded.
+/// What a cycle takes in which these controllers are active, of so many that are loaded. What others left over is used again.
 pub(crate) fn supplies_for(
+    alloc: Global,
+    checked: &Checked,
+    plant: &Plant,
+    order: &[Member],
+    loaded: usize,
+    spare: Spare,
+) -> Result<Supplies, Memory>
+    requires plant { CanSupply checked.now plant.now order.now }
+    requires fitted { AllByRecursion (IsFitted plant.now.places) spare.stations.items }
+    ensures { IfOk result (AreSupplies checked.now plant.now.places order.now loaded) }
+{
+    let Spare {
+        stations,
+        order: members,
+        erred,
+        mails,
+        left_over,
+    } = spare;
+    let places = &plant.places;
+    let room = record_for(alloc, checked, places, &plant.hardware, order, left_over)?;
+    Ok(Supplies {
+        stations: stations_for(alloc, places, order, stations)?,
+        order: filled(members, order)?,
+        erred: with_room(erred, order.len())?,
+        mails: with_room(mails, loaded)?,
+        room,
+    })
+}
+
+/// The stations of these controllers: those that are there, where they are theirs, and else new ones.
+fn stations_for(
+    alloc: Global,
+    places: &CtlPlaces,
+    order: &[Member],
+    stations: Vec<Station>,
+) -> Result<Vec<Station>, Memory>
+    requires rows { All (λ m. HasRows places.now m.place) order.now }
+    requires fitted { AllByRecursion (IsFitted places.now) stations.items }
+    ensures { IfOk result (λ all. AreStations places.now order.now all.items) }
+{
+    if are_stations_of(&stations, order) {
+        return Ok(stations);
+    }
+    new_stations(alloc, places, order)
+}
+
+/// New stations for these controllers.
+fn new_stations(alloc: Global, places: &CtlPlaces, order: &[Member]) -> Result<Vec<Station>, Memory>
+    requires { All (λ m. HasRows places.now m.place) order.now }
+    ensures { IfOk result (λ all. AreStations places.now order.now all.items) }
+{
+    let mut stations = Vec::with_capacity(alloc, order.len())?;
+    for member in order {
+        stations.push(Station::make(alloc, *member, 1, places)?)?;
+    }
+    Ok(stations)
+}
+
+/// Whether these are the stations of these controllers.
+fn are_stations_of(stations: &[Station], order: &[Member]) -> bool
+    ensures { result ≡ true → AreStandsOf order.now stations.now }
+{
+    if stations.len() != order.len() {
+        return false;
+    }
+    for i in 0..order.len() {
+        if !is_station_of(&stations[i], order[i]) {
+            return false;
+        }
+    }
+    true
+}
+
+/// Whether this is the station of this controller.
+fn is_station_of(station: &Station, member: Member) -> bool
+    ensures { result ≡ true → IsStandOf member station.now }
+{
+    station.serial() == member.serial && station.place() == member.place
+}
+
+/// These, in the room of a list that is not needed any more.
+fn filled(list: Vec<Member>, members: &[Member]) -> Result<Vec<Member>, Memory>
+    ensures { IfOk result (λ filled. filled.items ≡ members.now) }
+{
+    let mut filled = list;
+    filled.clear();
+    filled.extend_from_slice(members)?;
+    Ok(filled)
+}
+
+/// An empty list with room for so many, in that of a list that is not needed any more.
+fn with_room<T: Drop>(list: Vec<T>, count: usize) -> Result<Vec<T>, Memory>
+    ensures { IfOk result (λ empty. (empty.items ≡ []) × (count ≤ vec_capacity empty)) }
+{
+    let mut empty = list;
+    empty.clear();
+    empty.reserve(count)?;
+    Ok(empty)
+}
+
+/// A record for a cycle of this hardware in which these controllers are active, with room for all that it can tell. Its parts come to stand
+/// in the place that another cycle left over, where there is one.
+fn record_for(
     alloc: Global,
     checked: &Checked,
     places: &CtlPlaces,
     hardware: &ResourceManager,
-    loaded: usize,
     order: &[Member],
     left_over: Option<Box<CycleParts>>,
-) -> Result<Supplies, Memory>
+) -> Result<RecordRoom, Memory>
     requires places { places.now ≡ placed_of checked.now }
     requires build { IsBuiltAs checked.now hardware.now }
     requires within { All (λ m. m.place < length checked.now.controllers) order.now }
-    ensures told { IfOk result (λ all. HasRoom checked.now places.now order.now all.room) }
-    ensures lists { IfOk result (HasLists loaded (length order.now)) }
+    ensures { IfOk result (HasRoom checked.now places.now order.now) }
 {
-    Ok(Supplies {
-        room: record_for(alloc, checked, places, hardware, order, left_over)?,
-        mails: Vec::with_capacity(alloc, loaded)?,
-        erred: Vec::with_capacity(alloc, order.len())?,
-        run: Vec::with_capacity(alloc, order.len())?,
-    })
+    let size = RecordSize {
+        failed: hardware.most_failures(),
+        ran: order.len(),
+        values: count_values(places, order)?,
+        numbers: count_numbers(checked, places, order)?,
+        bodies: hardware.joints(),
+        stops: order.len(),
+    };
+    Ok(RecordRoom::with_room(alloc, size, left_over)?)
+}
+
+/// How many values these controllers give out together.
+fn count_values(places: &CtlPlaces, order: &[Member]) -> Result<usize, Memory>
+    requires { All (λ m. m.place < length places.now.claims) order.now }
+    ensures { IfOk result (λ count. count ≡ sum_by (outs_at places.now) order.now) }
+{
+    let mut count = 0;
+    for member in order {
+        count = sum(count, places.claims(member.place).len())?;
+    }
+    Ok(count)
+}
+
+/// How many numbers they publish together.
+fn count_numbers(checked: &Checked, places: &CtlPlaces, order: &[Member]) -> Result<usize, Memory>
+    requires within { All (λ m. m.place < length checked.now.controllers) order.now }
+    requires places { length places.now.reads ≡ length checked.now.controllers }
+    ensures { IfOk result (λ count. count ≡ sum_by (numbers_at checked.now places.now) order.now) }
+{
+    let mut count = 0;
+    for member in order {
+        count = sum(count, numbers_of(checked, places, member))?;
+    }
+    Ok(count)
+}
+
+/// How many numbers one of them publishes.
+fn numbers_of(checked: &Checked, places: &CtlPlaces, member: &Member) -> usize
+    requires within { member.now.place < length checked.now.controllers }
+    requires places { length places.now.reads ≡ length checked.now.controllers }
+    ensures { result ≡ numbers_at checked.now places.now member.now }
+{
+    match described_at(checked, member.place as usize).params {
+        Params::Broadcaster { .. } => places.reads(member.place).len(),
+        _ => 0,
+    }
+}
+
+/// Two numbers together. Of more than memory could hold there is no room.
+fn sum(count: usize, more: usize) -> Result<usize, Memory>
+    ensures { IfOk result (λ all. all ≡ count + more) }
+{
+    match count.checked_add(more) {
+        Some(all) => Ok(all),
+        None => Err(Memory),
+    }
 }

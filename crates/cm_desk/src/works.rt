@@ -7,44 +7,39 @@ ghost use Rattle.cm_model.specs.Machine.{is_loaded_at, is_sold_out_at, with_load
 ghost use Rattle.cm_model.specs.State.{boot};
 ghost use Rattle.cm_desk.specs.Works.{IsAnswered, load_reply};
 
-use crate::flight::Flight;
+use crate::bay::Bay;
 use crate::roster::Roster;
-use crate::start::{at_start, worked_out};
+use crate::start::{at_start, names_of};
 use cm_model::{Checked, CtlDesc, Memory, Name, Reply, Shared, Why};
-use ctl_places::CtlPlaces;
 use ctl_rack::{Piles, Stock};
-use ctl_slots::Slot;
+use ctl_slots::{Slot, Slots};
 use ctl_trait::Controller;
 use request_plan::Requests;
+use rt_flight::Cell;
 use std::alloc::Global;
 use std::marker::Model;
-use stop_plan::Ending;
-use switch_plan::Relations;
 
-/// The loaded controllers with their boxes, the blanks that are left, the requests, and the hardware with what a cycle needs. Contracts see
-/// the written state.
+/// The loaded controllers with their boxes, the blanks that are left, the requests, and what a cycle works on, here or aloft. Contracts
+/// see the written state.
 #[derive(Drop)]
 pub struct Works<C: Controller> {
     pub(crate) checked: Checked,
     /// The names of the described controllers, by place, for the lines of lists.
     pub(crate) names: Vec<Shared<Name>>,
-    /// Whom and what each described controller has to do with, by place.
-    pub(crate) relations: Relations,
-    /// Where their interfaces stand on the board.
-    pub(crate) places: CtlPlaces,
     pub(crate) sessions: u32,
     pub(crate) blanks: Piles<C>,
     pub(crate) loads: u32,
     /// By serial: a load comes last.
-    pub(crate) slots: Vec<Slot<C>>,
+    pub(crate) slots: Slots<C>,
     /// By ticket.
     pub(crate) requests: Requests,
-    /// What a cycle needs.
-    pub(crate) flight: Flight,
+    /// What a cycle works on besides the controllers.
+    pub(crate) bay: Bay,
+    /// Room for the cells of those that run, and for their boxes on the way there and back.
+    pub(crate) cells: Vec<Cell<C>>,
+    pub(crate) boxes: Vec<C>,
     /// Who is active.
     pub(crate) roster: Roster,
-    /// What the end of a cycle changes.
-    pub(crate) ending: Ending,
     /// How many cycles have ended.
     pub(crate) ended: u64,
     /// Whether the loop is closed.
@@ -52,17 +47,20 @@ pub struct Works<C: Controller> {
 }
 
 impl<C: Controller> Model for Works<C> {
+    ghost use Rattle.std.specs.Prelude.{vec_capacity};
     ghost use Rattle.cm_model.specs.State.{State};
+    ghost use Rattle.cm_desk.specs.Bay.{base_of};
     ghost use Rattle.cm_desk.specs.Works.{state_with, IsKept};
 
     ghost Value = { State };
 
-    ghost view = { λ w.
-        state_with w.checked w.blanks w.sessions w.loads w.slots.items w.requests w.flight w.ended w.closed };
+    ghost view = { λ w. state_with w.checked w.blanks w.sessions w.loads w.slots w.requests
+        (base_of w.bay (vec_capacity w.boxes)) w.ended w.closed };
 
     ghost invariant = { λ w. IsKept
-        (state_with w.checked w.blanks w.sessions w.loads w.slots.items w.requests w.flight w.ended w.closed)
-        w.names.items w.relations w.places w.flight w.roster w.ending };
+        (state_with w.checked w.blanks w.sessions w.loads w.slots w.requests
+        (base_of w.bay (vec_capacity w.boxes)) w.ended w.closed)
+        w.names.items (base_of w.bay (vec_capacity w.boxes)) w.roster };
 }
 
 impl<C: Controller> Works<C> {
@@ -77,21 +75,20 @@ impl<C: Controller> Works<C> {
         ensures valid { OnOk result (IsValid checked) }
     {
         let blanks = stock.sorted(alloc)?;
-        let worked_out = worked_out(alloc, &checked)?;
+        let names = names_of(alloc, checked.description().controllers.as_slice())?;
         let start = at_start(alloc, &checked)?;
         Ok(Works {
             checked,
-            names: worked_out.names,
-            relations: worked_out.relations,
-            places: worked_out.places,
+            names,
             sessions,
             blanks,
             loads: 0,
-            slots: Vec::new(alloc),
+            slots: Slots::none(alloc),
             requests: Requests::none(alloc),
-            flight: start.flight,
+            bay: start.bay,
+            cells: Vec::new(alloc),
+            boxes: Vec::new(alloc),
             roster: start.roster,
-            ending: start.ending,
             ended: 0,
             closed: false,
         })
@@ -147,14 +144,13 @@ impl<C: Controller> Works<C> {
             × (self.new ≡ with_loaded self.old (Some place)))) }
         ensures kept { OnErr result (self.new ≡ self.old) }
     {
-        self.slots.reserve(1)?;
+        self.slots.reserve()?;
         let controller = described_at(&self.checked, place);
         let Some(blank) = self.blanks.take(controller.params.kind()) else {
             return Ok(None);
         };
         let serial = self.loads;
-        let slot = Slot::new(serial, place, controller.rate, blank);
-        self.slots.push_reserved(slot);
+        self.slots.load(serial, place, controller.rate, blank);
         self.loads += 1;
         Ok(Some(serial))
     }
@@ -171,7 +167,10 @@ impl<C: Controller> Works<C> {
     fn is_loaded_at(&self, place: usize) -> bool
         ensures { result ≡ is_loaded_at self.now place }
     {
-        self.slots.iter().any(|slot| slot.place() == place)
+        self.slots
+            .as_slice()
+            .iter()
+            .any(|slot| slot.place() == place)
     }
 
     /// Where the controller of this name stands among the loaded ones.
@@ -190,7 +189,10 @@ impl<C: Controller> Works<C> {
         ensures found { result ≡ slot_at self.now (Some place) }
         ensures within { IfSome result (λ index. index < length self.now.loaded) }
     {
-        self.slots.iter().position(|slot| slot.place() == place)
+        self.slots
+            .as_slice()
+            .iter()
+            .position(|slot| slot.place() == place)
     }
 }
 

@@ -1,3 +1,4 @@
+pub mod PortLemmas
 pub mod PartsLemmas
 pub mod SettleLemmas
 pub mod JobLemmas

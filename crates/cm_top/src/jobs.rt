@@ -9,10 +9,10 @@ ghost use Rattle.cm_model.specs.Sound.{moments, AreSound};
 ghost use Rattle.cm_model.specs.State.{boot};
 ghost use Rattle.cm_desk.specs.Desk.{now_of};
 ghost use Rattle.console_session.specs.Sessions.{AreLines, left_of};
-ghost use Rattle.cm_top.specs.Jobs.{at, progress_of};
+ghost use Rattle.cm_top.specs.Jobs.{at, progress_of, IsAloftAlike};
 
 use crate::port::DeskPort;
-use cm_desk::{Book, Desk, Stock};
+use cm_desk::{Book, Desk, Flight, Stock};
 use cm_model::{Call, Checked, Entry, Memory, Script, SessionText, Turn};
 use console_session::{Progress, Session};
 use ctl_trait::Controller;
@@ -20,22 +20,24 @@ use sequence::Seq;
 use std::alloc::Global;
 use std::marker::Model;
 
-/// How far a run has come: its desk, with the history, and where each session stands.
+/// How far a run has come: its desk, with the history, where each session stands, and the flight of the cycle that is aloft, where one is.
 #[derive(Drop)]
 pub struct Job<C: Controller> {
     desk: Desk<C>,
     sessions: Vec<Session>,
+    /// It is computed as soon as it is out.
+    flight: Option<Flight<C>>,
 }
 
 impl<C: Controller> Model for Job<C> {
     ghost use Rattle.std.specs.Prelude.{◌≡◌, length};
-    ghost use Rattle.cm_top.specs.Jobs.{JobFacts};
+    ghost use Rattle.cm_top.specs.Jobs.{JobFacts, IsFlown};
 
     ghost Value = { JobFacts };
 
     ghost view = { λ j. record { desk = j.desk; sessions = j.sessions.items } };
 
-    ghost invariant = { λ j. length j.sessions.items ≡ j.desk.opening.sessions };
+    ghost invariant = { λ j. (length j.sessions.items ≡ j.desk.opening.sessions) × IsFlown j.desk j.flight };
 }
 
 impl<C: Controller> Job<C> {
@@ -61,7 +63,11 @@ impl<C: Controller> Job<C> {
         let texts = script.sessions.as_slice();
         let sessions = waiting(alloc, texts)?;
         let desk = Desk::boot(alloc, checked, stock, texts.len() as u32)?;
-        Ok(Job { desk, sessions })
+        Ok(Job {
+            desk,
+            sessions,
+            flight: None,
+        })
     }
 
     /// All that the job did, in order.
@@ -102,7 +108,9 @@ impl<C: Controller> Job<C> {
         ensures { OnOk result (GoesOn (looped (call.Begin number)) self.old self.new) }
     {
         if self.can_begin(number) {
-            self.desk.begin(alloc)?;
+            let mut flight = self.desk.begin(alloc)?;
+            flight.compute();
+            self.flight = Some(flight);
         }
         Ok(())
     }
@@ -137,7 +145,10 @@ impl<C: Controller> Job<C> {
         ensures { GoesOn (looped (call.End number)) self.old self.new }
     {
         if self.can_end(number) {
-            self.desk.end();
+            let Some(flight) = self.flight.take() else {
+                unreachable!();
+            };
+            self.desk.land(flight);
         }
     }
 
@@ -364,6 +375,7 @@ fn settle_each<C: Controller>(
         (settle_from 0 (map left_of sessions.old) (now_of desk.old) desk.old.made []
         ≡ progress_of (record { desk = desk.new; sessions = sessions.new })) }
     ensures opening { desk.new.opening ≡ desk.old.opening }
+    ensures aloft { IsAloftAlike desk.old desk.new }
 {
     for who in 0..desk.sessions() {
         settle(alloc, who, &mut sessions[who as usize], desk)?;
@@ -382,6 +394,7 @@ fn settle<C: Controller>(
     ensures settled { OnOk result
         (settle who (at desk.old (left_of session.old)) ≡ at desk.new (left_of session.new)) }
     ensures opening { desk.new.opening ≡ desk.old.opening }
+    ensures aloft { IsAloftAlike desk.old desk.new }
 {
     let mut port = DeskPort::over(alloc, desk, who);
     while let Progress::Ran = session.advance(&mut port)? {}
@@ -400,6 +413,7 @@ fn step<C: Controller>(
         (progress_of (record { desk = desk.new; sessions = sessions.new })
         ≡ turned (Turn.Step who) (progress_of (record { desk = desk.old; sessions = sessions.old }))) }
     ensures opening { desk.new.opening ≡ desk.old.opening }
+    ensures aloft { IsAloftAlike desk.old desk.new }
 {
     if who >= desk.sessions() {
         return Ok(());

@@ -1,7 +1,7 @@
 //! The console of one session over a desk.
 
 ghost use Rattle.std.specs.Prelude.{◌≡◌, ◌<◌};
-ghost use Rattle.cm_top.specs.Ports.{desk_console, DeskGround};
+ghost use Rattle.cm_top.specs.Ports.{desk_console, ground_of, DeskGround};
 
 use cm_desk::Desk;
 use cm_model::{Call, Memory, Outcome, Port, Reply};
@@ -39,7 +39,7 @@ impl<'d, C: Controller> DeskPort<'d, C> {
 impl<'d, C: Controller> Port for DeskPort<'d, C> {
     ghost Ground = { DeskGround };
 
-    ghost footing = { λ p. record { lent = p.desk.ghost_name; who = p.who; opening = p.desk.now.opening } };
+    ghost footing = { λ p. ground_of p.desk.ghost_name p.who p.desk.now };
 
     ghost tells = { λ p. desk_console p.who p.desk.now p.waited };
 

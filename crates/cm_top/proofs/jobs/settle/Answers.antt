@@ -16,6 +16,10 @@ loop-preserved g c =
           c.loop.port.desk.now c.advance.new.port.desk.now c.loop.session c.advance.new.self
           c.in-Ran.is c.loop.invariant.who who opening c.in_ok-advance.ensures.as_written ∙ c.loop.invariant.settled;
       opening = opening ∙ c.loop.invariant.opening;
+      aloft = record {
+        begun = ap (λ (k : DeskGround). k.begun) c.in_ok-advance.ensures.still ∙ c.loop.invariant.aloft.begun;
+        aloft = ap (λ (k : DeskGround). k.aloft) c.in_ok-advance.ensures.still ∙ c.loop.invariant.aloft.aloft;
+      };
     }
 
 -- a session that did not run is settled
@@ -28,4 +32,8 @@ returns g c =
           c.args.desk.now c.loop.port.desk.now c.advance.new.port.desk.now _ c.args.session.now c.loop.session c.advance.new.self
           c.in_default.not-Ran c.loop.invariant.who who opening c.in_ok-advance.ensures.as_written c.in_ok-advance.ensures.advanced c.loop.invariant.settled (search rules);
       opening = search rules;
+      aloft = record {
+        begun = ap (λ (k : DeskGround). k.begun) c.in_ok-advance.ensures.still ∙ c.loop.invariant.aloft.begun;
+        aloft = ap (λ (k : DeskGround). k.aloft) c.in_ok-advance.ensures.still ∙ c.loop.invariant.aloft.aloft;
+      };
     }

@@ -2,7 +2,7 @@ use Rattle.std.proofs.Common.{◌≡◌}
 use Rattle.cm_model.specs.Scheduled.{settle}
 use Rattle.cm_model.proofs.AdvanceLemmas.{entries_left}
 use Rattle.console_session.specs.Sessions.{left_of}
-use Rattle.cm_top.specs.Jobs.{at}
+use Rattle.cm_top.specs.Jobs.{at, IsAloftAlike}
 use Rattle.cm_top.proofs.jobs.settle.Given as goal
 
 -- to settle from here is to settle from the start, over the same desk with the same opening
@@ -12,6 +12,7 @@ invariant-loop g l = record {
   who : l.port.who ≡ l.who;
   settled : settle l.who (at l.port.desk.now (left_of l.session)) ≡ settle l.who (at l.fn.desk (left_of l.fn.session));
   opening : l.port.desk.now.opening ≡ l.fn.desk.opening;
+  aloft : IsAloftAlike l.fn.desk l.port.desk.now;
 }
 
 abbrev pub decreases-loop : goal.decreases-loop

@@ -10,4 +10,8 @@ loop-who-preserved g c =
       settled = settle_from_next c.loop-who.who c.loop-who.sessions c.loop-who.who c.index-sessions-who.result c.settle.new.session c.loop-who.desk c.settle.new.desk
           less c.in_ok-settle.ensures.settled ∙ c.loop-who.invariant.settled;
       opening = c.settle.ensures.opening ∙ c.loop-who.invariant.opening;
+      aloft = record {
+        begun = c.settle.ensures.aloft.begun ∙ c.loop-who.invariant.aloft.begun;
+        aloft = c.settle.ensures.aloft.aloft ∙ c.loop-who.invariant.aloft.aloft;
+      };
     }

@@ -1,4 +1,5 @@
-use Rattle.std.proofs.Common.{refl}
+use Rattle.std.proofs.Common.{refl, vec_capacity}
+use Rattle.cm_desk.specs.Bay.{base_of}
 use Rattle.cm_desk.specs.Works.{state_with}
 use Rattle.cm_desk.proofs.AnswerLemmas.{asked_so, unasked_so}
 use Rattle.cm_desk.proofs.KeptLemmas.{kept_after_ask}
@@ -8,18 +9,18 @@ use Rattle.cm_desk.proofs.works.Works.ask.Goals as goal
 pub invariant_of-self : goal.invariant_of-self
 invariant_of-self g c =
     let a = c.self.inside in
-    let s = state_with a.checked a.blanks a.sessions a.loads a.slots.items a.requests a.flight a.ended a.closed in
-    let t = state_with a.checked a.blanks a.sessions a.loads a.slots.items c.ask.new.self a.flight a.ended a.closed in
-    kept_after_ask s t a.names.items a.relations a.places a.flight a.roster a.ending c.self.invariant refl
+    let s = state_with a.checked a.blanks a.sessions a.loads a.slots a.requests (base_of a.bay (vec_capacity a.boxes)) a.ended a.closed in
+    let t = state_with a.checked a.blanks a.sessions a.loads a.slots c.ask.new.self (base_of a.bay (vec_capacity a.boxes)) a.ended a.closed in
+    kept_after_ask s t a.names.items (base_of a.bay (vec_capacity a.boxes)) a.roster c.self.invariant refl c.self.invariant.unclosed
 
 pub returns-clause-made : goal.returns-clause-made
 returns-clause-made g c =
     let a = c.self.inside in
-    let s = state_with a.checked a.blanks a.sessions a.loads a.slots.items a.requests a.flight a.ended a.closed in
+    let s = state_with a.checked a.blanks a.sessions a.loads a.slots a.requests (base_of a.bay (vec_capacity a.boxes)) a.ended a.closed in
     rw (← c.self.view_is) (asked_so s a.requests c.ask.new.self a.closed c.args.request c.ask.result c.ask.ensures.made)
 
 pub returns-clause-kept : goal.returns-clause-kept
 returns-clause-kept g c =
     let a = c.self.inside in
-    let s = state_with a.checked a.blanks a.sessions a.loads a.slots.items a.requests a.flight a.ended a.closed in
+    let s = state_with a.checked a.blanks a.sessions a.loads a.slots a.requests (base_of a.bay (vec_capacity a.boxes)) a.ended a.closed in
     rw (← c.self.view_is) (unasked_so s a.requests c.ask.new.self a.closed c.ask.result c.ask.ensures.kept)

@@ -1,7 +1,9 @@
-use Rattle.std.proofs.Common.{◌≡◌, Bool, true, false, refl, sym, ap, ◌∙◌}
+use Rattle.std.proofs.Common.{◌≡◌, Bool, true, false, refl, sym, ap, ◌∙◌, vec_capacity}
 use Rattle.cm_model.specs.Boundary.{close_effect, close_reply}
 use Rattle.cm_model.specs.State.{State}
+use Rattle.cm_desk.specs.Bay.{base_of}
 use Rattle.cm_desk.specs.Works.{state_with}
+use Rattle.cm_desk.proofs.BeginLemmas.{closes_down}
 use Rattle.cm_desk.proofs.KeptLemmas.{kept_after_ask}
 use Rattle.cm_desk.proofs.RecordLemmas.{open_where}
 use Rattle.cm_desk.proofs.works.Works.close.Goals as goal
@@ -10,20 +12,21 @@ use Rattle.cm_desk.proofs.works.Works.close.Goals as goal
 pub invariant_of-self : goal.invariant_of-self
 invariant_of-self g c =
     let a = c.self.inside in
-    let s = state_with a.checked a.blanks a.sessions a.loads a.slots.items a.requests a.flight a.ended a.closed in
-    let t = state_with a.checked a.blanks a.sessions a.loads a.slots.items c.close_all.new.self a.flight a.ended true in
-    kept_after_ask s t a.names.items a.relations a.places a.flight a.roster a.ending c.self.invariant refl
+    let s = state_with a.checked a.blanks a.sessions a.loads a.slots a.requests (base_of a.bay (vec_capacity a.boxes)) a.ended a.closed in
+    let t = state_with a.checked a.blanks a.sessions a.loads a.slots c.close_all.new.self (base_of a.bay (vec_capacity a.boxes)) a.ended true in
+    kept_after_ask s t a.names.items (base_of a.bay (vec_capacity a.boxes)) a.roster c.self.invariant refl
+    (λ aloft. let no : true ≡ false = sym aloft ∙ closes_down s (rw (← c.self.view_is) at c.requires) in cc)
 
 pub returns-clause-closed : goal.returns-clause-closed
 returns-clause-closed g c =
     let a = c.self.inside in
-    let s : Bool → State = λ closed. state_with a.checked a.blanks a.sessions a.loads a.slots.items a.requests a.flight a.ended closed in
+    let s : Bool → State = λ closed. state_with a.checked a.blanks a.sessions a.loads a.slots a.requests (base_of a.bay (vec_capacity a.boxes)) a.ended closed in
     let open_before : a.closed ≡ false = open_where (s a.closed) (rw (← c.self.view_is) at c.requires) in
     rw (← c.self.view_is) (c.close_all.ensures.left (s a.closed) ∙ ap close_effect (ap s (sym open_before)))
 
 pub returns-clause-told : goal.returns-clause-told
 returns-clause-told g c =
     let a = c.self.inside in
-    let s : Bool → State = λ closed. state_with a.checked a.blanks a.sessions a.loads a.slots.items a.requests a.flight a.ended closed in
+    let s : Bool → State = λ closed. state_with a.checked a.blanks a.sessions a.loads a.slots a.requests (base_of a.bay (vec_capacity a.boxes)) a.ended closed in
     let open_before : a.closed ≡ false = open_where (s a.closed) (rw (← c.self.view_is) at c.requires) in
     rw (← c.self.view_is) (c.close_all.ensures.told (s a.closed) ∙ ap close_reply (ap s (sym open_before)))

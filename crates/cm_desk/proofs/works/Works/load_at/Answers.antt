@@ -1,7 +1,8 @@
-use Rattle.std.proofs.Common.{◌≡◌, ◌<◌, Some, false, refl}
+use Rattle.std.proofs.Common.{◌≡◌, ◌<◌, Some, None, false, refl, vec_capacity}
 use Rattle.std.specs.Prelude.{slice_get}
 use Rattle.cm_document.specs.Params.{kind_of}
-use Rattle.cm_model.specs.State.{blanks_of, with_one_less, is_active}
+use Rattle.cm_model.specs.State.{Loaded, blanks_of, with_one_less, is_active}
+use Rattle.cm_desk.specs.Bay.{base_of}
 use Rattle.cm_desk.specs.Works.{state_with}
 use Rattle.cm_desk.proofs.KeptLemmas.{kept_after_load}
 use Rattle.cm_desk.proofs.WorksLemmas.{one_less}
@@ -11,13 +12,19 @@ use Rattle.cm_desk.proofs.works.Works.load_at.Goals as goal
 pub invariant_of-self-2 : goal.invariant_of-self-2
 invariant_of-self-2 g c =
     let a = c.self.inside in
-    let s = state_with a.checked a.blanks a.sessions a.loads a.slots.items a.requests a.flight a.ended a.closed in
+    let s = state_with a.checked a.blanks a.sessions a.loads a.slots a.requests (base_of a.bay (vec_capacity a.boxes)) a.ended a.closed in
     let d = c.described_at-controller.result.now in
-    let l = c.new-slot.result in
+    let l : Loaded = record {
+      serial = a.loads;
+      place = c.args.place;
+      rate = d.rate;
+      divisor = None;
+      ctl = g.C.Controller.meaning c.in-Some.blank;
+      mail = None;
+    } in
     let some : 0 < blanks_of a.blanks (kind_of d.params) = rw (c.kind.ensures) at c.in-Some.ensures.1 in
-    let place : slice_get a.checked.controllers l.place ≡ Some d = rw (c.new-slot.ensures) c.described_at-controller.ensures.same in
-    let kind : l.ctl.kind ≡ kind_of d.params = rw (c.new-slot.ensures, c.in-Some.ensures.0) c.kind.ensures in
-    let idle : is_active l ≡ false = rw (c.new-slot.ensures, c.in-Some.ensures.0) refl in
-    rw (c.push_reserved.ensures.items, c.reserve.ensures.items, c.in-Some.ensures.2, c.kind.ensures)
-    (kept_after_load s a.names.items a.relations a.places a.flight a.roster a.ending (with_one_less a.blanks (kind_of d.params)) l c.self.invariant
-    (rw (place, kind) refl) idle (rw (c.new-slot.ensures) refl) (rw (c.new-slot.ensures) refl) (rw (c.new-slot.ensures) refl) (one_less a.blanks (kind_of d.params) some))
+    let kind : l.ctl.kind ≡ kind_of d.params = rw (c.in-Some.ensures.0) c.kind.ensures in
+    let idle : is_active l ≡ false = rw (c.in-Some.ensures.0) refl in
+    rw (c.load.ensures, c.reserve.ensures.same.0, c.reserve.ensures.same.1, c.in-Some.ensures.2, c.kind.ensures)
+    (kept_after_load s a.names.items (base_of a.bay (vec_capacity a.boxes)) a.roster (with_one_less a.blanks (kind_of d.params)) l c.self.invariant
+    (rw (c.described_at-controller.ensures.same, kind) refl) (rw (c.in-Some.ensures.0) (λ no. cc)) idle refl refl refl (one_less a.blanks (kind_of d.params) some))

@@ -1,7 +1,8 @@
-use Rattle.std.proofs.Common.{◌≡◌, ◌<◌, true, false, sym, ◌∙◌}
+use Rattle.std.proofs.Common.{◌≡◌, ◌<◌, true, false, sym, ◌∙◌, vec_capacity}
 use Rattle.std.specs.Prelude.{length}
 use Rattle.cm_model.specs.State.{is_active, is_chained}
 use Rattle.cm_model.specs.Steady.{IsSteady}
+use Rattle.cm_desk.specs.Bay.{base_of}
 use Rattle.cm_desk.specs.Works.{state_with}
 use Rattle.cm_desk.proofs.SendLemmas.{refused_idle, refused_chained, refused_none, refused_count, not_refused}
 use Rattle.cm_desk.proofs.WorksLemmas.{stands_here}
@@ -11,10 +12,10 @@ use Rattle.cm_desk.proofs.works.Works.mail_refusal.Goals as goal
 pub returns-then-not-is_active : goal.returns-then-not-is_active
 returns-then-not-is_active g c =
     let a = c.self.inside in
-    let s = state_with a.checked a.blanks a.sessions a.loads a.slots.items a.requests a.flight a.ended a.closed in
-    let l = c.index-slot.result.now in
-    let within : c.args.index < length a.slots.items = rw (← c.self.view_is) at c.requires.within in
-    let here = stands_here a.checked a.slots.items c.args.index l c.self.invariant.described within c.index-slot.ensures in
+    let s = state_with a.checked a.blanks a.sessions a.loads a.slots a.requests (base_of a.bay (vec_capacity a.boxes)) a.ended a.closed in
+    let l = c.index-as_slice-index.result in
+    let within : c.args.index < length a.slots.loaded = rw (← c.self.view_is) at c.requires.within in
+    let here = stands_here a.checked a.slots.loaded c.args.index l c.self.invariant.described within (rw (c.as_slice.ensures) at c.index-as_slice-index.is) in
     let idle : is_active l ≡ false = sym c.is_active.ensures.active ∙ c.if-not-is_active.true in
     rw (← c.self.view_is) (refused_idle s c.args.index l c.args.mail.now here.0 idle)
 
@@ -22,11 +23,11 @@ returns-then-not-is_active g c =
 pub returns-then-is_chained : goal.returns-then-is_chained
 returns-then-is_chained g c =
     let a = c.self.inside in
-    let s = state_with a.checked a.blanks a.sessions a.loads a.slots.items a.requests a.flight a.ended a.closed in
-    let l = c.index-slot.result.now in
+    let s = state_with a.checked a.blanks a.sessions a.loads a.slots a.requests (base_of a.bay (vec_capacity a.boxes)) a.ended a.closed in
+    let l = c.index-as_slice-index.result in
     let d = c.described-controller.result.now in
-    let within : c.args.index < length a.slots.items = rw (← c.self.view_is) at c.requires.within in
-    let here = stands_here a.checked a.slots.items c.args.index l c.self.invariant.described within c.index-slot.ensures in
+    let within : c.args.index < length a.slots.loaded = rw (← c.self.view_is) at c.requires.within in
+    let here = stands_here a.checked a.slots.loaded c.args.index l c.self.invariant.described within (rw (c.as_slice.ensures) at c.index-as_slice-index.is) in
     let runs : is_active l ≡ true = sym c.is_active.ensures.active ∙ c.if-not-is_active.false in
     let steady : IsSteady s = rw (← c.self.view_is) at c.requires.steady in
     let chained : c.is_chained.result ≡ is_chained s d = rw (← c.self.view_is) at c.is_chained.ensures in
@@ -36,11 +37,11 @@ returns-then-is_chained g c =
 pub returns-then-takes_none : goal.returns-then-takes_none
 returns-then-takes_none g c =
     let a = c.self.inside in
-    let s = state_with a.checked a.blanks a.sessions a.loads a.slots.items a.requests a.flight a.ended a.closed in
-    let l = c.index-slot.result.now in
+    let s = state_with a.checked a.blanks a.sessions a.loads a.slots a.requests (base_of a.bay (vec_capacity a.boxes)) a.ended a.closed in
+    let l = c.index-as_slice-index.result in
     let d = c.described-controller.result.now in
-    let within : c.args.index < length a.slots.items = rw (← c.self.view_is) at c.requires.within in
-    let here = stands_here a.checked a.slots.items c.args.index l c.self.invariant.described within c.index-slot.ensures in
+    let within : c.args.index < length a.slots.loaded = rw (← c.self.view_is) at c.requires.within in
+    let here = stands_here a.checked a.slots.loaded c.args.index l c.self.invariant.described within (rw (c.as_slice.ensures) at c.index-as_slice-index.is) in
     let runs : is_active l ≡ true = sym c.is_active.ensures.active ∙ c.if-not-is_active.false in
     let steady : IsSteady s = rw (← c.self.view_is) at c.requires.steady in
     let chained : c.is_chained.result ≡ is_chained s d = rw (← c.self.view_is) at c.is_chained.ensures in
@@ -51,11 +52,11 @@ returns-then-takes_none g c =
 pub returns-then-not-takes : goal.returns-then-not-takes
 returns-then-not-takes g c =
     let a = c.self.inside in
-    let s = state_with a.checked a.blanks a.sessions a.loads a.slots.items a.requests a.flight a.ended a.closed in
-    let l = c.index-slot.result.now in
+    let s = state_with a.checked a.blanks a.sessions a.loads a.slots a.requests (base_of a.bay (vec_capacity a.boxes)) a.ended a.closed in
+    let l = c.index-as_slice-index.result in
     let d = c.described-controller.result.now in
-    let within : c.args.index < length a.slots.items = rw (← c.self.view_is) at c.requires.within in
-    let here = stands_here a.checked a.slots.items c.args.index l c.self.invariant.described within c.index-slot.ensures in
+    let within : c.args.index < length a.slots.loaded = rw (← c.self.view_is) at c.requires.within in
+    let here = stands_here a.checked a.slots.loaded c.args.index l c.self.invariant.described within (rw (c.as_slice.ensures) at c.index-as_slice-index.is) in
     let runs : is_active l ≡ true = sym c.is_active.ensures.active ∙ c.if-not-is_active.false in
     let steady : IsSteady s = rw (← c.self.view_is) at c.requires.steady in
     let chained : c.is_chained.result ≡ is_chained s d = rw (← c.self.view_is) at c.is_chained.ensures in
@@ -67,11 +68,11 @@ returns-then-not-takes g c =
 pub returns : goal.returns
 returns g c =
     let a = c.self.inside in
-    let s = state_with a.checked a.blanks a.sessions a.loads a.slots.items a.requests a.flight a.ended a.closed in
-    let l = c.index-slot.result.now in
+    let s = state_with a.checked a.blanks a.sessions a.loads a.slots a.requests (base_of a.bay (vec_capacity a.boxes)) a.ended a.closed in
+    let l = c.index-as_slice-index.result in
     let d = c.described-controller.result.now in
-    let within : c.args.index < length a.slots.items = rw (← c.self.view_is) at c.requires.within in
-    let here = stands_here a.checked a.slots.items c.args.index l c.self.invariant.described within c.index-slot.ensures in
+    let within : c.args.index < length a.slots.loaded = rw (← c.self.view_is) at c.requires.within in
+    let here = stands_here a.checked a.slots.loaded c.args.index l c.self.invariant.described within (rw (c.as_slice.ensures) at c.index-as_slice-index.is) in
     let runs : is_active l ≡ true = sym c.is_active.ensures.active ∙ c.if-not-is_active.false in
     let steady : IsSteady s = rw (← c.self.view_is) at c.requires.steady in
     let chained : c.is_chained.result ≡ is_chained s d = rw (← c.self.view_is) at c.is_chained.ensures in

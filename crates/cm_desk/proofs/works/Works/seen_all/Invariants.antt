@@ -3,5 +3,5 @@ use Rattle.cm_model.specs.Commit.{seen}
 use Rattle.cm_desk.proofs.works.Works.seen_all.Given as goal
 
 -- those that were seen so far
-abbrev pub invariant-loop-slot : goal.invariant-loop-slot
-invariant-loop-slot g l = l.list.items ≡ map (seen l.self) (take l.slot-index l.slot-items)
+abbrev pub invariant-loop-index : goal.invariant-loop-index
+invariant-loop-index g l = l.list.items ≡ map (seen l.self) (take l.index l.self.loaded)

@@ -1,0 +1,136 @@
+-- A flight comes home: what it brings is what the cycle leaves.
+use Rattle.std.proofs.Common.{◌≡◌, ℕ, suc, ◌≤◌, Bool, true, false, List, [], ◌∷◌, length, map, Some, vec_capacity, refl, sym, ap, subst, ◌∙◌, arith}
+use Rattle.std.specs.Prelude.{slice_get}
+use Rattle.std.specs.List.{AllByRecursion}
+use Rattle.std.proofs.lemmas.List.{length-map}
+use Rattle.cm_document.specs.declared.life.Life.TheVariants.{Active}
+use Rattle.cm_model.specs.Cycle.{cycle, landed, active_order, after_cycle}
+use Rattle.cm_model.specs.Happened.{Happened}
+use Rattle.cm_model.specs.Sound.{running_part}
+use Rattle.cm_model.specs.State.{State, Loaded}
+use Rattle.cm_model.specs.declared.data.CtlData.{CtlData}
+use Rattle.cm_model.specs.declared.member.Member.{Member}
+use Rattle.cm_hardware.specs.Holding.{IsMoved}
+use Rattle.ctl_places.specs.Placed.{Placed}
+use Rattle.ctl_slots.specs.Calls.Slots.{CanPark, HasParked}
+use Rattle.ctl_slots.specs.Lives.{IsKept}
+use Rattle.ctl_slots.specs.Slots.{Slotted, AreDataIn, IsRunOf}
+use Rattle.rt_flight.specs.Cells.{Seat}
+use Rattle.rt_flight.specs.Flights.{FlightFacts, AreSeatsAfter, ComesHome}
+use Rattle.rt_flight.specs.Stations.{Standing, IsFitted}
+use Rattle.rt_flight.specs.declared.plant.Plant.{Plant}
+use Rattle.stop_plan.specs.Ending.{HasFlags, IsEndingOf}
+use Rattle.stop_plan.specs.declared.ending.Ending.{Ending}
+use Rattle.cm_desk.specs.Bay.{base_of}
+use Rattle.cm_desk.specs.Boarding.{CanLeave, HaveLeft}
+use Rattle.cm_desk.specs.End.{CanLand, CanComeHome, HasComeHome, CanSettle}
+use Rattle.cm_desk.specs.Roster.{Listed}
+use Rattle.cm_desk.specs.Works.{IsKept as KeepsState}
+use Rattle.cm_desk.specs.declared.bay.Bay.{Bay}
+use Rattle.cm_desk.proofs.AfterLemmas.{kept_ended}
+use Rattle.cm_desk.proofs.EndLemmas.{flags_from}
+use Rattle.cm_desk.proofs.OrderLemmas.{run_is}
+
+-- the boxes have the data that the cycle gives their controllers,
+data_are : (loaded ls : List Loaded) (cs : List Seat) → AreSeatsAfter loaded (map running_part ls) cs → AreDataIn loaded ls (map (λ (c : Seat). c.ctl) cs)
+data_are loaded [] [] after = tt
+data_are loaded [] (c ∷ cs) after = absurd after
+data_are loaded (l ∷ ls) [] after = absurd after
+data_are loaded (l ∷ ls) (c ∷ cs) after = (after.0.ctl, data_are loaded ls cs after.1)
+
+-- and there are as many
+cells_run : (loaded ls : List Loaded) (cs : List Seat) → AreSeatsAfter loaded (map running_part ls) cs → length cs ≡ length ls
+cells_run loaded [] [] after = refl
+cells_run loaded [] (c ∷ cs) after = absurd after
+cells_run loaded (l ∷ ls) [] after = absurd after
+cells_run loaded (l ∷ ls) (c ∷ cs) after = ap suc (cells_run loaded ls cs after.1)
+
+-- the stations are fitted as they were in their cells
+stations_fitted : (placed : Placed) (cs : List Seat) → AllByRecursion (λ (c : Seat). IsFitted placed c.station) cs → AllByRecursion (IsFitted placed) (map (λ (c : Seat). c.station) cs)
+stations_fitted placed [] fitted = tt
+stations_fitted placed (c ∷ cs) fitted = (fitted.0, stations_fitted placed cs fitted.1)
+
+module _ (s : State) (slots : Slotted) (looked : Listed) (b : Bay) (berths : ℕ) (f : FlightFacts) (can : CanComeHome s slots looked b berths f)
+    (cells : List Seat) (order : List Member) (g : Plant) (ending : Ending) (failed : Bool) (erred : List ℕ) (capacity : ℕ) (told : Happened)
+    (home : ComesHome f cells order g ending failed erred capacity told) where
+  after : AreSeatsAfter (cycle s).loaded (map running_part (active_order s)) cells
+  after = subst (AreSeatsAfter (cycle s).loaded (map running_part (active_order s))) (sym home.cells) can.lands.computed.cells
+
+  runs_at : map (slice_get s.loaded) looked.run ≡ map Some (active_order s)
+  runs_at = run_is s looked.order looked.run can.lands.numbered.once (can.listed.order can.fresh) (can.listed.run can.fresh)
+
+  is_run : IsRunOf s slots.loaded looked.run
+  is_run = record { valid = can.valid; once = can.lands.numbered.once; loaded = can.loaded; order = runs_at }
+
+  count : length cells ≡ length looked.order
+  count = cells_run (cycle s).loaded (active_order s) cells after ∙ sym (ap length (can.listed.order can.fresh) ∙ length-map (active_order s) _)
+
+  -- there is room for what comes home
+  pub can_leave : CanLeave (length cells) (vec_capacity b.spare.stations) berths
+  can_leave = record { stations = omega (arith, count, can.stands); boxes = omega (arith, count, can.berths) }
+
+  pub can_park : (stations : List Standing) (boxes : List CtlData) → HaveLeft cells stations boxes → CanPark slots looked.run boxes
+  can_park stations boxes left = record {
+    lent = can.away;
+    run = (s, is_run);
+    as_many = ap length left.boxes ∙ length-map cells (λ (c : Seat). c.ctl) ∙ cells_run (cycle s).loaded (active_order s) cells after
+        ∙ sym (sym (length-map looked.run (slice_get s.loaded)) ∙ ap length runs_at ∙ length-map (active_order s) Some);
+    running = left.running;
+  }
+
+  -- and so it can be settled who stops
+  pub can_settle : (slots' : Slotted) (stations : List Standing) (boxes : List CtlData) → HaveLeft cells stations boxes → HasParked slots slots' looked.run boxes
+      → CanSettle s slots' g b.room looked ending failed
+  can_settle slots' stations boxes left parked = record {
+    landed = record {
+      valid = can.valid;
+      steady = can.lands.steady;
+      described = can.described;
+      loaded = parked.landed s is_run (subst (AreDataIn (cycle s).loaded (active_order s)) (sym left.boxes) (data_are (cycle s).loaded (active_order s) cells after));
+      hardware = subst (λ (h : Plant). IsMoved (landed s (cycle s)) h.hardware) (sym home.plant) can.lands.computed.hardware;
+      wide = can.wide;
+      listed = can.listed;
+    };
+    down = ap (λ (x : Slotted). x.aloft) parked.slots;
+    placed = ap (λ (h : Plant). h.places) home.plant ∙ can.lands.computed.placed;
+    quiet = λ none. can.lands.computed.quiet (sym home.has_failed ∙ none);
+    ending = λ some. subst (IsEndingOf s) (sym home.ending) (can.lands.computed.ending (sym home.has_failed ∙ some));
+  }
+
+  pub flags : HasFlags (length s.description.controllers) ending
+  flags = flags_from s.description g.relations ending (ap (λ (h : Plant). h.relations) home.plant ∙ can.lands.computed.related) home.equipped.flags
+
+  pub fitted : (stations : List Standing) (boxes : List CtlData) → HaveLeft cells stations boxes → AllByRecursion (IsFitted g.places) stations
+  fitted stations boxes left = subst (AllByRecursion (IsFitted g.places)) (sym left.stations) (stations_fitted g.places cells home.equipped.fitted)
+
+-- ---- The whole landing
+
+-- the flight comes home to the desk that keeps this,
+pub comes_home : (s : State) (names : List (List ℕ)) (b : Bay) (berths : ℕ) (looked : Listed) (slots : Slotted) (f : FlightFacts) → KeepsState s names (base_of b berths) looked → CanLand s f
+    → slots.loaded ≡ s.loaded → slots.aloft ≡ s.aloft → CanComeHome s slots looked b berths f
+comes_home s names b berths looked slots f kept lands loaded aloft = record {
+  lands = lands;
+  valid = kept.worked_out.valid;
+  described = kept.described;
+  loaded = loaded;
+  away = aloft ∙ lands.aloft;
+  listed = kept.listed;
+  fresh = kept.ordered lands.aloft;
+  wide = kept.based.wide;
+  stands = kept.based.stands lands.aloft;
+  berths = kept.based.berths lands.aloft;
+}
+
+-- so it keeps it on
+pub kept_home : (s : State) (names : List (List ℕ)) (b b' : Bay) (berths berths' : ℕ) (was looked : Listed) (slots slots' : Slotted) (f : FlightFacts) → KeepsState s names (base_of b berths) was → CanLand s f
+    → HasComeHome s slots slots' looked b b' f → KeepsState (after_cycle s (cycle s)) names (base_of b' berths') looked
+kept_home s names b b' berths berths' was looked slots slots' f kept lands home =
+    kept_ended s slots'.loaded names (base_of b berths) (base_of b' berths') was looked kept home.settled
+    (record {
+      valid = kept.worked_out.valid;
+      named = kept.worked_out.named;
+      related = ap (λ (g : Plant). g.relations) home.plant ∙ lands.computed.related;
+      placed = ap (λ (g : Plant). g.places) home.plant ∙ lands.computed.placed;
+      timed = ap (λ (g : Plant). g.period_us) home.plant ∙ lands.computed.timed;
+    })
+    (record { home = home.home; flags = home.flags; fitted = home.fitted; lists = home.lists; room = home.room })

@@ -1,0 +1,42 @@
+-- What a cycle can tell, of the hardware of a state.
+use Rattle.std.proofs.Common.{◌≡◌, ◌+◌, List, [], ◌∷◌, ◌++◌, length, map, refl, sym, ap, subst, ◌∙◌}
+use Rattle.cm_document.specs.declared.description.Description.{Description}
+use Rattle.sequence.proofs.ListLemmas.{all_push}
+use Rattle.cm_model.specs.declared.member.Member.{Member}
+use Rattle.cm_hardware.specs.Wiring.{Wired, Mounted, most_failures, all_joints, can_fail, one_if}
+use Rattle.ctl_places.specs.Placed.{Placed}
+use Rattle.rt_flight.specs.Stations.{Standing, IsFitted}
+use Rattle.cm_desk.specs.Supplies.{failing, joints, IsBuiltAs, IsStandOf, AreStandsOf, AreStations}
+
+-- ---- Components
+
+failing_is : (ms : List Mounted) → most_failures ms ≡ failing (map (λ (m : Mounted). m.hardware.description) ms)
+failing_is [] = refl
+failing_is (m ∷ ms) = ap (λ n. one_if (can_fail m.hardware.description) + n) (failing_is ms)
+
+joints_are : (ms : List Mounted) → all_joints ms ≡ joints (map (λ (m : Mounted). m.hardware.description) ms)
+joints_are [] = refl
+joints_are (m ∷ ms) = ap (λ n. length m.hardware.description.joints + n) (joints_are ms)
+
+-- hardware of some components can tell as many failures as these
+pub most_of : (d : Description) (w : Wired) → IsBuiltAs d w → most_failures w.components ≡ failing d.components
+most_of d w built = failing_is w.components ∙ ap failing (sym built)
+
+pub joints_of : (d : Description) (w : Wired) → IsBuiltAs d w → all_joints w.components ≡ joints d.components
+joints_of d w built = joints_are w.components ∙ ap joints (sym built)
+
+-- ---- Stations
+
+stands_pushed : (ms : List Member) (m : Member) (ss : List Standing) (s : Standing) → AreStandsOf ms ss → IsStandOf m s → AreStandsOf (ms ++ m ∷ []) (ss ++ s ∷ [])
+stands_pushed [] m [] s all one = (one, tt)
+stands_pushed [] m (x ∷ ss) s all one = absurd all
+stands_pushed (n ∷ ms) m [] s all one = absurd all
+stands_pushed (n ∷ ms) m (x ∷ ss) s all one = (all.0, stands_pushed ms m ss s all.1 one)
+
+-- that of one more comes last
+pub stations_pushed : (placed : Placed) (ms : List Member) (m : Member) (ss : List Standing) (s : Standing) → AreStations placed ms ss → IsStandOf m s → IsFitted placed s
+    → AreStations placed (ms ++ m ∷ []) (ss ++ s ∷ [])
+stations_pushed placed ms m ss s all one fitted = record {
+  stands = stands_pushed ms m ss s all.stands one;
+  fitted = all_push (IsFitted placed) ss s all.fitted fitted;
+}

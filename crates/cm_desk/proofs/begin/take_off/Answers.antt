@@ -1,0 +1,84 @@
+use Rattle.std.proofs.Common.{◌≡◌, List, length, map, vec_capacity, refl, sym, ap, subst, ◌∙◌, arith}
+use Rattle.cm_model.specs.Cycle.{begun, without_mail_off}
+use Rattle.cm_model.specs.State.{Loaded}
+use Rattle.ctl_slots.specs.Slots.{Slotted, IsRunOf}
+use Rattle.cm_desk.specs.declared.bay.Bay.{Bay}
+use Rattle.cm_desk.proofs.BeginLemmas.{all_timed}
+use Rattle.cm_desk.proofs.TakeOffLemmas.{lines_for, lines_stay, lent_so, cells_so, mails_so, stands_room, is_run, run_count, can_board, aloft_over, equipped, ready}
+use Rattle.cm_desk.proofs.begin.take_off.Goals as goal
+
+-- no mail is aloft yet, and there is room for that of each
+pub send_off-requires-clause-room : goal.send_off-requires-clause-room
+send_off-requires-clause-room g c =
+    let is = c.requires.1 in
+    omega (arith, ap length is.supplies.no_mail, is.supplies.mails, ap length is.loaded)
+
+pub send_off-requires-clause-time : goal.send_off-requires-clause-time
+send_off-requires-clause-time g c =
+    let s = c.requires.0 in
+    let is = c.requires.1 in
+    rw (is.loaded) (all_timed s.description s.loaded is.fit.timed)
+
+-- the controllers without the mail that went aloft are those of the cycle
+pub lend-requires : goal.lend-requires
+lend-requires g c =
+    let s = c.requires.0 in
+    let is = c.requires.1 in
+    let sent = c.send_off.ensures.slots s (sym is.number) in
+    let loaded : c.send_off.new.self.loaded ≡ (begun s).loaded = ap (λ (x : Slotted). x.loaded) sent ∙ ap (map (without_mail_off s)) is.loaded in record {
+      home = ap (λ (x : Slotted). x.aloft) sent ∙ is.down;
+      run = (begun s, subst (λ (ls : List Loaded). IsRunOf (begun s) ls c.args.run.now) (sym loaded) (is_run s _ _ _ _ _ _ _ _ _ is));
+      empty = is.no_box;
+      room = omega (arith, run_count s _ _ _ _ _ _ _ _ _ is, is.berths);
+    }
+
+-- with the boxes that were lent they board
+pub board-requires : goal.board-requires
+board-requires g c =
+    let s = c.requires.0 in
+    let is = c.requires.1 in
+    let lent = lent_so s _ _ _ _ _ _ _ _ _ is c.send_off.new.self c.lend.new.self _ (c.send_off.ensures.slots s (sym is.number)) c.lend.ensures.lent in
+    rw (c.as_slice.ensures, lent.loaded) (can_board s _ _ _ _ _ _ _ _ _ is _ lent.ctls c.lend.ensures.lent.running)
+
+pub leave-hangar-requires : goal.leave-hangar-requires
+leave-hangar-requires g c = c.requires.1.home
+
+pub show-requires : goal.show-requires
+show-requires g c =
+    let s = c.requires.0 in
+    let is = c.requires.1 in
+    rw (c.leave-hangar.ensures.left.plant, ap (λ (b : Bay). b.lists) c.leave-hangar.ensures.bay) (lines_for (begun s) _ _ is.hardware is.lines)
+
+pub take_off-requires-clause-equipped : goal.take_off-requires-clause-equipped
+take_off-requires-clause-equipped g c =
+    let s = c.requires.0 in
+    let is = c.requires.1 in
+    let lent = lent_so s _ _ _ _ _ _ _ _ _ is c.send_off.new.self c.lend.new.self _ (c.send_off.ensures.slots s (sym is.number)) c.lend.ensures.lent in
+    let cells = cells_so s _ _ _ _ _ _ _ _ _ is c.as_slice.result.now _ c.send_off.new.mails.items c.board.new.cells.items (c.as_slice.ensures ∙ lent.loaded) lent.ctls (c.send_off.ensures.mails s (sym is.number)) c.board.ensures.boarded in
+    rw (cells, c.leave-hangar.ensures.left.plant, c.leave-hangar.ensures.left.ending) (equipped s _ _ _ _ _ _ _ _ _ is)
+
+pub take_off-requires-clause-ready : goal.take_off-requires-clause-ready
+take_off-requires-clause-ready g c =
+    let s = c.requires.0 in
+    let is = c.requires.1 in
+    let lent = lent_so s _ _ _ _ _ _ _ _ _ is c.send_off.new.self c.lend.new.self _ (c.send_off.ensures.slots s (sym is.number)) c.lend.ensures.lent in
+    let cells = cells_so s _ _ _ _ _ _ _ _ _ is c.as_slice.result.now _ c.send_off.new.mails.items c.board.new.cells.items (c.as_slice.ensures ∙ lent.loaded) lent.ctls (c.send_off.ensures.mails s (sym is.number)) c.board.ensures.boarded in
+    rw (cells, c.leave-hangar.ensures.left.plant) (ready s _ _ _ _ _ _ _ _ _ is (rw (lent.ctls) at c.lend.ensures.lent.running))
+
+pub returns-clause-off : goal.returns-clause-off
+returns-clause-off g c = λ s is.
+    let lent = lent_so s _ _ _ _ _ _ _ _ _ is c.send_off.new.self c.lend.new.self _ (c.send_off.ensures.slots s (sym is.number)) c.lend.ensures.lent in
+    let cells = cells_so s _ _ _ _ _ _ _ _ _ is c.as_slice.result.now _ c.send_off.new.mails.items c.board.new.cells.items (c.as_slice.ensures ∙ lent.loaded) lent.ctls (c.send_off.ensures.mails s (sym is.number)) c.board.ensures.boarded in
+    record {
+      slots = lent.whole;
+      bay = rw (c.leave-hangar.ensures.bay) refl;
+      mails = ap (λ (b : Bay). b.mails.value.items) c.leave-hangar.ensures.bay ∙ rw (c.of.ensures) (mails_so s _ _ _ _ _ _ _ _ _ is c.send_off.new.mails.items (c.send_off.ensures.mails s (sym is.number)));
+      none_stands = ap (λ (b : Bay). b.spare.stations.items) c.leave-hangar.ensures.bay ∙ c.board.ensures.stations.empty;
+      stands = omega (arith, ap (λ (b : Bay). vec_capacity b.spare.stations) c.leave-hangar.ensures.bay, c.board.ensures.stations.room, stands_room s _ _ _ _ _ _ _ _ _ is, c.args.supplies.stations.ok.0);
+      lines = lines_stay s c.leave-hangar.new.self.lists c.show.new.lists (rw (ap (λ (b : Bay). b.lists) c.leave-hangar.ensures.bay) is.lines) c.show.ensures.room;
+      shown = rw (← c.leave-hangar.ensures.left.plant) c.show.ensures.shown;
+      flight = rw (c.take_off.ensures) (record { over = rw (cells, c.leave-hangar.ensures.left.plant) (aloft_over s _ _ _ _ _ _ _ _ _ is); not_yet = refl });
+    }
+
+pub returns-clause-room : goal.returns-clause-room
+returns-clause-room g c = c.board.ensures.boxes.room ∙ c.lend.ensures.capacity

@@ -1,0 +1,123 @@
+-- What a cycle works on, at home or aloft.
+use Rattle.std.specs.Prelude.{◌≡◌, ℕ, ◌≤◌, Bool, true, false, not, List, [], length, vec_capacity, is_some, Option, Some, IfSome, IsSomeAnd}
+use Rattle.std.specs.List.{All, AllByRecursion}
+use Rattle.cm_document.specs.Places.{interfaces_of}
+use Rattle.cm_document.specs.declared.description.Description.{Description}
+use Rattle.cm_model.specs.Cycle.{period}
+use Rattle.cm_model.specs.State.{MailAloft, boot}
+use Rattle.cm_model.specs.declared.blanks.Blanks.{Blanks}
+use Rattle.cm_model.specs.declared.member.Member.{Member}
+use Rattle.cm_hardware.specs.Holding.{IsHardwareOf}
+use Rattle.cm_hardware.specs.Shown.{Shows}
+use Rattle.cm_hardware.specs.Wiring.{Wired}
+use Rattle.cm_hardware.specs.declared.lists.Lists.{Lists}
+use Rattle.ctl_places.specs.Placed.{placed_of}
+use Rattle.ctl_slots.specs.Seats.{widest}
+use Rattle.rt_flight.specs.Stations.{Standing, IsFitted}
+use Rattle.rt_flight.specs.declared.plant.Plant.{Plant}
+use Rattle.stop_plan.specs.Ending.{HasFlags}
+use Rattle.stop_plan.specs.declared.ending.Ending.{Ending}
+use Rattle.switch_plan.specs.Relations.{relations_of}
+use Rattle.cm_desk.specs.Supplies.{CanSupply}
+use Rattle.cm_desk.specs.declared.bay.Bay.{Bay}
+use Rattle.cm_desk.specs.declared.bay.Hangar.{Hangar}
+
+-- What is seen of it: what a cycle works on and the sets of its end, as they stand at home, or as they were when they left; what of it
+-- is at home; the mail that is aloft; the stations that are at home; the lists that were written down; and for how many of those that
+-- run there is room for a box and for a station.
+pub record Base : Type 0 where
+  pub plant : Plant
+  pub ending : Ending
+  pub hangar : Option Hangar
+  pub mails : List MailAloft
+  pub stations : List Standing
+  pub lists : Lists
+  pub room : ℕ
+  pub stands : ℕ
+  pub berths : ℕ
+
+-- that of this bay, with room for so many boxes
+abbrev pub base_of : Bay → ℕ → Base
+base_of b berths = record {
+  plant = b.plant.value;
+  ending = b.ending.value;
+  hangar = b.hangar;
+  mails = b.mails.value.items;
+  stations = b.spare.stations.items;
+  lists = b.lists;
+  room = b.room;
+  stands = vec_capacity b.spare.stations;
+  berths = berths;
+}
+
+-- What is at home is this.
+pub record IsHome (g : Plant) (e : Ending) (h : Hangar) : Type 0 where
+  pub plant : h.plant ≡ g
+  pub ending : h.ending ≡ e
+
+-- there is room for the lists of a description
+pub record HasLines (d : Description) (l : Lists) : Type 0 where
+  pub components : length d.components ≤ vec_capacity l.components
+  pub interfaces : length (interfaces_of d) ≤ vec_capacity l.interfaces
+
+-- What works in a cycle is at home, and so it is.
+abbrev pub IsAtHome : Bay → Type 0
+IsAtHome b = IsSomeAnd b.hangar (IsHome b.plant.value b.ending.value)
+
+-- The lists of its hardware can be told: where it is at home it is so, and else they were written down.
+pub record IsListing (b : Bay) : Type 0 where
+  pub home : IfSome b.hangar (IsHome b.plant.value b.ending.value)
+  pub shown : is_some b.hangar ≡ false → Shows b.plant.value.hardware b.lists
+
+-- What is kept of it, while a cycle is aloft or not, whose controllers these are: what is at home is so, and between two cycles all of
+-- it is; each station that is at home is fitted; there is room for the lists, which are written down while it is away, and for each
+-- box and each station that is away then.
+pub record IsBased (d : Description) (aloft : Bool) (order : List Member) (b : Base) : Type 0 where
+  pub wide : b.room ≡ widest
+  pub flags : HasFlags (length d.controllers) b.ending
+  pub home : IfSome b.hangar (IsHome b.plant b.ending)
+  pub home_is : is_some b.hangar ≡ not aloft
+  pub fitted : AllByRecursion (IsFitted b.plant.places) b.stations
+  pub lines : HasLines d b.lists
+  pub shown : is_some b.hangar ≡ false → Shows b.plant.hardware b.lists
+  pub stands : aloft ≡ true → length order ≤ b.stands
+  pub berths : aloft ≡ true → length order ≤ b.berths
+
+-- Of a bay whose hardware changed, all else stays, and it is at home.
+pub record IsRewired (before after : Bay) : Type 0 where
+  pub plant : after.plant.value ≡ record before.plant.value { hardware = after.plant.value.hardware }
+  pub ending : after.ending.value ≡ before.ending.value
+  pub home : IsAtHome after
+  pub mails : after.mails.value.items ≡ before.mails.value.items
+  pub spare : after.spare ≡ before.spare
+  pub lists : after.lists ≡ before.lists
+  pub room : after.room ≡ before.room
+
+-- What was left over is used up, and all else stays.
+pub record IsUsedUp (before after : Bay) : Type 0 where
+  pub stations : after.spare.stations.items ≡ []
+  pub bay : after ≡ record before { spare = after.spare }
+
+-- It can be supplied for these controllers: it is that of the description, each is described, and the stations that are there are fitted.
+pub record CanBeSupplied (d : Description) (b : Bay) (order : List Member) : Type 0 where
+  pub plant : CanSupply d b.plant.value order
+  pub fitted : AllByRecursion (IsFitted b.plant.value.places) b.spare.stations.items
+
+-- This plant and these sets are at home, and no mail is aloft.
+pub record HasMoored (before after : Bay) (g : Plant) (e : Ending) : Type 0 where
+  pub plant : after.plant.value ≡ g
+  pub ending : after.ending.value ≡ e
+  pub home : after.hangar ≡ Some (record { plant = g; ending = e })
+  pub no_mail : after.mails.value.items ≡ []
+  pub spare : after.spare ≡ record before.spare { mails = after.spare.mails }
+  pub lists : after.lists ≡ before.lists
+  pub room : after.room ≡ before.room
+
+-- At start the hardware is that of the state at boot, whatever its blanks and sessions, and all is at home.
+pub record IsAtStart (d : Description) (b : Bay) : Type 0 where
+  pub hardware : (blanks : Blanks) (sessions : ℕ) → IsHardwareOf (boot d blanks sessions) b.plant.value.hardware
+  pub placed : b.plant.value.places ≡ placed_of d
+  pub related : b.plant.value.relations ≡ relations_of d
+  pub timed : b.plant.value.period_us ≡ period d
+  pub no_mail : b.mails.value.items ≡ []
+  pub based : (berths : ℕ) → IsBased d false [] (base_of b berths)
