@@ -1,0 +1,120 @@
+//! A controller of any kind, without a box.
+
+use ctl_bcast::Broadcaster;
+use ctl_forward::{Forward, Passthrough};
+use ctl_mock::Mock;
+use ctl_pid::PidCtl;
+use ctl_trait::{CfgFault, Controller, CtlKind, Done, Fx, Mail, Params, Tick, Value};
+use ctl_traj::TrajCtl;
+use std::alloc::Global;
+
+/// A controller of any of the six kinds. The stocks of rows are of these and not of boxes, since no function of a library may hand out a
+/// `dyn` that it made: nothing would be known of it but its trait.
+#[derive(Drop)]
+pub enum AnyKind {
+    Forward(Forward),
+    Passthrough(Passthrough),
+    Pid(PidCtl),
+    Trajectory(TrajCtl),
+    Broadcaster(Broadcaster),
+    Mock(Mock),
+}
+
+impl Controller for AnyKind {
+    ghost meaning = { λ c. elim c [
+      | AnyKind.Forward ctl ↦ ⟦<Forward as Controller>⟧.meaning ctl
+      | AnyKind.Passthrough ctl ↦ ⟦<Passthrough as Controller>⟧.meaning ctl
+      | AnyKind.Pid ctl ↦ ⟦<PidCtl as Controller>⟧.meaning ctl
+      | AnyKind.Trajectory ctl ↦ ⟦<TrajCtl as Controller>⟧.meaning ctl
+      | AnyKind.Broadcaster ctl ↦ ⟦<Broadcaster as Controller>⟧.meaning ctl
+      | AnyKind.Mock ctl ↦ ⟦<Mock as Controller>⟧.meaning ctl
+    ] };
+
+    fn kind(&self) -> CtlKind {
+        match self {
+            AnyKind::Forward(ctl) => ctl.kind(),
+            AnyKind::Passthrough(ctl) => ctl.kind(),
+            AnyKind::Pid(ctl) => ctl.kind(),
+            AnyKind::Trajectory(ctl) => ctl.kind(),
+            AnyKind::Broadcaster(ctl) => ctl.kind(),
+            AnyKind::Mock(ctl) => ctl.kind(),
+        }
+    }
+
+    fn configure(&mut self, alloc: Global, params: &Params) -> Result<(), CfgFault> {
+        match self {
+            AnyKind::Forward(ctl) => ctl.configure(alloc, params),
+            AnyKind::Passthrough(ctl) => ctl.configure(alloc, params),
+            AnyKind::Pid(ctl) => ctl.configure(alloc, params),
+            AnyKind::Trajectory(ctl) => ctl.configure(alloc, params),
+            AnyKind::Broadcaster(ctl) => ctl.configure(alloc, params),
+            AnyKind::Mock(ctl) => ctl.configure(alloc, params),
+        }
+    }
+
+    fn ready(&self, cycle: u64) -> bool {
+        match self {
+            AnyKind::Forward(ctl) => ctl.ready(cycle),
+            AnyKind::Passthrough(ctl) => ctl.ready(cycle),
+            AnyKind::Pid(ctl) => ctl.ready(cycle),
+            AnyKind::Trajectory(ctl) => ctl.ready(cycle),
+            AnyKind::Broadcaster(ctl) => ctl.ready(cycle),
+            AnyKind::Mock(ctl) => ctl.ready(cycle),
+        }
+    }
+
+    fn activate(&mut self, states: &[Fx], chained: bool) {
+        match self {
+            AnyKind::Forward(ctl) => ctl.activate(states, chained),
+            AnyKind::Passthrough(ctl) => ctl.activate(states, chained),
+            AnyKind::Pid(ctl) => ctl.activate(states, chained),
+            AnyKind::Trajectory(ctl) => ctl.activate(states, chained),
+            AnyKind::Broadcaster(ctl) => ctl.activate(states, chained),
+            AnyKind::Mock(ctl) => ctl.activate(states, chained),
+        }
+    }
+
+    fn take(&mut self, mail: Mail) {
+        match self {
+            AnyKind::Forward(ctl) => ctl.take(mail),
+            AnyKind::Passthrough(ctl) => ctl.take(mail),
+            AnyKind::Pid(ctl) => ctl.take(mail),
+            AnyKind::Trajectory(ctl) => ctl.take(mail),
+            AnyKind::Broadcaster(ctl) => ctl.take(mail),
+            AnyKind::Mock(ctl) => ctl.take(mail),
+        }
+    }
+
+    fn update(&mut self, tick: Tick, states: &[Fx], refs: &[Value], outs: &mut [Value]) -> Done {
+        match self {
+            AnyKind::Forward(ctl) => ctl.update(tick, states, refs, outs),
+            AnyKind::Passthrough(ctl) => ctl.update(tick, states, refs, outs),
+            AnyKind::Pid(ctl) => ctl.update(tick, states, refs, outs),
+            AnyKind::Trajectory(ctl) => ctl.update(tick, states, refs, outs),
+            AnyKind::Broadcaster(ctl) => ctl.update(tick, states, refs, outs),
+            AnyKind::Mock(ctl) => ctl.update(tick, states, refs, outs),
+        }
+    }
+
+    fn deactivate(&mut self) {
+        match self {
+            AnyKind::Forward(ctl) => ctl.deactivate(),
+            AnyKind::Passthrough(ctl) => ctl.deactivate(),
+            AnyKind::Pid(ctl) => ctl.deactivate(),
+            AnyKind::Trajectory(ctl) => ctl.deactivate(),
+            AnyKind::Broadcaster(ctl) => ctl.deactivate(),
+            AnyKind::Mock(ctl) => ctl.deactivate(),
+        }
+    }
+
+    fn cleanup(&mut self) {
+        match self {
+            AnyKind::Forward(ctl) => ctl.cleanup(),
+            AnyKind::Passthrough(ctl) => ctl.cleanup(),
+            AnyKind::Pid(ctl) => ctl.cleanup(),
+            AnyKind::Trajectory(ctl) => ctl.cleanup(),
+            AnyKind::Broadcaster(ctl) => ctl.cleanup(),
+            AnyKind::Mock(ctl) => ctl.cleanup(),
+        }
+    }
+}
