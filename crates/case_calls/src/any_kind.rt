@@ -21,13 +21,15 @@ pub enum AnyKind {
 }
 
 impl Controller for AnyKind {
+    ghost use Rattle.case_calls.specs.declared.any_kind.AnyKind.TheVariants as kind;
+
     ghost meaning = { λ c. elim c [
-      | AnyKind.Forward ctl ↦ ⟦<Forward as Controller>⟧.meaning ctl
-      | AnyKind.Passthrough ctl ↦ ⟦<Passthrough as Controller>⟧.meaning ctl
-      | AnyKind.Pid ctl ↦ ⟦<PidCtl as Controller>⟧.meaning ctl
-      | AnyKind.Trajectory ctl ↦ ⟦<TrajCtl as Controller>⟧.meaning ctl
-      | AnyKind.Broadcaster ctl ↦ ⟦<Broadcaster as Controller>⟧.meaning ctl
-      | AnyKind.Mock ctl ↦ ⟦<Mock as Controller>⟧.meaning ctl
+      | kind.Forward ctl ↦ ⟦<Forward as Controller>⟧.meaning ctl
+      | kind.Passthrough ctl ↦ ⟦<Passthrough as Controller>⟧.meaning ctl
+      | kind.Pid ctl ↦ ⟦<PidCtl as Controller>⟧.meaning ctl
+      | kind.Trajectory ctl ↦ ⟦<TrajCtl as Controller>⟧.meaning ctl
+      | kind.Broadcaster ctl ↦ ⟦<Broadcaster as Controller>⟧.meaning ctl
+      | kind.Mock ctl ↦ ⟦<Mock as Controller>⟧.meaning ctl
     ] };
 
     fn kind(&self) -> CtlKind {
