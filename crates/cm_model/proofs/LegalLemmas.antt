@@ -4,7 +4,7 @@ use Rattle.std.specs.Prelude.{◌-◌, IsSomeAnd, slice_get}
 use Rattle.cm_document.proofs.ReadingLemmas.{cases_Option}
 use Rattle.cm_model.specs.State.{State, boot}
 use Rattle.cm_model.specs.Machine.{step, LegalFrom, IsLegal, state_after}
-use Rattle.cm_model.specs.Scheduled.{Session, Advanced, Progress, with_entry, settle, settle_from, settle_all, looped, with_cycle, cycles, cycles_from, finish, start, scheduled, advance, with_advance, advanced_once, turned, turns, landed, cycles_left, scheduled_in_steps}
+use Rattle.cm_model.specs.Scheduled.{Session, Advanced, Progress, with_entry, settle, settle_from, settle_all, looped, with_cycle, cycles, cycles_from, finish, start, scheduled, advance, with_advance, advanced_once, turned, turns, landed, scheduled_in_steps}
 use Rattle.cm_model.proofs.AdvanceLemmas.{advance-Made, settle-keeps}
 use Rattle.cm_document.specs.declared.call.Call.{Call}
 use Rattle.cm_document.specs.declared.call.Call.TheVariants.{Begin, End, Close}

@@ -1,10 +1,8 @@
 -- Worked rows of the job `steps`, computed from the definitions alone: scripts with a schedule, and the traces that were written down for
 -- them by hand.
-use Rattle.std.proofs.Common.{◌≡◌, ℕ, List, [], ◌∷◌, pos, refl}
+use Rattle.std.proofs.Common.{◌≡◌, ℕ, List, [], ◌∷◌, refl}
 use Rattle.std.specs.Prelude.{codes, map}
 use Rattle.std.specs.Fmt.{digits}
-use Rattle.fixed_num.specs.Arithmetic.{floor_div, within}
-use Rattle.fixed_num.specs.Micro.{clamped}
 use Rattle.fixed_num.specs.Text.{spelled}
 use Rattle.cm_document.specs.declared.call.Call.{Call}
 use Rattle.cm_document.specs.declared.description.Description.{Description}

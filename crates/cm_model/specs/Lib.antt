@@ -1,5 +1,4 @@
 -- In reading order: what the manager makes of a document.
-pub mod Words
 pub mod Ran
 pub mod Happened
 pub mod Components

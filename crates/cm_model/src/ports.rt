@@ -1,6 +1,6 @@
 //! The consoles of a manager: that of one session, and that of the loop.
 
-ghost use Rattle.std.specs.Prelude.{◌≡◌, ℕ, true, Bool, IfOk, OnErr, MatchOption};
+ghost use Rattle.std.specs.Prelude.{◌≡◌, true, Bool, IfOk, OnErr, MatchOption};
 ghost use Rattle.cm_document.specs.declared.call.Call.TheVariants as call;
 ghost use Rattle.cm_model.specs.Ports.{Console, LoopConsole, CanBeCalled, Makes, MakesNone, MakesOpen, MakesWhere, IsNotYet, CanBegin, CanClose, Begins, Lands, Closes};
 

@@ -1,6 +1,6 @@
 -- A script that is read meets the rules and uses accepted forms alone.
-use Rattle.std.proofs.Common.{◌≡◌, ℕ, ◌<◌, ◌+◌, Bool, true, false, List, [], ◌∷◌, ◌++◌, length, Option, Some, None, Result, Ok, Err, refl, ap, subst, arith, length-append, ltb-true}
-use Rattle.std.specs.Prelude.{◌==◌, IfOk, IfSome, IsTrue, is_some, position, sum_by, nat_le, nat_lt, not, ◌&&◌, if◌then◌else◌, codes}
+use Rattle.std.proofs.Common.{◌≡◌, ℕ, ◌<◌, ◌+◌, Bool, true, false, List, [], ◌∷◌, ◌++◌, length, Option, Some, None, Result, Ok, Err, refl, subst, arith, length-append, ltb-true}
+use Rattle.std.specs.Prelude.{◌==◌, IfOk, IfSome, IsTrue, is_some, position, nat_le, nat_lt, not, ◌&&◌, if◌then◌else◌, codes}
 use Rattle.std.specs.List.{AllByRecursion, list_any}
 use Rattle.std.proofs.lemmas.Bool.{and_parts, cond_both, or_parts, not-true, not-false}
 use Rattle.std.proofs.lemmas.Bool.Decides.{nat_tests}

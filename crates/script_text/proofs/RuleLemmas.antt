@@ -1,5 +1,5 @@
 -- How many calls and turns stand, after one more.
-use Rattle.std.proofs.Common.{◌≡◌, ℕ, ◌+◌, false, Option, List, [], ◌∷◌, ◌++◌, length, refl, ap, ◌∙◌, sym, arith, length-append}
+use Rattle.std.proofs.Common.{◌≡◌, ℕ, ◌+◌, false, Option, List, [], ◌∷◌, ◌++◌, length, arith, length-append}
 use Rattle.std.specs.Prelude.{◌==◌, sum_by}
 use Rattle.std.proofs.lemmas.List.Sums.{sum_by_push, sum_by-cons}
 use Rattle.cm_document.specs.ScriptRules.{script_in, calls_and_turns, then_calling}
