@@ -1,6 +1,6 @@
 -- The cycle that a history has begun and not ended: what each entry makes of it, and that the state is still one of that cycle.
-use Rattle.std.proofs.Common.{◌≡◌, ℕ, true, false, List, [], ◌∷◌, ◌++◌, Option, Some, None, refl, sym, ap, ap₂, subst, ◌∙◌}
-use Rattle.std.specs.Prelude.{IsSomeAnd}
+use Rattle.std.proofs.Common.{◌≡◌, ℕ, Bool, true, false, List, [], ◌∷◌, ◌++◌, Option, Some, None, refl, sym, ap, ap₂, subst, ◌∙◌}
+use Rattle.std.specs.Prelude.{not, ◌&&◌, is_some, IfSome, IsSomeAnd}
 use Rattle.cm_document.specs.declared.call.Call.{Call}
 use Rattle.cm_document.specs.declared.call.Call.TheVariants.{Begin, End, Close}
 use Rattle.cm_model.specs.Commit.{commit}
@@ -20,7 +20,7 @@ use Rattle.rt_flight.proofs.AlikeLemmas.{stays_aloft}
 use Rattle.sound_laws.proofs.BetweenLemmas.{HasBegun, goes_on}
 use Rattle.sound_laws.proofs.MomentLemmas.{legal_step}
 use Rattle.sound_laws.proofs.SerialLemmas.{IsNumbered}
-use Rattle.cm_desk.specs.Desk.{History, begun_among, begun_of, now_of, Grows, IsOut, MayLand}
+use Rattle.cm_desk.specs.Desk.{History, begun_among, begun_of, now_of, Grows, IsOut, MayLand, IsFlown, IsAloftAlike}
 use Rattle.cm_desk.specs.End.{CanLand}
 
 -- the moment of an entry that is a step
@@ -153,3 +153,26 @@ may_land h f f' out made = each (begun_of h) out.aloft
     each : (o : Option State) → IsSomeAnd o (λ begun. StaysAloft begun f) → IsSomeAnd o (λ begun. StaysComputed begun f')
     each None none = absurd none
     each (Some b) stays = λ s alike. made s (stays s alike)
+
+-- ---- The flight
+
+-- the flight stays that of the cycle that is aloft
+pub flown_alike : (old new : History) (o : Option FlightFacts) → IsAloftAlike old new → IsFlown old o → IsFlown new o
+flown_alike old new o alike is = record { there = is.there ∙ sym alike.aloft; lands = each o is.lands }
+  where
+    each : (o : Option FlightFacts) → IfSome o (MayLand old) → IfSome o (MayLand new)
+    each None may = tt
+    each (Some f) may = subst (λ (b : Option State). IsSomeAnd b (λ begun. StaysComputed begun f)) (sym alike.begun) may
+
+-- where no cycle is aloft there is none
+pub none_flies : (old new : History) (o : Option FlightFacts) → IsFlown old o → (now_of old).aloft ≡ false → (now_of new).aloft ≡ false → IsFlown new o
+none_flies old new o is before after = record { there = is.there ∙ before ∙ sym after; lands = each o (is.there ∙ before) }
+  where
+    each : (o : Option FlightFacts) → is_some o ≡ false → IfSome o (MayLand new)
+    each None none = tt
+    each (Some f) none = cc
+
+-- the loop closes where none is
+pub down_there : (aloft closed : Bool) → (not aloft && not closed) ≡ true → aloft ≡ false
+down_there false closed can = refl
+down_there true closed can = cc

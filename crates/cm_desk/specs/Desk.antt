@@ -1,5 +1,5 @@
 -- What contracts see of the desk, and what its type keeps.
-use Rattle.std.specs.Prelude.{◌≡◌, ℕ, ◌+◌, ◌≤◌, Bool, true, false, not, List, [], ◌∷◌, length, Option, Some, None, IsSomeAnd}
+use Rattle.std.specs.Prelude.{◌≡◌, ℕ, ◌+◌, ◌≤◌, Bool, true, false, not, List, [], ◌∷◌, length, Option, Some, None, is_some, IfSome, IsSomeAnd}
 use Rattle.cm_document.specs.Valid.{IsValid}
 use Rattle.cm_document.specs.declared.call.Call.{Call}
 use Rattle.cm_document.specs.declared.call.Call.TheVariants.{Load, Configure, Cleanup, Unload, Rate, Send, Switch, Hardware, ListControllers, ListInterfaces, ListComponents}
@@ -63,6 +63,16 @@ pub record IsOut (h : History) (f : FlightFacts) : Type 0 where
 -- It may land: it is that of this cycle, and computed.
 abbrev pub MayLand : History → FlightFacts → Type 0
 MayLand h f = IsSomeAnd (begun_of h) (λ begun. StaysComputed begun f)
+
+-- Where a cycle is aloft in a desk of this history, its flight is here and may land.
+pub record IsFlown (h : History) (flight : Option FlightFacts) : Type 0 where
+  pub there : is_some flight ≡ (now_of h).aloft
+  pub lands : IfSome flight (MayLand h)
+
+-- From one history to the other the same cycle is aloft, if one is.
+pub record IsAloftAlike (old new : History) : Type 0 where
+  pub begun : begun_of new ≡ begun_of old
+  pub aloft : (now_of new).aloft ≡ (now_of old).aloft
 
 -- ---- Calls
 

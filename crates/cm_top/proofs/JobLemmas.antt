@@ -1,6 +1,6 @@
 -- What a call of the loop makes of a job.
-use Rattle.std.proofs.Common.{◌≡◌, ℕ, Bool, true, false, List, Option, Some, None, refl, sym, ap, subst, ◌∙◌, arith}
-use Rattle.std.specs.Prelude.{map, not, ◌==◌, ◌&&◌, nat_lt, is_some, IfSome, IsSomeAnd}
+use Rattle.std.proofs.Common.{◌≡◌, ℕ, true, false, List, Some, None, refl, sym, ap, ◌∙◌, arith}
+use Rattle.std.specs.Prelude.{map, not, ◌==◌, ◌&&◌, nat_lt}
 use Rattle.std.proofs.lemmas.Bool.{and_parts}
 use Rattle.std.proofs.lemmas.Bool.Decides.{nat_tests}
 use Rattle.cm_document.specs.declared.call.Call.{Call}
@@ -11,10 +11,9 @@ use Rattle.cm_model.specs.Scheduled.{Session, Progress, with_entry, looped}
 use Rattle.cm_model.specs.State.{State}
 use Rattle.cm_model.specs.declared.entry.Entry.{Entry}
 use Rattle.cm_model.specs.declared.reply.Reply.{Reply}
-use Rattle.rt_flight.specs.Flights.{FlightFacts, StaysComputed}
-use Rattle.cm_desk.specs.Desk.{History, now_of, Grows, MayLand}
+use Rattle.cm_desk.specs.Desk.{now_of, Grows}
 use Rattle.console_session.specs.Sessions.{left_of}
-use Rattle.cm_top.specs.Jobs.{JobFacts, progress_of, GoesOn, IsFlown, IsAloftAlike}
+use Rattle.cm_top.specs.Jobs.{JobFacts, progress_of, GoesOn}
 use Rattle.cm_model.proofs.HistoryLemmas.{sessions_stay}
 
 -- ---- The loop
@@ -69,26 +68,3 @@ begin_number s n can =
 
 pub end_number : (s : State) (n : ℕ) → can_end s n ≡ true → s.ended ≡ n
 end_number s n can = same_number s.ended n (and_parts s.aloft (s.ended == n) can).1
-
--- ---- The flight
-
--- the flight stays that of the cycle that is aloft
-pub flown_alike : (old new : History) (o : Option FlightFacts) → IsAloftAlike old new → IsFlown old o → IsFlown new o
-flown_alike old new o alike is = record { there = is.there ∙ sym alike.aloft; lands = each o is.lands }
-  where
-    each : (o : Option FlightFacts) → IfSome o (MayLand old) → IfSome o (MayLand new)
-    each None may = tt
-    each (Some f) may = subst (λ (b : Option State). IsSomeAnd b (λ begun. StaysComputed begun f)) (sym alike.begun) may
-
--- where no cycle is aloft there is none
-pub none_flies : (old new : History) (o : Option FlightFacts) → IsFlown old o → (now_of old).aloft ≡ false → (now_of new).aloft ≡ false → IsFlown new o
-none_flies old new o is before after = record { there = is.there ∙ before ∙ sym after; lands = each o (is.there ∙ before) }
-  where
-    each : (o : Option FlightFacts) → is_some o ≡ false → IfSome o (MayLand new)
-    each None none = tt
-    each (Some f) none = cc
-
--- the loop closes where none is
-pub down_there : (aloft closed : Bool) → (not aloft && not closed) ≡ true → aloft ≡ false
-down_there false closed can = refl
-down_there true closed can = cc

@@ -1,23 +1,12 @@
 -- How far a job has come, and a move of it.
-use Rattle.std.specs.Prelude.{◌≡◌, List, map, is_some, Option, IfSome}
+use Rattle.std.specs.Prelude.{◌≡◌, List, map}
 use Rattle.cm_model.specs.Scheduled.{Session, Advanced, Progress}
-use Rattle.cm_desk.specs.Desk.{History, begun_of, now_of, MayLand}
-use Rattle.rt_flight.specs.Flights.{FlightFacts}
+use Rattle.cm_desk.specs.Desk.{History, now_of}
 use Rattle.console_session.specs.Sessions.{Standing, left_of}
 
 -- how far the run has come where a session that stands so advances over a desk of this history
 abbrev pub at : History → Session → Advanced
 at h x = record { state = now_of h; made = h.made; session = x }
-
--- Where a cycle is aloft in a desk of this history, its flight is here and may land.
-pub record IsFlown (h : History) (flight : Option FlightFacts) : Type 0 where
-  pub there : is_some flight ≡ (now_of h).aloft
-  pub lands : IfSome flight (MayLand h)
-
--- From one history to the other the same cycle is aloft, if one is.
-pub record IsAloftAlike (old new : History) : Type 0 where
-  pub begun : begun_of new ≡ begun_of old
-  pub aloft : (now_of new).aloft ≡ (now_of old).aloft
 
 -- How far a job has come: what its desk did from the opening on, and where each session stands.
 pub record JobFacts : Type 0 where

@@ -7,9 +7,9 @@ ghost use Rattle.cm_document.specs.declared.document.Document.{Document};
 ghost use Rattle.cm_model.specs.Scheduled.{settle, settle_from, start, cycles, finish, turned, turns, landed, cycles_left};
 ghost use Rattle.cm_model.specs.Sound.{moments, AreSound};
 ghost use Rattle.cm_model.specs.State.{boot};
-ghost use Rattle.cm_desk.specs.Desk.{now_of};
+ghost use Rattle.cm_desk.specs.Desk.{now_of, IsAloftAlike};
 ghost use Rattle.console_session.specs.Sessions.{AreLines, left_of};
-ghost use Rattle.cm_top.specs.Jobs.{at, progress_of, IsAloftAlike};
+ghost use Rattle.cm_top.specs.Jobs.{at, progress_of};
 
 use crate::port::DeskPort;
 use cm_desk::{Book, Desk, Flight, Stock};
@@ -31,7 +31,8 @@ pub struct Job<C: Controller> {
 
 impl<C: Controller> Model for Job<C> {
     ghost use Rattle.std.specs.Prelude.{◌≡◌, length};
-    ghost use Rattle.cm_top.specs.Jobs.{JobFacts, IsFlown};
+    ghost use Rattle.cm_desk.specs.Desk.{IsFlown};
+    ghost use Rattle.cm_top.specs.Jobs.{JobFacts};
 
     ghost Value = { JobFacts };
 

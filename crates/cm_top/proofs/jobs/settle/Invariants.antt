@@ -1,8 +1,9 @@
 use Rattle.std.proofs.Common.{◌≡◌}
 use Rattle.cm_model.specs.Scheduled.{settle}
 use Rattle.cm_model.proofs.AdvanceLemmas.{entries_left}
+use Rattle.cm_desk.specs.Desk.{IsAloftAlike}
 use Rattle.console_session.specs.Sessions.{left_of}
-use Rattle.cm_top.specs.Jobs.{at, IsAloftAlike}
+use Rattle.cm_top.specs.Jobs.{at}
 use Rattle.cm_top.proofs.jobs.settle.Given as goal
 
 -- to settle from here is to settle from the start, over the same desk with the same opening

@@ -1,8 +1,7 @@
 use Rattle.std.proofs.Common.{◌≡◌, [], map, take, drop}
 use Rattle.cm_model.specs.Scheduled.{settle_from}
-use Rattle.cm_desk.specs.Desk.{now_of}
+use Rattle.cm_desk.specs.Desk.{now_of, IsAloftAlike}
 use Rattle.console_session.specs.Sessions.{left_of}
-use Rattle.cm_top.specs.Jobs.{IsAloftAlike}
 use Rattle.cm_top.proofs.jobs.settle_each.Given as goal
 
 -- to settle the sessions from here on, from what is made, is to settle all, over a desk of the same opening

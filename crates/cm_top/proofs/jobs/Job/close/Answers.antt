@@ -1,8 +1,8 @@
 use Rattle.std.proofs.Common.{rules, refl, sym, ◌∙◌}
 use Rattle.cm_document.specs.declared.call.Call.TheVariants.{Close}
-use Rattle.cm_top.proofs.JobLemmas.{close_waits, loop_made, none_flies, down_there}
+use Rattle.cm_top.proofs.JobLemmas.{close_waits, loop_made}
 use Rattle.cm_desk.specs.Desk.{now_of}
-use Rattle.cm_desk.proofs.BegunLemmas.{closed_alike}
+use Rattle.cm_desk.proofs.BegunLemmas.{closed_alike, none_flies, down_there}
 use Rattle.cm_top.proofs.jobs.Job.close.Goals as goal
 
 -- the loop closed

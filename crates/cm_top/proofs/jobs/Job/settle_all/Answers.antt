@@ -1,5 +1,5 @@
 use Rattle.std.proofs.Common.{rules}
-use Rattle.cm_top.proofs.JobLemmas.{flown_alike}
+use Rattle.cm_desk.proofs.BegunLemmas.{flown_alike}
 use Rattle.cm_top.proofs.jobs.Job.settle_all.Goals as goal
 
 -- a cycle that is aloft stays so
