@@ -1,5 +1,5 @@
 -- What a cycle tells of a controller that it updated, and a list of these while it is filled.
-use Rattle.std.specs.Prelude.{ℕ, ℤ, ◌<◌, ◌≤◌, ◌^◌, List, length}
+use Rattle.std.specs.Prelude.{◌≡◌, ℕ, ℤ, ◌-◌, ◌<◌, ◌≤◌, ◌^◌, List, length}
 use Rattle.fixed_num.specs.declared.value.Value.{Value}
 use Rattle.cm_model.specs.declared.ran.Done.{Done}
 
@@ -24,3 +24,9 @@ pub record Fits (room : Filling) (outs : List Value) (published : List ℤ) : Ty
   pub numbers : length published ≤ room.numbers
   pub few_values : length outs < 2 ^ 8
   pub few_numbers : length published < 2 ^ 8
+
+-- there is room for one controller less, and for as many values and numbers less as it gave out and published
+pub record TakesRoom (old new : Filling) (outs : List Value) (published : List ℤ) : Type 0 where
+  pub heads : new.heads ≡ old.heads - 1
+  pub values : new.values ≡ old.values - length outs
+  pub numbers : new.numbers ≡ old.numbers - length published

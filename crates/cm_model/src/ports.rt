@@ -66,16 +66,14 @@ pub trait LoopPort {
     /// Begins the next cycle. Want of memory changes nothing.
     fn begin(&mut self) -> Result<Self::Flight, Memory>
         requires { CanBegin (tells self.old) }
-        ensures begun { IfOk result (λ flight. Begins (tells self.old) (tells self.new)) }
-        ensures fresh { IfOk result
-            (λ flight. (is_out self.new flight ≡ true) × (may_be_computed flight ≡ true)) }
+        ensures begun { IfOk result (λ flight. Begins (tells self.old) (tells self.new)
+            × (is_out self.new flight ≡ true) × (may_be_computed flight ≡ true)) }
         ensures kept { OnErr result (tells self.new ≡ tells self.old) }
         ensures still { footing self.new ≡ footing self.old };
 
     /// Computes the cycle. Nothing is told of it before it lands.
     fn compute(&mut self, flight: &mut Self::Flight)
-        requires out { is_out self.old flight.old ≡ true }
-        requires fresh { may_be_computed flight.old ≡ true }
+        requires { (is_out self.old flight.old ≡ true) × (may_be_computed flight.old ≡ true) }
         ensures computed { (is_out self.new flight.new ≡ true) × (is_computed flight.new ≡ true) }
         ensures kept { tells self.new ≡ tells self.old }
         ensures still { footing self.new ≡ footing self.old };

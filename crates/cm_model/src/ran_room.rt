@@ -1,6 +1,6 @@
 //! The list of updated controllers while it is filled.
 
-ghost use Rattle.std.specs.Prelude.{◌≡◌, ◌-◌, ◌≤◌, [], ◌∷◌, ◌++◌, length, IfOk, vec_len, vec_capacity, ◌+◌};
+ghost use Rattle.std.specs.Prelude.{◌≡◌, ◌≤◌, [], ◌∷◌, ◌++◌, length, IfOk, vec_len, vec_capacity, ◌+◌};
 
 use crate::ran::{Done, RanHead, RanList};
 use fixed_num::{Fx, StoredValue, Value};
@@ -34,7 +34,7 @@ impl Model for RanRoom {
 }
 
 impl RanRoom {
-    ghost use Rattle.cm_model.specs.Ran.{Fits};
+    ghost use Rattle.cm_model.specs.Ran.{Fits, TakesRoom};
 
     /// An empty list with room for so many controllers, values and numbers.
     pub fn with_room(
@@ -59,9 +59,7 @@ impl RanRoom {
         ensures rans { self.new.rans
             ≡ self.old.rans
             ++ record { serial = serial; done = done; outs = outs.now; published = published.now } ∷ [] }
-        ensures heads { self.new.heads ≡ self.old.heads - 1 }
-        ensures values { self.new.values ≡ self.old.values - length outs.now }
-        ensures numbers { self.new.numbers ≡ self.old.numbers - length published.now }
+        ensures room { TakesRoom self.old self.new outs.now published.now }
     {
         push_values(&mut self.values, outs);
         push_numbers(&mut self.numbers, published);

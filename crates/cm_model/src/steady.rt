@@ -38,8 +38,8 @@ pub fn moves_of_components_keep_a_state_in_order()
         → CanRunTogether s.description lives (active s) → IsSteady (moved s lives) }
 {}
 
-/// The console's calls on controllers leave a steady state steady.
-pub fn console_calls_keep_a_state_steady()
+/// The calls that load, configure, clean up and unload a controller leave a steady state steady.
+pub fn calls_on_lives_keep_a_state_steady()
     ensures load { (s : State) (name : List ℕ) → IsSteady s
         → IsSteady (load_effect s name (unless_refused (load_refusals s (place_of s name)) (reply.Serial s.loads))) }
     ensures configure { (s : State) (name : List ℕ) → IsSteady s
@@ -47,12 +47,16 @@ pub fn console_calls_keep_a_state_steady()
     ensures cleanup { (s : State) (name : List ℕ) → IsSteady s
         → IsSteady (cleanup_effect s name (cleanup_reply s name)) }
     ensures unload { (s : State) (name : List ℕ) → IsSteady s → IsSteady (unload_effect s name (unload_reply s name)) }
+{}
+
+/// So do a new rate and mail that is sent.
+pub fn rates_and_mail_keep_a_state_steady()
     ensures rate { (s : State) (name : List ℕ) (hz : ℕ) (r : Reply) → IsSteady s → IsSteady (rate_effect s name hz r) }
     ensures send { (s : State) (name : List ℕ) (mail : Mail) (r : Reply) → IsSteady s
         → IsSteady (send_effect s name mail r) }
 {}
 
-/// So do a request that comes to wait, the close, and the mail that goes aloft at a begin.
+/// And so do a request that comes to wait, the close, and the mail that goes aloft at a begin.
 pub fn requests_and_the_close_keep_a_state_steady()
     ensures request { (s : State) (asked : Request) (answer : Reply) → IsSteady s
         → IsSteady (request_effect s asked answer) }

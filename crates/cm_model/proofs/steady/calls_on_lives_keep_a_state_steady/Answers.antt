@@ -1,5 +1,5 @@
-use Rattle.cm_model.proofs.SteadyLemmas.{load_steady, configure_steady, cleanup_steady, unload_steady, rate_steady, send_steady}
-use Rattle.cm_model.proofs.steady.console_calls_keep_a_state_steady.Goals as goal
+use Rattle.cm_model.proofs.SteadyLemmas.{load_steady, configure_steady, cleanup_steady, unload_steady}
+use Rattle.cm_model.proofs.steady.calls_on_lives_keep_a_state_steady.Goals as goal
 
 pub returns-clause-load : goal.returns-clause-load
 returns-clause-load c = load_steady
@@ -12,9 +12,3 @@ returns-clause-cleanup c = cleanup_steady
 
 pub returns-clause-unload : goal.returns-clause-unload
 returns-clause-unload c = unload_steady
-
-pub returns-clause-rate : goal.returns-clause-rate
-returns-clause-rate c = rate_steady
-
-pub returns-clause-send : goal.returns-clause-send
-returns-clause-send c = send_steady
