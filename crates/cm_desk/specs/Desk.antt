@@ -2,9 +2,10 @@
 use Rattle.std.specs.Prelude.{◌≡◌, ℕ, ◌+◌, ◌≤◌, Bool, true, false, not, List, [], ◌∷◌, length, Option, Some, None, is_some, IfSome, IsSomeAnd}
 use Rattle.cm_document.specs.Valid.{IsValid}
 use Rattle.cm_document.specs.declared.call.Call.{Call}
-use Rattle.cm_document.specs.declared.call.Call.TheVariants.{Load, Configure, Cleanup, Unload, Rate, Send, Switch, Hardware, ListControllers, ListInterfaces, ListComponents}
+use Rattle.cm_document.specs.declared.call.Call.TheVariants.{Unload, ListControllers, ListInterfaces, ListComponents}
 use Rattle.cm_model.specs.Console.{moves_out}
 use Rattle.cm_model.specs.Machine.{LegalFrom, state_after, reply_of, effect, step}
+pub use Rattle.cm_model.specs.Ports.{CanBeCalled}
 use Rattle.cm_model.specs.Scheduled.{with_entry}
 use Rattle.cm_model.specs.Sound.{Moment, moments, aloft_after, AreSound}
 use Rattle.cm_model.specs.State.{State, boot}
@@ -75,21 +76,6 @@ pub record IsAloftAlike (old new : History) : Type 0 where
   pub aloft : (now_of new).aloft ≡ (now_of old).aloft
 
 -- ---- Calls
-
--- A call that the desk answers for a session: one on a controller, a request, or a list.
-abbrev pub CanBeCalled : Call → Type 0
-CanBeCalled (Load _) = Unit {0}
-CanBeCalled (Configure _) = Unit {0}
-CanBeCalled (Cleanup _) = Unit {0}
-CanBeCalled (Unload _) = Unit {0}
-CanBeCalled (Rate _ _) = Unit {0}
-CanBeCalled (Send _ _) = Unit {0}
-CanBeCalled (Switch _) = Unit {0}
-CanBeCalled (Hardware _ _) = Unit {0}
-CanBeCalled ListControllers = Unit {0}
-CanBeCalled ListInterfaces = Unit {0}
-CanBeCalled ListComponents = Unit {0}
-CanBeCalled _ = ⊥
 
 -- it asks for a list
 abbrev pub is_list : Call → Bool

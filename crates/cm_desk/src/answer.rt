@@ -1,10 +1,10 @@
 //! What a call of a session comes to: each is answered by the function of its name.
 
-ghost use Rattle.std.specs.Prelude.{◌≡◌, true, false, option_map, Some, IfOk, OnErr};
+ghost use Rattle.std.specs.Prelude.{◌≡◌, true, option_map, Some, IfOk, OnErr};
 ghost use Rattle.cm_model.specs.Boundary.{request_reply, request_effect};
 ghost use Rattle.cm_model.specs.Machine.{reply_of};
-ghost use Rattle.cm_model.specs.Steady.{IsSteady};
-ghost use Rattle.cm_desk.specs.Desk.{CanBeCalled, IsAnswerTo, is_list, IsShort};
+ghost use Rattle.cm_desk.specs.Calls.Answers.{CanAnswer, CanChange};
+ghost use Rattle.cm_desk.specs.Desk.{IsAnswerTo, is_list, IsShort};
 ghost use Rattle.cm_desk.specs.Works.{IsAnswered};
 
 use crate::works::Works;
@@ -23,8 +23,7 @@ pub(crate) struct Answer<C> {
 impl<C: Controller> Works<C> {
     /// Answers a call of a session. Where memory ran out nothing has changed.
     pub(crate) fn answer(&mut self, alloc: Global, call: Call) -> Result<Answer<C>, Memory>
-        requires called { CanBeCalled call }
-        requires steady { IsSteady self.old }
+        requires { CanAnswer self.old call }
         ensures made { IfOk result
             (λ answer. IsAnswerTo self.old call self.new answer.reply (option_map C.meaning answer.given)) }
         ensures twice { IfOk result (λ answer. answer.noted ≡ answer.reply) }
@@ -86,9 +85,7 @@ impl<C: Controller> Works<C> {
     /// Answers a call that is no list, by the function of its name. Where memory ran out nothing has changed.
     #[tactic(auto, using(crate::proofs::AnswerLemmas::load_reply_is_short, crate::proofs::AnswerLemmas::reply_on_is_short, crate::proofs::AnswerLemmas::request_reply_is_short))]
     fn change(&mut self, alloc: Global, call: Call) -> Result<(Reply, Option<C>), Memory>
-        requires called { CanBeCalled call }
-        requires steady { IsSteady self.old }
-        requires no_list { is_list call ≡ false }
+        requires { CanChange self.old call }
         ensures made { IfOk result
             (λ answer. IsAnswerTo self.old call self.new answer.0 (option_map C.meaning answer.1)) }
         ensures short { IfOk result (λ answer. IsShort answer.0) }

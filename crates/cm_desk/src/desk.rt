@@ -4,10 +4,10 @@ ghost use Rattle.std.specs.Prelude.{◌≡◌, ◌<◌, ◌≤◌, ◌+◌, true
 ghost use Rattle.cm_document.specs.declared.call.Call.TheVariants as call;
 ghost use Rattle.cm_model.specs.Boundary.{begin_reply, close_reply};
 ghost use Rattle.cm_model.specs.Cycle.{cycle};
-ghost use Rattle.cm_model.specs.Machine.{LegalFrom, can_begin, can_close};
-ghost use Rattle.cm_model.specs.Sound.{moments, AreSound};
+ghost use Rattle.cm_model.specs.Machine.{can_begin, can_close};
 ghost use Rattle.cm_model.specs.State.{boot};
-ghost use Rattle.cm_desk.specs.Desk.{now_of, Grows, Waits, GrowsWhere, CanBeCalled, hands_out, IsOut, MayLand};
+ghost use Rattle.cm_desk.specs.Calls.Answers.{MayCall, IsHandedOver};
+ghost use Rattle.cm_desk.specs.Desk.{now_of, Grows, Waits, GrowsWhere, hands_out, IsOut, MayLand};
 
 use crate::book::Book;
 use crate::works::Works;
@@ -74,8 +74,7 @@ impl<C: Controller> Desk<C> {
         who: u32,
         call: Call,
     ) -> Result<(Reply, Option<C>), Memory>
-        requires session { who < self.old.opening.sessions }
-        requires called { CanBeCalled call }
+        requires { MayCall self.old who call }
         ensures made { IfOk result (λ answer. Grows self.old self.new who call answer.0) }
         ensures given { IfOk result
             (λ answer. option_map C.meaning answer.1 ≡ hands_out (now_of self.old) call answer.0) }
@@ -250,10 +249,7 @@ impl<C: Controller> Desk<C> {
     /// gives it. It takes no memory.
     pub fn finish(self) -> Book<C>
         requires closed { (now_of self).closed ≡ true }
-        ensures history { result.history.items ≡ self.made }
-        ensures legal { LegalFrom self.opening self.made }
-        ensures sound { AreSound (moments self.opening self.made) }
-        ensures boxes { map C.meaning result.boxes.items ≡ map (λ l. l.ctl) (now_of self).loaded }
+        ensures { IsHandedOver self result.history.items (map C.meaning result.boxes.items) }
     {
         let Desk {
             works,
@@ -278,8 +274,8 @@ fn ready<C: Controller>(
     places: usize,
 ) -> Result<KeptCall, Memory>
     ensures kept { IfOk result (λ kept. kept ≡ call.now) }
-    ensures entries { OnOk result (length history.old.items + entries ≤ vec_capacity history.new) }
-    ensures places { OnOk result (length boxes.old.items + places ≤ vec_capacity boxes.new) }
+    ensures room { OnOk result ((length history.old.items + entries ≤ vec_capacity history.new)
+        × (length boxes.old.items + places ≤ vec_capacity boxes.new)) }
     ensures history { (history.new.items ≡ history.old.items)
         × (vec_capacity history.old ≤ vec_capacity history.new) }
     ensures boxes { (boxes.new.items ≡ boxes.old.items) × (vec_capacity boxes.old ≤ vec_capacity boxes.new) }

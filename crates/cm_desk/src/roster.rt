@@ -1,6 +1,7 @@
 //! Who is active, as it is looked up.
 
 ghost use Rattle.std.specs.Prelude.{◌≡◌, ◌<◌, ◌≤◌, ◌^◌, ◌==◌, true, false, [], length, position, slice_get, slice_index_or, vec_capacity, All, IfOk, IfSome, None, Some};
+ghost use Rattle.cm_desk.specs.Calls.Rosters.{IsPut, IsIndexedAnew};
 ghost use Rattle.cm_desk.specs.Roster.{TellsActive, AreAt, serials_of, is_listed, noted};
 
 use cm_model::{Member, Memory};
@@ -100,10 +101,7 @@ impl Roster {
         requires loaded { All (λ m. is_listed (serials_of slots.now) m.serial ≡ true) order.items }
         requires room { length order.items ≤ vec_capacity room }
         requires few { length slots.now < 2 ^ 32 }
-        ensures active { self.new.active ≡ self.old.active }
-        ensures order { self.new.order ≡ order.items }
-        ensures run { AreAt (serials_of slots.now) order.items self.new.run }
-        ensures fresh { self.new.fresh ≡ true }
+        ensures { IsPut (serials_of slots.now) order.items self.old self.new }
     {
         self.run = room;
         index_all(&mut self.run, &order, slots);
@@ -117,10 +115,7 @@ impl Roster {
             → All (λ m. is_listed (serials_of slots.now) m.serial ≡ true) self.old.order }
         requires room { self.old.fresh ≡ true → length self.old.order ≤ length self.old.run }
         requires few { length slots.now < 2 ^ 32 }
-        ensures active { self.new.active ≡ self.old.active }
-        ensures order { self.new.order ≡ self.old.order }
-        ensures run { self.old.fresh ≡ true → AreAt (serials_of slots.now) self.old.order self.new.run }
-        ensures fresh { self.new.fresh ≡ self.old.fresh }
+        ensures { IsIndexedAnew (serials_of slots.now) self.old self.new }
     {
         if self.fresh {
             index_all(&mut self.run, &self.order, slots);

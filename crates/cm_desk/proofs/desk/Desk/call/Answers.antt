@@ -15,9 +15,9 @@ entry g c =
     let grown : c.push_reserved.new.self.items ≡ with_entry a.history.items c.args.who c.args.call answer.reply =
     rw (c.push_reserved.ensures.items, c.ready.ensures.history.0, c.in-Ok.ensures.kept, c.in_ok-answer.ensures.twice) refl in
     let stepped = called_step a.works c.answer.new.self c.args.who c.args.call answer.reply (rw (← c.self.view_is) at c.requires.session) c.requires.called made.replied made.next in
-    let room : length a.history.items + 3 ≤ vec_capacity c.push_reserved.new.self = omega (arith, c.push_reserved.ensures.capacity, c.in-Ok.ensures.entries) in
+    let room : length a.history.items + 3 ≤ vec_capacity c.push_reserved.new.self = omega (arith, c.push_reserved.ensures.capacity, c.in-Ok.ensures.room.0) in
     let few : length c.answer.new.self.loaded ≤ length a.works.loaded + 1 = rw made.next (effect-few a.works c.args.call answer.reply c.requires.called) in
-    let places : length a.works.loaded + 1 ≤ vec_capacity c.ready.new.boxes = omega (arith, c.in-Ok.ensures.places, ap length c.slots.ensures, ap length c.self.invariant.1) in
+    let places : length a.works.loaded + 1 ≤ vec_capacity c.ready.new.boxes = omega (arith, c.in-Ok.ensures.room.1, ap length c.slots.ensures, ap length c.self.invariant.1) in
     recorded _ _ _ _ _ _ _ _ _ _ _ _ c.self.invariant.0 stepped grown
     (room_after c.answer.new.self a.history.items _ c.args.who c.args.call answer.reply _ room grown) (omega (arith, few, places))
 
