@@ -8,3 +8,5 @@ pub mod CountLemmas
 pub mod DepthLemmas
 pub mod StandingLemmas
 pub mod OrderLemmas
+pub mod GreatestLemmas
+pub mod RateLemmas
