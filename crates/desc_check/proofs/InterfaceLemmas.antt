@@ -1,7 +1,8 @@
 -- Lemmas about what is among interfaces.
-use Rattle.std.proofs.Common.{◌≡◌, false, List, ℕ, ◌+◌, ◌<◌, length, get_or, take, sym, Some, Err, [], ◌∷◌, ◌++◌, map, ap, refl}
+use Rattle.std.proofs.Common.{◌≡◌, Bool, true, false, List, ℕ, ◌+◌, ◌<◌, length, get_or, take, sym, Some, Err, [], ◌∷◌, ◌++◌, map, ap, refl}
 use Rattle.std.specs.Prelude.{not}
 use Rattle.std.specs.List.{find}
+use Rattle.iface_names.specs.Names.{same_name}
 use Rattle.iface_names.specs.declared.interface.IfaceName.TheVariants.{Joint, Reference}
 use Rattle.iface_names.specs.declared.kind.Kind.{Kind}
 use Rattle.iface_names.specs.declared.interface.IfaceName.{IfaceName}
@@ -16,6 +17,16 @@ use Rattle.cm_document.specs.Links.{is_among, refs_of, references_of}
 pub no_reference_among : (controller joint named : List ℕ) (kind : Kind) (kinds : List Kind) → is_among (Reference controller joint kind) (map (Joint named) kinds) ≡ false
 no_reference_among controller joint named kind [] = refl
 no_reference_among controller joint named kind (k ∷ ks) = no_reference_among controller joint named kind ks
+
+-- what is not so is false
+is_false : (b : Bool) → not b ≡ true → b ≡ false
+is_false false so = refl
+is_false true so = sym so
+
+-- no interface of another joint is among those of a joint
+pub no_other_joint_among : (joint named : List ℕ) (kind : Kind) (kinds : List Kind) → not (same_name joint named) ≡ true → is_among (Joint joint kind) (map (Joint named) kinds) ≡ false
+no_other_joint_among joint named kind [] other = refl
+no_other_joint_among joint named kind (k ∷ ks) other = rw (is_false (same_name joint named) other) (no_other_joint_among joint named kind ks other)
 
 -- the references of one controller more
 pub references_more : (cs : List CtlDesc) (k : ℕ) (c : CtlDesc) (so_far more : List IfaceName)

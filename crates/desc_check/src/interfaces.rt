@@ -157,6 +157,10 @@ fn is_interface_of(joint: &Name, kinds: &[Kind], interface: &IfaceName) -> bool
     else {
         return false;
     };
+    // Most joints are others: their names are compared once, and not for each kind.
+    if *named != *joint {
+        return false;
+    }
     kinds
         .iter()
         .any(|kind| *named == *joint && *wanted == *kind)

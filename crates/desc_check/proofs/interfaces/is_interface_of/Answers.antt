@@ -4,7 +4,7 @@ use Rattle.std.proofs.lemmas.Iterator.Search.{any_from_yields_List}
 use Rattle.iface_names.specs.Interfaces.{same_interface}
 use Rattle.iface_names.specs.declared.interface.IfaceName.TheVariants.{Joint}
 use Rattle.sequence.proofs.ListLemmas.{any_map}
-use Rattle.desc_check.proofs.InterfaceLemmas.{no_reference_among}
+use Rattle.desc_check.proofs.InterfaceLemmas.{no_reference_among, no_other_joint_among}
 use Rattle.desc_check.proofs.interfaces.is_interface_of.Goals as goal
 
 pub returns-in_default : goal.returns-in_default
@@ -17,3 +17,9 @@ returns c =
     rw c.in-Joint.is
     (any_from_yields_List (λ k. test (Joint c.args.joint.now k)) _ _ _ c.any.ensures.ran (YieldsList-from_slice c.args.kinds.now cc) (λ x b q k. search (rules, tests))
     ∙ sym (any_map test (Joint c.args.joint.now) c.args.kinds.now))
+
+-- a joint of another name has no such interface
+pub returns-then-ne : goal.returns-then-ne
+returns-then-ne c =
+    let other = sym c.ne.ensures ∙ c.if-ne.true in
+    rw c.in-Joint.is (sym (no_other_joint_among c.in-Joint.named c.args.joint.now c.in-Joint.wanted c.args.kinds.now other))
