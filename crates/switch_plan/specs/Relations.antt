@@ -5,7 +5,7 @@ use Rattle.cm_document.specs.declared.description.CtlDesc.{CtlDesc}
 use Rattle.cm_document.specs.declared.description.Description.{Description}
 use Rattle.cm_document.specs.declared.life.Life.{Life}
 use Rattle.cm_document.specs.declared.life.Life.TheVariants.{Unconfigured}
-use Rattle.cm_model.specs.Order.{Places, controller_at}
+use Rattle.cm_model.specs.Order.{Places, controller_at, height}
 use Rattle.cm_model.specs.Components.{is_available}
 use Rattle.cm_model.specs.Scene.{Scene, claims_at, is_ready}
 use Rattle.cm_model.specs.Faults.{component_with, is_beside}
@@ -26,12 +26,14 @@ abbrev pub components_at : Description → ℕ → List ℕ
 components_at d p =
     filter_map (component_with d.components) (controller_at d.controllers p).claims ++ filter_map (component_with d.components) (controller_at d.controllers p).reads
 
--- for each controller, by place: those that precede it, those that it precedes, those that it is at odds with, and its components
+-- for each controller, by place: those that precede it, those that it precedes, those that it is at odds with, its components, and its
+-- height
 pub record Related : Type 0 where
   pub leaders : List (List ℕ)
   pub followers : List (List ℕ)
   pub odds : List (List ℕ)
   pub components : List (List ℕ)
+  pub heights : List ℕ
 
 -- those of a description
 abbrev pub relations_of : Description → Related
@@ -40,6 +42,7 @@ relations_of d = record {
   followers = links_of d.controllers;
   odds = odds_of d.controllers;
   components = each_below (components_at d) (length d.controllers);
+  heights = each_below (height d.controllers) (length d.controllers);
 }
 
 -- the component at a place has no available interfaces

@@ -5,7 +5,7 @@ ghost use Rattle.cm_document.specs.Links.{refs_of};
 ghost use Rattle.cm_model.specs.Order.{set_of};
 ghost use Rattle.cm_model.specs.Scene.{controllers_in, claims_at, is_claimed_by};
 ghost use Rattle.cm_model.specs.Switches.{planned};
-ghost use Rattle.cm_model.specs.BestEffort.{Joined, stays, stays_more, kept_drop, join, joining, best_leaving, best_asked, best};
+ghost use Rattle.cm_model.specs.BestEffort.{Joined, stays, stays_more, kept_drop, by_height, join, joining, best_leaving, best_asked, best};
 ghost use Rattle.chain_order.specs.Links.{each_below};
 ghost use Rattle.switch_plan.specs.Calls.Members.{CanJoin};
 ghost use Rattle.switch_plan.specs.View.{scene_of, IsPlace, HavePlaces, HasFlags};
@@ -234,13 +234,29 @@ fn joined(
         ≡ joining (set_scene setting.now) (set_of leaving.now) dropped.old.items coming.now) }
 {
     let on = PlaceSet::of(alloc, controllers(&setting.view).len(), coming)?;
-    let heights = heights(alloc, setting.view.checked)?;
-    let ordered = by_rank(alloc, &heights, coming)?;
+    let ordered = by_height(alloc, setting, coming)?;
     let mut set = setting.active.without(alloc, leaving)?;
     for member in &ordered {
         set = join(alloc, setting, &on, set, member, dropped)?;
     }
     Ok(set)
+}
+
+/// These by height, and those of one height as they stand. Where the relations are known the heights are too, and no name is looked up.
+#[tactic(auto, using(crate::proofs::JoinLemmas::by_heights))]
+fn by_height(alloc: Global, setting: &Setting, coming: &[Member]) -> Result<Vec<Member>, Memory>
+    requires setting { IsSetting setting.now }
+    requires within { HavePlaces (set_scene setting.now) coming.now }
+    ensures within { IfOk result (λ list. HavePlaces (set_scene setting.now) list.items) }
+    ensures order { IfOk result (λ list. list.items ≡ by_height (set_scene setting.now) coming.now) }
+{
+    if let Some(relations) = setting.relations {
+        let ordered = by_rank(alloc, relations.heights(), coming)?;
+        return Ok(ordered);
+    }
+    let heights = heights(alloc, setting.view.checked)?;
+    let ordered = by_rank(alloc, &heights, coming)?;
+    Ok(ordered)
 }
 
 /// One more where it has no fault beside those that are active by then; else it is dropped.

@@ -8,7 +8,7 @@ ghost use Rattle.chain_order.specs.Links.{places_below, each_below, linked};
 ghost use Rattle.switch_plan.specs.Relations.{at_odds, odds_of, components_at, relations_of};
 
 use crate::interfaces::{claims, claims_beside, component_with};
-use chain_order::Links;
+use chain_order::{Links, heights};
 use cm_document::{Checked, CompDesc, CtlDesc, Description, IfaceName, Memory, Seq};
 use std::alloc::Global;
 use std::marker::Model;
@@ -25,6 +25,8 @@ pub struct Relations {
     odds: Links,
     /// The components of what it claims and reads.
     components: Seq<Seq<usize>>,
+    /// Its height, by which controllers join a best effort.
+    heights: Vec<u32>,
 }
 
 impl Model for Relations {
@@ -37,6 +39,7 @@ impl Model for Relations {
       followers = w.followers;
       odds = w.odds;
       components = w.components;
+      heights = w.heights.items;
     } };
 }
 
@@ -51,6 +54,7 @@ impl Relations {
             followers: Links::followers_in(alloc, checked)?,
             odds: odds(alloc, description.controllers.as_slice())?,
             components: components(alloc, description)?,
+            heights: heights(alloc, checked)?,
         })
     }
 
@@ -75,6 +79,13 @@ impl Relations {
         ensures { result.now ≡ linked self.now.odds place }
     {
         self.odds.row(place)
+    }
+
+    /// The height of each controller.
+    pub fn heights(&self) -> &[u32]
+        ensures { result.now ≡ self.now.heights }
+    {
+        &self.heights
     }
 
     /// The components of what the controller at a place claims and reads.
