@@ -2,7 +2,7 @@
 use Rattle.std.proofs.Common.{◌≡◌, ℕ, Bool, true, false, List, [], ◌∷◌, ◌++◌, Option, Some, None, refl, sym, ap, ap₂, subst, ◌∙◌}
 use Rattle.std.specs.Prelude.{not, ◌&&◌, is_some, IfSome, IsSomeAnd}
 use Rattle.cm_document.specs.declared.call.Call.{Call}
-use Rattle.cm_document.specs.declared.call.Call.TheVariants.{Begin, End, Close}
+use Rattle.cm_document.specs.declared.call.Call.TheVariants.{Load, Configure, Cleanup, Unload, Rate, Send, Switch, Hardware, ListControllers, ListInterfaces, ListComponents, Begin, End, Close}
 use Rattle.cm_model.specs.Commit.{commit}
 use Rattle.cm_model.specs.Cycle.{after_cycle}
 use Rattle.cm_model.specs.Machine.{LegalFrom, state_after, step}
@@ -20,7 +20,7 @@ use Rattle.rt_flight.proofs.AlikeLemmas.{stays_aloft}
 use Rattle.sound_laws.proofs.BetweenLemmas.{HasBegun, goes_on}
 use Rattle.sound_laws.proofs.MomentLemmas.{legal_step}
 use Rattle.sound_laws.proofs.SerialLemmas.{IsNumbered}
-use Rattle.cm_desk.specs.Desk.{History, begun_among, begun_of, now_of, Grows, IsOut, MayLand, IsFlown, IsAloftAlike}
+use Rattle.cm_desk.specs.Desk.{History, begun_among, begun_of, now_of, Grows, IsOut, MayLand, IsFlown, IsAloftAlike, CanBeCalled}
 use Rattle.cm_desk.specs.End.{CanLand}
 
 -- the moment of an entry that is a step
@@ -103,6 +103,26 @@ pub aloft_kept : (old new : History) (who : ℕ) (call : Call) (r : Reply) → I
 aloft_kept old new who call r between grows =
     let is = step-IsStep (now_of old) who call (now_of new, r) grows.stepped in
     ap (λ (t : State). t.aloft) is.next ∙ (effect-SameLoop (now_of old) call r between).aloft
+
+-- a call that the desk answers for a session is one of a console,
+pub is_console : (call : Call) → CanBeCalled call → IsConsole call
+is_console (Load _) can = tt
+is_console (Configure _) can = tt
+is_console (Cleanup _) can = tt
+is_console (Unload _) can = tt
+is_console (Rate _ _) can = tt
+is_console (Send _ _) can = tt
+is_console (Switch _) can = tt
+is_console (Hardware _ _) can = tt
+is_console ListControllers can = tt
+is_console ListInterfaces can = tt
+is_console ListComponents can = tt
+is_console _ can = absurd can
+
+-- and after such a call the same cycle is aloft, if one was
+pub called_alike : (old new : History) (who : ℕ) (call : Call) (r : Reply) → IsConsole call → Grows old new who call r → IsAloftAlike old new
+called_alike old new who call r between grows =
+    record { begun = begun_kept old new who call r between grows; aloft = aloft_kept old new who call r between grows }
 
 -- A begin leaves a cycle aloft, an end leaves none, and a close leaves what is.
 pub begun_aloft : (old new : History) (who n : ℕ) (r : Reply) → Grows old new who (Begin n) r → (now_of new).aloft ≡ true
