@@ -10,10 +10,13 @@ pub fn call_of(alloc: Global, verb: &str, rest: &str) -> Result<Call, Fail> {
     match verb {
         "load" => Ok(Call::Load(name_of(alloc, rest)?)),
         "configure" => Ok(Call::Configure(name_of(alloc, rest)?)),
+        "cleanup" => Ok(Call::Cleanup(name_of(alloc, rest)?)),
         "unload" => Ok(Call::Unload(name_of(alloc, rest)?)),
+        "rate" => rate_of(alloc, rest),
         "switch" => Ok(Call::Switch(switch_of(alloc, rest)?)),
         "send" => send_of(alloc, rest),
         "hw" => hardware_of(alloc, rest),
+        "list" => list_of(rest),
         _ => Err(Fail::new("an unknown call")),
     }
 }
@@ -21,6 +24,26 @@ pub fn call_of(alloc: Global, verb: &str, rest: &str) -> Result<Call, Fail> {
 /// The name that a word is.
 pub fn name_of(alloc: Global, word: &str) -> Result<Name, Fail> {
     Ok(Name::read(alloc, word.as_bytes())?)
+}
+
+/// `NAME HZ`.
+fn rate_of(alloc: Global, rest: &str) -> Result<Call, Fail> {
+    let (name, hz) = halves(rest, " ")?;
+    let hz = hz.parse()?;
+    Ok(Call::Rate {
+        name: name_of(alloc, name)?,
+        hz,
+    })
+}
+
+/// `controllers`, `interfaces` or `components`.
+fn list_of(word: &str) -> Result<Call, Fail> {
+    match word {
+        "controllers" => Ok(Call::ListControllers),
+        "interfaces" => Ok(Call::ListInterfaces),
+        "components" => Ok(Call::ListComponents),
+        _ => Err(Fail::new("an unknown list")),
+    }
 }
 
 /// `NAME VALUE`.
