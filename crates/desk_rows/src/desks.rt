@@ -1,33 +1,11 @@
 //! The desk, call by call: several sessions whose requests wait together, and calls while a cycle is aloft.
 
-ghost use Rattle.std.specs.Prelude.{◌≡◌, ◌<◌, ◌^◌, length, true};
-ghost use Rattle.std.specs.List.{All};
-ghost use Rattle.cm_model.specs.Controllers.{IsBlank};
-ghost use Rattle.cm_desk.specs.Desk.{now_of, CanBeCalled};
-
-use case_calls::calls::call_of;
-use case_calls::replies::push_reply;
-use case_calls::stocks::blanks;
-use case_pages::pages::{halves, hold_told};
-use case_robots::described::described;
-use cm_desk::Desk;
-use cm_model::{Call, Checked, Entry, Outcome, Reply};
-use ctl_rack::Stock;
-use ctl_trait::Controller;
-use std::alloc::Global;
+use crate::lines::hold_calls;
 use std::test::Fail;
 
 #[test]
 fn a_desk_answers_several_sessions(rt: HostRuntime) -> Result<(), Fail> {
-    for case in CALLS.split("\n\n") {
-        play_case(rt.alloc(), case)?;
-    }
-    Ok(())
-}
-
-fn play_case(alloc: Global, case: &str) -> Result<(), Fail> {
-    let blanks = blanks(alloc, 1)?;
-    play(alloc, described(alloc, ROBOT)?, blanks, case)
+    hold_calls(&rt, rt.alloc(), ROBOT, SESSIONS, CALLS)
 }
 
 /// How many sessions the desk has.
@@ -57,199 +35,6 @@ claims = ["j1/position"]
 name = "mk"
 type = "mock"
 "#;
-
-/// The calls of a case, on a desk at boot, each with what is told of it.
-fn play<C: Controller>(
-    alloc: Global,
-    checked: Checked,
-    blanks: Vec<C>,
-    case: &str,
-) -> Result<(), Fail>
-    requires blank { All (λ c. IsBlank (C.meaning c)) blanks.items }
-    requires few { length blanks.items < 2 ^ 32 }
-{
-    let mut desk = Desk::boot(alloc, checked, Stock::make(blanks), SESSIONS)?;
-    let held = hold_lines(alloc, &mut desk, case);
-    drop(desk);
-    held
-}
-
-fn hold_lines<C: Controller>(alloc: Global, desk: &mut Desk<C>, case: &str) -> Result<(), Fail> {
-    for line in case.lines() {
-        hold_line(alloc, desk, line)?;
-    }
-    Ok(())
-}
-
-/// A line `CALL => TOLD`.
-fn hold_line<C: Controller>(alloc: Global, desk: &mut Desk<C>, line: &str) -> Result<(), Fail> {
-    let (call, want) = halves(line, " => ")?;
-    let mut told = String::new(alloc);
-    make(alloc, desk, call, &mut told)?;
-    hold_told(alloc, call, told.as_str(), want)
-}
-
-/// `begin`, `end` or `close`, or else a session's call behind its number.
-fn make<C: Controller>(
-    alloc: Global,
-    desk: &mut Desk<C>,
-    call: &str,
-    told: &mut String,
-) -> Result<(), Fail> {
-    match call {
-        "begin" => begin(alloc, desk, told),
-        "end" => end(desk, told),
-        "close" => close(desk, told),
-        _ => ask(alloc, desk, call, told),
-    }
-}
-
-// ---- The loop
-
-fn begin<C: Controller>(alloc: Global, desk: &mut Desk<C>, told: &mut String) -> Result<(), Fail> {
-    if desk.aloft() || desk.closed() || desk.ended() >= cycles_of(desk) {
-        return Err(Fail::new("no cycle can begin"));
-    }
-    desk.begin(alloc)?;
-    push_last(told, desk.history())
-}
-
-/// How many cycles the description has.
-#[tactic(auto, using(cm_model::proofs::HistoryLemmas::description_stays))]
-fn cycles_of<C: Controller>(desk: &Desk<C>) -> u64
-    ensures { result ≡ (now_of desk.now).description.cycles }
-{
-    desk.checked().description().cycles
-}
-
-fn end<C: Controller>(desk: &mut Desk<C>, told: &mut String) -> Result<(), Fail> {
-    if !desk.aloft() {
-        return Err(Fail::new("no cycle is aloft"));
-    }
-    desk.end();
-    push_last(told, desk.history())
-}
-
-fn close<C: Controller>(desk: &mut Desk<C>, told: &mut String) -> Result<(), Fail> {
-    if desk.aloft() || desk.closed() {
-        return Err(Fail::new("the loop cannot close"));
-    }
-    desk.close();
-    push_last(told, desk.history())
-}
-
-/// Appends the reply of the last entry.
-fn push_last(told: &mut String, history: &[Entry]) -> Result<(), Fail> {
-    let entry = history.last().ok_or("no entry")?;
-    push_reply(told, &entry.reply)
-}
-
-// ---- Sessions
-
-/// `WHO CALL`, `WHO told TICKET` or `WHO await CYCLES`.
-fn ask<C: Controller>(
-    alloc: Global,
-    desk: &mut Desk<C>,
-    line: &str,
-    told: &mut String,
-) -> Result<(), Fail> {
-    let (who, call) = halves(line, " ")?;
-    let who = who.parse()?;
-    if who >= desk.sessions() {
-        return Err(Fail::new("no such session"));
-    }
-    let (verb, rest) = call.split_once(" ").unwrap_or((call, ""));
-    match verb {
-        "told" => ask_for(alloc, desk, who, rest.parse()?, told),
-        "await" => wait_for(alloc, desk, who, rest.parse()?, told),
-        _ => call_desk(alloc, desk, who, call_of(alloc, verb, rest)?, told),
-    }
-}
-
-/// A session asks what became of a ticket.
-fn ask_for<C: Controller>(
-    alloc: Global,
-    desk: &mut Desk<C>,
-    who: u32,
-    ticket: u32,
-    told: &mut String,
-) -> Result<(), Fail>
-    requires session { who < desk.old.opening.sessions }
-{
-    let outcome = desk.told(alloc, who, ticket)?;
-    push_outcome(told, outcome)
-}
-
-/// A session waits until so many cycles have ended.
-fn wait_for<C: Controller>(
-    alloc: Global,
-    desk: &mut Desk<C>,
-    who: u32,
-    cycles: u64,
-    told: &mut String,
-) -> Result<(), Fail>
-    requires session { who < desk.old.opening.sessions }
-{
-    let reached = desk.reached(alloc, who, cycles)?;
-    push_reached(told, reached)
-}
-
-/// A session calls the desk, and is told of the reply and of the box that an unload hands out.
-fn call_desk<C: Controller>(
-    alloc: Global,
-    desk: &mut Desk<C>,
-    who: u32,
-    call: Call,
-    told: &mut String,
-) -> Result<(), Fail>
-    requires session { who < desk.old.opening.sessions }
-{
-    if !is_call(&call) {
-        return Err(Fail::new("no call of a session"));
-    }
-    let (reply, given) = desk.call(alloc, who, call)?;
-    push_answer(told, &reply, given)
-}
-
-/// Whether a desk answers this call for a session.
-fn is_call(call: &Call) -> bool
-    ensures { result ≡ true → CanBeCalled call.now }
-{
-    match call {
-        Call::Told(_) | Call::Await(_) | Call::Begin(_) | Call::End(_) | Call::Close => false,
-        _ => true,
-    }
-}
-
-fn push_answer<C: Controller>(
-    told: &mut String,
-    reply: &Reply,
-    given: Option<C>,
-) -> Result<(), Fail> {
-    push_reply(told, reply)?;
-    push_given(told, given)
-}
-
-fn push_outcome(told: &mut String, outcome: Option<Outcome>) -> Result<(), Fail> {
-    match outcome {
-        Some(outcome) => write!(told, "{outcome}")?,
-        None => told.push_str("not yet")?,
-    }
-    Ok(())
-}
-
-fn push_reached(told: &mut String, reached: bool) -> Result<(), Fail> {
-    told.push_str(if reached { "ok" } else { "not yet" })?;
-    Ok(())
-}
-
-/// Appends the kind of a box that an unload hands out.
-fn push_given<C: Controller>(told: &mut String, given: Option<C>) -> Result<(), Fail> {
-    if let Some(ctl) = given {
-        write!(told, ", a {}", ctl.kind().word())?;
-    }
-    Ok(())
-}
 
 /// Four requests wait together and a fifth does not; they are decided where the cycle begins, each in the state that the one before it
 /// left, and told from then on. What waits at the close ends with the loop. While a cycle is aloft controllers that are not active come
@@ -294,7 +79,7 @@ close => 4 loop_ended
 1 configure pt => ok
 begin => 0 done
 0 unload fwd => active
-1 unload pt => ok, a passthrough
+1 unload pt => ok, a passthrough for 1
 1 load mk => ok 2
 1 configure mk => ok
 1 switch strict +mk => queued 1
@@ -309,7 +94,7 @@ begin => 2 done
 0 send fwd 0.75 => ok
 end => run 0 unset; run 2; stop 0
 0 send fwd 0.5 => not_active
-0 unload fwd => ok, a forward
+0 unload fwd => ok, a forward for 1
 1 unload mk => active
 close => none
 1 unload mk => active";

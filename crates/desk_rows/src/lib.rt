@@ -4,3 +4,11 @@
 
 #[cfg(test)]
 mod desks;
+#[cfg(test)]
+mod flights;
+#[cfg(test)]
+mod lines;
+#[cfg(test)]
+mod marked;
+#[cfg(test)]
+mod tables;

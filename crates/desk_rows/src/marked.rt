@@ -1,0 +1,115 @@
+//! A controller that tells whether it is configured, and whether it runs.
+
+ghost use Rattle.std.specs.Prelude.{◌≡◌, length, IfOk};
+ghost use Rattle.std.specs.List.{All};
+ghost use Rattle.cm_model.specs.Controllers.{IsBlank};
+
+use cm_model::{CtlKind, Done, Fx, Mail, Params, Tick, Value};
+use ctl_trait::{CfgFault, Controller, shape_of};
+use std::alloc::Global;
+use std::marker::Model;
+use std::test::Fail;
+
+/// A controller, with the number of claims that its parameters are for, where it is configured, and whether it runs.
+#[derive(Drop)]
+pub struct Marked<C: Controller> {
+    ctl: C,
+    claims: Option<u32>,
+    runs: bool,
+}
+
+impl<C: Controller> Model for Marked<C> {
+    ghost use Rattle.std.specs.Prelude.{◌≡◌, option_map, is_some};
+    ghost use Rattle.cm_model.specs.Kinds.{shape_of};
+    ghost use Rattle.cm_model.specs.declared.data.CtlData.{CtlData};
+
+    ghost Value = { CtlData };
+
+    ghost view = { λ m. C.meaning m.ctl };
+
+    ghost invariant = { λ m.
+        (option_map (λ p. (shape_of p).claims) (C.meaning m.ctl).params ≡ m.claims)
+        × (is_some (C.meaning m.ctl).run ≡ m.runs) };
+}
+
+impl<C: Controller> Marked<C> {
+    /// A blank.
+    pub fn blank(ctl: C) -> Marked<C>
+        requires { IsBlank (C.meaning ctl) }
+        ensures { result ≡ C.meaning ctl }
+    {
+        Marked {
+            ctl,
+            claims: None,
+            runs: false,
+        }
+    }
+
+    /// Appends its kind, for how many claims it is configured, and that it runs.
+    pub fn push_to(&self, told: &mut String) -> Result<(), Fail> {
+        told.push_str(self.ctl.kind().word())?;
+        match self.claims {
+            Some(claims) => write!(told, " for {claims}")?,
+            None => told.push_str(", blank")?,
+        }
+        told.push_str(if self.runs { ", running" } else { "" })?;
+        Ok(())
+    }
+}
+
+impl<C: Controller> Controller for Marked<C> {
+    ghost meaning = { λ m. m };
+
+    fn kind(&self) -> CtlKind {
+        self.ctl.kind()
+    }
+
+    fn configure(&mut self, alloc: Global, params: &Params) -> Result<(), CfgFault> {
+        self.ctl.configure(alloc, params)?;
+        self.claims = Some(shape_of(params).claims);
+        self.runs = false;
+        Ok(())
+    }
+
+    fn ready(&self, cycle: u64) -> bool {
+        self.ctl.ready(cycle)
+    }
+
+    fn activate(&mut self, states: &[Fx], chained: bool) {
+        self.ctl.activate(states, chained);
+        self.runs = true;
+    }
+
+    #[tactic(auto, using(ctl_trait::proofs::TakingLemmas::can_take))]
+    fn take(&mut self, mail: Mail) {
+        self.ctl.take(mail);
+    }
+
+    #[tactic(auto, using(cm_model::proofs::ControllerLemmas::updating))]
+    fn update(&mut self, tick: Tick, states: &[Fx], refs: &[Value], outs: &mut [Value]) -> Done {
+        self.ctl.update(tick, states, refs, outs)
+    }
+
+    fn deactivate(&mut self) {
+        self.ctl.deactivate();
+        self.runs = false;
+    }
+
+    fn cleanup(&mut self) {
+        self.ctl.cleanup();
+        self.claims = None;
+    }
+}
+
+/// Blanks, marked.
+pub fn with_marks<C: Controller>(alloc: Global, blanks: Vec<C>) -> Result<Vec<Marked<C>>, Fail>
+    requires { All (λ b. IsBlank (C.meaning b)) blanks.items }
+    ensures blank { IfOk result (λ all. All IsBlank all.items) }
+    ensures len { IfOk result (λ all. length all.items ≡ length blanks.items) }
+{
+    let mut all = Vec::with_capacity(alloc, blanks.len())?;
+    for blank in blanks {
+        all.push(Marked::blank(blank))?;
+    }
+    Ok(all)
+}
