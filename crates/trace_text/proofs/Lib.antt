@@ -1,3 +1,5 @@
+pub mod DigitLemmas
+pub mod HeadLemmas
 pub mod NameLemmas
 pub mod JoinLemmas
 pub mod LineLemmas

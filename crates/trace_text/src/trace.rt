@@ -1,14 +1,17 @@
 //! The trace of a history, a line a piece.
 
-ghost use Rattle.std.specs.Prelude.{◌≡◌, ◌++◌, flat_map, OnOk, OnErr, string_bytes};
+ghost use Rattle.std.specs.Prelude.{◌≡◌, ◌++◌, true, codes, flat_map, OnOk, OnErr, string_bytes};
 ghost use Rattle.std.specs.Io.KnownBytes.{Appends};
 ghost use Rattle.outside_io.specs.Bytes.{AppendsPrefix};
-ghost use Rattle.cm_model.specs.Trace.{caller_text, line_text, trace};
+ghost use Rattle.cm_model.specs.Trace.{caller_text, line_text, reply_text, trace};
 ghost use Rattle.trace_text.specs.Faults.{HasFault};
+ghost use Rattle.trace_text.specs.Replies.{is_in_words, head_text, cycle_text};
 
-use crate::items::push_reply;
+use crate::bytes::push_word;
+use crate::items::push_in_words;
 use crate::names::Names;
-use cm_model::{Checked, Entry, Memory, Script, SessionText};
+use crate::records::push_record;
+use cm_model::{Checked, CycleRecord, Entry, Memory, Reply, Script, SessionText};
 use outside_io::{Failed, Sink, write_whole};
 use std::alloc::Global;
 use thiserror::Error;
@@ -56,30 +59,73 @@ fn caller(sessions: &[SessionText], who: u32) -> &str
     }
 }
 
-/// Appends the line of an entry.
-fn push_line(
-    text: &mut String,
-    sessions: &[SessionText],
-    names: &Names<'_>,
-    entry: &Entry,
-) -> Result<(), Memory>
+/// Appends what stands before the reply in the line of an entry.
+fn push_head(text: &mut String, sessions: &[SessionText], entry: &Entry) -> Result<(), Memory>
     ensures { OnOk result
-        (string_bytes text.new ≡ string_bytes text.old ++ line_text sessions.now names.now entry.now) }
+        (string_bytes text.new ≡ string_bytes text.old ++ head_text sessions.now entry.now) }
 {
     text.push_str(caller(sessions, entry.who))?;
-    text.push_str(" ")?;
+    text.push(' ')?;
     entry.call.push_to(text)?;
-    text.push_str(": ")?;
-    push_reply(text, names, &entry.reply)?;
-    text.push_str("\n")?;
+    text.push(':')?;
+    text.push(' ')?;
     Ok(())
 }
 
-/// Writes the line of an entry as one piece, and again what the sink did not take of it. The text is only room for the line: what
-/// stood there is gone.
+/// Appends what stands behind the head in a line that is told in words.
+fn push_rest(text: &mut String, names: &Names<'_>, reply: &Reply) -> Result<(), Memory>
+    requires { is_in_words reply.now ≡ true }
+    ensures { OnOk result
+        (string_bytes text.new ≡ string_bytes text.old ++ reply_text names.now reply.now ++ codes "\n") }
+{
+    push_in_words(text, names, reply)?;
+    text.push('\n')?;
+    Ok(())
+}
+
+/// Appends the line of a cycle, behind its head.
+fn push_cycle(
+    line: &mut Vec<u8>,
+    head: &str,
+    names: &Names<'_>,
+    record: &CycleRecord,
+) -> Result<(), Memory>
+    ensures { OnOk result
+        (line.new.items ≡ line.old.items ++ head.now ++ cycle_text names.now record.now) }
+{
+    push_word(line, head)?;
+    push_record(line, names, record)?;
+    line.push(b'\n')?;
+    Ok(())
+}
+
+/// Writes the line of a cycle as one piece, and again what the sink did not take of it. What stood in its room is gone.
+fn write_cycle<K: Sink>(
+    sink: &mut K,
+    line: &mut Vec<u8>,
+    head: &str,
+    names: &Names<'_>,
+    record: &CycleRecord,
+) -> Result<(), OutFault>
+    ensures ok { OnOk result
+        (Appends (K.taken sink.old) (K.taken sink.new) (head.now ++ cycle_text names.now record.now)) }
+    ensures err { OnErr result
+        (AppendsPrefix (K.taken sink.old) (K.taken sink.new) (head.now ++ cycle_text names.now record.now)) }
+    ensures flushed { K.flushed sink.new ≡ K.flushed sink.old }
+    ensures fault { HasFault (K.faults sink.old) (K.faults sink.new) result }
+{
+    line.clear();
+    push_cycle(line, head, names, record)?;
+    write_whole(sink, line.as_slice())?;
+    Ok(())
+}
+
+/// Writes the line of an entry as one piece, and again what the sink did not take of it: that of a cycle as bytes, any other in words.
+/// Both are only room: what stood there is gone.
 fn write_line<K: Sink>(
     sink: &mut K,
-    text: &mut String,
+    line: &mut Vec<u8>,
+    words: &mut String,
     sessions: &[SessionText],
     names: &Names<'_>,
     entry: &Entry,
@@ -91,9 +137,13 @@ fn write_line<K: Sink>(
     ensures flushed { K.flushed sink.new ≡ K.flushed sink.old }
     ensures fault { HasFault (K.faults sink.old) (K.faults sink.new) result }
 {
-    text.clear();
-    push_line(text, sessions, names, entry)?;
-    write_whole(sink, text.as_bytes())?;
+    words.clear();
+    push_head(words, sessions, entry)?;
+    if let Reply::Cycle(record) = &entry.reply {
+        return write_cycle(sink, line, words.as_str(), names, record);
+    }
+    push_rest(words, names, &entry.reply)?;
+    write_whole(sink, words.as_bytes())?;
     Ok(())
 }
 
@@ -113,9 +163,10 @@ fn write_lines<K: Sink>(
     ensures flushed { K.flushed sink.new ≡ K.flushed sink.old }
     ensures fault { HasFault (K.faults sink.old) (K.faults sink.new) result }
 {
-    let mut text = String::new(alloc);
+    let mut line = Vec::new(alloc);
+    let mut words = String::new(alloc);
     for entry in history {
-        write_line(sink, &mut text, sessions, names, entry)?;
+        write_line(sink, &mut line, &mut words, sessions, names, entry)?;
     }
     Ok(())
 }

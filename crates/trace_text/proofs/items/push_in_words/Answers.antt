@@ -1,4 +1,4 @@
-use Rattle.trace_text.proofs.items.push_reply.Goals as goal
+use Rattle.trace_text.proofs.items.push_in_words.Goals as goal
 
 pub returns-in_ok-push_items-in-Controllers : goal.returns-in_ok-push_items-in-Controllers
 returns-in_ok-push_items-in-Controllers c = rw (c.in-Controllers.is, ← c.get-in-Controllers.ensures, ← c.as_slice.ensures) c.in_ok-push_items-in-Controllers.ensures

@@ -1,5 +1,5 @@
 use Rattle.trace_text.proofs.JoinLemmas.{Adds-then, Adds-some}
-use Rattle.trace_text.proofs.items.push_record.Goals as goal
+use Rattle.trace_text.proofs.records.push_record.Goals as goal
 
 -- the four parts are all items
 pub returns-then-stops : goal.returns-then-stops

@@ -1,11 +1,11 @@
-use Rattle.std.proofs.Common.{◌≡◌, ◌++◌, drop, map, string_bytes}
+use Rattle.std.proofs.Common.{◌≡◌, ◌++◌, drop, map}
 use Rattle.cm_model.specs.Items.{failed_text}
 use Rattle.trace_text.specs.Joined.{joined_on, has_started}
-use Rattle.trace_text.proofs.items.push_failures.Given as goal
+use Rattle.trace_text.proofs.records.push_failures.Given as goal
 
 -- the text so far, and the items that are left, are all items
 abbrev pub invariant-loop-part : goal.invariant-loop-part
 invariant-loop-part l = record {
-  text : string_bytes l.text ++ joined_on l.started (map (failed_text l.names) (drop l.part-index l.failed)) ≡ string_bytes l.fn.text ++ joined_on l.fn.started (map (failed_text l.names) l.failed);
+  text : l.text.items ++ joined_on l.started (map (failed_text l.names) (drop l.part-index l.failed)) ≡ l.fn.text.items ++ joined_on l.fn.started (map (failed_text l.names) l.failed);
   started : has_started l.started (map (failed_text l.names) (drop l.part-index l.failed)) ≡ has_started l.fn.started (map (failed_text l.names) l.failed);
 }
