@@ -243,7 +243,6 @@ fn joined(
 }
 
 /// These by height, and those of one height as they stand. Where the relations are known the heights are too, and no name is looked up.
-#[tactic(auto, using(crate::proofs::JoinLemmas::by_heights))]
 fn by_height(alloc: Global, setting: &Setting, coming: &[Member]) -> Result<Vec<Member>, Memory>
     requires setting { IsSetting setting.now }
     requires within { HavePlaces (set_scene setting.now) coming.now }
