@@ -17,7 +17,7 @@ pub returns-in-Some-clause-order : goal.returns-in-Some-clause-order
 returns-in-Some-clause-order c =
     c.in_ok-ordered.ensures
     ∙ by_heights (set_scene c.args.setting.now) c.heights.result.now c.args.coming.now
-      (c.heights.ensures ∙ ap (λ (w : Related). w.heights) (rw (c.in-Some.is) at c.requires.setting.relations)) c.requires.within
+    (c.heights.ensures ∙ ap (λ (w : Related). w.heights) (rw (c.in-Some.is) at c.requires.setting.relations)) c.requires.within
 
 -- by those that were worked out
 pub returns-clause-within : goal.returns-clause-within
