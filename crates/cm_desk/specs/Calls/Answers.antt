@@ -26,8 +26,8 @@ pub record MayCall (h : History) (who : ℕ) (call : Call) : Type 0 where
   pub called : CanBeCalled call
 
 -- What is handed over of a desk: its history, which is legal and sound, and the data of the boxes, which are those of the loaded controllers.
-pub record IsHandedOver (h : History) (entries : List Entry) (data : List CtlData) : Type 0 where
+pub record IsHandedOver (h : History) (entries : List Entry) (held : List CtlData) : Type 0 where
   pub history : entries ≡ h.made
   pub legal : LegalFrom h.opening h.made
   pub sound : AreSound (moments h.opening h.made)
-  pub boxes : data ≡ map (λ l. l.ctl) (now_of h).loaded
+  pub boxes : held ≡ map (λ l. l.ctl) (now_of h).loaded
