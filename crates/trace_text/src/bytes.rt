@@ -64,8 +64,7 @@ fn push_pair(text: &mut Vec<u8>, pair: u32)
     requires few { pair < 100 }
     requires room { vec_len text.old + 2 ≤ vec_capacity text.old }
     ensures bytes { text.new.items ≡ text.old.items ++ (48 + pair / 10) ∷ (48 + pair % 10) ∷ [] }
-    ensures longer { vec_len text.new ≡ vec_len text.old + 2 }
-    ensures room { vec_capacity text.new ≡ vec_capacity text.old }
+    ensures room { (vec_len text.new ≡ vec_len text.old + 2) × (vec_capacity text.new ≡ vec_capacity text.old) }
 {
     text.push_reserved(b'0' + (pair / 10) as u8);
     text.push_reserved(b'0' + (pair % 10) as u8);
