@@ -10,7 +10,8 @@ use Rattle.cm_model.specs.Boundary.{concluded}
 use Rattle.cm_model.specs.Commit.{seen, described_of}
 use Rattle.cm_model.specs.Controllers.{is_ready}
 use Rattle.cm_model.specs.Order.{Places, set_of, nobody}
-use Rattle.cm_model.specs.State.{State, Loaded, life_of, is_active, is_chained}
+use Rattle.cm_model.specs.Scene.{is_chained_in}
+use Rattle.cm_model.specs.State.{State, Loaded, life_of, is_active, active, is_chained}
 use Rattle.cm_model.specs.Steady.{IsSteady}
 use Rattle.cm_model.specs.declared.request.Request.{Request}
 use Rattle.cm_model.specs.declared.seen.Seen.{Seen}
@@ -23,6 +24,7 @@ use Rattle.request_plan.specs.Stands.{IsStand, IsSeenOf}
 use Rattle.request_plan.specs.declared.acts.Conclusion.{Conclusion}
 use Rattle.request_plan.specs.declared.acts.Switched.{Switched}
 use Rattle.request_plan.specs.declared.stand.Stand.{Stand}
+use Rattle.request_plan.proofs.StandLemmas.{chained_among}
 use Rattle.sound_laws.proofs.BoundaryLemmas.{concluded_steady}
 use Rattle.sound_laws.proofs.SerialLemmas.{IsNumbered}
 use Rattle.cm_desk.specs.Bay.{Base}
@@ -57,6 +59,11 @@ seen_so s stand steady numbered loaded lives = record { steady = steady; once = 
 pub chained_so : (s : State) (l : Loaded) (c : CtlDesc) → slice_get s.description.controllers l.place ≡ Some c
     → is_chained s c ≡ is_chained s (described_of s l)
 chained_so s l c there = ap (is_chained s) (sym (get_or_from_slice_get s.description.controllers l.place c nobody there))
+
+-- it is where one that precedes its place is active
+pub chained_at : (s : State) (l : Loaded) (c : CtlDesc) → slice_get s.description.controllers l.place ≡ Some c
+    → is_chained_in s.description.controllers (active s) l.place ≡ is_chained s c
+chained_at s l c there = sym (chained_among s.description.controllers s.loaded l.place) ∙ sym (chained_so s l c there)
 
 -- so it is seen
 pub seen_as : (s : State) (l : Loaded) (c : CtlDesc) (serial place : ℕ) (life : Life) (chained ready : Bool) → slice_get s.description.controllers l.place ≡ Some c

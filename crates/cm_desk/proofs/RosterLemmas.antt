@@ -1,12 +1,22 @@
 -- What is looked up of who is active.
+use Rattle.std.proofs.Math.Path.{fun_ext}
 use Rattle.std.proofs.Common.{◌≡◌, ℕ, zero, suc, ◌+◌, ◌<◌, Bool, true, false, cond, List, [], ◌∷◌, length, length-set, replicate, Option, Some, None, inl, inr, refl, sym, ap, ◌∙◌, arith}
-use Rattle.std.specs.Prelude.{◌==◌, ◌&&◌, ◌||◌, find, position, unwrap_or, option_map, is_none, slice_get, slice_index_or, slice_set, if◌then◌else◌, All}
-use Rattle.std.specs.List.{AllByRecursion, position_or_len}
+use Rattle.std.specs.Prelude.{◌==◌, ◌&&◌, ◌||◌, find, position, unwrap_or, option_map, is_none, is_some, slice_get, slice_index_or, slice_set, if◌then◌else◌, All}
+use Rattle.std.specs.List.{AllByRecursion, list_any, position_or_len}
 use Rattle.std.specs.Option.{option_or}
-use Rattle.std.proofs.lemmas.Bool.{cases_eq, eqb-true, eq-eqb, ne_eqb, lt-ltb}
-use Rattle.std.proofs.lemmas.List.{get_or-set_same, get_or-set_other}
-use Rattle.std.proofs.lemmas.List.Elements.{recursion_from_All}
+use Rattle.std.proofs.lemmas.Bool.{cases_eq, cases_lt, eqb-true, eq-eqb, ne_eqb, lt-ltb}
+use Rattle.std.proofs.lemmas.List.{get_or-set_same, get_or-set_other, get_or_past}
+use Rattle.std.proofs.lemmas.List.Elements.{recursion_from_All, All-weaker}
+use Rattle.std.proofs.lemmas.List.Folds.{list_any_none}
+use Rattle.cm_document.specs.declared.description.CtlDesc.{CtlDesc}
+use Rattle.cm_model.specs.Order.{Places}
+use Rattle.cm_model.specs.Scene.{is_chained_in}
 use Rattle.cm_model.specs.State.{Loaded, is_active}
+use Rattle.cm_model.specs.Steady.{has_loaded}
+use Rattle.cm_model.proofs.LoadedLemmas.{and_false}
+use Rattle.chain_order.specs.Links.{linked, leaders_of}
+use Rattle.cm_hardware.proofs.CommitOwnerLemmas.{found_any}
+use Rattle.stop_plan.proofs.EndingLemmas.{chained_by}
 use Rattle.cm_desk.specs.Roster.{serial_in, serials_of, is_listed, noted, noted_all, TellsActive}
 
 -- ---- Options
@@ -126,3 +136,25 @@ pub stands_at : (ls : List Loaded) (serial : ℕ) → is_listed (serials_of ls) 
 stands_at ls serial has =
     let at = stands ls serial has in
     rw (lt-ltb (position_or_len (λ (l : Loaded). l.serial == serial) ls) (length ls) at.within) at.there
+
+-- ---- Who is active
+
+-- who is noted at a place is active there
+pub told_active : (count : ℕ) (ls : List Loaded) (active : List (Option ℕ)) → All (λ l. l.place < count) ls → TellsActive count ls active → (p : ℕ)
+    → is_some (slice_index_or active p None) ≡ has_loaded is_active ls p
+told_active count ls active within tells p =
+    elim (cases_lt p count) [
+      | inl below ↦ ap is_some (tells.told p below) ∙ found_any (λ l. is_active l && l.place == p) ls
+      | inr past ↦
+          ap is_some (get_or_past active p None (omega (arith, past, tells.counted)))
+          ∙ sym (list_any_none (λ l. is_active l && l.place == p) ls
+          (All-weaker (λ l. l.place < count) (λ l. (is_active l && l.place == p) ≡ false)
+          (λ l below. ap (λ b. is_active l && b) (ne_eqb l.place p (λ e. omega (arith, e, below, past))) ∙ and_false (is_active l)) ls within))
+    ]
+
+-- So a controller is chained where one that precedes it is noted.
+pub led_by : (cs : List CtlDesc) (ls : List Loaded) (active : List (Option ℕ)) → All (λ l. l.place < length cs) ls → TellsActive (length cs) ls active → (p : ℕ)
+    → list_any (λ q. is_some (slice_index_or active q None)) (linked (leaders_of cs) p) ≡ is_chained_in cs (has_loaded is_active ls) p
+led_by cs ls active within tells p =
+    ap (λ (set : Places). list_any set (linked (leaders_of cs) p)) (fun_ext (told_active (length cs) ls active within tells))
+    ∙ chained_by cs (has_loaded is_active ls) p

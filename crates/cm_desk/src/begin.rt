@@ -145,9 +145,10 @@ impl<C: Controller> Works<C> {
 
     /// Whether it runs, and is chained by its description.
     fn runs_chained(&self, slot: &Slot<C>, controller: &CtlDesc) -> bool
+        requires { slice_get self.now.description.controllers slot.now.place ≡ Some controller.now }
         ensures { result ≡ (is_active slot.now && is_chained self.now controller.now) }
     {
-        slot.is_active() && self.is_chained(controller)
+        slot.is_active() && self.is_chained(slot, controller)
     }
 
     /// The lifecycle states of the components.

@@ -121,7 +121,7 @@ impl<C: Controller> Works<C> {
             return Some(Why::NotActive);
         }
         let controller = described(&self.checked, slot);
-        if self.is_chained(controller) {
+        if self.is_chained(slot, controller) {
             return Some(Why::Chained);
         }
         if takes_none(&controller.params) {

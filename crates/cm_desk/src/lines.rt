@@ -1,11 +1,13 @@
 //! The list of controllers, and which of them are chained.
 
-ghost use Rattle.std.specs.Prelude.{◌≡◌, ◌++◌, ◌&&◌, ◌<◌, length, slice_get, false, option_to_list, IfOk, OnOk};
+ghost use Rattle.std.specs.Prelude.{◌≡◌, ◌++◌, ◌&&◌, ◌<◌, length, slice_get, Some, false, option_to_list, IfOk, OnOk};
 ghost use Rattle.std.specs.Option.{option_map_or};
-ghost use Rattle.cm_model.specs.State.{is_active, is_chained, precedes_described, controller_line, controller_lines};
+ghost use Rattle.cm_model.specs.Scene.{is_chained_in};
+ghost use Rattle.cm_model.specs.State.{active, is_active, is_chained, precedes_described, controller_line, controller_lines};
+ghost use Rattle.chain_order.specs.Links.{leaders_of};
 
 use crate::works::Works;
-use chain_order::precedes;
+use chain_order::{Links, precedes};
 use cm_model::{CtlDesc, CtlLine, Memory, Seq};
 use ctl_slots::Slot;
 use ctl_trait::Controller;
@@ -42,12 +44,33 @@ impl<C: Controller> Works<C> {
             divisor: slot.divisor(),
             kind: slot.kind(),
             life: slot.life(),
-            chained: self.is_chained(controller),
+            chained: self.is_chained(slot, controller),
         }))
     }
 
-    /// Whether an active controller claims one of its references.
-    pub(crate) fn is_chained(&self, controller: &CtlDesc) -> bool
+    /// Whether an active controller claims one of the references of this one, whose description this is. Where the relations are at home
+    /// they say it by place; while a cycle is aloft with them, names are compared.
+    pub(crate) fn is_chained(&self, slot: &Slot<C>, controller: &CtlDesc) -> bool
+        requires { slice_get self.now.description.controllers slot.now.place ≡ Some controller.now }
+        ensures { result ≡ is_chained self.now controller.now }
+    {
+        match &self.bay.hangar {
+            Some(hangar) => self.is_led_by(hangar.plant.relations.leaders(), slot.place()),
+            None => self.has_precedent(controller),
+        }
+    }
+
+    /// Whether one of those that precede the controller at this place is active.
+    fn is_led_by(&self, leaders: &Links, place: usize) -> bool
+        requires leaders { leaders.now ≡ leaders_of self.now.description.controllers }
+        requires within { place < length self.now.description.controllers }
+        ensures { result ≡ is_chained_in self.now.description.controllers (active self.now) place }
+    {
+        self.roster.has_any(leaders.row(place as u32))
+    }
+
+    /// Whether an active controller claims one of its references, by names.
+    fn has_precedent(&self, controller: &CtlDesc) -> bool
         ensures { result ≡ is_chained self.now controller.now }
     {
         self.slots.as_slice().iter().any(|slot| slot.is_active()

@@ -1,6 +1,7 @@
 //! Who is active, as it is looked up.
 
-ghost use Rattle.std.specs.Prelude.{◌≡◌, ◌<◌, ◌≤◌, ◌^◌, ◌==◌, true, false, [], length, position, slice_get, slice_index_or, vec_capacity, All, IfOk, IfSome, None, Some};
+ghost use Rattle.std.specs.Prelude.{◌≡◌, ◌<◌, ◌≤◌, ◌^◌, ◌==◌, true, false, [], length, position, slice_get, slice_index_or, vec_capacity, is_some, All, IfOk, IfSome, None, Some};
+ghost use Rattle.std.specs.List.{list_any};
 ghost use Rattle.cm_desk.specs.Calls.Rosters.{IsPut, IsIndexedAnew};
 ghost use Rattle.cm_desk.specs.Roster.{TellsActive, AreAt, serials_of, is_listed, noted};
 
@@ -57,6 +58,24 @@ impl Roster {
         ensures { result.now ≡ self.now.active }
     {
         &self.active
+    }
+
+    /// Whether one of the controllers at these places is active.
+    pub(crate) fn has_any(&self, places: &[u32]) -> bool
+        ensures { result ≡ list_any (λ p. is_some (slice_index_or self.now.active p None)) places.now }
+    {
+        places.iter().any(|place| self.has(*place))
+    }
+
+    /// Whether the controller at this place is active.
+    fn has(&self, place: u32) -> bool
+        ensures { result ≡ is_some (slice_index_or self.now.active place None) }
+    {
+        self.active
+            .get(place as usize)
+            .copied()
+            .unwrap_or(None)
+            .is_some()
     }
 
     /// The active controllers in the order of their updates, where it is the one of now.

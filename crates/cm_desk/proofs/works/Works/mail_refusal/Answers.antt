@@ -19,6 +19,10 @@ returns-then-not-is_active g c =
     let idle : is_active l ≡ false = sym c.is_active.ensures.active ∙ c.if-not-is_active.true in
     rw (← c.self.view_is) (refused_idle s c.args.index l c.args.mail.now here.0 idle)
 
+-- its description is the one at its place
+pub is_chained-requires : goal.is_chained-requires
+is_chained-requires g c = rw (← c.self.view_is) c.described-controller.ensures.same
+
 -- of one that is active, what its description refuses is left
 pub returns-then-is_chained : goal.returns-then-is_chained
 returns-then-is_chained g c =

@@ -29,6 +29,10 @@ overflow_cast-result g c =
     let there = described_there a.checked l here.1 in
     omega (arith, c.place.ensures, slice_get_within a.checked.controllers l.place there.0 there.1, few_controllers a.checked c.described_at-controller.ensures.valid)
 
+-- and its description is the one there
+pub runs_chained-requires : goal.runs_chained-requires
+runs_chained-requires g c = rw (← c.self.view_is) (rw (c.place.ensures) at c.described_at-controller.ensures.same)
+
 pub returns : goal.returns
 returns g c = λ l at.
     let a = c.self.inside in

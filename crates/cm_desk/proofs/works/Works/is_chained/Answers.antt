@@ -1,0 +1,23 @@
+use Rattle.std.proofs.Common.{ap, sym, ◌∙◌}
+use Rattle.std.proofs.lemmas.Option.{slice_get_within}
+use Rattle.rt_flight.specs.declared.plant.Plant.{Plant}
+use Rattle.switch_plan.specs.Relations.{Related}
+use Rattle.cm_desk.proofs.ActingLemmas.{chained_at}
+use Rattle.cm_desk.proofs.works.Works.is_chained.Goals as goal
+
+-- the relations that are at home are those of the description,
+pub is_led_by-requires-clause-leaders : goal.is_led_by-requires-clause-leaders
+is_led_by-requires-clause-leaders g c =
+    rw (← c.self.view_is)
+    (c.leaders.ensures
+    ∙ ap (λ (w : Related). w.leaders)
+    (rw (ap (λ (h : Plant). h.relations) (sym (rw (c.in-Some.is) at c.self.invariant.based.home).plant)) at c.self.invariant.worked_out.related))
+
+-- in which it has its place
+pub is_led_by-requires-clause-within : goal.is_led_by-requires-clause-within
+is_led_by-requires-clause-within g c =
+    rw (c.place.ensures) (slice_get_within c.args.self.now.description.controllers c.args.slot.now.place c.args.controller.now c.requires)
+
+pub returns-in-Some : goal.returns-in-Some
+returns-in-Some g c =
+    (rw (c.place.ensures) at c.is_led_by.ensures) ∙ chained_at c.args.self.now c.args.slot.now c.args.controller.now c.requires
