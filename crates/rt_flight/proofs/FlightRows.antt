@@ -31,7 +31,7 @@ round number failed = record {
   number = number;
   period_us = 1000;
   placed = record { reads = [] ∷ [] ∷ []; references = [] ∷ (1 ∷ []) ∷ []; claims = (1 ∷ []) ∷ (2 ∷ []) ∷ []; claimers = []; exporters = [] };
-  related = record { leaders = [] ∷ (0 ∷ []) ∷ []; followers = (1 ∷ []) ∷ [] ∷ []; odds = [] ∷ [] ∷ []; components = [] ∷ (0 ∷ []) ∷ [] };
+  related = record { leaders = [] ∷ (0 ∷ []) ∷ []; followers = (1 ∷ []) ∷ [] ∷ []; odds = [] ∷ [] ∷ []; components = [] ∷ (0 ∷ []) ∷ []; heights = 1 ∷ 0 ∷ [] };
   failed = failed;
 }
 
