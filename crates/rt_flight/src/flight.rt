@@ -53,8 +53,8 @@ pub struct Landing<C: Controller> {
     pub left_over: Option<Box<CycleParts>>,
 }
 
-/// One cycle that has left the desk. It owns all that it works on and borrows nothing, so it is computed wherever it is moved to. It is let
-/// go only by landing: a desk whose flight is dropped stays aloft for good. Contracts see it as `FlightFacts`.
+/// One cycle that has left the desk. It owns all that it works on and borrows nothing, so it is computed wherever it is moved to. Who drops
+/// it, or takes it apart, has nothing that lands: the desk then stays aloft. Contracts see it as `FlightFacts`.
 #[derive(Drop)]
 pub struct Flight<C: Controller> {
     number: u64,
