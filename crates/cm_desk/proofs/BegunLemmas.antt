@@ -124,6 +124,16 @@ pub called_alike : (old new : History) (who : ℕ) (call : Call) (r : Reply) →
 called_alike old new who call r between grows =
     record { begun = begun_kept old new who call r between grows; aloft = aloft_kept old new who call r between grows }
 
+-- a flight that is out stays out, and one that may land may land
+pub out_alike : (old new : History) (f : FlightFacts) → IsAloftAlike old new → IsOut old f → IsOut new f
+out_alike old new f alike out = record {
+  aloft = subst (λ (b : Option State). IsSomeAnd b (λ begun. StaysAloft begun f)) (sym alike.begun) out.aloft;
+  not_yet = out.not_yet;
+}
+
+pub lands_alike : (old new : History) (f : FlightFacts) → IsAloftAlike old new → MayLand old f → MayLand new f
+lands_alike old new f alike may = subst (λ (b : Option State). IsSomeAnd b (λ begun. StaysComputed begun f)) (sym alike.begun) may
+
 -- A begin leaves a cycle aloft, an end leaves none, and a close leaves what is.
 pub begun_aloft : (old new : History) (who n : ℕ) (r : Reply) → Grows old new who (Begin n) r → (now_of new).aloft ≡ true
 begun_aloft old new who n r grows = ap (λ (t : State). t.aloft) (step-IsStep (now_of old) who (Begin n) (now_of new, r) grows.stepped).next
@@ -182,7 +192,7 @@ flown_alike old new o alike is = record { there = is.there ∙ sym alike.aloft; 
   where
     each : (o : Option FlightFacts) → IfSome o (MayLand old) → IfSome o (MayLand new)
     each None may = tt
-    each (Some f) may = subst (λ (b : Option State). IsSomeAnd b (λ begun. StaysComputed begun f)) (sym alike.begun) may
+    each (Some f) may = lands_alike old new f alike may
 
 -- where no cycle is aloft there is none
 pub none_flies : (old new : History) (o : Option FlightFacts) → IsFlown old o → (now_of old).aloft ≡ false → (now_of new).aloft ≡ false → IsFlown new o
