@@ -1,6 +1,6 @@
 -- What a call of the loop makes of a job.
-use Rattle.std.proofs.Common.{◌≡◌, ℕ, true, false, List, Some, None, refl, sym, ap, ◌∙◌, arith}
-use Rattle.std.specs.Prelude.{map, not, ◌==◌, ◌&&◌, nat_lt}
+use Rattle.std.proofs.Common.{◌≡◌, ℕ, true, false, List, Option, Some, None, refl, sym, ap, subst, ◌∙◌, arith}
+use Rattle.std.specs.Prelude.{map, not, ◌==◌, ◌&&◌, nat_lt, IfSome}
 use Rattle.std.proofs.lemmas.Bool.{and_parts}
 use Rattle.std.proofs.lemmas.Bool.Decides.{nat_tests}
 use Rattle.cm_document.specs.declared.call.Call.{Call}
@@ -11,7 +11,9 @@ use Rattle.cm_model.specs.Scheduled.{Session, Progress, with_entry, looped}
 use Rattle.cm_model.specs.State.{State}
 use Rattle.cm_model.specs.declared.entry.Entry.{Entry}
 use Rattle.cm_model.specs.declared.reply.Reply.{Reply}
-use Rattle.cm_desk.specs.Desk.{now_of, Grows}
+use Rattle.cm_desk.specs.Desk.{History, now_of, Grows, IsOut, MayLand, IsFlown}
+use Rattle.cm_desk.proofs.BegunLemmas.{may_land}
+use Rattle.rt_flight.specs.Flights.{FlightFacts, IsAloft, IsComputed}
 use Rattle.console_session.specs.Sessions.{left_of}
 use Rattle.cm_top.specs.Jobs.{JobFacts, progress_of, GoesOn}
 use Rattle.cm_model.proofs.HistoryLemmas.{sessions_stay}
@@ -68,3 +70,23 @@ begin_number s n can =
 
 pub end_number : (s : State) (n : ℕ) → can_end s n ≡ true → s.ended ≡ n
 end_number s n can = same_number s.ended n (and_parts s.aloft (s.ended == n) can).1
+
+-- ---- The flight
+
+-- the flight that began and is computed may land
+pub flight_out : (h : History) (o : Option FlightFacts) (f f' : FlightFacts) → o ≡ Some f' → IsOut h f → ((s : State) → IsAloft s f → IsComputed s f')
+    → (now_of h).aloft ≡ true → IsFlown h o
+flight_out h o f f' same out made up = subst (λ (k : Option FlightFacts). IsFlown h k) (sym same) (record { there = sym up; lands = may_land h f f' out made })
+
+-- where a cycle is aloft there is one,
+pub flight_there : (h : History) (o : Option FlightFacts) → IsFlown h o → o ≡ None → (now_of h).aloft ≡ true → ⊥
+flight_there h None is none up = let both : false ≡ true = is.there ∙ up in cc
+flight_there h (Some f) is none up = cc
+
+-- which may land,
+pub flight_lands : (h : History) (o : Option FlightFacts) (f : FlightFacts) → IsFlown h o → o ≡ Some f → MayLand h f
+flight_lands h o f is same = subst (λ (k : Option FlightFacts). IfSome k (MayLand h)) same is.lands
+
+-- and none is left once it has
+pub flight_gone : (h : History) (o : Option FlightFacts) → o ≡ None → (now_of h).aloft ≡ false → IsFlown h o
+flight_gone h o none down = subst (λ (k : Option FlightFacts). IsFlown h k) (sym none) (record { there = sym down; lands = tt })

@@ -10,12 +10,12 @@ use Rattle.cm_model.specs.State.{State}
 use Rattle.cm_model.specs.Ports.{Console}
 use Rattle.cm_model.proofs.AdvanceLemmas.{settle-next, settle-stays}
 use Rattle.cm_model.specs.declared.entry.Entry.{Entry}
-use Rattle.cm_desk.specs.Desk.{History, now_of}
+use Rattle.cm_desk.specs.Desk.{History, now_of, IsAloftAlike}
 use Rattle.console_session.specs.Sessions.{Standing, left_of, Advances, AdvancesAsWritten}
 use Rattle.console_session.specs.declared.session.Progress.{Progress as CameTo}
 use Rattle.console_session.specs.declared.session.Progress.TheVariants as progress
 use Rattle.cm_top.specs.Jobs.{at, progress_of}
-use Rattle.cm_top.specs.Ports.{desk_console}
+use Rattle.cm_top.specs.Ports.{DeskGround, desk_console, ground_of}
 
 -- ---- One advance
 
@@ -72,6 +72,13 @@ settle_ends p who a b w w' first h h' last x₀ x x' other same kept opening wri
     let waits = port_waits p who w w' h h' x x' other (same_number p who a b w w' h h' x x' same kept written) in
     rw left (sym settled ∙ settle-stays who (at h (left_of x)) waits.0
     ∙ sym (same_at h h' x x' opening waits.1 (stays p (desk_console a h w) (desk_console b h' w') x x' other advanced)))
+
+-- and the same cycle is aloft, if one was
+pub alike_ends : (first h h' last : History) (lent lent' who who' : ℕ) → ground_of lent' who' h' ≡ ground_of lent who h → IsAloftAlike first h → last ≡ h' → IsAloftAlike first last
+alike_ends first h h' last lent lent' who who' still alike left = rw left (record {
+  begun = ap (λ (k : DeskGround). k.begun) still ∙ alike.begun;
+  aloft = ap (λ (k : DeskGround). k.aloft) still ∙ alike.aloft;
+})
 
 -- ---- All sessions
 

@@ -111,7 +111,7 @@ impl<C: Controller> Job<C> {
         if self.can_begin(number) {
             let mut flight = self.desk.begin(alloc)?;
             flight.compute();
-            self.flight = Some(flight);
+            drop(self.flight.replace(flight));
         }
         Ok(())
     }

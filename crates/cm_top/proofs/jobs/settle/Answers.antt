@@ -1,6 +1,6 @@
-use Rattle.std.proofs.Common.{rules, ap, ◌∙◌}
+use Rattle.std.proofs.Common.{rules, refl, ap, ◌∙◌}
 use Rattle.cm_top.specs.Ports.{DeskGround}
-use Rattle.cm_top.proofs.SettleLemmas.{settle_goes_on, settle_ends}
+use Rattle.cm_top.proofs.SettleLemmas.{settle_goes_on, settle_ends, alike_ends}
 use Rattle.cm_top.proofs.jobs.settle.Goals as goal
 
 -- to advance and then to settle is to settle
@@ -16,10 +16,8 @@ loop-preserved g c =
           c.loop.port.desk.now c.advance.new.port.desk.now c.loop.session c.advance.new.self
           c.in-Ran.is c.loop.invariant.who who opening c.in_ok-advance.ensures.as_written ∙ c.loop.invariant.settled;
       opening = opening ∙ c.loop.invariant.opening;
-      aloft = record {
-        begun = ap (λ (k : DeskGround). k.begun) c.in_ok-advance.ensures.still ∙ c.loop.invariant.aloft.begun;
-        aloft = ap (λ (k : DeskGround). k.aloft) c.in_ok-advance.ensures.still ∙ c.loop.invariant.aloft.aloft;
-      };
+      aloft = alike_ends c.args.desk.now c.loop.port.desk.now c.advance.new.port.desk.now _ c.loop.port.desk.ghost_name c.advance.new.port.desk.ghost_name
+          c.loop.port.who c.advance.new.port.who c.in_ok-advance.ensures.still c.loop.invariant.aloft refl;
     }
 
 -- a session that did not run is settled
@@ -32,8 +30,6 @@ returns g c =
           c.args.desk.now c.loop.port.desk.now c.advance.new.port.desk.now _ c.args.session.now c.loop.session c.advance.new.self
           c.in_default.not-Ran c.loop.invariant.who who opening c.in_ok-advance.ensures.as_written c.in_ok-advance.ensures.advanced c.loop.invariant.settled (search rules);
       opening = search rules;
-      aloft = record {
-        begun = ap (λ (k : DeskGround). k.begun) c.in_ok-advance.ensures.still ∙ c.loop.invariant.aloft.begun;
-        aloft = ap (λ (k : DeskGround). k.aloft) c.in_ok-advance.ensures.still ∙ c.loop.invariant.aloft.aloft;
-      };
+      aloft = alike_ends c.args.desk.now c.loop.port.desk.now c.advance.new.port.desk.now _ c.loop.port.desk.ghost_name c.advance.new.port.desk.ghost_name
+          c.loop.port.who c.advance.new.port.who c.in_ok-advance.ensures.still c.loop.invariant.aloft (search rules);
     }

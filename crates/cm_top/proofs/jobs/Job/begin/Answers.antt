@@ -1,11 +1,11 @@
 use Rattle.std.proofs.Common.{rules, refl, sym, ◌∙◌}
 use Rattle.cm_document.specs.declared.call.Call.TheVariants.{Begin}
 use Rattle.cm_desk.specs.Desk.{now_of}
-use Rattle.cm_top.proofs.JobLemmas.{begin_number, begin_waits, loop_made}
-use Rattle.cm_desk.proofs.BegunLemmas.{begun_aloft, may_land}
+use Rattle.cm_desk.proofs.BegunLemmas.{begun_aloft}
+use Rattle.cm_top.proofs.JobLemmas.{begin_number, begin_waits, loop_made, flight_out}
 use Rattle.cm_top.proofs.jobs.Job.begin.Goals as goal
 
--- the cycle that begins has the number that was asked for
+-- the cycle that begins has the number that was asked for,
 pub returns-in_ok-flight : goal.returns-in_ok-flight
 returns-in_ok-flight g c =
     let can = rw (← c.self.view_is) at (sym c.can_begin.ensures ∙ c.if-can_begin.true) in
@@ -13,15 +13,12 @@ returns-in_ok-flight g c =
     rw (← c.self.view_is) (loop_made (Begin c.args.number) _ _ _ (rw number at c.in_ok-flight.ensures.made) refl)
 
 -- and its flight may land
-pub invariant_of-self-2 : goal.invariant_of-self-2
-invariant_of-self-2 g c =
-    let out = c.in_ok-flight.ensures.flight in (
-      search rules,
-      record {
-        there = sym (begun_aloft c.self.inside.desk c.begin-flight.new.self _ _ _ c.in_ok-flight.ensures.made);
-        lands = may_land c.begin-flight.new.self c.in_ok-flight.flight c.compute.new.self out c.compute.ensures.cycle;
-      },
-    )
+pub invariant_of-self-then-can_begin : goal.invariant_of-self-then-can_begin
+invariant_of-self-then-can_begin g c = (
+  search rules,
+  flight_out c.begin.new.self c.replace.new.self c.in_ok-flight.flight c.compute.new.self c.replace.ensures.after c.in_ok-flight.ensures.flight c.compute.ensures.cycle
+      (begun_aloft c.self.inside.desk c.begin.new.self _ _ _ c.in_ok-flight.ensures.made),
+)
 
 -- it cannot begin
 pub returns-else-can_begin : goal.returns-else-can_begin

@@ -1,30 +1,31 @@
-use Rattle.std.proofs.Common.{◌≡◌, true, false, rules, refl, sym, ◌∙◌}
+use Rattle.std.proofs.Common.{rules, refl, sym, ◌∙◌}
+use Rattle.std.proofs.lemmas.Bool.{and_parts}
 use Rattle.cm_document.specs.declared.call.Call.TheVariants.{End}
 use Rattle.cm_desk.specs.Desk.{now_of}
-use Rattle.cm_top.proofs.JobLemmas.{end_number, end_waits, loop_made}
-use Rattle.std.proofs.lemmas.Bool.{and_parts}
 use Rattle.cm_desk.proofs.BegunLemmas.{landed_down}
+use Rattle.cm_top.proofs.JobLemmas.{end_number, end_waits, loop_made, flight_there, flight_lands, flight_gone}
 use Rattle.cm_top.proofs.jobs.Job.end.Goals as goal
 
 -- the cycle that ends has the number that was asked for
-pub returns-then-can_end : goal.returns-then-can_end
-returns-then-can_end g c =
+pub returns-in-Some : goal.returns-in-Some
+returns-in-Some g c =
     let can = rw (← c.self.view_is) at (sym c.can_end.ensures ∙ c.if-can_end.true) in
     let number = end_number (now_of c.self.inside.desk) c.args.number can in
-    rw (← c.self.view_is) (loop_made (End c.args.number) _ _ _ (rw number at c.land.ensures) refl)
+    rw (← c.self.view_is) (loop_made (End c.args.number) _ _ _ (rw number at c.land.ensures.made) refl)
 
 -- its flight is here, and may land
 pub unreachable-requires : goal.unreachable-requires
 unreachable-requires g c =
     let can = rw (← c.self.view_is) at (sym c.can_end.ensures ∙ c.if-can_end.true) in
-    let there = rw (c.in-None.is) at c.self.invariant.1.there in
-    let both : false ≡ true = there ∙ (and_parts (now_of c.self.inside.desk).aloft _ can).0 in cc
+    flight_there c.self.inside.desk c.self.inside.flight c.self.invariant.1 (sym c.take.ensures.value ∙ c.in_default.is) (and_parts (now_of c.self.inside.desk).aloft _ can).0
 
 pub land-requires : goal.land-requires
-land-requires g c = rw (c.in-Some.is) at c.self.invariant.1.lands
+land-requires g c = record { flight = flight_lands c.self.inside.desk c.self.inside.flight c.in-Some.flight c.self.invariant.1 (sym c.take.ensures.value ∙ c.in-Some.is) }
 
+-- and then it is gone
 pub invariant_of-self : goal.invariant_of-self
-invariant_of-self g c = (search rules, record { there = sym (landed_down c.self.inside.desk c.land.new.self _ _ _ c.land.ensures); lands = tt })
+invariant_of-self g c =
+    (search rules, flight_gone c.land.new.self c.take.new.self c.take.ensures.after (landed_down c.self.inside.desk c.land.new.self _ _ _ c.land.ensures.made))
 
 -- it cannot end
 pub returns-else-can_end : goal.returns-else-can_end
