@@ -6,8 +6,8 @@ use Rattle.cm_hardware.specs.Wiring.{Mounted}
 use Rattle.hardware_rows.proofs.managed.moved.Goals as goal
 
 -- the hardware has the described components
-pub move_component-requires : goal.move_component-requires
-move_component-requires c =
+pub move_component-end-requires : goal.move_component-end-requires
+move_component-end-requires c =
     let nothing : Blanks = record { forward = 0; passthrough = 0; pid = 0; trajectory = 0; broadcaster = 0; mock = 0 } in
     let ms = c.in_ok-hardware.hardware.components in
     let cs : c.as_slice.result.now ≡ c.args.checked.now.components = c.as_slice.ensures ∙ ap (λ (d : Description). d.components) c.description.ensures.same in
