@@ -1,16 +1,17 @@
 //! The program `cm_draw`: a document from standard input, and a page of SVG that shows its run to standard output.
 #![tactic(auto)]
 
-ghost use Rattle.std.specs.Prelude.{◌≡◌, ◌*◌, ◌≤◌, ℕ, suc, length, OnOk};
+ghost use Rattle.std.specs.Prelude.{◌≡◌, ◌≤◌, length};
 ghost use Rattle.cm_document.specs.declared.limits.TheConstants.{LONGEST_DOCUMENT};
 ghost use Rattle.cm_document.specs.ScriptLaws.{MeetsRules};
-ghost use Rattle.cm_model.specs.State.{fresh};
-ghost use Rattle.cm_draw.specs.Stock.{AreBlank};
+ghost use Rattle.cm_program.specs.Stock.{AreBlanks, blanks_of_each};
+ghost use Rattle.cm_program.specs.declared.stock.TheConstants.{BLANKS};
 
 use crate::page::page_of;
 use crate::unkept::Unkept;
 use cm_document::LONGEST_DOCUMENT;
 use cm_model::{CtlKind, Description, Document, DocumentFault, Entry, Memory, Script};
+use cm_program::stock::{BLANKS, add};
 use cm_top::{Job, JobKind, Status, Stock, read_document, run_document};
 use ctl_bcast::Broadcaster;
 use ctl_forward::{Forward, Passthrough};
@@ -47,9 +48,6 @@ mod svg;
 #[cfg(test)]
 mod tests;
 mod unkept;
-
-/// How many blanks of each kind are in stock, as in `cm_main`.
-pub const BLANKS: u32 = 32;
 
 fn main(rt: HostRuntime) -> ExitCode {
     let mut source = StdSource::make(rt.reader());
@@ -106,19 +104,9 @@ fn draw_over<S: Source, K: Sink, C: Controller>(
     sink: &mut K,
     blanks: Vec<C>,
 ) -> Status
-    requires { AreBlank C.meaning blanks.items (6 * BLANKS) }
+    requires { AreBlanks C.meaning blanks.items (blanks_of_each BLANKS) }
 {
     draw(alloc, kind, source, sink, Stock::make(blanks))
-}
-
-/// One blank more, of this kind.
-fn add<C: Controller>(blanks: &mut Vec<C>, kind: CtlKind, blank: C) -> Result<(), Memory>
-    requires { C.meaning blank ≡ fresh kind }
-    ensures { OnOk result ((n : ℕ) → AreBlank C.meaning blanks.old.items n
-        → AreBlank C.meaning blanks.new.items (suc n)) }
-{
-    blanks.push(blank)?;
-    Ok(())
 }
 
 /// The job that the words after the program's name ask for: none or `run`, or `steps`.

@@ -2,7 +2,7 @@
 #![tactic(auto)]
 
 mod status;
-mod stock;
+pub mod stock;
 mod words;
 
 pub use status::report;

@@ -1,6 +1,6 @@
 //! The program's stock, a box for each blank.
 
-ghost use Rattle.std.specs.Prelude.{◌≡◌, IfOk, OnOk};
+ghost use Rattle.std.specs.Prelude.{◌≡◌, IfOk, OnOk, OnErr};
 ghost use Rattle.cm_model.specs.State.{fresh};
 ghost use Rattle.cm_model.specs.declared.blanks.Blanks.{Blanks};
 ghost use Rattle.ctl_rack.specs.Stocks.{with_one_more};
@@ -23,7 +23,7 @@ use std::thread::Threads;
 pub const BLANKS: u32 = 32;
 
 /// Runs the words over the program's stock, a box for each blank.
-pub fn run_stocked<R, S, K>(
+pub(crate) fn run_stocked<R, S, K>(
     rt: &R,
     words: &[String],
     source: &mut S,
@@ -97,11 +97,12 @@ where
     status
 }
 
-/// One blank more, of this kind.
-fn add<C: Controller>(blanks: &mut Vec<C>, kind: CtlKind, blank: C) -> Result<(), Memory>
+/// One blank more, of this kind. Without memory the blanks stay as they were.
+pub fn add<C: Controller>(blanks: &mut Vec<C>, kind: CtlKind, blank: C) -> Result<(), Memory>
     requires { C.meaning blank ≡ fresh kind }
-    ensures { OnOk result ((b : Blanks) → AreBlanks C.meaning blanks.old.items b
+    ensures counted { OnOk result ((b : Blanks) → AreBlanks C.meaning blanks.old.items b
         → AreBlanks C.meaning blanks.new.items (with_one_more b kind)) }
+    ensures kept { OnErr result (blanks.new.items ≡ blanks.old.items) }
 {
     blanks.push(blank)?;
     Ok(())

@@ -1,15 +1,20 @@
-use Rattle.std.proofs.Common.{◌≡◌, ◌*◌, suc, subst, arith}
-use Rattle.cm_draw.specs.Stock.{AreBlank}
+use Rattle.cm_document.specs.declared.description.CtlKind.TheVariants.{Forward, Passthrough, Pid, Trajectory, Broadcaster}
+use Rattle.ctl_rack.specs.Stocks.{with_one_more}
+use Rattle.cm_program.specs.Stock.{blanks_of_each}
 use Rattle.cm_draw.proofs.draw_stocked.Goals as goal
 
 -- one more of each kind
 pub loop-number-preserved : goal.loop-number-preserved
 loop-number-preserved g c =
-    let n = 6 * c.loop-number._number in
-    let with_1 = c.in_ok-add.ensures n c.loop-number.invariant in
-    let with_2 = c.in_ok-add-2.ensures (suc n) with_1 in
-    let with_3 = c.in_ok-add-3.ensures (suc (suc n)) with_2 in
-    let with_4 = c.in_ok-add-4.ensures (suc (suc (suc n))) with_3 in
-    let with_5 = c.in_ok-add-5.ensures (suc (suc (suc (suc n)))) with_4 in
-    let with_6 = c.in_ok-add-6.ensures (suc (suc (suc (suc (suc n))))) with_5 in
-    with_6
+    let each = blanks_of_each c.loop-number._number in
+    let forwards = with_one_more each Forward in
+    let passthroughs = with_one_more forwards Passthrough in
+    let pids = with_one_more passthroughs Pid in
+    let trajectories = with_one_more pids Trajectory in
+    let broadcasters = with_one_more trajectories Broadcaster in
+    let with_forward = c.in_ok-add.ensures.counted each c.loop-number.invariant in
+    let with_passthrough = c.in_ok-add-2.ensures.counted forwards with_forward in
+    let with_pid = c.in_ok-add-3.ensures.counted passthroughs with_passthrough in
+    let with_trajectory = c.in_ok-add-4.ensures.counted pids with_pid in
+    let with_broadcaster = c.in_ok-add-5.ensures.counted trajectories with_trajectory in
+    c.in_ok-add-6.ensures.counted broadcasters with_broadcaster

@@ -12,9 +12,9 @@ loop-number-preserved g c =
     let pids = with_one_more passthroughs Pid in
     let trajectories = with_one_more pids Trajectory in
     let broadcasters = with_one_more trajectories Broadcaster in
-    let with_forward = c.in_ok-add.ensures each c.loop-number.invariant in
-    let with_passthrough = c.in_ok-add-2.ensures forwards with_forward in
-    let with_pid = c.in_ok-add-3.ensures passthroughs with_passthrough in
-    let with_trajectory = c.in_ok-add-4.ensures pids with_pid in
-    let with_broadcaster = c.in_ok-add-5.ensures trajectories with_trajectory in
-    c.in_ok-add-6.ensures broadcasters with_broadcaster
+    let with_forward = c.in_ok-add.ensures.counted each c.loop-number.invariant in
+    let with_passthrough = c.in_ok-add-2.ensures.counted forwards with_forward in
+    let with_pid = c.in_ok-add-3.ensures.counted passthroughs with_passthrough in
+    let with_trajectory = c.in_ok-add-4.ensures.counted pids with_pid in
+    let with_broadcaster = c.in_ok-add-5.ensures.counted trajectories with_trajectory in
+    c.in_ok-add-6.ensures.counted broadcasters with_broadcaster
