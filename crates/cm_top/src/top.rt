@@ -6,7 +6,7 @@ ghost use Rattle.cm_words.specs.declared.job.TheConstants.{MOST_ROUNDS};
 ghost use Rattle.cm_words.specs.Words.{asked};
 ghost use Rattle.cm_top.specs.Book.{book_facts, task_of};
 ghost use Rattle.cm_top.specs.Status.{ComesBeforeWriting};
-ghost use Rattle.cm_top.specs.Calls.Run.{source_facts, sink_facts, RefusesWords, Runs, RunsBytes, RunsJob, RunsMade};
+ghost use Rattle.cm_top.specs.Calls.Run.{source_facts, sink_facts, RefusesWords, Spares, Runs, RunsBytes, RunsJob, RunsMade};
 
 use crate::accepted::run_document;
 use crate::document::read_document;
@@ -50,13 +50,8 @@ where
         (source_facts S.left S.faults source.old) (source_facts S.left S.faults source.new)
         (sink_facts K.taken K.flushed K.faults sink.old) (sink_facts K.taken K.flushed K.faults sink.new)
         result.0 (option_map (book_facts C.meaning) result.1)) }
-    // A made document is not read.
-    ensures unread { IfOk (asked (map string_bytes words.now))
-        (λ job. IfSome job.make (λ _. source.new ≡ source.old)) }
-    // Statuses 2 to 6 leave the sink as it was.
-    ensures untouched { ComesBeforeWriting result.0 → sink.new ≡ sink.old }
-    // Nothing is paced.
-    ensures unpaced { pace.new ≡ pace.old }
+    ensures spared { Spares (map string_bytes words.now) result.0 source.old source.new sink.old sink.new
+        pace.old pace.new }
 {
     match asked(alloc, words) {
         Ok(job) => run_alone(alloc, &job, source, sink, stock),

@@ -1,5 +1,5 @@
 -- What a call of `run_alone` promises, and `run` where its words are accepted.
-use Rattle.std.specs.Prelude.{◌≡◌, ℕ, ◌+◌, ◌≤◌, List, Option, None, Some, Err, IfSome, IsSome, ◌⊎◌}
+use Rattle.std.specs.Prelude.{◌≡◌, ℕ, ◌+◌, ◌≤◌, List, Option, None, Some, Err, IfOk, IfSome, IsSome, ◌⊎◌}
 use Rattle.std.specs.Io.KnownBytes.{IsAtEnd}
 use Rattle.cm_document.specs.declared.limits.TheConstants.{LONGEST_DOCUMENT}
 use Rattle.outside_io.specs.Bytes.{TakesAtMost}
@@ -10,7 +10,7 @@ use Rattle.cm_words.specs.declared.job.WordsFault.TheVariants.{Usage}
 use Rattle.make_document.specs.Made.{made}
 use Rattle.cm_words.specs.declared.job.Job.{Job}
 use Rattle.cm_top.specs.Book.{BookFacts, Task, IsBook, HandsOut, task_of}
-use Rattle.cm_top.specs.Status.{Written, EndedWith, IsPlain, ComesOfBytes, status_of}
+use Rattle.cm_top.specs.Status.{Written, EndedWith, IsPlain, ComesOfBytes, ComesBeforeWriting, status_of}
 use Rattle.cm_top.specs.declared.status.Status.{Status}
 use Rattle.cm_top.specs.declared.status.Status.TheVariants as status
 
@@ -44,6 +44,15 @@ pub record RefusesWords {S K B : Type 0} (words : List (List ℕ)) (source sourc
   pub nothing_read : asked words ≡ Err Usage → source' ≡ source
   pub nothing_written : asked words ≡ Err Usage → sink' ≡ sink
   pub no_book : asked words ≡ Err Usage → book ≡ None
+
+-- What a run of words leaves as it was.
+pub record Spares {S K P : Type 0} (words : List (List ℕ)) (ended : Status) (source source' : S) (sink sink' : K) (pace pace' : P) : Type 0 where
+  -- a made document is not read
+  pub unread : IfOk (asked words) (λ job. IfSome job.make (λ _. source' ≡ source))
+  -- statuses 2 to 6 leave the sink as it was
+  pub untouched : ComesBeforeWriting ended → sink' ≡ sink
+  -- nothing is paced
+  pub unpaced : pace' ≡ pace
 
 -- A run of these bytes into this sink, before and after, with its status and its book.
 pub record RunsBytes (task : Task) (blanks : Blanks) (bytes : List ℕ) (sink sink' : SinkFacts) (ended : Status) (book : Option BookFacts) : Type 0 where
