@@ -35,3 +35,14 @@ hand_alike old new (Some f) alike at = record {
   before = λ none. subst (λ (b : Option State). IsSomeAnd b (λ begun. StaysAloft begun f)) (sym alike.begun) (at.before none);
   after = λ some. subst (λ (b : Option State). IsSomeAnd b (λ begun. StaysComputed begun f)) (sym alike.begun) (at.after some);
 }
+
+-- ---- At hand, or not
+
+pub at_hand : (h : History) (o : Option FlightFacts) (f : FlightFacts) → o ≡ Some f → IsAtHand h f → IfSome o (IsAtHand h)
+at_hand h o f same at = subst (λ (k : Option FlightFacts). IfSome k (IsAtHand h)) (sym same) at
+
+pub held : (h : History) (o : Option FlightFacts) (f : FlightFacts) → IfSome o (IsAtHand h) → o ≡ Some f → IsAtHand h f
+held h o f at same = subst (λ (k : Option FlightFacts). IfSome k (IsAtHand h)) same at
+
+pub gone : (h : History) (o : Option FlightFacts) → o ≡ None → IfSome o (IsAtHand h)
+gone h o none = subst (λ (k : Option FlightFacts). IfSome k (IsAtHand h)) (sym none) tt

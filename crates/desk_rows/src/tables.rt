@@ -69,8 +69,8 @@ impl<C: Controller> Table<C> {
         requires session { who < self.old.opening.sessions }
         requires called { CanBeCalled call }
     {
-        let (reply, given) = self.desk.call(alloc, who, call)?;
-        Ok((reply, given))
+        let answer = self.desk.call(alloc, who, call)?;
+        Ok(answer)
     }
 
     /// A session asks what became of a ticket.
@@ -96,7 +96,7 @@ impl<C: Controller> Table<C> {
             return Ok(false);
         }
         let flight = self.desk.begin(alloc)?;
-        self.flight = Some(flight);
+        drop(self.flight.replace(flight));
         Ok(true)
     }
 
@@ -105,9 +105,12 @@ impl<C: Controller> Table<C> {
         let Some(flight) = self.flight.take() else {
             return false;
         };
-        let can = !flight.computed();
-        self.flight = Some(if can { computed(flight) } else { flight });
-        can
+        if flight.computed() {
+            drop(self.flight.replace(flight));
+            return false;
+        }
+        drop(self.flight.replace(flown(flight)));
+        true
     }
 
     /// What happened in the cycle of the flight at hand, if that is computed.
@@ -123,27 +126,29 @@ impl<C: Controller> Table<C> {
         let Some(flight) = self.flight.take() else {
             return false;
         };
-        let can = flight.computed();
-        if can {
-            self.desk.land(flight);
-        } else {
-            self.flight = Some(flight);
+        if !flight.computed() {
+            drop(self.flight.replace(flight));
+            return false;
         }
-        can
+        self.desk.land(flight);
+        true
     }
 
     /// The flight at hand is dropped.
     pub fn lose(&mut self) -> bool {
-        self.flight.take().is_some()
+        let lost = self.flight.take();
+        let was = lost.is_some();
+        drop(lost);
+        was
     }
 
     /// The loop closes.
     pub fn close(&mut self) -> bool {
-        let can = self.flight.is_none() && !self.desk.aloft() && !self.desk.closed();
-        if can {
-            self.desk.close();
+        if self.flight.is_some() || self.desk.aloft() || self.desk.closed() {
+            return false;
         }
-        can
+        self.desk.close();
+        true
     }
 }
 
@@ -153,13 +158,12 @@ impl<C: Controller + Send + 'static> Table<C> {
         let Some(flight) = self.flight.take() else {
             return false;
         };
-        let can = !flight.computed();
-        self.flight = Some(if can {
-            computed_aside(rt, flight)
-        } else {
-            flight
-        });
-        can
+        if flight.computed() {
+            drop(self.flight.replace(flight));
+            return false;
+        }
+        drop(self.flight.replace(flown_aside(rt, flight)));
+        true
     }
 }
 
@@ -172,7 +176,7 @@ fn cycles_of<C: Controller>(desk: &Desk<C>) -> u64
 }
 
 /// A flight, computed.
-fn computed<C: Controller>(mut flight: Flight<C>) -> Flight<C>
+fn flown<C: Controller>(mut flight: Flight<C>) -> Flight<C>
     requires { flight.outcome ≡ None }
     ensures cycle { (s : State) → IsAloft s flight → IsComputed s result }
     ensures computed { is_some result.outcome ≡ true }
@@ -182,10 +186,7 @@ fn computed<C: Controller>(mut flight: Flight<C>) -> Flight<C>
 }
 
 /// A flight that was moved to another thread, computed there.
-fn computed_aside<R: Threads, C: Controller + Send + 'static>(
-    rt: &R,
-    flight: Flight<C>,
-) -> Flight<C>
+fn flown_aside<R: Threads, C: Controller + Send + 'static>(rt: &R, flight: Flight<C>) -> Flight<C>
     requires { flight.outcome ≡ None }
     ensures cycle { (s : State) → IsAloft s flight → IsComputed s result }
     ensures computed { is_some result.outcome ≡ true }
@@ -196,7 +197,7 @@ fn computed_aside<R: Threads, C: Controller + Send + 'static>(
             requires { flight.outcome ≡ None }
             ensures cycle { (s : State) → IsAloft s flight → IsComputed s result }
             ensures computed { is_some result.outcome ≡ true }
-        { computed(flight) },
+        { flown(flight) },
         || (),
     );
     flight
