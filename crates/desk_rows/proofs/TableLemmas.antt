@@ -1,10 +1,13 @@
 -- What calls leave of the flight at hand.
-use Rattle.std.proofs.Common.{◌≡◌, true, false, Option, Some, None, refl, sym, subst}
-use Rattle.std.specs.Prelude.{is_some, IfSome, IsSomeAnd}
+use Rattle.std.proofs.Common.{◌≡◌, ℕ, Bool, true, false, Option, Some, None, refl, sym, ap, subst}
+use Rattle.std.specs.Prelude.{is_some, IfSome, IsSomeAnd, MatchOption}
+use Rattle.cm_document.specs.declared.call.Call.TheVariants.{Told, Await}
 use Rattle.cm_model.specs.Happened.{Happened}
 use Rattle.cm_model.specs.State.{State}
-use Rattle.cm_desk.specs.Desk.{History, IsAloftAlike, IsOut, MayLand}
-use Rattle.cm_desk.proofs.BegunLemmas.{may_land}
+use Rattle.cm_model.specs.declared.cause.Outcome.{Outcome}
+use Rattle.cm_model.specs.declared.reply.Reply.TheVariants as reply
+use Rattle.cm_desk.specs.Desk.{History, begun_of, now_of, Grows, Waits, GrowsWhere, IsAloftAlike, IsOut, MayLand}
+use Rattle.cm_desk.proofs.BegunLemmas.{may_land, called_alike}
 use Rattle.rt_flight.specs.Flights.{FlightFacts, IsAloft, IsComputed, StaysAloft, StaysComputed}
 use Rattle.desk_rows.specs.Tables.{IsAtHand}
 
@@ -46,3 +49,18 @@ held h o f at same = subst (λ (k : Option FlightFacts). IfSome k (IsAtHand h)) 
 
 pub gone : (h : History) (o : Option FlightFacts) → o ≡ None → IfSome o (IsAtHand h)
 gone h o none = subst (λ (k : Option FlightFacts). IfSome k (IsAtHand h)) (sym none) tt
+
+-- ---- Sessions
+
+alike_same : (old new : History) → new ≡ old → IsAloftAlike old new
+alike_same old new same = record { begun = ap begun_of same; aloft = ap (λ (h : History). (now_of h).aloft) same }
+
+-- what is told of a ticket leaves the cycle that is aloft, and so does an await, whether it waits or not
+pub told_alike : (old new : History) (who ticket : ℕ) (outcome : Option Outcome)
+    → MatchOption outcome (Waits old new who (Told ticket)) (λ o. Grows old new who (Told ticket) (reply.Outcome o)) → IsAloftAlike old new
+told_alike old new who ticket None waits = alike_same old new waits.1
+told_alike old new who ticket (Some o) grows = called_alike old new who (Told ticket) (reply.Outcome o) tt grows
+
+pub reached_alike : (old new : History) (who cycles : ℕ) (reached : Bool) → GrowsWhere reached old new who (Await cycles) reply.Done → IsAloftAlike old new
+reached_alike old new who cycles true grows = called_alike old new who (Await cycles) reply.Done tt grows
+reached_alike old new who cycles false waits = alike_same old new waits.1

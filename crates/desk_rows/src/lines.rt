@@ -22,6 +22,9 @@ use std::thread::Threads;
 /// What is told where a call of the loop has not its condition, and is not made.
 const CANNOT: &str = "cannot";
 
+/// The most blanks of a stock here.
+const MOST_BLANKS: usize = 100;
+
 /// What stands between two entries of a history.
 const BETWEEN: &str = " / ";
 
@@ -48,6 +51,9 @@ fn hold_case<R: Threads>(
     case: &str,
 ) -> Result<(), Fail> {
     let blanks = with_marks(alloc, blanks(alloc, 1)?)?;
+    if blanks.len() > MOST_BLANKS {
+        return Err(Fail::new("a stock too large"));
+    }
     play(rt, alloc, described(alloc, robot)?, blanks, sessions, case)
 }
 

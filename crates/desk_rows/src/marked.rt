@@ -1,6 +1,6 @@
 //! A controller that tells whether it is configured, and whether it runs.
 
-ghost use Rattle.std.specs.Prelude.{◌≡◌, length, IfOk};
+ghost use Rattle.std.specs.Prelude.{◌≡◌, IfOk};
 ghost use Rattle.std.specs.List.{All};
 ghost use Rattle.cm_model.specs.Controllers.{IsBlank};
 
@@ -102,13 +102,12 @@ impl<C: Controller> Controller for Marked<C> {
 }
 
 /// Blanks, marked.
-pub fn with_marks<C: Controller>(alloc: Global, blanks: Vec<C>) -> Result<Vec<Marked<C>>, Fail>
+pub fn with_marks<C: Controller>(alloc: Global, mut blanks: Vec<C>) -> Result<Vec<Marked<C>>, Fail>
     requires { All (λ b. IsBlank (C.meaning b)) blanks.items }
-    ensures blank { IfOk result (λ all. All IsBlank all.items) }
-    ensures len { IfOk result (λ all. length all.items ≡ length blanks.items) }
+    ensures { IfOk result (λ all. All IsBlank all.items) }
 {
-    let mut all = Vec::with_capacity(alloc, blanks.len())?;
-    for blank in blanks {
+    let mut all = Vec::new(alloc);
+    while let Some(blank) = blanks.pop() {
         all.push(Marked::blank(blank))?;
     }
     Ok(all)
