@@ -4,11 +4,11 @@ use Rattle.cm_model.specs.Controllers.{IsBlank}
 use Rattle.desk_rows.proofs.marked.with_marks.Given as goal
 
 -- those that are left are blank, and so are those that are marked
-abbrev pub invariant-loop : goal.invariant-loop
-invariant-loop g l = record {
+abbrev pub invariant-loop-blank : goal.invariant-loop-blank
+invariant-loop-blank g l = record {
   left : All (λ b. IsBlank (g.C.Controller.meaning b)) l.blanks.items;
   marked : All IsBlank l.all.items;
 }
 
-abbrev pub decreases-loop : goal.decreases-loop
-decreases-loop g l = length l.blanks.items
+abbrev pub decreases-loop-blank : goal.decreases-loop-blank
+decreases-loop-blank g l = length l.blanks.items
