@@ -1,7 +1,8 @@
 -- What the desk keeps of its state after a commit, after a move of a component, and after a cycle.
 use Rattle.std.proofs.Common.{◌≡◌, ℕ, ◌+◌, Bool, true, false, List, [], length, Option, Some, None, refl, sym, ap, subst, ◌∙◌, arith}
-use Rattle.std.specs.Prelude.{not, is_some, IfSome, IsSomeAnd}
+use Rattle.std.specs.Prelude.{not, is_some, Box, IfSome, IsSomeAnd}
 use Rattle.std.specs.List.{AllByRecursion}
+use Rattle.std.specs.declared.alloc.Global.{Global}
 use Rattle.cm_document.specs.Valid.{IsValid}
 use Rattle.cm_document.specs.declared.description.Description.{Description}
 use Rattle.cm_document.specs.declared.life.Life.{Life}
@@ -14,6 +15,7 @@ use Rattle.cm_model.specs.declared.blanks.Blanks.{Blanks}
 use Rattle.cm_model.specs.declared.member.Member.{Member}
 use Rattle.cm_hardware.specs.Holding.{IsHardwareOf, IsMoved}
 use Rattle.cm_hardware.specs.Listed.{with_hardware}
+use Rattle.cm_hardware.specs.Shown.{Shows}
 use Rattle.cm_hardware.specs.Wiring.{Wired}
 use Rattle.cm_hardware.proofs.LentLemmas.{moved_is_held}
 use Rattle.cm_hardware.proofs.ListLemmas.{state_is}
@@ -23,15 +25,15 @@ use Rattle.ctl_slots.specs.Slots.{Slotted}
 use Rattle.ctl_slots.proofs.FitLemmas.{fit_committed, fit_landed}
 use Rattle.request_plan.specs.Requests.{Asked}
 use Rattle.rt_flight.specs.Stations.{IsFitted}
+use Rattle.rt_flight.specs.declared.craft.Craft.{Craft}
 use Rattle.rt_flight.specs.declared.plant.Plant.{Plant}
 use Rattle.stop_plan.specs.Ending.{HasFlags, told_in, nobody_again}
 use Rattle.stop_plan.specs.declared.ending.Ending.{Ending}
-use Rattle.cm_desk.specs.Bay.{Base, base_of, IsAtHome, IsBased, IsHome, IsRewired, IsUsedUp}
+use Rattle.cm_desk.specs.Bay.{Base, base_of, HasLines, IsAtHome, IsBased, IsHome, IsRewired, IsUsedUp}
 use Rattle.cm_desk.specs.End.{HasSettled}
 use Rattle.cm_desk.specs.Roster.{Listed, serial_in}
 use Rattle.cm_desk.specs.Works.{IsKept, IsWorkedOut, HasCommitted, state_with}
 use Rattle.cm_desk.specs.declared.bay.Bay.{Bay}
-use Rattle.cm_desk.specs.declared.bay.Hangar.{Hangar}
 use Rattle.cm_desk.specs.declared.bay.Spare.{Spare}
 use Rattle.cm_desk.proofs.StayLemmas.{all_staying, commit_stays, landed_stays, count_stays, described_stay, divided_stay}
 
@@ -43,6 +45,8 @@ pub record IsSameBase (before after : Base) : Type 0 where
   pub mails : after.mails ≡ before.mails
   pub stations : after.stations ≡ before.stations
   pub lists : after.lists ≡ before.lists
+  pub untold : after.told ≡ false
+  pub spare_lists : after.spare_lists ≡ before.spare_lists
   pub room : after.room ≡ before.room
 
 -- so it is of a bay whose hardware changed
@@ -54,18 +58,43 @@ rewired b b' berths is = record {
   mails = is.mails;
   stations = ap (λ (x : Spare). x.stations.items) is.spare;
   lists = is.lists;
+  untold = is.untold;
+  spare_lists = is.spare_lists;
   room = is.room;
 }
 
+-- where what works in a cycle comes to rest again, with other hardware
+pub at_rest : (b left b' : Bay) (k r : Box Craft Global) (h : Craft) → IsHome b.plant.value b.ending.value k → left ≡ record b { hangar = None; room = left.room } → left.room ≡ b.room
+    → h ≡ k.value → r.value ≡ record h { plant = record h.plant { hardware = r.value.plant.hardware } }
+    → b' ≡ record left { hangar = Some r; plant = b'.plant; told = false } → b'.plant.value ≡ r.value.plant → IsRewired b b'
+at_rest b left b' k r h home away room taken same rests plant =
+    let aboard : h.plant ≡ b.plant.value = ap (λ (x : Craft). x.plant) taken ∙ home.plant in
+    let now : r.value.plant ≡ record b.plant.value { hardware = r.value.plant.hardware } =
+    ap (λ (x : Craft). x.plant) same ∙ ap (λ (g : Plant). record g { hardware = r.value.plant.hardware }) aboard in
+    let ending : b'.ending.value ≡ b.ending.value = ap (λ (x : Bay). x.ending.value) rests ∙ ap (λ (x : Bay). x.ending.value) away in
+    let sets : r.value.ending ≡ b.ending.value = ap (λ (x : Craft). x.ending) same ∙ ap (λ (x : Craft). x.ending) taken ∙ home.ending in
+    let hangar : b'.hangar ≡ Some r = ap (λ (x : Bay). x.hangar) rests in
+    record {
+      plant = plant ∙ now ∙ ap (λ (w : Wired). record b.plant.value { hardware = w }) (sym (ap (λ (g : Plant). g.hardware) plant));
+      ending = ending;
+      home = subst (λ (o : Option (Box Craft Global)). IsSomeAnd o (IsHome b'.plant.value b'.ending.value)) (sym hangar) (record { plant = sym plant; ending = sets ∙ sym ending });
+      mails = ap (λ (x : Bay). x.mails.value.items) rests ∙ ap (λ (x : Bay). x.mails.value.items) away;
+      spare = ap (λ (x : Bay). x.spare) rests ∙ ap (λ (x : Bay). x.spare) away;
+      lists = ap (λ (x : Bay). x.lists) rests ∙ ap (λ (x : Bay). x.lists) away;
+      untold = ap (λ (x : Bay). x.told) rests;
+      spare_lists = ap (λ (x : Bay). x.spare_lists) rests ∙ ap (λ (x : Bay). x.spare_lists) away;
+      room = ap (λ (x : Bay). x.room) rests ∙ room;
+    }
+
 -- where no cycle is aloft all is at home
-home_from : (plant : Plant) (ending : Ending) (o : Option Hangar) → is_some o ≡ true → IfSome o (IsHome plant ending) → IsSomeAnd o (IsHome plant ending)
+home_from : (plant : Plant) (ending : Ending) (o : Option (Box Craft Global)) → is_some o ≡ true → IfSome o (IsHome plant ending) → IsSomeAnd o (IsHome plant ending)
 home_from plant ending None some home = cc
 home_from plant ending (Some h) some home = home
 
 pub at_home : (d : Description) (order : List Member) (b : Bay) (berths : ℕ) (aloft : Bool) → IsBased d aloft order (base_of b berths) → aloft ≡ false → IsAtHome b
 at_home d order b berths aloft based down = home_from b.plant.value b.ending.value b.hangar (based.home_is ∙ ap not down) based.home
 
-some_home : (plant : Plant) (ending : Ending) (o : Option Hangar) → IsSomeAnd o (IsHome plant ending) → (is_some o ≡ true) × IfSome o (IsHome plant ending)
+some_home : (plant : Plant) (ending : Ending) (o : Option (Box Craft Global)) → IsSomeAnd o (IsHome plant ending) → (is_some o ≡ true) × IfSome o (IsHome plant ending)
 some_home plant ending None home = absurd home
 some_home plant ending (Some h) home = (refl, home)
 
@@ -81,6 +110,8 @@ based_with d was order before after based same =
       fitted = rw (places, same.stations) based.fitted;
       lines = rw (same.lists) based.lines;
       shown = λ away. (let no : false ≡ true = sym away ∙ home.0 in cc);
+      told = λ yes. (let no : false ≡ true = sym same.untold ∙ yes in cc);
+      spare_lines = λ down. rw (same.spare_lists) (based.spare_lines down);
       stands = λ aloft. cc;
       berths = λ aloft. cc;
     }
@@ -189,7 +220,9 @@ pub record IsHomeBase (d : Description) (before after : Base) : Type 0 where
   pub home : IsSomeAnd after.hangar (IsHome after.plant after.ending)
   pub flags : HasFlags (length d.controllers) after.ending
   pub fitted : AllByRecursion (IsFitted after.plant.places) after.stations
-  pub lists : after.lists ≡ before.lists
+  pub lines : HasLines d after.lists
+  pub told : after.told ≡ true → Shows after.plant.hardware after.lists
+  pub spare_lines : HasLines d after.spare_lists
   pub room : after.room ≡ before.room
 
 based_at_home : (d : Description) (aloft : Bool) (was order : List Member) (before after : Base) → IsBased d aloft was before → IsHomeBase d before after → IsBased d false order after
@@ -201,8 +234,10 @@ based_at_home d aloft was order before after based is =
       home = home.1;
       home_is = home.0;
       fitted = is.fitted;
-      lines = rw (is.lists) based.lines;
+      lines = is.lines;
       shown = λ away. (let no : false ≡ true = sym away ∙ home.0 in cc);
+      told = is.told;
+      spare_lines = λ down. is.spare_lines;
       stands = λ yet. cc;
       berths = λ yet. cc;
     }
@@ -242,9 +277,10 @@ ended_view d blanks sessions loads slots slots' asked before after ended count c
 
 -- what is kept goes by these parts of a base, where no cycle is aloft
 pub kept_idle : (s : State) (names : List (List ℕ)) (before after : Base) (looked : Listed) → IsKept s names before looked → s.aloft ≡ false
-    → after.plant ≡ before.plant → after.ending ≡ before.ending → after.hangar ≡ before.hangar → after.lists ≡ before.lists → after.room ≡ before.room
+    → after.plant ≡ before.plant → after.ending ≡ before.ending → after.hangar ≡ before.hangar → after.lists ≡ before.lists → after.told ≡ before.told → after.spare_lists ≡ before.spare_lists
+    → after.room ≡ before.room
     → AllByRecursion (IsFitted after.plant.places) after.stations → IsKept s names after looked
-kept_idle s names before after looked kept down plant ending hangar lists room fitted = record {
+kept_idle s names before after looked kept down plant ending hangar lists told spare_lists room fitted = record {
   worked_out = rw plant kept.worked_out;
   described = kept.described;
   divided = kept.divided;
@@ -261,10 +297,12 @@ kept_idle s names before after looked kept down plant ending hangar lists room f
     wide = room ∙ kept.based.wide;
     flags = rw ending kept.based.flags;
     home = rw (plant, ending, hangar) kept.based.home;
-    home_is = ap (λ (o : Option Hangar). is_some o) hangar ∙ kept.based.home_is;
+    home_is = ap (λ (o : Option (Box Craft Global)). is_some o) hangar ∙ kept.based.home_is;
     fitted = fitted;
     lines = rw lists kept.based.lines;
-    shown = λ away. rw (plant, lists) (kept.based.shown (sym (ap (λ (o : Option Hangar). is_some o) hangar) ∙ away));
+    shown = λ away. rw (plant, lists) (kept.based.shown (sym (ap (λ (o : Option (Box Craft Global)). is_some o) hangar) ∙ away));
+    told = λ yes. rw (plant, lists) (kept.based.told (sym told ∙ yes));
+    spare_lines = λ yet. rw spare_lists (kept.based.spare_lines yet);
     stands = λ aloft. (let no : false ≡ true = sym down ∙ aloft in cc);
     berths = λ aloft. (let no : false ≡ true = sym down ∙ aloft in cc);
   };
@@ -281,4 +319,4 @@ pub used_idle : (s : State) (names : List (List ℕ)) (before b : Bay) (m n : �
     → IsKept s names (base_of b n) looked
 used_idle s names before b m n looked kept down used =
     kept_idle s names (base_of before m) (base_of b n) looked kept down (ap (λ (x : Bay). x.plant.value) used.bay) (ap (λ (x : Bay). x.ending.value) used.bay) (ap (λ (x : Bay). x.hangar) used.bay)
-    (ap (λ (x : Bay). x.lists) used.bay) (ap (λ (x : Bay). x.room) used.bay) (rw (used.stations) tt)
+    (ap (λ (x : Bay). x.lists) used.bay) (ap (λ (x : Bay). x.told) used.bay) (ap (λ (x : Bay). x.spare_lists) used.bay) (ap (λ (x : Bay). x.room) used.bay) (rw (used.stations) tt)

@@ -1,5 +1,5 @@
 -- The begin of a cycle: each request that waits in the state that the one before it left, and then the cycle goes aloft.
-use Rattle.std.proofs.Common.{◌≡◌, ℕ, zero, suc, ◌+◌, ◌<◌, ◌≤◌, Bool, true, false, List, [], ◌∷◌, ◌++◌, length, drop, map, Option, Some, None, refl, sym, ap, ap₂, subst, ◌∙◌, arith}
+use Rattle.std.proofs.Common.{◌≡◌, ℕ, zero, suc, ◌+◌, ◌<◌, ◌≤◌, Bool, true, false, List, [], ◌∷◌, ◌++◌, length, drop, Option, Some, None, refl, sym, ap, ap₂, subst, ◌∙◌, arith}
 use Rattle.std.specs.Prelude.{◌==◌, ◌&&◌, if◌then◌else◌, not, nat_lt}
 use Rattle.std.specs.List.{All, AllByRecursion}
 use Rattle.std.proofs.lemmas.Bool.{and_parts, eqb-true, ltb-true}
@@ -339,6 +339,8 @@ based_aloft d was order before after based room ending away none lines shown sta
   fitted = rw none tt;
   lines = lines;
   shown = λ gone. shown;
+  told = λ yes. shown;
+  spare_lines = λ down. cc;
   stands = λ aloft. stands;
   berths = λ aloft. berths;
 }

@@ -13,9 +13,9 @@ use Rattle.cm_model.specs.State.{State}
 use Rattle.cm_model.specs.Steady.{IsSteady}
 use Rattle.cm_model.specs.declared.entry.Entry.{Entry}
 use Rattle.cm_model.specs.declared.reply.Reply.{Reply}
-use Rattle.cm_model.proofs.LegalLemmas.{Leads, Leads-step, step_of}
+use Rattle.cm_model.proofs.LegalLemmas.{Leads, step_of}
 use Rattle.cm_model.proofs.StayLemmas.{step-IsStep, effect-SameLoop}
-use Rattle.rt_flight.specs.Flights.{FlightFacts, IsAloft, IsAlike, IsComputed, StaysAloft, StaysComputed}
+use Rattle.rt_flight.specs.Flights.{FlightFacts, IsAloft, IsComputed, StaysAloft, StaysComputed}
 use Rattle.rt_flight.proofs.AlikeLemmas.{stays_aloft}
 use Rattle.sound_laws.proofs.BetweenLemmas.{HasBegun, goes_on}
 use Rattle.sound_laws.proofs.MomentLemmas.{legal_step}

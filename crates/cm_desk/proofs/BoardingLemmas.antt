@@ -1,9 +1,8 @@
 -- One controller after the other comes to its cell, or leaves it.
-use Rattle.std.proofs.Common.{◌≡◌, ℕ, suc, ◌+◌, ◌<◌, List, [], ◌∷◌, ◌++◌, length, get_or, map, drop, Option, Some, None, refl, sym, ap, ap₂, ◌∙◌, arith}
+use Rattle.std.proofs.Common.{◌≡◌, ℕ, ◌+◌, ◌<◌, List, [], ◌∷◌, ◌++◌, length, get_or, drop, Option, Some, refl, sym, ap, ap₂, ◌∙◌}
 use Rattle.std.specs.Prelude.{reverse, slice_get}
-use Rattle.std.specs.List.{AllByRecursion}
 use Rattle.std.specs.Option.{option_map_or}
-use Rattle.std.proofs.lemmas.List.{drop_more, map-append, reverse-append}
+use Rattle.std.proofs.lemmas.List.{drop_more, reverse-append}
 use Rattle.cm_model.specs.State.{Loaded, MailAloft}
 use Rattle.cm_model.specs.declared.data.CtlData.{CtlData}
 use Rattle.ctl_slots.specs.Mails.{without_mail}

@@ -1,9 +1,8 @@
 -- The cells of those that run: they are those of the running controllers, each can be updated, and all can be told of.
-use Rattle.std.proofs.Common.{◌≡◌, ℕ, ◌+◌, ◌*◌, ◌<◌, ◌≤◌, ◌^◌, Bool, true, false, List, [], ◌∷◌, length, map, Option, Some, None, refl, sym, ap, ap₂, subst, ◌∙◌, arith}
+use Rattle.std.proofs.Common.{◌≡◌, ℕ, ◌+◌, ◌*◌, ◌<◌, ◌≤◌, Bool, true, false, List, [], ◌∷◌, length, map, Option, Some, None, refl, sym, ap, ap₂, subst, ◌∙◌, arith}
 use Rattle.std.specs.Prelude.{◌==◌, if◌then◌else◌, is_some, sum_by, slice_get, unwrap_or, IfSome}
-use Rattle.std.specs.List.{All, AllByRecursion, IsDistinct}
-use Rattle.std.specs.Option.{option_map_or}
-use Rattle.std.proofs.lemmas.Bool.{eqb-true, eq-eqb}
+use Rattle.std.specs.List.{AllByRecursion, IsDistinct}
+use Rattle.std.proofs.lemmas.Bool.{eqb-true}
 use Rattle.std.proofs.lemmas.List.{length-map}
 use Rattle.std.proofs.lemmas.List.Sums.{sum_by-cons}
 use Rattle.cm_document.specs.Params.{kind_of}
@@ -11,11 +10,8 @@ use Rattle.cm_document.specs.declared.call.Mail.{Mail}
 use Rattle.cm_document.specs.declared.description.CtlDesc.{CtlDesc}
 use Rattle.cm_document.specs.declared.description.CtlKind.{CtlKind}
 use Rattle.cm_document.specs.declared.description.Description.{Description}
-use Rattle.cm_document.specs.declared.description.Params.{Params}
 use Rattle.cm_document.specs.declared.life.Life.TheVariants.{Active}
-use Rattle.cm_model.specs.Controllers.{AreItsCounts}
 use Rattle.cm_model.specs.Order.{controller_at, nobody}
-use Rattle.cm_model.specs.Ran.{Filling}
 use Rattle.cm_model.specs.Sound.{running_part}
 use Rattle.cm_model.specs.State.{Loaded, MailAloft}
 use Rattle.cm_model.specs.declared.data.CtlData.{CtlData}
@@ -29,14 +25,14 @@ use Rattle.ctl_slots.specs.Seats.{IsSeated}
 use Rattle.ctl_slots.specs.Updates.{HasTime}
 use Rattle.ctl_slots.specs.Updates.{IsInTime as IsTimed}
 use Rattle.ctl_trait.specs.Taking.{CanTake}
-use Rattle.rt_flight.specs.Cells.{Seat, numbers_of, all_outs, all_numbers, CanFly, CanStep, CanTell}
-use Rattle.rt_flight.specs.Flights.{member_in, AreSeatsOf, IsSeatOf}
-use Rattle.rt_flight.specs.Stations.{Standing, IsFitted, IsInTime, IsSeatedOn}
+use Rattle.rt_flight.specs.Cells.{Seat, all_outs, all_numbers, CanFly, CanTell}
+use Rattle.rt_flight.specs.Flights.{member_in, AreSeatsOf}
+use Rattle.rt_flight.specs.Stations.{Standing, IsFitted}
 use Rattle.stop_plan.specs.Ending.{member_of}
 use Rattle.std.proofs.lemmas.Option.{get_or_from_slice_get}
 use Rattle.switch_plan.specs.Relations.{Related}
 use Rattle.sequence.proofs.ListLemmas.{head_same, tail_same}
-use Rattle.cm_desk.specs.Boarding.{boarded, divisor_of, seat_of}
+use Rattle.cm_desk.specs.Boarding.{boarded, seat_of}
 use Rattle.cm_desk.specs.Supplies.{AreStandsOf, HasRoom, outs_at, numbers_at}
 use Rattle.cm_desk.specs.Works.{IsAsDescribed}
 use Rattle.cm_desk.proofs.WorksLemmas.{described_there}

@@ -1,27 +1,28 @@
 -- A flight comes home: what it brings is what the cycle leaves.
-use Rattle.std.proofs.Common.{◌≡◌, ℕ, suc, ◌≤◌, Bool, true, false, List, [], ◌∷◌, length, map, Some, vec_capacity, refl, sym, ap, subst, ◌∙◌, arith}
-use Rattle.std.specs.Prelude.{slice_get}
+use Rattle.std.proofs.Common.{◌≡◌, ℕ, suc, Bool, true, false, List, [], ◌∷◌, length, map, Some, vec_capacity, refl, sym, ap, subst, ◌∙◌, arith}
+use Rattle.std.specs.Prelude.{not, slice_get}
 use Rattle.std.specs.List.{AllByRecursion}
 use Rattle.std.proofs.lemmas.List.{length-map}
-use Rattle.cm_document.specs.declared.life.Life.TheVariants.{Active}
 use Rattle.cm_model.specs.Cycle.{cycle, landed, active_order, after_cycle}
 use Rattle.cm_model.specs.Happened.{Happened}
 use Rattle.cm_model.specs.Sound.{running_part}
 use Rattle.cm_model.specs.State.{State, Loaded}
 use Rattle.cm_model.specs.declared.data.CtlData.{CtlData}
-use Rattle.cm_model.specs.declared.member.Member.{Member}
 use Rattle.cm_hardware.specs.Holding.{IsMoved}
+use Rattle.cm_hardware.specs.Shown.{HasLinesFor, Shows}
+use Rattle.cm_hardware.specs.Wiring.{Wired}
+use Rattle.cm_hardware.specs.declared.lists.Lists.{Lists}
 use Rattle.ctl_places.specs.Placed.{Placed}
 use Rattle.ctl_slots.specs.Calls.Slots.{CanPark, HasParked}
-use Rattle.ctl_slots.specs.Lives.{IsKept}
 use Rattle.ctl_slots.specs.Slots.{Slotted, AreDataIn, IsRunOf}
 use Rattle.rt_flight.specs.Cells.{Seat}
 use Rattle.rt_flight.specs.Flights.{FlightFacts, AreSeatsAfter, ComesHome}
 use Rattle.rt_flight.specs.Stations.{Standing, IsFitted}
+use Rattle.rt_flight.specs.declared.craft.Craft.{Craft}
 use Rattle.rt_flight.specs.declared.plant.Plant.{Plant}
+use Rattle.rt_flight.proofs.CycleLemmas.{board_moved, components_of}
 use Rattle.stop_plan.specs.Ending.{HasFlags, IsEndingOf}
-use Rattle.stop_plan.specs.declared.ending.Ending.{Ending}
-use Rattle.cm_desk.specs.Bay.{base_of}
+use Rattle.cm_desk.specs.Bay.{base_of, HasLines}
 use Rattle.cm_desk.specs.Boarding.{CanLeave, HaveLeft}
 use Rattle.cm_desk.specs.End.{CanLand, CanComeHome, HasComeHome, CanSettle}
 use Rattle.cm_desk.specs.Roster.{Listed}
@@ -50,9 +51,20 @@ stations_fitted : (placed : Placed) (cs : List Seat) → AllByRecursion (λ (c :
 stations_fitted placed [] fitted = tt
 stations_fitted placed (c ∷ cs) fitted = (fitted.0, stations_fitted placed cs fitted.1)
 
+-- there is room for the lists of a description where there is for those of its hardware
+lines_of : (s : State) (w : Wired) (l : Lists) → IsMoved s w → HasLinesFor w l → HasLines s.description l
+lines_of s w l is lines = record {
+  components = omega (arith, components_of s w.components is.lent.wired, lines.components);
+  interfaces = omega (arith, board_moved s w is, lines.interfaces);
+}
+
+-- what its contrary holds of does not
+pub not_so : (b : Bool) → not b ≡ true → b ≡ false
+not_so true so = cc
+not_so false so = refl
+
 module _ (s : State) (slots : Slotted) (looked : Listed) (b : Bay) (berths : ℕ) (f : FlightFacts) (can : CanComeHome s slots looked b berths f)
-    (cells : List Seat) (order : List Member) (g : Plant) (ending : Ending) (failed : Bool) (erred : List ℕ) (capacity : ℕ) (told : Happened)
-    (home : ComesHome f cells order g ending failed erred capacity told) where
+    (cells : List Seat) (k : Craft) (told : Happened) (home : ComesHome f cells k told) where
   after : AreSeatsAfter (cycle s).loaded (map running_part (active_order s)) cells
   after = subst (AreSeatsAfter (cycle s).loaded (map running_part (active_order s))) (sym home.cells) can.lands.computed.cells
 
@@ -80,7 +92,7 @@ module _ (s : State) (slots : Slotted) (looked : Listed) (b : Bay) (berths : ℕ
 
   -- and so it can be settled who stops
   pub can_settle : (slots' : Slotted) (stations : List Standing) (boxes : List CtlData) → HaveLeft cells stations boxes → HasParked slots slots' looked.run boxes
-      → CanSettle s slots' g b.room looked ending failed
+      → CanSettle s slots' k b.room looked
   can_settle slots' stations boxes left parked = record {
     landed = record {
       valid = can.valid;
@@ -97,11 +109,18 @@ module _ (s : State) (slots : Slotted) (looked : Listed) (b : Bay) (berths : ℕ
     ending = λ some. subst (IsEndingOf s) (sym home.ending) (can.lands.computed.ending (sym home.has_failed ∙ some));
   }
 
-  pub flags : HasFlags (length s.description.controllers) ending
-  flags = flags_from s.description g.relations ending (ap (λ (h : Plant). h.relations) home.plant ∙ can.lands.computed.related) home.equipped.flags
+  pub flags : HasFlags (length s.description.controllers) k.ending
+  flags = flags_from s.description k.plant.relations k.ending (ap (λ (h : Plant). h.relations) home.plant ∙ can.lands.computed.related) home.equipped.flags
 
-  pub fitted : (stations : List Standing) (boxes : List CtlData) → HaveLeft cells stations boxes → AllByRecursion (IsFitted g.places) stations
-  fitted stations boxes left = subst (AllByRecursion (IsFitted g.places)) (sym left.stations) (stations_fitted g.places cells home.equipped.fitted)
+  pub fitted : (stations : List Standing) (boxes : List CtlData) → HaveLeft cells stations boxes → AllByRecursion (IsFitted k.plant.places) stations
+  fitted stations boxes left = subst (AllByRecursion (IsFitted k.plant.places)) (sym left.stations) (stations_fitted k.plant.places cells home.equipped.fitted)
+
+  -- the lists that come home are those of the hardware, and there is room for as many lines
+  pub lines : HasLines s.description k.lists
+  lines = lines_of (landed s (cycle s)) k.plant.hardware k.lists (subst (λ (h : Plant). IsMoved (landed s (cycle s)) h.hardware) (sym home.plant) can.lands.computed.hardware) home.equipped.lines
+
+  pub shows : Shows k.plant.hardware k.lists
+  shows = rw (home.plant, home.lists) can.lands.computed.shown
 
 -- ---- The whole landing
 
@@ -117,6 +136,7 @@ comes_home s names b berths looked slots f kept lands loaded aloft = record {
   listed = kept.listed;
   fresh = kept.ordered lands.aloft;
   wide = kept.based.wide;
+  lines = kept.based.lines;
   stands = kept.based.stands lands.aloft;
   berths = kept.based.berths lands.aloft;
 }
@@ -133,4 +153,4 @@ kept_home s names b b' berths berths' was looked slots slots' f kept lands home 
       placed = ap (λ (g : Plant). g.places) home.plant ∙ lands.computed.placed;
       timed = ap (λ (g : Plant). g.period_us) home.plant ∙ lands.computed.timed;
     })
-    (record { home = home.home; flags = home.flags; fitted = home.fitted; lists = home.lists; room = home.room })
+    (record { home = home.home; flags = home.flags; fitted = home.fitted; lines = home.lines; told = home.told; spare_lines = home.spare_lines; room = home.room })

@@ -1,18 +1,18 @@
 -- One lemma for every call: from 'what is kept at run time made the step' to what the desk's type keeps and its clauses say.
 use Rattle.std.proofs.Common.{◌≡◌, ℕ, suc, ◌+◌, ◌<◌, ◌≤◌, Bool, true, false, nat_lt, List, [], length, take, drop, length-append, length-take, length-drop, length-set, Option, Some, None, refl, sym, ap, subst, ◌∙◌, arith}
-use Rattle.std.specs.Prelude.{not, ◌==◌, ◌&&◌, option_map, slice_get}
+use Rattle.std.specs.Prelude.{not, ◌&&◌, option_map, slice_get}
 use Rattle.std.proofs.lemmas.Bool.Decides.{nat_tests}
 use Rattle.std.proofs.lemmas.List.{length-map, length_push}
 use Rattle.std.proofs.lemmas.Option.{slice_get_within}
 use Rattle.cm_document.specs.declared.call.Call.{Call}
-use Rattle.cm_document.specs.declared.call.Call.TheVariants.{Load, Configure, Cleanup, Unload, Rate, Send, Switch, Hardware, Told, Await, ListControllers, ListInterfaces, ListComponents, Begin, End, Close}
+use Rattle.cm_document.specs.declared.call.Call.TheVariants.{Load, Configure, Cleanup, Unload, Rate, Send, Switch, Hardware, Told, Await, ListControllers, ListInterfaces, ListComponents, End, Close}
 use Rattle.cm_document.specs.declared.description.CtlDesc.{CtlDesc}
 use Rattle.cm_model.specs.Console.{place_of, slot_of, where_done, with_slot, with_changed, without_slot, after_configure, after_cleanup, after_rate, after_send}
-use Rattle.cm_model.specs.Boundary.{is_decided, waiting, boundary, request_effect, begin_effect, begin_reply, close_effect, close_reply}
+use Rattle.cm_model.specs.Boundary.{is_decided, waiting, boundary, request_effect, begin_effect, close_effect, close_reply}
 use Rattle.cm_model.specs.Commit.{commit}
 use Rattle.cm_model.specs.Components.{read_succeeds}
 use Rattle.cm_model.specs.Cycle.{CycleResult, component_is, updated_in, updates, cycle, after_cycle}
-use Rattle.cm_model.specs.Machine.{is_reached, is_enabled, reply_of, effect, with_controller, with_loaded, load_effect, can_begin, can_close, step}
+use Rattle.cm_model.specs.Machine.{is_reached, is_enabled, reply_of, effect, with_controller, with_loaded, load_effect, can_close, step}
 use Rattle.cm_model.specs.Scheduled.{with_entry}
 use Rattle.cm_model.specs.State.{State, Loaded, boot, newly_loaded}
 use Rattle.cm_model.specs.Values.{after_reads}

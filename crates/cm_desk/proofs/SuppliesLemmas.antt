@@ -1,5 +1,5 @@
 -- What a cycle can tell, of the hardware of a state.
-use Rattle.std.proofs.Common.{◌≡◌, ◌+◌, List, [], ◌∷◌, ◌++◌, length, map, refl, sym, ap, subst, ◌∙◌}
+use Rattle.std.proofs.Common.{◌≡◌, ◌+◌, List, [], ◌∷◌, ◌++◌, length, map, refl, sym, ap, ◌∙◌}
 use Rattle.cm_document.specs.declared.description.Description.{Description}
 use Rattle.sequence.proofs.ListLemmas.{all_push}
 use Rattle.cm_model.specs.declared.member.Member.{Member}

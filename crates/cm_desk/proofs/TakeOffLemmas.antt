@@ -1,7 +1,7 @@
 -- A cycle takes off: its flight is that of the state.
-use Rattle.std.proofs.Common.{◌≡◌, ℕ, suc, ◌+◌, ◌<◌, ◌≤◌, Bool, true, false, List, [], ◌∷◌, ◌++◌, length, map, vec_capacity, Option, Some, None, refl, sym, ap, ap₂, subst, ◌∙◌, arith}
-use Rattle.std.specs.Prelude.{◌==◌, is_some, slice_get, not, filter_map}
-use Rattle.std.specs.List.{All, AllByRecursion, IsDistinct, Contains}
+use Rattle.std.proofs.Common.{◌≡◌, ℕ, suc, ◌+◌, ◌<◌, ◌≤◌, Bool, true, false, List, [], ◌∷◌, ◌++◌, length, map, vec_capacity, Some, None, refl, sym, ap, ap₂, subst, ◌∙◌, arith}
+use Rattle.std.specs.Prelude.{◌==◌, is_some, slice_get, filter_map}
+use Rattle.std.specs.List.{All, AllByRecursion, IsDistinct}
 use Rattle.std.proofs.lemmas.List.{length-map}
 use Rattle.std.proofs.lemmas.List.Elements.{recursion_from_All, All-from_recursion}
 use Rattle.std.proofs.lemmas.Option.{slice_get_within}
@@ -9,9 +9,8 @@ use Rattle.sequence.proofs.ListLemmas.{head_same, tail_same}
 use Rattle.cm_document.specs.Places.{interfaces_of}
 use Rattle.cm_document.specs.declared.life.Life.TheVariants.{Active}
 use Rattle.cm_model.specs.Cycle.{begun, mail_off, without_mail_off, active_order, members_in_order, period}
-use Rattle.cm_model.specs.State.{State, Loaded, MailAloft, is_active}
+use Rattle.cm_model.specs.State.{State, Loaded, MailAloft}
 use Rattle.cm_model.specs.Steady.{IsOwn}
-use Rattle.cm_model.specs.Values.{InterfaceValue}
 use Rattle.cm_model.specs.declared.data.CtlData.{CtlData}
 use Rattle.cm_model.specs.declared.member.Member.{Member}
 use Rattle.cm_model.proofs.InterfaceLemmas.{all_map_back}
@@ -20,7 +19,7 @@ use Rattle.cm_model.specs.declared.record_room.RecordRoom.{RecordRoom}
 use Rattle.chain_order.specs.Links.{places_below}
 use Rattle.chain_order.proofs.LinkLemmas.{length-each_below}
 use Rattle.cm_hardware.specs.Holding.{IsHardwareOf}
-use Rattle.cm_hardware.specs.Shown.{HasLinesFor, Shows}
+use Rattle.cm_hardware.specs.Shown.{HasLinesFor}
 use Rattle.cm_hardware.specs.Wiring.{Wired, Mounted}
 use Rattle.cm_hardware.specs.declared.lists.Lists.{Lists}
 use Rattle.ctl_places.specs.Placed.{placed_of}
@@ -33,18 +32,16 @@ use Rattle.ctl_slots.specs.Updates.{IsInTime as IsTimed}
 use Rattle.ctl_slots.proofs.FitLemmas.{can_run, fit_begun}
 use Rattle.ctl_trait.specs.Taking.{CanTake}
 use Rattle.hw_component.proofs.MakingLemmas.{valid_period}
-use Rattle.rt_flight.specs.Cells.{Seat, CanFly}
-use Rattle.rt_flight.specs.Flights.{FlightFacts, round_over, CanMake, CanSettle, IsAloftOver, IsEquipped, IsReady}
+use Rattle.rt_flight.specs.Cells.{Seat}
+use Rattle.rt_flight.specs.Flights.{FlightFacts, round_over, CanSettle, IsAloftOver, IsEquipped, IsReady}
 use Rattle.rt_flight.specs.Stations.{Standing}
 use Rattle.rt_flight.specs.declared.plant.Plant.{Plant}
 use Rattle.sound_laws.proofs.ActiveLemmas.{from_active_order}
 use Rattle.sound_laws.proofs.ParamsLemmas.{all_at, all_each}
 use Rattle.sound_laws.proofs.RunLemmas.{ordered_once}
 use Rattle.sound_laws.proofs.ValidLemmas.{valid-IsChecked}
-use Rattle.stop_plan.specs.Ending.{HasFlags}
-use Rattle.stop_plan.specs.declared.ending.Ending.{Ending}
 use Rattle.switch_plan.specs.Relations.{Related, components_at, relations_of}
-use Rattle.cm_desk.specs.Bay.{base_of, HasLines, IsBased, IsHome}
+use Rattle.cm_desk.specs.Bay.{base_of, HasLines, IsBased}
 use Rattle.cm_desk.specs.Begin.{CanTakeOff, HasTakenOff}
 use Rattle.cm_desk.specs.Boarding.{boarded, CanBoard}
 use Rattle.cm_desk.specs.Roster.{Listed, IsListedOf}
@@ -216,11 +213,12 @@ module _ (s : State) (slots : Slotted) (run : List ℕ) (b : Bay) (boxes : List 
 
   -- ---- The flight
 
-  pub equipped : IsEquipped (seated (begun s).mails (active_order (begun s)) supplies.stations.items) supplies.order.items b.plant.value b.ending.value supplies.erred.items (vec_capacity supplies.erred)
+  pub equipped : IsEquipped (seated (begun s).mails (active_order (begun s)) supplies.stations.items) supplies.order.items b.plant.value b.ending.value b.spare_lists supplies.erred.items (vec_capacity supplies.erred)
   equipped = record {
     order = can.supplies.order ∙ sym (members_are (begun s).mails (active_order (begun s)) supplies.stations.items can.supplies.stations.stands);
     fitted = cells_fitted b.plant.value.places (begun s).mails (active_order (begun s)) supplies.stations.items can.supplies.stations.fitted;
     flags = flags_in s.description b.plant.value.relations b.ending.value can.worked_out.1.related can.flags;
+    lines = lines_for (begun s) b.plant.value.hardware b.spare_lists can.hardware can.spare_lines;
     none_erred = can.supplies.none_erred;
     erred = omega (arith, cells_count (begun s).mails (active_order (begun s)) supplies.stations.items can.supplies.stations.stands, can.supplies.erred, length-map {B = Member} (active_order (begun s)) (λ (l : Loaded). record { serial = l.serial; place = l.place }));
   }
@@ -281,6 +279,8 @@ can_take_off s t names before b berths was looked slots boxes berth_room cells c
     let ending : b.ending.value ≡ before.ending.value = ap (λ (x : Bay). x.ending.value) used in
     let hangar : b.hangar ≡ before.hangar = ap (λ (x : Bay). x.hangar) used in
     let lists : b.lists ≡ before.lists = ap (λ (x : Bay). x.lists) used in
+    let told : b.told ≡ before.told = ap (λ (x : Bay). x.told) used in
+    let spare_lists : b.spare_lists ≡ before.spare_lists = ap (λ (x : Bay). x.spare_lists) used in
     record {
       valid = kept.worked_out.valid;
       steady = decided.steady_then;
@@ -299,6 +299,8 @@ can_take_off s t names before b berths was looked slots boxes berth_room cells c
       home = rw (plant, ending, hangar) (at_home t.description was.order before berths t.aloft kept.based decided.down);
       flags = rw ending kept.based.flags;
       lines = rw lists kept.based.lines;
+      told = λ yes. rw (plant, lists) (kept.based.told (sym told ∙ yes));
+      spare_lines = rw spare_lists (kept.based.spare_lines decided.down);
       supplies = rw (← order, plant) supplies;
       no_box = no_box;
       berths = rw (← order) berth_places;

@@ -1,6 +1,7 @@
 -- What a cycle works on, at home or aloft.
-use Rattle.std.specs.Prelude.{◌≡◌, ℕ, ◌≤◌, Bool, true, false, not, List, [], length, vec_capacity, is_some, Option, Some, IfSome, IsSomeAnd}
-use Rattle.std.specs.List.{All, AllByRecursion}
+use Rattle.std.specs.Prelude.{◌≡◌, ℕ, ◌≤◌, Bool, true, false, not, List, [], length, vec_capacity, is_some, Box, Option, None, IfSome, IsSomeAnd}
+use Rattle.std.specs.List.{AllByRecursion}
+use Rattle.std.specs.declared.alloc.Global.{Global}
 use Rattle.cm_document.specs.Places.{interfaces_of}
 use Rattle.cm_document.specs.declared.description.Description.{Description}
 use Rattle.cm_model.specs.Cycle.{period}
@@ -8,30 +9,31 @@ use Rattle.cm_model.specs.State.{MailAloft, boot}
 use Rattle.cm_model.specs.declared.blanks.Blanks.{Blanks}
 use Rattle.cm_model.specs.declared.member.Member.{Member}
 use Rattle.cm_hardware.specs.Holding.{IsHardwareOf}
-use Rattle.cm_hardware.specs.Shown.{Shows}
-use Rattle.cm_hardware.specs.Wiring.{Wired}
+use Rattle.cm_hardware.specs.Shown.{HasLinesFor, Shows}
 use Rattle.cm_hardware.specs.declared.lists.Lists.{Lists}
 use Rattle.ctl_places.specs.Placed.{placed_of}
 use Rattle.ctl_slots.specs.Seats.{widest}
 use Rattle.rt_flight.specs.Stations.{Standing, IsFitted}
+use Rattle.rt_flight.specs.declared.craft.Craft.{Craft}
 use Rattle.rt_flight.specs.declared.plant.Plant.{Plant}
 use Rattle.stop_plan.specs.Ending.{HasFlags}
 use Rattle.stop_plan.specs.declared.ending.Ending.{Ending}
 use Rattle.switch_plan.specs.Relations.{relations_of}
 use Rattle.cm_desk.specs.Supplies.{CanSupply}
 use Rattle.cm_desk.specs.declared.bay.Bay.{Bay}
-use Rattle.cm_desk.specs.declared.bay.Hangar.{Hangar}
 
 -- What is seen of it: what a cycle works on and the sets of its end, as they stand at home, or as they were when they left; what of it
--- is at home; the mail that is aloft; the stations that are at home; the lists that were written down; and for how many of those that
--- run there is room for a box and for a station.
+-- is at home; the mail that is aloft; the stations that are at home; the lists that were written down, whether they are those of the
+-- hardware, and room for the next; and for how many of those that run there is room for a box and for a station.
 pub record Base : Type 0 where
   pub plant : Plant
   pub ending : Ending
-  pub hangar : Option Hangar
+  pub hangar : Option (Box Craft Global)
   pub mails : List MailAloft
   pub stations : List Standing
   pub lists : Lists
+  pub told : Bool
+  pub spare_lists : Lists
   pub room : ℕ
   pub stands : ℕ
   pub berths : ℕ
@@ -45,15 +47,17 @@ base_of b berths = record {
   mails = b.mails.value.items;
   stations = b.spare.stations.items;
   lists = b.lists;
+  told = b.told;
+  spare_lists = b.spare_lists;
   room = b.room;
   stands = vec_capacity b.spare.stations;
   berths = berths;
 }
 
 -- What is at home is this.
-pub record IsHome (g : Plant) (e : Ending) (h : Hangar) : Type 0 where
-  pub plant : h.plant ≡ g
-  pub ending : h.ending ≡ e
+pub record IsHome (g : Plant) (e : Ending) (h : Box Craft Global) : Type 0 where
+  pub plant : h.value.plant ≡ g
+  pub ending : h.value.ending ≡ e
 
 -- there is room for the lists of a description
 pub record HasLines (d : Description) (l : Lists) : Type 0 where
@@ -70,8 +74,8 @@ pub record IsListing (b : Bay) : Type 0 where
   pub shown : is_some b.hangar ≡ false → Shows b.plant.value.hardware b.lists
 
 -- What is kept of it, while a cycle is aloft or not, whose controllers these are: what is at home is so, and between two cycles all of
--- it is; each station that is at home is fitted; there is room for the lists, which are written down while it is away, and for each
--- box and each station that is away then.
+-- it is; each station that is at home is fitted; there is room for the lists, which are written down while it is away, for the next
+-- ones, while none is aloft, and for each box and each station that is away then. Where the lists are told, they are those of the hardware.
 pub record IsBased (d : Description) (aloft : Bool) (order : List Member) (b : Base) : Type 0 where
   pub wide : b.room ≡ widest
   pub flags : HasFlags (length d.controllers) b.ending
@@ -80,10 +84,12 @@ pub record IsBased (d : Description) (aloft : Bool) (order : List Member) (b : B
   pub fitted : AllByRecursion (IsFitted b.plant.places) b.stations
   pub lines : HasLines d b.lists
   pub shown : is_some b.hangar ≡ false → Shows b.plant.hardware b.lists
+  pub told : b.told ≡ true → Shows b.plant.hardware b.lists
+  pub spare_lines : aloft ≡ false → HasLines d b.spare_lists
   pub stands : aloft ≡ true → length order ≤ b.stands
   pub berths : aloft ≡ true → length order ≤ b.berths
 
--- Of a bay whose hardware changed, all else stays, and it is at home.
+-- Of a bay whose hardware changed, all else stays, and it is at home. The lists may not be those of the hardware any more.
 pub record IsRewired (before after : Bay) : Type 0 where
   pub plant : after.plant.value ≡ record before.plant.value { hardware = after.plant.value.hardware }
   pub ending : after.ending.value ≡ before.ending.value
@@ -91,6 +97,8 @@ pub record IsRewired (before after : Bay) : Type 0 where
   pub mails : after.mails.value.items ≡ before.mails.value.items
   pub spare : after.spare ≡ before.spare
   pub lists : after.lists ≡ before.lists
+  pub untold : after.told ≡ false
+  pub spare_lists : after.spare_lists ≡ before.spare_lists
   pub room : after.room ≡ before.room
 
 -- What was left over is used up, and all else stays.
@@ -103,14 +111,41 @@ pub record CanBeSupplied (d : Description) (b : Bay) (order : List Member) : Typ
   pub plant : CanSupply d b.plant.value order
   pub fitted : AllByRecursion (IsFitted b.plant.value.places) b.spare.stations.items
 
--- This plant and these sets are at home, and no mail is aloft.
-pub record HasMoored (before after : Bay) (g : Plant) (e : Ending) : Type 0 where
-  pub plant : after.plant.value ≡ g
-  pub ending : after.ending.value ≡ e
-  pub home : after.hangar ≡ Some (record { plant = g; ending = e })
+-- What works in a cycle can leave: it is at home, and there is room for its lists, which are those of its hardware where they are told.
+pub record CanCastOff (b : Bay) : Type 0 where
+  pub home : IsAtHome b
+  pub lines : HasLinesFor b.plant.value.hardware b.lists
+  pub told : b.told ≡ true → Shows b.plant.value.hardware b.lists
+
+-- It left as it was, with the room for its lists; and the lists here are those of its hardware.
+pub record HasCastOff (before after : Bay) (k : Craft) : Type 0 where
+  pub plant : k.plant ≡ before.plant.value
+  pub ending : k.ending ≡ before.ending.value
+  pub spare_lists : k.lists ≡ before.spare_lists
+  pub bay : after ≡ record before { hangar = None; lists = after.lists; told = after.told; spare_lists = after.spare_lists }
+  pub shown : Shows before.plant.value.hardware after.lists
+  pub components : vec_capacity after.lists.components ≡ vec_capacity before.lists.components
+  pub interfaces : vec_capacity after.lists.interfaces ≡ vec_capacity before.lists.interfaces
+
+-- The lists that this wrote down are told, which are those of its hardware where nothing failed; those of before are room for the next;
+-- and what else cycles leave over is what it brought, but for the stations and the room for mail.
+pub record HasUnloaded (before after : Bay) (k : Craft) : Type 0 where
+  pub lists : after.lists ≡ k.lists
+  pub told : after.told ≡ not k.has_failed
+  pub spare_lists : after.spare_lists ≡ before.lists
+  pub stations : after.spare.stations ≡ before.spare.stations
+  pub bay : after ≡ record before { lists = after.lists; told = after.told; spare_lists = after.spare_lists; spare = after.spare }
+
+-- This is at home, with its lists, and no mail is aloft.
+pub record HasMoored (before after : Bay) (k : Craft) : Type 0 where
+  pub plant : after.plant.value ≡ k.plant
+  pub ending : after.ending.value ≡ k.ending
+  pub home : IsAtHome after
   pub no_mail : after.mails.value.items ≡ []
-  pub spare : after.spare ≡ record before.spare { mails = after.spare.mails }
-  pub lists : after.lists ≡ before.lists
+  pub stations : after.spare.stations ≡ before.spare.stations
+  pub lists : after.lists ≡ k.lists
+  pub told : after.told ≡ not k.has_failed
+  pub spare_lists : after.spare_lists ≡ before.lists
   pub room : after.room ≡ before.room
 
 -- At start the hardware is that of the state at boot, whatever its blanks and sessions, and all is at home.

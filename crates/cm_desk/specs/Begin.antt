@@ -10,7 +10,6 @@ use Rattle.cm_model.specs.Steady.{IsSteady}
 use Rattle.cm_model.specs.declared.cause.Decision.{Decision}
 use Rattle.cm_model.specs.declared.reply.Reply.TheVariants as reply
 use Rattle.cm_model.specs.declared.data.CtlData.{CtlData}
-use Rattle.cm_model.specs.declared.member.Member.{Member}
 use Rattle.cm_model.specs.declared.cause.Outcome.{Outcome}
 use Rattle.cm_model.specs.declared.request.Request.{Request}
 use Rattle.request_plan.specs.Acts.{IsActOf, IsConclusionOf}
@@ -83,6 +82,8 @@ pub record CanTakeOff (s : State) (slots : Slotted) (indices : List ℕ) (b : Ba
   pub home : IsAtHome b
   pub flags : HasFlags (length s.description.controllers) b.ending.value
   pub lines : HasLines s.description b.lists
+  pub told : b.told ≡ true → Shows b.plant.value.hardware b.lists
+  pub spare_lines : HasLines s.description b.spare_lists
   pub supplies : AreSupplies s.description b.plant.value.places (members_in_order (begun s)) (length s.loaded) all
   pub no_box : boxes ≡ []
   pub berths : length (members_in_order (begun s)) ≤ berth_room
@@ -93,7 +94,7 @@ pub record CanTakeOff (s : State) (slots : Slotted) (indices : List ℕ) (b : Ba
 -- written down; and there is room for the stations.
 pub record HasTakenOff (s : State) (before after : Slotted) (b b' : Bay) (f : FlightFacts) : Type 0 where
   pub slots : after ≡ record before { loaded = (begun s).loaded; aloft = true }
-  pub bay : b' ≡ record b { hangar = None; mails = b'.mails; spare = b'.spare; lists = b'.lists }
+  pub bay : b' ≡ record b { hangar = None; mails = b'.mails; spare = b'.spare; lists = b'.lists; told = b'.told; spare_lists = b'.spare_lists }
   pub mails : b'.mails.value.items ≡ (begun s).mails
   pub none_stands : b'.spare.stations.items ≡ []
   pub stands : length (members_in_order (begun s)) ≤ vec_capacity b'.spare.stations

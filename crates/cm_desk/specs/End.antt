@@ -1,22 +1,22 @@
 -- The landing of a flight, in its parts: the boxes and what works in a cycle come home, and then those are stopped that failed.
-use Rattle.std.specs.Prelude.{◌≡◌, ℕ, ◌≤◌, Bool, true, false, List, [], length, vec_capacity}
+use Rattle.std.specs.Prelude.{◌≡◌, ℕ, ◌≤◌, true, false, List, [], length, vec_capacity}
 use Rattle.std.specs.List.{All, AllByRecursion}
 use Rattle.cm_document.specs.Valid.{IsValid}
 use Rattle.cm_model.specs.Cycle.{cycle, landed, after_cycle, failed_in}
 use Rattle.cm_model.specs.State.{State, Loaded}
 use Rattle.cm_model.specs.Steady.{IsSteady}
 use Rattle.cm_hardware.specs.Holding.{IsHardwareOf, IsMoved}
+use Rattle.cm_hardware.specs.Shown.{Shows}
 use Rattle.cm_hardware.specs.Wiring.{Wired}
 use Rattle.ctl_places.specs.Placed.{placed_of}
 use Rattle.ctl_slots.specs.Seats.{widest}
 use Rattle.ctl_slots.specs.Slots.{Slotted}
 use Rattle.rt_flight.specs.Flights.{FlightFacts, IsComputed}
 use Rattle.rt_flight.specs.Stations.{IsFitted}
-use Rattle.rt_flight.specs.declared.plant.Plant.{Plant}
+use Rattle.rt_flight.specs.declared.craft.Craft.{Craft}
 use Rattle.sound_laws.proofs.SerialLemmas.{IsNumbered}
 use Rattle.stop_plan.specs.Ending.{HasFlags, IsEndingOf, told_in, erred_in}
-use Rattle.stop_plan.specs.declared.ending.Ending.{Ending}
-use Rattle.cm_desk.specs.Bay.{IsAtHome}
+use Rattle.cm_desk.specs.Bay.{HasLines, IsAtHome}
 use Rattle.cm_desk.specs.Roster.{Listed, IsListedOf}
 use Rattle.cm_desk.specs.Works.{IsAsDescribed}
 use Rattle.cm_desk.specs.declared.bay.Bay.{Bay}
@@ -45,18 +45,23 @@ pub record HasSettled (s : State) (slots : List Loaded) (w : Wired) (looked : Li
   pub hardware : IsHardwareOf (after_cycle s (cycle s)) w
   pub listed : IsListedOf (after_cycle s (cycle s)) looked
 
--- So it can be settled, with these sets where something failed.
-pub record CanSettle (s : State) (slots : Slotted) (g : Plant) (width : ℕ) (looked : Listed) (sets : Ending) (failed : Bool) : Type 0 where
-  pub landed : HasLanded s slots.loaded g.hardware width looked
+-- So it can be settled, with the sets of what came home, where something failed.
+pub record CanSettle (s : State) (slots : Slotted) (k : Craft) (width : ℕ) (looked : Listed) : Type 0 where
+  pub landed : HasLanded s slots.loaded k.plant.hardware width looked
   pub down : slots.aloft ≡ false
-  pub placed : g.places ≡ placed_of s.description
-  pub quiet : failed ≡ false → (failed_in s ≡ []) × (erred_in (told_in s) ≡ [])
-  pub ending : failed ≡ true → IsEndingOf s sets
+  pub placed : k.plant.places ≡ placed_of s.description
+  pub quiet : k.has_failed ≡ false → (failed_in s ≡ []) × (erred_in (told_in s) ≡ [])
+  pub ending : k.has_failed ≡ true → IsEndingOf s k.ending
+
+-- Of what came home it changes the hardware at most, and where nothing failed nothing.
+pub record IsSettledIn (before after : Craft) : Type 0 where
+  pub craft : after ≡ record before { plant = record before.plant { hardware = after.plant.hardware } }
+  pub quiet : before.has_failed ≡ false → after ≡ before
 
 -- ---- All of it
 
 -- The flight comes home to these: the controllers of the state, whose boxes are away; who was looked up as active; and a bay with room for
--- the stations and for the boxes.
+-- the lists, for the stations and for the boxes.
 pub record CanComeHome (s : State) (slots : Slotted) (looked : Listed) (b : Bay) (berth_room : ℕ) (flight : FlightFacts) : Type 0 where
   pub lands : CanLand s flight
   pub valid : IsValid s.description
@@ -66,10 +71,11 @@ pub record CanComeHome (s : State) (slots : Slotted) (looked : Listed) (b : Bay)
   pub listed : IsListedOf s looked
   pub fresh : looked.fresh ≡ true
   pub wide : b.room ≡ widest
+  pub lines : HasLines s.description b.lists
   pub stands : length looked.order ≤ vec_capacity b.spare.stations
   pub berths : length looked.order ≤ berth_room
 
--- It came home: all is as after the cycle, and at home.
+-- It came home: all is as after the cycle, and at home; the lists, where they are told, are those of the hardware.
 pub record HasComeHome (s : State) (before after : Slotted) (looked : Listed) (b b' : Bay) (flight : FlightFacts) : Type 0 where
   pub settled : HasSettled s after.loaded b'.plant.value.hardware looked
   pub slots : after ≡ record before { loaded = after.loaded; aloft = false }
@@ -78,5 +84,7 @@ pub record HasComeHome (s : State) (before after : Slotted) (looked : Listed) (b
   pub flags : HasFlags (length s.description.controllers) b'.ending.value
   pub fitted : AllByRecursion (IsFitted b'.plant.value.places) b'.spare.stations.items
   pub no_mail : b'.mails.value.items ≡ []
-  pub lists : b'.lists ≡ b.lists
+  pub lines : HasLines s.description b'.lists
+  pub told : b'.told ≡ true → Shows b'.plant.value.hardware b'.lists
+  pub spare_lines : HasLines s.description b'.spare_lists
   pub room : b'.room ≡ b.room

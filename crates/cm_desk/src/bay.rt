@@ -1,12 +1,13 @@
 //! What a cycle works on, at home or aloft.
 
-ghost use Rattle.std.specs.Prelude.{◌≡◌, ◌<◌, ◌≤◌, [], None, length, IfOk};
+ghost use Rattle.std.specs.Prelude.{◌≡◌, ◌<◌, ◌≤◌, [], true, false, None, Some, length, vec_capacity, IfOk};
 ghost use Rattle.joint_body.specs.declared.TheConstants.{LONGEST_STEP};
 ghost use Rattle.cm_model.specs.Cycle.{period};
 ghost use Rattle.cm_model.specs.State.{State, component_lines, interface_lines};
 ghost use Rattle.cm_hardware.specs.Holding.{IsHardwareOf, MovesComponent};
+ghost use Rattle.cm_hardware.specs.Shown.{HasLinesFor, Shows};
 ghost use Rattle.stop_plan.specs.Ending.{HasFlags};
-ghost use Rattle.cm_desk.specs.Bay.{IsAtHome, IsAtStart, IsHome, IsListing, IsRewired, IsUsedUp, CanBeSupplied, HasMoored};
+ghost use Rattle.cm_desk.specs.Bay.{IsAtHome, IsAtStart, IsHome, IsListing, IsRewired, IsUsedUp, CanBeSupplied, CanCastOff, HasCastOff, HasMoored, HasUnloaded};
 ghost use Rattle.cm_desk.specs.Supplies.{AreSupplies};
 ghost use Rattle.cm_desk.specs.Works.{CanSwitch, HasSwitched, KeepsRest};
 
@@ -20,7 +21,7 @@ use ctl_slots::{MailAloft, Room, Slots};
 use ctl_trait::Controller;
 use hw_component::HwFault;
 use request_plan::Switched;
-use rt_flight::{Plant, Station};
+use rt_flight::{Craft, Plant, Station};
 use std::alloc::Global;
 use std::snapshot::Snapshot;
 use stop_plan::Ending;
@@ -30,7 +31,7 @@ use switch_plan::Relations;
 #[derive(Drop)]
 pub(crate) struct Bay {
     /// What works in a cycle; none while one is aloft.
-    pub(crate) hangar: Option<Hangar>,
+    pub(crate) hangar: Option<Box<Craft>>,
     /// The same as it stands here, or as it was when it left. It takes no byte: contracts alone read it.
     pub(crate) plant: Snapshot<Plant>,
     pub(crate) ending: Snapshot<Ending>,
@@ -40,17 +41,12 @@ pub(crate) struct Bay {
     pub(crate) spare: Spare,
     /// The lists that are told while a cycle is aloft.
     pub(crate) lists: Lists,
+    /// Whether they are those of the hardware as it is: a flight writes them down, and what is done to the hardware here makes them stale.
+    pub(crate) told: bool,
+    /// Room for the lists that the next flight writes down.
+    pub(crate) spare_lists: Lists,
     /// Room for what one controller reads when it comes to run.
     pub(crate) room: Room,
-}
-
-/// What works in a cycle besides the controllers.
-#[derive(Drop)]
-pub(crate) struct Hangar {
-    /// What the controllers work on.
-    pub(crate) plant: Plant,
-    /// Who stops at the end of the cycle, stays or restarts.
-    pub(crate) ending: Ending,
 }
 
 /// What cycles left over, for the next one.
@@ -91,6 +87,7 @@ impl Bay {
     {
         let hardware = ResourceManager::make(alloc, checked)?;
         let lists = hardware.room_for_lists(alloc)?;
+        let spare_lists = hardware.room_for_lists(alloc)?;
         let plant = Plant {
             hardware,
             places: CtlPlaces::of(alloc, checked)?,
@@ -98,14 +95,17 @@ impl Bay {
             period_us: period_us(checked),
         };
         let room = Room::make(alloc)?;
+        let craft = Box::new(alloc, idle(alloc, plant, ending))?;
         let spare = Spare::none(alloc);
         Ok(Bay {
-            plant: Snapshot::of(&plant),
-            ending: Snapshot::of(&ending),
+            plant: Snapshot::of(&craft.plant),
+            ending: Snapshot::of(&craft.ending),
             mails: Snapshot::of(&spare.mails),
-            hangar: Some(Hangar { plant, ending }),
+            hangar: Some(craft),
             spare,
             lists,
+            told: false,
+            spare_lists,
             room,
         })
     }
@@ -144,8 +144,7 @@ impl Bay {
     {
         let mut hangar = self.leave();
         let answer = hangar.plant.hardware.move_component(component, target);
-        self.plant = Snapshot::of(&hangar.plant);
-        self.hangar = Some(hangar);
+        self.rest(hangar);
         answer
     }
 
@@ -162,18 +161,18 @@ impl Bay {
         ensures rest { KeepsRest roster.old roster.new self.old.room self.new.room slots.old slots.new }
     {
         let mut hangar = self.leave();
+        let plant = &mut hangar.plant;
         commit(
             slots,
-            &mut hangar.plant.hardware,
-            &hangar.plant.places,
+            &mut plant.hardware,
+            &plant.places,
             &mut self.room,
             roster,
             &switched.chained,
             &switched.stopped,
             &switched.started,
         );
-        self.plant = Snapshot::of(&hangar.plant);
-        self.hangar = Some(hangar);
+        self.rest(hangar);
     }
 
     /// All that a cycle takes in which these controllers are active, of so many that are loaded. What is at home stays so; what others left
@@ -198,19 +197,62 @@ impl Bay {
         supplies_for(alloc, checked, &hangar.plant, order, loaded, spare)
     }
 
-    /// What worked in a cycle is at home again, and no mail is aloft.
-    pub(crate) fn moor(&mut self, plant: Plant, ending: Ending)
-        ensures { HasMoored self.old self.new plant ending }
+    /// What works in a cycle is here again, after something was done to its hardware. The lists are told anew before the next flight.
+    fn rest(&mut self, craft: Box<Craft>)
+        ensures bay { self.new ≡ record self.old {
+          hangar = Some craft;
+          plant = self.new.plant;
+          told = false;
+        } }
+        ensures plant { self.new.plant.value ≡ craft.value.plant }
     {
-        self.plant = Snapshot::of(&plant);
-        self.ending = Snapshot::of(&ending);
-        self.hangar = Some(Hangar { plant, ending });
+        self.plant = Snapshot::of(&craft.plant);
+        self.hangar = Some(craft);
+        self.told = false;
+    }
+
+    /// What works in a cycle leaves for one, with room for its lists; those that are told here meanwhile are the ones of now. It takes no memory.
+    pub(crate) fn cast_off(&mut self) -> Box<Craft>
+        requires { CanCastOff self.old }
+        ensures { HasCastOff self.old self.new result.value }
+    {
+        let mut craft = self.leave();
+        show_once(self.told, &craft.plant.hardware, &mut self.lists);
+        self.told = true;
+        std::mem::swap(&mut self.spare_lists, &mut craft.lists);
+        craft
+    }
+
+    /// What worked in a cycle is at home again, with the lists that it wrote down, and no mail is aloft. It takes no memory.
+    pub(crate) fn moor(&mut self, craft: Box<Craft>)
+        ensures { HasMoored self.old self.new craft.value }
+    {
+        let mut craft = craft;
+        self.unload(&mut craft);
+        self.plant = Snapshot::of(&craft.plant);
+        self.ending = Snapshot::of(&craft.ending);
+        self.hangar = Some(craft);
         self.spare.mails.clear();
         self.mails = Snapshot::of(&self.spare.mails);
     }
 
-    /// What works in a cycle leaves with it.
-    pub(crate) fn leave(&mut self) -> Hangar
+    /// What came home for the next cycle is taken from it: the lists, which are as the hardware is where nothing failed, and what the cycle
+    /// left over.
+    fn unload(&mut self, craft: &mut Craft)
+        ensures bay { HasUnloaded self.old self.new craft.old }
+        ensures plant { craft.new.plant ≡ craft.old.plant }
+        ensures ending { craft.new.ending ≡ craft.old.ending }
+    {
+        std::mem::swap(&mut self.lists, &mut craft.lists);
+        std::mem::swap(&mut self.spare_lists, &mut craft.lists);
+        std::mem::swap(&mut self.spare.order, &mut craft.order);
+        std::mem::swap(&mut self.spare.erred, &mut craft.erred);
+        self.spare.left_over = craft.left_over.take();
+        self.told = !craft.has_failed;
+    }
+
+    /// What works in a cycle leaves its place.
+    pub(crate) fn leave(&mut self) -> Box<Craft>
         requires { IsAtHome self.old }
         ensures left { IsHome self.old.plant.value self.old.ending.value result }
         ensures bay { self.new ≡ record self.old { hangar = None } }
@@ -219,6 +261,41 @@ impl Bay {
             Some(hangar) => hangar,
             None => unreachable!(),
         }
+    }
+}
+
+/// What works in a cycle, before the first one.
+fn idle(alloc: Global, plant: Plant, ending: Ending) -> Craft
+    ensures plant { result.plant ≡ plant }
+    ensures ending { result.ending ≡ ending }
+{
+    let lists = Lists {
+        components: Vec::new(alloc),
+        interfaces: Vec::new(alloc),
+    };
+    Craft {
+        plant,
+        ending,
+        lists,
+        order: Vec::new(alloc),
+        erred: Vec::new(alloc),
+        has_failed: false,
+        room: None,
+        record: None,
+        left_over: None,
+    }
+}
+
+/// The lists are those of this hardware: they are told, where they are not yet. It takes no memory.
+fn show_once(told: bool, hardware: &ResourceManager, lists: &mut Lists)
+    requires lines { HasLinesFor hardware.now lists.old }
+    requires told { told ≡ true → Shows hardware.now lists.old }
+    ensures shown { Shows hardware.now lists.new }
+    ensures room { (vec_capacity lists.new.components ≡ vec_capacity lists.old.components)
+        × (vec_capacity lists.new.interfaces ≡ vec_capacity lists.old.interfaces) }
+{
+    if !told {
+        hardware.show(lists);
     }
 }
 

@@ -248,7 +248,7 @@ fn make_places<C: Controller>(
 }
 
 /// The cycle of this number takes off: the mail of those that are due goes aloft, the boxes of those that run leave their slots, and come
-/// to their cells with what works in the cycle; the lists are written down. It takes no memory.
+/// to their cells with what works in the cycle. It takes no memory.
 fn take_off<C: Controller>(
     slots: &mut Slots<C>,
     run: &[u32],
@@ -286,15 +286,12 @@ fn take_off<C: Controller>(
         boxes,
         &mut cells,
     );
-    let hangar = bay.leave();
-    hangar.plant.hardware.show(&mut bay.lists);
     Flight::take_off(Payload {
         number,
         cells,
         order,
-        plant: hangar.plant,
-        ending: hangar.ending,
         erred,
         room,
+        craft: bay.cast_off(),
     })
 }

@@ -3,7 +3,7 @@
 ghost use Rattle.std.specs.Prelude.{◌≡◌, ◌+◌, ◌<◌, Some, vec_capacity};
 ghost use Rattle.cm_model.specs.Cycle.{cycle, after_cycle};
 ghost use Rattle.cm_model.specs.State.{State};
-ghost use Rattle.cm_desk.specs.End.{CanLand, CanComeHome, HasComeHome, CanSettle, HasSettled};
+ghost use Rattle.cm_desk.specs.End.{CanLand, CanComeHome, HasComeHome, CanSettle, HasSettled, IsSettledIn};
 ghost use Rattle.cm_desk.specs.Works.{KeepsRest};
 
 use crate::bay::Bay;
@@ -14,8 +14,7 @@ use crate::works::Works;
 use cm_model::CycleRecord;
 use ctl_slots::{Room, Slots};
 use ctl_trait::Controller;
-use rt_flight::{Cell, Flight, Landing, Plant};
-use stop_plan::Ending;
+use rt_flight::{Cell, Craft, Flight, Landing};
 
 impl<C: Controller> Works<C> {
     /// The flight of the cycle that is aloft comes home, and the cycle ends with what happened in it. It takes no memory.
@@ -54,60 +53,41 @@ fn bring_home<C: Controller>(
     ensures room { vec_capacity boxes.new ≡ vec_capacity boxes.old }
 {
     let Landing {
-        cells,
-        order,
-        plant,
-        ending,
-        has_failed,
-        erred,
+        mut cells,
+        mut craft,
         record,
-        left_over,
     } = flight.come_home();
-    let mut cells = cells;
-    let mut plant = plant;
     disembark(&mut cells, &mut bay.spare.stations, boxes);
     slots.park(roster.run(), boxes);
-    settle(
-        slots,
-        &mut plant,
-        &mut bay.room,
-        roster,
-        &ending,
-        has_failed,
-    );
+    settle(slots, &mut craft, &mut bay.room, roster);
     *places = cells;
-    bay.spare.order = order;
-    bay.spare.erred = erred;
-    bay.spare.left_over = left_over;
-    bay.moor(plant, ending);
+    bay.moor(craft);
     record
 }
 
 /// Where something failed, those stop that the sets say, and those restart whose chained mode changes. It takes no memory.
 fn settle<C: Controller>(
     slots: &mut Slots<C>,
-    plant: &mut Plant,
+    craft: &mut Craft,
     room: &mut Room,
     roster: &mut Roster,
-    ending: &Ending,
-    has_failed: bool,
 )
-    requires { (s : State) × CanSettle s slots.old plant.old room.old roster.old ending.now has_failed }
-    ensures settled { (s : State) → CanSettle s slots.old plant.old room.old roster.old ending.now has_failed
-        → HasSettled s slots.new.loaded plant.new.hardware roster.new }
-    ensures plant { plant.new ≡ record plant.old { hardware = plant.new.hardware } }
+    requires { (s : State) × CanSettle s slots.old craft.old room.old roster.old }
+    ensures settled { (s : State) → CanSettle s slots.old craft.old room.old roster.old
+        → HasSettled s slots.new.loaded craft.new.plant.hardware roster.new }
+    ensures craft { IsSettledIn craft.old craft.new }
     ensures rest { KeepsRest roster.old roster.new room.old room.new slots.old slots.new }
 {
-    if has_failed {
+    if craft.has_failed {
         commit(
             slots,
-            &mut plant.hardware,
-            &plant.places,
+            &mut craft.plant.hardware,
+            &craft.plant.places,
             room,
             roster,
-            &ending.chained,
-            &ending.stopped,
-            &ending.started,
+            &craft.ending.chained,
+            &craft.ending.stopped,
+            &craft.ending.started,
         );
     }
 }

@@ -1,6 +1,6 @@
 -- That a flight makes the cycle of the state from which it began.
 use Rattle.std.proofs.Common.{◌≡◌, ℕ, Bool, true, false, List, [], ◌∷◌, ◌++◌, length, map, Some, refl, sym, ap, ap₂, subst, ◌∙◌, arith}
-use Rattle.std.specs.Prelude.{◌==◌, ◌&&◌, if◌then◌else◌}
+use Rattle.std.specs.Prelude.{◌==◌, ◌&&◌, if◌then◌else◌, vec_capacity}
 use Rattle.std.specs.List.{AllByRecursion}
 use Rattle.std.proofs.lemmas.Bool.{and_from, eq-eqb}
 use Rattle.std.proofs.lemmas.List.{append-nil, length-map}
@@ -16,7 +16,9 @@ use Rattle.cm_model.specs.declared.member.Member.{Member}
 use Rattle.cm_model.specs.declared.record.FailedPart.{FailedPart}
 use Rattle.cm_model.specs.declared.record_room.RecordRoom.{RecordRoom}
 use Rattle.cm_hardware.specs.Holding.{IsHardwareOf, IsInCycle, IsMoved, FinishedCycle, values_read, values_updated, reads_failed_in, writes_failed_in}
-use Rattle.cm_hardware.specs.Wiring.{Wired}
+use Rattle.cm_hardware.specs.Shown.{HasLinesFor, Shows}
+use Rattle.cm_hardware.specs.Wiring.{Mounted, Wired, IsWired}
+use Rattle.cm_hardware.specs.declared.lists.Lists.{Lists}
 use Rattle.sound_laws.proofs.ActiveLemmas.{from_active_order}
 use Rattle.sound_laws.proofs.ParamsLemmas.{all_each}
 use Rattle.sound_laws.proofs.RunLemmas.{ordered_once}
@@ -31,7 +33,7 @@ use Rattle.ctl_slots.specs.Updates.{Aloft}
 use Rattle.ctl_places.specs.Placed.{Placed}
 use Rattle.rt_flight.specs.Stations.{flies, IsFitted}
 use Rattle.rt_flight.specs.Cells.{Seat, Flying, seat_gathered, step_of, with_step, flying_after, all_flown, seats_after, CanFly}
-use Rattle.rt_flight.specs.Flights.{FlightFacts, AreSeatsOf, IsAloftOver, IsAloft, IsComputed, AreSeatsAfter, member_in, HasMade, TellsNothing, IsEquipped, CanSettle}
+use Rattle.rt_flight.specs.Flights.{FlightFacts, AreSeatsOf, IsAloftOver, IsAloft, IsComputed, AreSeatsAfter, member_in, HasMade, TellsNothing, IsEquipped}
 use Rattle.rt_flight.specs.declared.plant.Plant.{Plant}
 use Rattle.rt_flight.specs.Calls.Cycles.{LeavesFlight, IsToldOf, Decides, IsQuiet}
 use Rattle.rt_flight.proofs.CellLemmas.{Stands, AreLeft, IsFound, found_once, all_stand, seats_are}
@@ -200,10 +202,10 @@ module _ (s : State) (f : FlightFacts) (order : List Member) (r made told : Reco
       by_end false e = ap (λ (x : RecordRoom). x.stops.items) (still e).same ∙ none_yet ∙ sym (quiet_stops s (quiet e).0 (quiet e).1)
       by_end true e = (decides e).stops s told_so ∙ ap (λ (ns : List ℕ). ns ++ stops s (told_in s)) none_yet
 
-  pub computed_is : (outcome : Happened)
+  pub computed_is : (lists : Lists) (outcome : Happened) → Shows g.hardware lists
       → outcome ≡ record { cycle = f.number; failed = told.failed.items; ran = told.ran.rans; bodies = told.bodies.items; stops = told.stops.items }
-      → IsComputed s (record { number = f.number; cells = cells; plant = g; ending = ending; has_failed = failed; outcome = Some outcome })
-  computed_is outcome is_told = record {
+      → IsComputed s (record { number = f.number; cells = cells; plant = g; ending = ending; lists = lists; has_failed = failed; outcome = Some outcome })
+  computed_is lists outcome shown is_told = record {
     number = is.over.number;
     outcome = ap Some (is_told
         ∙ ap (λ (n : ℕ). record { cycle = n; failed = told.failed.items; ran = told.ran.rans; bodies = told.bodies.items; stops = told.stops.items }) is.over.number
@@ -212,6 +214,7 @@ module _ (s : State) (f : FlightFacts) (order : List Member) (r made told : Reco
     cells = has.cells;
     fitted = subst (λ (p : Placed). AllByRecursion (λ c. IsFitted p c.station) cells) (sym (ap (λ (x : Plant). x.places) leaves.plant)) leaves.fitted;
     hardware = has.hardware;
+    shown = shown;
     placed = ap (λ (x : Plant). x.places) leaves.plant ∙ is.over.placed;
     related = related;
     timed = ap (λ (x : Plant). x.period_us) leaves.plant ∙ is.over.timed;
@@ -227,16 +230,41 @@ pub flags_after : (w : Related) (members : List Member) (serials : List ℕ) (ma
 flags_after w members serials made told before ending false flags quiet decides = subst (HasFlags (length w.leaders)) (sym (quiet refl).ending) flags
 flags_after w members serials made told before ending true flags quiet decides = (decides refl).flags
 
+-- where a cycle was made as many interfaces stand on the board
+pub board_moved : (s : State) (w : Wired) → IsMoved s w → length w.loans ≡ length (interfaces_of s.description)
+board_moved s w is =
+    ap length is.lent.loans ∙ length-map s.values _ ∙ sym (length-map s.values (λ (v : InterfaceValue). v.interface)) ∙ ap length is.lent.wired.interfaces
+
+-- as components there are, as are described
+pub components_of : (s : State) (ms : List Mounted) → IsWired s ms → length ms ≡ length s.description.components
+components_of s ms is = sym (length-map ms (λ m. m.hardware.description)) ∙ sym (ap length is.components)
+
+-- so there is room for the lists as there was before
+pub lines_after : (s : State) (number : ℕ) (cells cells' : List Seat) (g g' : Plant) (serials : List ℕ) (r : RecordRoom) (l : Lists) → IsAloftOver s number cells g
+    → HasMade s cells' g' serials r → HasLinesFor g.hardware l → HasLinesFor g'.hardware l
+lines_after s number cells cells' g g' serials r l over has lines =
+    let count : length g.hardware.components ≡ length s.description.components = components_of s g.hardware.components over.hardware.wired in
+    let count' : length g'.hardware.components ≡ length s.description.components = components_of (landed s (cycle s)) g'.hardware.components has.hardware.lent.wired in
+    let board : length g.hardware.loans ≡ length (interfaces_of s.description) = board_of s g.hardware over.hardware in
+    let board' : length g'.hardware.loans ≡ length (interfaces_of s.description) = board_moved (landed s (cycle s)) g'.hardware has.hardware in
+    record { components = omega (arith, count, count', lines.components); interfaces = omega (arith, board, board', lines.interfaces) }
+
+-- and in lists with as much room
+pub lines_in : (w : Wired) (l l' : Lists) → HasLinesFor w l
+    → (vec_capacity l'.components ≡ vec_capacity l.components) × (vec_capacity l'.interfaces ≡ vec_capacity l.interfaces) → HasLinesFor w l'
+lines_in w l l' lines same = record { components = omega (arith, same.0, lines.components); interfaces = omega (arith, same.1, lines.interfaces) }
+
 -- so all that a flight keeps is kept once the cycle is made
-pub equipped_after : (cells cells' : List Seat) (members : List Member) (g g' : Plant) (r made : RecordRoom) (before ending : Ending) (serials none : List ℕ) (capacity most later : ℕ)
-    → IsEquipped cells members g before serials capacity → LeavesFlight cells cells' g g' r made capacity most → HasFlags (length g'.relations.leaders) ending → none ≡ [] → later ≡ most
-    → IsEquipped cells' members g' ending none later
-equipped_after cells cells' members g g' r made before ending serials none capacity most later is leaves flags empty same =
+pub equipped_after : (cells cells' : List Seat) (members : List Member) (g g' : Plant) (r made : RecordRoom) (before ending : Ending) (l l' : Lists) (serials none : List ℕ) (capacity most later : ℕ)
+    → IsEquipped cells members g before l serials capacity → LeavesFlight cells cells' g g' r made capacity most → HasFlags (length g'.relations.leaders) ending → HasLinesFor g'.hardware l'
+    → none ≡ [] → later ≡ most → IsEquipped cells' members g' ending l' none later
+equipped_after cells cells' members g g' r made before ending l l' serials none capacity most later is leaves flags lines empty same =
     let count : length cells' ≡ length cells = sym (length-map cells' member_in) ∙ ap length leaves.order ∙ length-map cells member_in in
     record {
       order = is.order ∙ sym leaves.order;
       fitted = subst (λ (p : Placed). AllByRecursion (λ c. IsFitted p c.station) cells') (sym (ap (λ (x : Plant). x.places) leaves.plant)) leaves.fitted;
       flags = flags;
+      lines = lines;
       none_erred = empty;
       erred = omega (arith, is.erred, count, same, leaves.capacity);
     }

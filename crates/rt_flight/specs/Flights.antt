@@ -1,5 +1,5 @@
 -- A flight: one cycle that has left the desk. What it is of a state, and what it makes of it.
-use Rattle.std.specs.Prelude.{◌≡◌, ℕ, ◌<◌, ◌≤◌, ◌==◌, Bool, true, false, not, List, [], ◌∷◌, length, map, is_some, Option, None, Some, IfSome}
+use Rattle.std.specs.Prelude.{◌≡◌, ℕ, ◌<◌, ◌≤◌, ◌==◌, Bool, true, false, not, List, [], ◌∷◌, length, map, is_some, vec_capacity, Option, None, Some, IfSome}
 use Rattle.std.specs.List.{All, AllByRecursion, IsDistinct}
 use Rattle.joint_body.specs.declared.TheConstants.{LONGEST_STEP}
 use Rattle.cm_document.specs.Valid.{IsValid}
@@ -11,7 +11,9 @@ use Rattle.cm_model.specs.Steady.{IsSteady}
 use Rattle.cm_model.specs.declared.member.Member.{Member}
 use Rattle.cm_model.specs.declared.record_room.RecordRoom.{RecordRoom}
 use Rattle.cm_hardware.specs.Holding.{IsHardwareOf, IsMoved}
+use Rattle.cm_hardware.specs.Shown.{HasLinesFor, Shows}
 use Rattle.cm_hardware.specs.Wiring.{most_failures, all_joints}
+use Rattle.cm_hardware.specs.declared.lists.Lists.{Lists}
 use Rattle.ctl_places.specs.Placed.{placed_of}
 use Rattle.ctl_slots.specs.Mails.{mail_in}
 use Rattle.ctl_slots.specs.Slots.{data_under}
@@ -22,15 +24,18 @@ use Rattle.stop_plan.specs.declared.ending.Ending.{Ending}
 use Rattle.switch_plan.specs.Relations.{Related, relations_of}
 use Rattle.rt_flight.specs.Stations.{Standing, IsFitted}
 use Rattle.rt_flight.specs.Cells.{Seat, CanFly, CanTell}
+use Rattle.rt_flight.specs.declared.craft.Craft.{Craft}
 use Rattle.rt_flight.specs.declared.plant.Plant.{Plant}
 
 -- What is seen of a flight: the number of its cycle; its cells in the order of updates; the hardware, with what is worked out of the
--- description; the sets of the end, and whether something failed; and the record of the cycle, once it is computed.
+-- description; the sets of the end, and whether something failed; the lists of the hardware, which are written down as it is computed; and
+-- the record of the cycle, once it is.
 pub record FlightFacts : Type 0 where
   pub number : ℕ
   pub cells : List Seat
   pub plant : Plant
   pub ending : Ending
+  pub lists : Lists
   pub has_failed : Bool
   pub outcome : Option Happened
 
@@ -97,13 +102,14 @@ AreSeatsAfter loaded _ _ = ⊥
 
 -- The flight is computed: its record is that of the cycle of the state; the cells are those of the active controllers, in the order of
 -- updates, with the data after the cycle; and the hardware is that of the state when the cycle has landed, before it is settled who
--- stops. The sets say who does, where something failed.
+-- stops: the lists show it. The sets say who does, where something failed.
 pub record IsComputed (s : State) (f : FlightFacts) : Type 0 where
   pub number : f.number ≡ s.ended
   pub outcome : f.outcome ≡ Some (cycle s).happened
   pub cells : AreSeatsAfter (cycle s).loaded (configuration s).running f.cells
   pub fitted : AllByRecursion (λ c. IsFitted f.plant.places c.station) f.cells
   pub hardware : IsMoved (landed s (cycle s)) f.plant.hardware
+  pub shown : Shows f.plant.hardware f.lists
   pub placed : f.plant.places ≡ placed_of s.description
   pub related : f.plant.relations ≡ relations_of s.description
   pub timed : f.plant.period_us ≡ period s.description
@@ -120,12 +126,13 @@ StaysComputed begun f = (s : State) → IsAlike s begun → IsComputed s f
 abbrev pub member_in : Seat → Member
 member_in c = record { serial = c.station.serial; place = c.station.place }
 
--- Computed or not, it is known who flies; each station is fitted; the sets of the end have a flag for each described controller; and
--- there is room for the serial of each controller that flies, of which none stands there.
-pub record IsEquipped (cells : List Seat) (members : List Member) (g : Plant) (ending : Ending) (serials : List ℕ) (capacity : ℕ) : Type 0 where
+-- Computed or not, it is known who flies; each station is fitted; the sets of the end have a flag for each described controller; there is
+-- room for the lists of its hardware; and for the serial of each controller that flies, of which none stands there.
+pub record IsEquipped (cells : List Seat) (members : List Member) (g : Plant) (ending : Ending) (lists : Lists) (serials : List ℕ) (capacity : ℕ) : Type 0 where
   pub order : members ≡ map member_in cells
   pub fitted : AllByRecursion (λ c. IsFitted g.places c.station) cells
   pub flags : HasFlags (length g.relations.leaders) ending
+  pub lines : HasLinesFor g.hardware lists
   pub none_erred : serials ≡ []
   pub erred : length cells ≤ capacity
 
@@ -163,21 +170,33 @@ pub record IsReady (number : ℕ) (cells : List Seat) (members : List Member) (g
   pub settles : CanSettle g.relations members r
   pub empty : TellsNothing r
 
--- A flight has either a record to tell in or the record of its cycle.
-pub record IsFlight (number : ℕ) (cells : List Seat) (members : List Member) (g : Plant) (ending : Ending) (serials : List ℕ) (capacity : ℕ) (room : Option RecordRoom) (told : Option Happened)
-    : Type 0 where
-  pub equipped : IsEquipped cells members g ending serials capacity
-  pub one_of_two : is_some room ≡ not (is_some told)
-  pub ready : IfSome room (IsReady number cells members g)
+-- With this craft, a flight has either a record to tell in or the record of its cycle.
+pub record IsFlight (number : ℕ) (cells : List Seat) (k : Craft) : Type 0 where
+  pub equipped : IsEquipped cells k.order.items k.plant k.ending k.lists k.erred.items (vec_capacity k.erred)
+  pub one_of_two : is_some k.room ≡ not (is_some k.record)
+  pub ready : IfSome k.room (IsReady number cells k.order.items k.plant)
+
+-- what is seen of it
+abbrev pub facts_with : ℕ → List Seat → Craft → FlightFacts
+facts_with number cells k = record {
+  number = number;
+  cells = cells;
+  plant = k.plant;
+  ending = k.ending;
+  lists = k.lists;
+  has_failed = k.has_failed;
+  outcome = k.record;
+}
 
 -- What a flight brings home: all that it took along as it is then, the record of its cycle, and whether something failed.
-pub record ComesHome (f : FlightFacts) (seats : List Seat) (members : List Member) (g : Plant) (sets : Ending) (failed : Bool) (serials : List ℕ) (capacity : ℕ) (happened : Happened) : Type 0 where
+pub record ComesHome (f : FlightFacts) (seats : List Seat) (k : Craft) (happened : Happened) : Type 0 where
   pub cells : seats ≡ f.cells
-  pub plant : g ≡ f.plant
-  pub ending : sets ≡ f.ending
-  pub has_failed : failed ≡ f.has_failed
+  pub plant : k.plant ≡ f.plant
+  pub ending : k.ending ≡ f.ending
+  pub lists : k.lists ≡ f.lists
+  pub has_failed : k.has_failed ≡ f.has_failed
   pub told : Some happened ≡ f.outcome
-  pub equipped : IsEquipped seats members g sets serials capacity
+  pub equipped : IsEquipped seats k.order.items k.plant k.ending k.lists k.erred.items (vec_capacity k.erred)
 
 -- ---- In parts
 

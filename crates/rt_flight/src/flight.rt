@@ -6,11 +6,10 @@ ghost use Rattle.rt_flight.specs.Flights.{IsEquipped, IsReady, IsAloft, IsComput
 
 use crate::cell::Cell;
 use crate::compute::{make_cycle, settle};
-use crate::plant::Plant;
-use cm_model::{CycleParts, CycleRecord, Member, RecordRoom};
+use crate::craft::Craft;
+use cm_model::{CycleRecord, Member, RecordRoom};
 use ctl_trait::Controller;
 use std::marker::Model;
-use stop_plan::Ending;
 
 /// What a flight takes along: the number of its cycle, the cells of the running controllers in the order of updates, who they are, what
 /// they work on, and room to tell of it.
@@ -22,14 +21,12 @@ pub struct Payload<C: Controller> {
     pub cells: Vec<Cell<C>>,
     /// The same, by serial and place.
     pub order: Vec<Member>,
-    /// What they work on.
-    pub plant: Plant,
-    /// The sets of the end of a cycle.
-    pub ending: Ending,
     /// No serial yet, and room for those of the updates that fail.
     pub erred: Vec<u32>,
     /// Room to tell of the cycle.
     pub room: RecordRoom,
+    /// What works in the cycle. Of what it has to tell of an earlier one nothing is kept.
+    pub craft: Box<Craft>,
 }
 
 /// What a flight that is computed brings home.
@@ -37,20 +34,10 @@ pub struct Payload<C: Controller> {
 pub struct Landing<C: Controller> {
     /// The running controllers.
     pub cells: Vec<Cell<C>>,
-    /// The same, by serial and place.
-    pub order: Vec<Member>,
-    /// What they worked on.
-    pub plant: Plant,
-    /// Who stops, stays and restarts, where something failed.
-    pub ending: Ending,
-    /// Whether a component or an update failed.
-    pub has_failed: bool,
-    /// No serial, and the room for some.
-    pub erred: Vec<u32>,
+    /// What worked in the cycle, and who flew.
+    pub craft: Box<Craft>,
     /// The record of the cycle.
     pub record: CycleRecord,
-    /// The place of a record that the cycle left over, of which there was nothing to tell.
-    pub left_over: Option<Box<CycleParts>>,
 }
 
 /// One cycle that has left the desk. It owns all that it works on and borrows nothing, so it is computed wherever it is moved to. Who drops
@@ -59,48 +46,32 @@ pub struct Landing<C: Controller> {
 pub struct Flight<C: Controller> {
     number: u64,
     cells: Vec<Cell<C>>,
-    order: Vec<Member>,
-    plant: Plant,
-    ending: Ending,
-    has_failed: bool,
-    erred: Vec<u32>,
-    /// Room to tell of the cycle, until it is computed.
-    room: Option<RecordRoom>,
-    /// The record of the cycle, once it is.
-    record: Option<CycleRecord>,
-    left_over: Option<Box<CycleParts>>,
+    craft: Box<Craft>,
 }
 
 impl<C: Controller> Model for Flight<C> {
-    ghost use Rattle.std.specs.Prelude.{vec_capacity};
-    ghost use Rattle.rt_flight.specs.Flights.{FlightFacts, IsFlight};
+    ghost use Rattle.rt_flight.specs.Flights.{FlightFacts, IsFlight, facts_with};
 
     ghost Value = { FlightFacts };
 
-    ghost view = { λ f. record {
-      number = f.number;
-      cells = f.cells.items;
-      plant = f.plant;
-      ending = f.ending;
-      has_failed = f.has_failed;
-      outcome = f.record;
-    } };
+    ghost view = { λ f. facts_with f.number f.cells.items f.craft.value };
 
-    ghost invariant = { λ f. IsFlight f.number f.cells.items f.order.items f.plant f.ending f.erred.items
-        (vec_capacity f.erred) f.room f.record };
+    ghost invariant = { λ f. IsFlight f.number f.cells.items f.craft.value };
 }
 
 impl<C: Controller> Flight<C> {
     /// A flight with this payload. It takes no memory.
     pub fn take_off(payload: Payload<C>) -> Flight<C>
-        requires equipped { IsEquipped payload.cells.items payload.order.items payload.plant payload.ending
-            payload.erred.items (vec_capacity payload.erred) }
-        requires ready { IsReady payload.number payload.cells.items payload.order.items payload.plant payload.room }
+        requires equipped { IsEquipped payload.cells.items payload.order.items payload.craft.value.plant
+            payload.craft.value.ending payload.craft.value.lists payload.erred.items (vec_capacity payload.erred) }
+        requires ready { IsReady payload.number payload.cells.items payload.order.items payload.craft.value.plant
+            payload.room }
         ensures { result ≡ record {
           number = payload.number;
           cells = payload.cells.items;
-          plant = payload.plant;
-          ending = payload.ending;
+          plant = payload.craft.value.plant;
+          ending = payload.craft.value.ending;
+          lists = payload.craft.value.lists;
           has_failed = false;
           outcome = None;
         } }
@@ -109,22 +80,19 @@ impl<C: Controller> Flight<C> {
             number,
             cells,
             order,
-            plant,
-            ending,
             erred,
             room,
+            mut craft,
         } = payload;
+        craft.order = order;
+        craft.erred = erred;
+        craft.has_failed = false;
+        craft.room = Some(room);
+        craft.record = None;
         Flight {
             number,
             cells,
-            order,
-            plant,
-            ending,
-            has_failed: false,
-            erred,
-            room: Some(room),
-            record: None,
-            left_over: None,
+            craft,
         }
     }
 
@@ -139,7 +107,7 @@ impl<C: Controller> Flight<C> {
     pub fn computed(&self) -> bool
         ensures { result ≡ is_some self.now.outcome }
     {
-        self.record.is_some()
+        self.craft.record.is_some()
     }
 
     /// The cycle is made, of what the flight owns. It takes no memory.
@@ -149,26 +117,27 @@ impl<C: Controller> Flight<C> {
         ensures computed { is_some self.new.outcome ≡ true }
         ensures number { self.new.number ≡ self.old.number }
     {
-        let mut room = take_room(&mut self.room);
+        let craft = &mut *self.craft;
+        let mut room = take_room(&mut craft.room);
         make_cycle(
             self.cells.as_mut_slice(),
-            &mut self.plant,
+            &mut craft.plant,
             self.number,
-            &mut self.erred,
+            &mut craft.erred,
             &mut room,
         );
-        let has_failed = settle(
-            &mut self.ending,
-            &self.order,
-            &self.plant.relations,
-            &self.erred,
+        craft.has_failed = settle(
+            &mut craft.ending,
+            &craft.order,
+            &craft.plant.relations,
+            &craft.erred,
             &mut room,
         );
-        self.has_failed = has_failed;
-        self.erred.clear();
+        craft.erred.clear();
+        craft.plant.hardware.show(&mut craft.lists);
         let (record, left_over) = room.land(self.number);
-        self.record = Some(record);
-        self.left_over = left_over;
+        craft.record = Some(record);
+        craft.left_over = left_over;
     }
 
     /// What happened in the cycle.
@@ -176,7 +145,7 @@ impl<C: Controller> Flight<C> {
         requires { is_some self.now.outcome ≡ true }
         ensures { self.now.outcome ≡ Some result.now }
     {
-        match &self.record {
+        match &self.craft.record {
             Some(record) => record,
             None => unreachable!(),
         }
@@ -185,32 +154,20 @@ impl<C: Controller> Flight<C> {
     /// It comes home, with all that it took along and the record of its cycle. It takes no memory.
     pub fn come_home(self) -> Landing<C>
         requires { is_some self.outcome ≡ true }
-        ensures { ComesHome self result.cells.items result.order.items result.plant result.ending result.has_failed
-            result.erred.items (vec_capacity result.erred) result.record }
+        ensures { ComesHome self result.cells.items result.craft.value result.record }
     {
         let Flight {
             cells,
-            order,
-            plant,
-            ending,
-            has_failed,
-            erred,
-            record,
-            left_over,
+            mut craft,
             ..
         } = self;
-        let Some(record) = record else {
+        let Some(record) = craft.record.take() else {
             unreachable!();
         };
         Landing {
             cells,
-            order,
-            plant,
-            ending,
-            has_failed,
-            erred,
+            craft,
             record,
-            left_over,
         }
     }
 }

@@ -2,6 +2,7 @@
 #![tactic(auto)]
 
 pub use cell::Cell;
+pub use craft::Craft;
 pub use flight::{Flight, Landing, Payload};
 pub use plant::Plant;
 pub use station::Station;
@@ -9,6 +10,7 @@ pub use station::Station;
 mod cell;
 mod cells;
 mod compute;
+mod craft;
 mod flight;
 pub mod laws;
 mod plant;

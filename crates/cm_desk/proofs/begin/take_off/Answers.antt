@@ -40,22 +40,20 @@ board-requires g c =
     let lent = lent_so s _ _ _ _ _ _ _ _ _ is c.send_off.new.self c.lend.new.self _ (c.send_off.ensures.slots s (sym is.number)) c.lend.ensures.lent in
     rw (c.as_slice.ensures, lent.loaded) (can_board s _ _ _ _ _ _ _ _ _ is _ lent.ctls c.lend.ensures.lent.running)
 
-pub leave-hangar-requires : goal.leave-hangar-requires
-leave-hangar-requires g c = c.requires.1.home
-
-pub show-requires : goal.show-requires
-show-requires g c =
-    let s = c.requires.0 in
+-- what works in the cycle is at home,
+pub cast_off-requires : goal.cast_off-requires
+cast_off-requires g c =
     let is = c.requires.1 in
-    rw (c.leave-hangar.ensures.left.plant, ap (λ (b : Bay). b.lists) c.leave-hangar.ensures.bay) (lines_for (begun s) _ _ is.hardware is.lines)
+    record { home = is.home; lines = lines_for (begun c.requires.0) _ _ is.hardware is.lines; told = is.told }
 
+-- and leaves as it was there
 pub take_off-requires-clause-equipped : goal.take_off-requires-clause-equipped
 take_off-requires-clause-equipped g c =
     let s = c.requires.0 in
     let is = c.requires.1 in
     let lent = lent_so s _ _ _ _ _ _ _ _ _ is c.send_off.new.self c.lend.new.self _ (c.send_off.ensures.slots s (sym is.number)) c.lend.ensures.lent in
     let cells = cells_so s _ _ _ _ _ _ _ _ _ is c.as_slice.result.now _ c.send_off.new.mails.items c.board.new.cells.items (c.as_slice.ensures ∙ lent.loaded) lent.ctls (c.send_off.ensures.mails s (sym is.number)) c.board.ensures.boarded in
-    rw (cells, c.leave-hangar.ensures.left.plant, c.leave-hangar.ensures.left.ending) (equipped s _ _ _ _ _ _ _ _ _ is)
+    rw (cells, c.cast_off.ensures.plant, c.cast_off.ensures.ending, c.cast_off.ensures.spare_lists) (equipped s _ _ _ _ _ _ _ _ _ is)
 
 pub take_off-requires-clause-ready : goal.take_off-requires-clause-ready
 take_off-requires-clause-ready g c =
@@ -63,7 +61,7 @@ take_off-requires-clause-ready g c =
     let is = c.requires.1 in
     let lent = lent_so s _ _ _ _ _ _ _ _ _ is c.send_off.new.self c.lend.new.self _ (c.send_off.ensures.slots s (sym is.number)) c.lend.ensures.lent in
     let cells = cells_so s _ _ _ _ _ _ _ _ _ is c.as_slice.result.now _ c.send_off.new.mails.items c.board.new.cells.items (c.as_slice.ensures ∙ lent.loaded) lent.ctls (c.send_off.ensures.mails s (sym is.number)) c.board.ensures.boarded in
-    rw (cells, c.leave-hangar.ensures.left.plant) (ready s _ _ _ _ _ _ _ _ _ is (rw (lent.ctls) at c.lend.ensures.lent.running))
+    rw (cells, c.cast_off.ensures.plant) (ready s _ _ _ _ _ _ _ _ _ is (rw (lent.ctls) at c.lend.ensures.lent.running))
 
 pub returns-clause-off : goal.returns-clause-off
 returns-clause-off g c = λ s is.
@@ -71,13 +69,13 @@ returns-clause-off g c = λ s is.
     let cells = cells_so s _ _ _ _ _ _ _ _ _ is c.as_slice.result.now _ c.send_off.new.mails.items c.board.new.cells.items (c.as_slice.ensures ∙ lent.loaded) lent.ctls (c.send_off.ensures.mails s (sym is.number)) c.board.ensures.boarded in
     record {
       slots = lent.whole;
-      bay = rw (c.leave-hangar.ensures.bay) refl;
-      mails = ap (λ (b : Bay). b.mails.value.items) c.leave-hangar.ensures.bay ∙ rw (c.of.ensures) (mails_so s _ _ _ _ _ _ _ _ _ is c.send_off.new.mails.items (c.send_off.ensures.mails s (sym is.number)));
-      none_stands = ap (λ (b : Bay). b.spare.stations.items) c.leave-hangar.ensures.bay ∙ c.board.ensures.stations.empty;
-      stands = omega (arith, ap (λ (b : Bay). vec_capacity b.spare.stations) c.leave-hangar.ensures.bay, c.board.ensures.stations.room, stands_room s _ _ _ _ _ _ _ _ _ is, c.args.supplies.stations.ok.0);
-      lines = lines_stay s c.leave-hangar.new.self.lists c.show.new.lists (rw (ap (λ (b : Bay). b.lists) c.leave-hangar.ensures.bay) is.lines) c.show.ensures.room;
-      shown = rw (← c.leave-hangar.ensures.left.plant) c.show.ensures.shown;
-      flight = rw (c.take_off.ensures) (record { over = rw (cells, c.leave-hangar.ensures.left.plant) (aloft_over s _ _ _ _ _ _ _ _ _ is); not_yet = refl });
+      bay = rw (c.cast_off.ensures.bay) refl;
+      mails = ap (λ (b : Bay). b.mails.value.items) c.cast_off.ensures.bay ∙ rw (c.of.ensures) (mails_so s _ _ _ _ _ _ _ _ _ is c.send_off.new.mails.items (c.send_off.ensures.mails s (sym is.number)));
+      none_stands = ap (λ (b : Bay). b.spare.stations.items) c.cast_off.ensures.bay ∙ c.board.ensures.stations.empty;
+      stands = omega (arith, ap (λ (b : Bay). vec_capacity b.spare.stations) c.cast_off.ensures.bay, c.board.ensures.stations.room, stands_room s _ _ _ _ _ _ _ _ _ is, c.args.supplies.stations.ok.0);
+      lines = lines_stay s _ c.cast_off.new.self.lists is.lines (c.cast_off.ensures.components, c.cast_off.ensures.interfaces);
+      shown = c.cast_off.ensures.shown;
+      flight = rw (c.take_off.ensures) (record { over = rw (cells, c.cast_off.ensures.plant) (aloft_over s _ _ _ _ _ _ _ _ _ is); not_yet = refl });
     }
 
 pub returns-clause-room : goal.returns-clause-room

@@ -1,4 +1,4 @@
-use Rattle.std.proofs.Common.{◌≡◌, ℕ, ◌+◌, List, [], ◌∷◌, ◌++◌, length, get_or, map, drop, Some, refl, sym, ap, ap₂, subst, ◌∙◌, arith}
+use Rattle.std.proofs.Common.{◌≡◌, ◌+◌, List, [], ◌∷◌, ◌++◌, length, get_or, map, drop, Some, sym, ap, ap₂, subst, ◌∙◌, arith}
 use Rattle.std.specs.Prelude.{reverse, slice_get}
 use Rattle.std.specs.List.{AllByRecursion}
 use Rattle.std.proofs.lemmas.List.{length-append}
@@ -7,9 +7,7 @@ use Rattle.cm_document.specs.declared.life.Life.TheVariants.{Active}
 use Rattle.cm_model.specs.State.{MailAloft}
 use Rattle.cm_model.specs.declared.data.CtlData.{CtlData}
 use Rattle.ctl_slots.specs.Lives.{IsKept}
-use Rattle.ctl_slots.specs.Mails.{without_mail}
 use Rattle.rt_flight.specs.Cells.{Seat}
-use Rattle.rt_flight.specs.Stations.{Standing}
 use Rattle.cm_desk.specs.Boarding.{boarded}
 use Rattle.cm_desk.proofs.BoardingLemmas.{popped, board_next}
 use Rattle.cm_desk.proofs.boarding.board.Goals as goal

@@ -1,5 +1,3 @@
-use Rattle.std.proofs.Common.{◌≡◌, refl, ap}
-use Rattle.ctl_slots.specs.Slots.{Slotted}
 use Rattle.cm_desk.proofs.CommitLemmas.{can_seated, can_hold, can_show, can_claim, can_export, still_place, has_committed}
 use Rattle.cm_desk.proofs.commits.commit.Goals as goal
 

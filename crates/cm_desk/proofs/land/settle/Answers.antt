@@ -1,4 +1,3 @@
-use Rattle.std.proofs.Common.{◌≡◌}
 use Rattle.cm_model.specs.Cycle.{cycle, landed, stays_active}
 use Rattle.stop_plan.specs.Ending.{nobody_again, told_in}
 use Rattle.cm_desk.proofs.EndLemmas.{can_settle, settled_by, settled_without}
@@ -12,15 +11,15 @@ pub commit-requires-clause-can : goal.commit-requires-clause-can
 commit-requires-clause-can g c =
     let s = c.requires.0 in
     let is = c.requires.1 in
-    (landed s (cycle s), stays_active s (told_in s), nobody_again, can_settle s _ _ _ _ _ _ is.landed is.placed (is.ending c.if-has_failed.true))
+    (landed s (cycle s), stays_active s (told_in s), nobody_again, can_settle s _ _ _ _ _ _ is.landed is.placed (is.ending c.if-craft.true))
 
-pub returns-then-has_failed-clause-settled : goal.returns-then-has_failed-clause-settled
-returns-then-has_failed-clause-settled g c = λ s is.
+pub returns-then-craft-clause-settled : goal.returns-then-craft-clause-settled
+returns-then-craft-clause-settled g c = λ s is.
     settled_by s _ _ _ (c.commit.ensures.committed (landed s (cycle s)) (stays_active s (told_in s)) nobody_again
-    (can_settle s _ _ _ _ _ _ is.landed is.placed (is.ending c.if-has_failed.true)))
+    (can_settle s _ _ _ _ _ _ is.landed is.placed (is.ending c.if-craft.true)))
 
 -- where nothing failed nobody stops
-pub returns-else-has_failed-clause-settled : goal.returns-else-has_failed-clause-settled
-returns-else-has_failed-clause-settled g c = λ s is.
-    let none = is.quiet c.if-has_failed.false in
+pub returns-else-craft-clause-settled : goal.returns-else-craft-clause-settled
+returns-else-craft-clause-settled g c = λ s is.
+    let none = is.quiet c.if-craft.false in
     settled_without s _ _ _ _ is.landed none.0 none.1

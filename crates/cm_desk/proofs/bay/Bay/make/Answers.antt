@@ -1,11 +1,15 @@
 use Rattle.std.proofs.Common.{refl, sym, ap, ◌∙◌}
+use Rattle.rt_flight.specs.declared.craft.Craft.{Craft}
 use Rattle.rt_flight.specs.declared.plant.Plant.{Plant}
 use Rattle.cm_desk.proofs.BootLemmas.{lines_at_start}
 use Rattle.cm_desk.proofs.bay.Bay.make.Goals as goal
 
 pub returns : goal.returns
 returns c =
-    let plant = c.of-3.ensures in record {
+    let craft = ap (λ (k : Craft). k.plant) (c.deref.ensures ∙ c.in_ok-craft.ensures.ok) ∙ c.idle.ensures.plant in
+    let plant = c.of-3.ensures ∙ craft in
+    let sets = ap (λ (k : Craft). k.ending) (c.deref-2.ensures ∙ c.in_ok-craft.ensures.ok) ∙ c.idle.ensures.ending in
+    let ending = c.of-4.ensures ∙ sets in record {
       hardware = λ blanks sessions. rw (ap (λ (h : Plant). h.hardware) plant, c.hardware.view_is) (c.in_ok-hardware.ensures blanks sessions);
       placed = ap (λ (h : Plant). h.places) plant ∙ c.in_ok-of.ensures;
       related = ap (λ (h : Plant). h.relations) plant ∙ c.in_ok-of-2.ensures;
@@ -13,12 +17,14 @@ returns c =
       no_mail = rw (c.of-5.ensures) c.none-spare.ensures.mails;
       based = λ berths. record {
         wide = c.in_ok-room.ensures;
-        flags = rw (c.of-4.ensures) c.requires;
-        home = record { plant = sym plant; ending = sym c.of-4.ensures };
+        flags = rw ending c.requires;
+        home = record { plant = ap (λ (k : Craft). k.plant) c.in_ok-craft.ensures.ok ∙ c.idle.ensures.plant ∙ sym plant; ending = ap (λ (k : Craft). k.ending) c.in_ok-craft.ensures.ok ∙ c.idle.ensures.ending ∙ sym ending };
         home_is = refl;
         fitted = rw (c.none-spare.ensures.stations) tt;
         lines = lines_at_start c.args.checked.now _ c.in_ok-lists.lists c.in_ok-hardware.ensures c.in_ok-lists.ensures;
         shown = λ none. cc;
+        told = λ yes. cc;
+        spare_lines = λ down. lines_at_start c.args.checked.now _ c.in_ok-spare_lists.spare_lists c.in_ok-hardware.ensures c.in_ok-spare_lists.ensures;
         stands = λ aloft. cc;
         berths = λ aloft. cc;
       };

@@ -1,21 +1,16 @@
-use Rattle.std.proofs.Common.{◌≡◌, ◌≤◌, length, map, refl, sym, ap, subst, ◌∙◌, arith, vec_capacity}
+use Rattle.std.proofs.Common.{length, map, refl, sym, ap, subst, ◌∙◌, arith, vec_capacity}
 use Rattle.std.proofs.lemmas.Bool.{and_parts}
-use Rattle.cm_model.specs.Boundary.{boundary}
 use Rattle.cm_model.specs.Cycle.{begun}
 use Rattle.cm_model.specs.State.{State}
-use Rattle.cm_model.specs.declared.member.Member.{Member}
 use Rattle.cm_model.specs.declared.reply.Reply.TheVariants as reply
-use Rattle.ctl_slots.specs.Slots.{Slotted}
-use Rattle.rt_flight.specs.Flights.{IsAloft}
 use Rattle.cm_desk.specs.Bay.{base_of}
-use Rattle.cm_desk.specs.Begin.{none_waits, CanTakeOff, HasTakenOff}
+use Rattle.cm_desk.specs.Begin.{none_waits}
 use Rattle.cm_desk.specs.Works.{IsKept, state_with}
 use Rattle.cm_desk.specs.declared.bay.Bay.{Bay}
 use Rattle.cm_desk.proofs.AfterLemmas.{at_home, kept_idle, used_view, used_idle}
-use Rattle.cm_desk.proofs.BeginLemmas.{begins_down, nothing_waits, quiet_boundary, quiet_decisions, has_decided, view_flown, HasDecided}
+use Rattle.cm_desk.proofs.BeginLemmas.{begins_down, nothing_waits, quiet_boundary, quiet_decisions, has_decided, view_flown}
 use Rattle.cm_desk.proofs.OrderLemmas.{order_within}
 use Rattle.cm_desk.proofs.TakeOffLemmas.{can_take_off, kept_off}
-use Rattle.cm_desk.proofs.works.Works.begin.Given.{Over}
 use Rattle.cm_desk.proofs.works.Works.begin.Goals as goal
 
 pub begin_anew-requires : goal.begin_anew-requires
@@ -46,7 +41,7 @@ invariant_of-self g c =
     let a = c.self.inside in
     let s = state_with a.checked a.blanks a.sessions a.loads a.slots a.requests (base_of a.bay (vec_capacity a.boxes)) a.ended a.closed in
     kept_idle s a.names.items (base_of a.bay (vec_capacity a.boxes)) (base_of a.bay (vec_capacity c.make_places.new.boxes)) a.roster c.self.invariant
-    (begins_down s (rw (← c.self.view_is) at c.requires.can)) refl refl refl refl refl c.self.invariant.based.fitted
+    (begins_down s (rw (← c.self.view_is) at c.requires.can)) refl refl refl refl refl refl refl c.self.invariant.based.fitted
 
 -- what others left over may be used up then
 pub invariant_of-self-in_err-supplies : goal.invariant_of-self-in_err-supplies

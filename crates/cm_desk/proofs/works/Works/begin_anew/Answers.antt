@@ -1,4 +1,4 @@
-use Rattle.std.proofs.Common.{◌≡◌, ◌≤◌, false, length, map, None, refl, sym, ap, subst, ◌∙◌, arith}
+use Rattle.std.proofs.Common.{◌≡◌, length, map, None, refl, sym, ap, subst, ◌∙◌, arith}
 use Rattle.std.specs.Prelude.{slice_index_or, vec_capacity}
 use Rattle.cm_model.specs.Boundary.{waiting, boundary}
 use Rattle.cm_model.specs.Cycle.{begun}
@@ -6,18 +6,15 @@ use Rattle.cm_model.specs.State.{State}
 use Rattle.cm_model.specs.Steady.{IsSteady}
 use Rattle.cm_model.specs.declared.reply.Reply.TheVariants as reply
 use Rattle.ctl_places.specs.Placed.{placed_of}
-use Rattle.ctl_slots.specs.Slots.{Slotted}
 use Rattle.request_plan.specs.Plans.{IsPlanOf, AreConclusionsOf}
-use Rattle.rt_flight.specs.Flights.{IsAloft}
 use Rattle.stop_plan.specs.Ending.{members_in_order}
 use Rattle.cm_desk.specs.Bay.{base_of}
-use Rattle.cm_desk.specs.Begin.{CanTakeOff, HasTakenOff}
 use Rattle.cm_desk.specs.Roster.{IsListedOf}
 use Rattle.cm_desk.specs.Supplies.{AreSupplies}
 use Rattle.cm_desk.specs.Works.{IsKept, state_with}
 use Rattle.cm_desk.specs.declared.bay.Bay.{Bay}
 use Rattle.cm_desk.proofs.AfterLemmas.{at_home, kept_idle, used_view, used_idle}
-use Rattle.cm_desk.proofs.BeginLemmas.{begins_down, planned_order, has_decided, order_decided, view_flown, HasDecided}
+use Rattle.cm_desk.proofs.BeginLemmas.{begins_down, planned_order, has_decided, order_decided, view_flown}
 use Rattle.cm_desk.proofs.OrderLemmas.{order_loaded}
 use Rattle.cm_desk.proofs.TakeOffLemmas.{can_take_off, kept_off}
 use Rattle.cm_desk.proofs.works.Works.begin_anew.Goals as goal
@@ -55,14 +52,14 @@ invariant_of-self g c =
     let a = c.self.inside in
     let s = state_with a.checked a.blanks a.sessions a.loads a.slots a.requests (base_of a.bay (vec_capacity a.boxes)) a.ended a.closed in
     kept_idle s a.names.items (base_of a.bay (vec_capacity a.boxes)) (base_of a.bay (vec_capacity c.make_places.new.boxes)) a.roster c.self.invariant
-    (begins_down s (rw (← c.self.view_is) at c.requires.can)) refl refl refl refl refl c.self.invariant.based.fitted
+    (begins_down s (rw (← c.self.view_is) at c.requires.can)) refl refl refl refl refl refl refl c.self.invariant.based.fitted
 
 pub invariant_of-self-in_err-run : goal.invariant_of-self-in_err-run
 invariant_of-self-in_err-run g c =
     let a = c.self.inside in
     let s = state_with a.checked a.blanks a.sessions a.loads a.slots a.requests (base_of a.bay (vec_capacity a.boxes)) a.ended a.closed in
     kept_idle s a.names.items (base_of a.bay (vec_capacity a.boxes)) (base_of a.bay (vec_capacity c.make_places.new.boxes)) a.roster c.self.invariant
-    (begins_down s (rw (← c.self.view_is) at c.requires.can)) refl refl refl refl refl c.self.invariant.based.fitted
+    (begins_down s (rw (← c.self.view_is) at c.requires.can)) refl refl refl refl refl refl refl c.self.invariant.based.fitted
 
 pub invariant_of-self-in_err-supplies : goal.invariant_of-self-in_err-supplies
 invariant_of-self-in_err-supplies g c =

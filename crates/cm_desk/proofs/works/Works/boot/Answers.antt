@@ -1,4 +1,4 @@
-use Rattle.std.proofs.Common.{◌≡◌, [], map, false, refl, sym, subst, vec_capacity, ap, ◌∙◌}
+use Rattle.std.proofs.Common.{map, sym, subst, vec_capacity, ap, ◌∙◌}
 use Rattle.cm_model.specs.State.{State}
 use Rattle.cm_document.specs.declared.description.Description.{Description}
 use Rattle.cm_desk.specs.Bay.{base_of}

@@ -1,4 +1,3 @@
-use Rattle.std.proofs.Common.{◌≡◌}
 use Rattle.cm_desk.proofs.BeginLemmas.{down_where_closed}
 use Rattle.cm_desk.proofs.works.Works.into_boxes.Goals as goal
 

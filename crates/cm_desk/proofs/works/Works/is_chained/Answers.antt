@@ -1,5 +1,6 @@
 use Rattle.std.proofs.Common.{ap, sym, ◌∙◌}
 use Rattle.std.proofs.lemmas.Option.{slice_get_within}
+use Rattle.rt_flight.specs.declared.craft.Craft.{Craft}
 use Rattle.rt_flight.specs.declared.plant.Plant.{Plant}
 use Rattle.switch_plan.specs.Relations.{Related}
 use Rattle.cm_desk.proofs.ActingLemmas.{chained_at}
@@ -10,6 +11,7 @@ pub is_led_by-requires-clause-leaders : goal.is_led_by-requires-clause-leaders
 is_led_by-requires-clause-leaders g c =
     rw (← c.self.view_is)
     (c.leaders.ensures
+    ∙ ap (λ (k : Craft). k.plant.relations.leaders) c.deref.ensures
     ∙ ap (λ (w : Related). w.leaders)
     (rw (ap (λ (h : Plant). h.relations) (sym (rw (c.in-Some.is) at c.self.invariant.based.home).plant)) at c.self.invariant.worked_out.related))
 

@@ -1,4 +1,4 @@
-use Rattle.std.proofs.Common.{◌≡◌, refl, sym, ap, subst, ◌∙◌, vec_capacity}
+use Rattle.std.proofs.Common.{refl, sym, ap, subst, ◌∙◌, vec_capacity}
 use Rattle.std.proofs.lemmas.Option.{same_Some}
 use Rattle.cm_model.specs.Cycle.{cycle}
 use Rattle.cm_model.specs.State.{State}

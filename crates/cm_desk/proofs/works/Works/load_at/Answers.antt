@@ -1,5 +1,4 @@
-use Rattle.std.proofs.Common.{◌≡◌, ◌<◌, Some, None, false, refl, vec_capacity}
-use Rattle.std.specs.Prelude.{slice_get}
+use Rattle.std.proofs.Common.{◌≡◌, ◌<◌, None, false, refl, vec_capacity}
 use Rattle.cm_document.specs.Params.{kind_of}
 use Rattle.cm_model.specs.State.{Loaded, blanks_of, with_one_less, is_active}
 use Rattle.cm_desk.specs.Bay.{base_of}

@@ -1,4 +1,5 @@
-use Rattle.std.proofs.Common.{refl, sym, ap, vec_capacity}
+use Rattle.std.proofs.Common.{refl, sym, ap, ◌∙◌, vec_capacity}
+use Rattle.rt_flight.specs.declared.craft.Craft.{Craft}
 use Rattle.rt_flight.specs.declared.plant.Plant.{Plant}
 use Rattle.cm_desk.specs.Bay.{base_of}
 use Rattle.cm_desk.specs.Works.{state_with}
@@ -6,7 +7,9 @@ use Rattle.cm_desk.proofs.ActingLemmas.{stands_so, seen_so}
 use Rattle.cm_desk.proofs.works.Works.plan.Goals as goal
 
 pub plan-requires-clause-relations : goal.plan-requires-clause-relations
-plan-requires-clause-relations g c = rw (ap (λ (h : Plant). h.relations) (sym (rw (c.in-Some.is) at c.self.invariant.based.home).plant)) at c.self.invariant.worked_out.related
+plan-requires-clause-relations g c =
+    ap (λ (k : Craft). k.plant.relations) c.deref.ensures
+    ∙ (rw (ap (λ (h : Plant). h.relations) (sym (rw (c.in-Some.is) at c.self.invariant.based.home).plant)) at c.self.invariant.worked_out.related)
 
 pub plan-requires-clause-stand : goal.plan-requires-clause-stand
 plan-requires-clause-stand g c =

@@ -3,7 +3,7 @@ use Rattle.std.specs.Prelude.{slice_get}
 use Rattle.std.proofs.lemmas.List.{map-append, take_more}
 use Rattle.std.proofs.lemmas.Option.{get_or_from_slice_get}
 use Rattle.cm_model.specs.Commit.{seen}
-use Rattle.cm_model.specs.State.{State, Loaded}
+use Rattle.cm_model.specs.State.{State}
 use Rattle.cm_desk.proofs.WorksLemmas.{get_there}
 use Rattle.cm_desk.proofs.works.Works.seen_all.Goals as goal
 

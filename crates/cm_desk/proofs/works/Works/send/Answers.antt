@@ -1,7 +1,6 @@
 use Rattle.std.proofs.Common.{◌≡◌, ◌<◌, Some, refl, subst, vec_capacity}
 use Rattle.std.specs.Prelude.{length, slice_get, slice_set}
 use Rattle.cm_model.specs.Console.{send_refusals, after_send, reply_on}
-use Rattle.cm_model.specs.State.{State, Loaded}
 use Rattle.cm_model.specs.declared.reply.Reply.TheVariants as reply
 use Rattle.cm_desk.specs.Bay.{base_of}
 use Rattle.cm_desk.specs.Works.{state_with, IsAsDescribed}

@@ -1,4 +1,4 @@
-use Rattle.std.proofs.Common.{◌≡◌, refl, sym, subst, ◌∙◌, vec_capacity}
+use Rattle.std.proofs.Common.{refl, sym, subst, ◌∙◌, vec_capacity}
 use Rattle.cm_model.specs.Order.{set_of}
 use Rattle.cm_model.specs.State.{State}
 use Rattle.cm_desk.specs.Bay.{base_of}

@@ -1,4 +1,4 @@
-use Rattle.std.proofs.Common.{◌≡◌, ap, sym, ◌∙◌, subst}
+use Rattle.std.proofs.Common.{ap, sym, ◌∙◌, subst}
 use Rattle.summary_text.specs.Counted.{Counted, with_decisions}
 use Rattle.summary_text.specs.Few.{AreFew}
 use Rattle.summary_text.proofs.CountLemmas.{one_more, few_decisions, entries_decisions}

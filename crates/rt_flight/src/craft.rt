@@ -1,0 +1,30 @@
+//! What flies besides the controllers.
+
+use crate::plant::Plant;
+use cm_hardware::Lists;
+use cm_model::{CycleParts, CycleRecord, Member, RecordRoom};
+use stop_plan::Ending;
+
+/// What works in a cycle besides the controllers, and room to tell of it. It stands behind one pointer, which alone moves as a cycle leaves
+/// and comes home.
+#[derive(Drop)]
+pub struct Craft {
+    /// What the controllers work on.
+    pub plant: Plant,
+    /// The sets of the end of a cycle: who stops, stays and restarts, where something failed.
+    pub ending: Ending,
+    /// Room for the lists of the hardware, which are written down as the cycle is computed.
+    pub lists: Lists,
+    /// The running controllers by serial and place, in the order of updates; at home room for them.
+    pub order: Vec<Member>,
+    /// No serial, and room for those of the updates that fail.
+    pub erred: Vec<u32>,
+    /// Whether a component or an update failed.
+    pub has_failed: bool,
+    /// Room to tell of the cycle, until it is computed.
+    pub room: Option<RecordRoom>,
+    /// The record of the cycle, once it is.
+    pub record: Option<CycleRecord>,
+    /// The place of a record that the cycle left over, of which there was nothing to tell.
+    pub left_over: Option<Box<CycleParts>>,
+}
