@@ -10,5 +10,6 @@ pub mod SeatLemmas
 pub mod FitLemmas
 pub mod EachLemmas
 pub mod SlotsLemmas
+pub mod WaitLemmas
 pub mod LentLemmas
 pub mod ParkLemmas

@@ -1,9 +1,21 @@
--- The mail that is aloft with a cycle.
-use Rattle.std.specs.Prelude.{ℕ, Bool, false, ◌&&◌, ◌==◌, if◌then◌else◌, List, [], ◌∷◌, ◌++◌, option_to_list, find, Option, None, option_map}
+-- The mail that waits for controllers, and that is aloft with a cycle.
+use Rattle.std.specs.Prelude.{◌≡◌, ℕ, Bool, false, ◌&&◌, ◌==◌, if◌then◌else◌, List, [], ◌∷◌, ◌++◌, option_to_list, find, Option, None, option_map, is_some}
 use Rattle.std.specs.Option.{option_map_or}
 use Rattle.cm_document.specs.declared.call.Mail.{Mail}
 use Rattle.cm_model.specs.Order.{is_due}
 use Rattle.cm_model.specs.State.{Loaded, MailAloft, is_active}
+
+-- ---- Mail that waits
+
+-- mail waits for it
+abbrev pub has_mail : Loaded → Bool
+has_mail l = is_some l.mail
+
+-- Where it is told that no mail waits, none waits for it.
+abbrev pub WaitsAsTold : Bool → Loaded → Type 0
+WaitsAsTold mail_waits l = mail_waits ≡ false → l.mail ≡ None
+
+-- ---- Mail that is aloft
 
 -- the first for the controller of this serial, where there is some
 abbrev pub mail_in : List MailAloft → ℕ → Option Mail

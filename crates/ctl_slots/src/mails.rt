@@ -1,9 +1,9 @@
 //! Mail that goes aloft with a cycle.
 
 ghost use Rattle.std.specs.Prelude.{◌≡◌, ◌<◌, ◌≤◌, ◌+◌, ◌==◌, length, map, position, IfSome, vec_len, vec_capacity};
-ghost use Rattle.std.specs.List.{AllByRecursion};
+ghost use Rattle.std.specs.List.{AllByRecursion, list_any};
 ghost use Rattle.ctl_slots.specs.Calls.Mails.{HasSent};
-ghost use Rattle.ctl_slots.specs.Mails.{mail_in, without_mail, is_due_in, goes_aloft, without_sent, with_all_sent};
+ghost use Rattle.ctl_slots.specs.Mails.{has_mail, mail_in, without_mail, is_due_in, goes_aloft, without_sent, with_all_sent};
 ghost use Rattle.ctl_slots.specs.Updates.{HasTime};
 
 use crate::slot::Slot;
@@ -75,6 +75,13 @@ fn is_due<C: Controller>(slot: &Slot<C>, cycle: u64) -> bool
         Some(divisor) => due(cycle, divisor),
         None => false,
     }
+}
+
+/// Whether mail waits for any of these.
+pub(crate) fn some_mail_waits<C: Controller>(slots: &[Slot<C>]) -> bool
+    ensures { result ≡ list_any has_mail slots.now }
+{
+    slots.iter().any(|slot| slot.has_mail())
 }
 
 /// The mail that is aloft for the controller of this serial, which it is handed now.

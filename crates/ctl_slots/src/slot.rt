@@ -10,6 +10,7 @@ ghost use Rattle.cm_model.specs.Scene.{is_running, is_configured};
 ghost use Rattle.cm_model.specs.State.{is_active, life_of};
 ghost use Rattle.ctl_slots.specs.Commits.{come, CanCome};
 ghost use Rattle.ctl_slots.specs.Lives.{IsKept};
+ghost use Rattle.ctl_slots.specs.Mails.{has_mail};
 
 use cm_model::{CtlKind, Fx, Life, Mail, Params};
 use ctl_trait::{CfgFault, Controller};
@@ -306,6 +307,13 @@ impl<C: Controller> Slot<C> {
     {
         self.keep(&ctl, Life::Active);
         *berth = Some(ctl);
+    }
+
+    /// Whether mail waits for it.
+    pub(crate) fn has_mail(&self) -> bool
+        ensures { result ≡ has_mail self.now }
+    {
+        self.mail.is_some()
     }
 
     /// The mail that waits for it; then none waits.

@@ -19,7 +19,7 @@ ghost use Rattle.ctl_slots.specs.Updates.{HasTime};
 
 use crate::commits::commit_each;
 use crate::lent::{boxes_of, lend_each, park_each};
-use crate::mails::{MailAloft, send_each};
+use crate::mails::{MailAloft, send_each, some_mail_waits};
 use crate::room::Room;
 use crate::slot::Slot;
 use chain_order::PlaceSet;
@@ -39,10 +39,14 @@ pub struct Slots<C: Controller> {
     boxes: Vec<Option<C>>,
     /// Whether a cycle is aloft, and with it the boxes of those that run.
     aloft: bool,
+    /// Whether mail may wait for some of them. Where none waits a begin looks at none.
+    mail_waits: bool,
 }
 
 impl<C: Controller> Model for Slots<C> {
     ghost use Rattle.std.specs.Prelude.{◌≡◌, ◌&&◌, map, option_map, nat_lt, vec_len, vec_capacity};
+    ghost use Rattle.std.specs.List.{AllByRecursion};
+    ghost use Rattle.ctl_slots.specs.Mails.{WaitsAsTold};
     ghost use Rattle.ctl_slots.specs.Slots.{Slotted, box_of};
 
     ghost Value = { Slotted };
@@ -53,7 +57,8 @@ impl<C: Controller> Model for Slots<C> {
       has_room = nat_lt (vec_len s.slots) (vec_capacity s.slots) && nat_lt (vec_len s.boxes) (vec_capacity s.boxes);
     } };
 
-    ghost invariant = { λ s. map (option_map C.meaning) s.boxes.items ≡ map (box_of s.aloft) s.slots.items };
+    ghost invariant = { λ s. (map (option_map C.meaning) s.boxes.items ≡ map (box_of s.aloft) s.slots.items)
+        × AllByRecursion (WaitsAsTold s.mail_waits) s.slots.items };
 }
 
 impl<C: Controller> Slots<C> {
@@ -65,6 +70,7 @@ impl<C: Controller> Slots<C> {
             slots: Vec::new(alloc),
             boxes: Vec::new(alloc),
             aloft: false,
+            mail_waits: false,
         }
     }
 
@@ -172,6 +178,7 @@ impl<C: Controller> Slots<C> {
             → self.new ≡ record self.old { loaded = slice_set self.old.loaded index (after_send mail l) } }
     {
         self.slots[index].post(mail);
+        self.mail_waits = true;
     }
 
     /// Whether the controller at this index may be activated before this cycle. No box is away.
@@ -225,7 +232,11 @@ impl<C: Controller> Slots<C> {
         ensures mails { (s : State) → s.ended ≡ cycle
             → mails.new.items ≡ mails.old.items ++ filter_map (mail_off s) self.old.loaded }
     {
-        send_each(&mut self.slots, cycle, mails);
+        // A begin costs nothing for controllers that are loaded, while no mail waits for any.
+        if self.mail_waits {
+            send_each(&mut self.slots, cycle, mails);
+            self.mail_waits = some_mail_waits(&self.slots);
+        }
     }
 
     /// A cycle takes off: the boxes of the controllers that run are lent for it, which stand at these indices in the order of updates. It

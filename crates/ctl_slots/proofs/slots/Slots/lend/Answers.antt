@@ -13,7 +13,7 @@ pub lend_each-requires : goal.lend_each-requires
 lend_each-requires g c =
     let a = c.self.inside in
     let can = rw (← c.self.view_is) at c.requires in
-    let home : map (option_map g.C.Controller.meaning) a.boxes.items ≡ map (box_of false) a.slots.items = c.self.invariant ∙ ap (λ (b : Bool). map (box_of b) a.slots.items) can.home in
+    let home : map (option_map g.C.Controller.meaning) a.boxes.items ≡ map (box_of false) a.slots.items = c.self.invariant.0 ∙ ap (λ (b : Bool). map (box_of b) a.slots.items) can.home in
     let none : length c.args.boxes.now.items ≡ 0 = sym (length-map c.args.boxes.now.items g.C.Controller.meaning) ∙ ap length can.empty in
     rw (c.deref.ensures.value, c.deref_mut.ensures.value, home) (record {
       can = may_leave can.run.0 a.slots.items c.args.run.now can.run.1;
@@ -27,10 +27,10 @@ pub invariant_of-self : goal.invariant_of-self
 invariant_of-self g c =
     let a = c.self.inside in
     let can = rw (← c.self.view_is) at c.requires in
-    let home : map (option_map g.C.Controller.meaning) a.boxes.items ≡ map (box_of false) a.slots.items = c.self.invariant ∙ ap (λ (b : Bool). map (box_of b) a.slots.items) can.home in
+    let home : map (option_map g.C.Controller.meaning) a.boxes.items ≡ map (box_of false) a.slots.items = c.self.invariant.0 ∙ ap (λ (b : Bool). map (box_of b) a.slots.items) can.home in
     let boxes : length c.lend_each.new.boxes ≡ a.boxes.len = omega arith in
     rw (with_items_is a.boxes c.lend_each.new.boxes boxes, c.lend_each.ensures.left.left, c.deref_mut.ensures.value, home)
-    (all_others_stay can.run.0 a.slots.items c.args.run.now can.run.1)
+    (all_others_stay can.run.0 a.slots.items c.args.run.now can.run.1, c.self.invariant.1)
 
 -- and they are theirs
 pub returns-clause-lent : goal.returns-clause-lent

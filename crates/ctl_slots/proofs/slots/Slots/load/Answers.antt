@@ -2,7 +2,9 @@ use Rattle.std.proofs.Common.{◌≡◌, None, Some, [], ◌∷◌, ◌++◌, op
 use Rattle.std.specs.Prelude.{nat_lt, vec_len, vec_capacity}
 use Rattle.std.proofs.lemmas.Bool.{and_parts, ltb-true}
 use Rattle.std.proofs.lemmas.List.{map-append}
+use Rattle.sequence.proofs.ListLemmas.{all_push}
 use Rattle.cm_model.specs.declared.data.CtlData.{CtlData}
+use Rattle.ctl_slots.specs.Mails.{WaitsAsTold}
 use Rattle.ctl_slots.specs.Slots.{box_of}
 use Rattle.ctl_slots.proofs.SlotsLemmas.{idle_is_home}
 use Rattle.ctl_slots.proofs.slots.Slots.load.Goals as goal
@@ -20,7 +22,7 @@ push_reserved-requires-2 g c =
     ltb-true (vec_len a.boxes) (vec_capacity a.boxes)
     (and_parts (nat_lt (vec_len a.slots) (vec_capacity a.slots)) (nat_lt (vec_len a.boxes) (vec_capacity a.boxes)) (rw (← c.self.view_is) at c.requires.room)).1
 
--- a blank does not run, so its box is there
+-- a blank does not run, so its box is there, and no mail waits for it
 pub invariant_of-self : goal.invariant_of-self
 invariant_of-self g c =
     let a = c.self.inside in
@@ -28,7 +30,9 @@ invariant_of-self g c =
     let blank : CtlData = g.C.Controller.meaning c.args.blank in
     let still : slot.ctl.run ≡ None = rw c.new-slot.ensures (ap (λ (ctl : CtlData). ctl.run) c.requires.blank) in
     let own : Some blank ≡ box_of a.aloft slot = sym (idle_is_home a.aloft slot still ∙ ap Some (rw c.new-slot.ensures refl)) in
-    rw (c.push_reserved.ensures.items, c.push_reserved-2.ensures.items)
-    (map-append (option_map g.C.Controller.meaning) a.boxes.items (Some c.args.blank ∷ [])
-    ∙ ap₂ (λ xs box. xs ++ box ∷ []) c.self.invariant own
-    ∙ sym (map-append (box_of a.aloft) a.slots.items (slot ∷ [])))
+    rw (c.push_reserved.ensures.items, c.push_reserved-2.ensures.items) (
+      map-append (option_map g.C.Controller.meaning) a.boxes.items (Some c.args.blank ∷ [])
+          ∙ ap₂ (λ xs box. xs ++ box ∷ []) c.self.invariant.0 own
+          ∙ sym (map-append (box_of a.aloft) a.slots.items (slot ∷ [])),
+      all_push (WaitsAsTold a.mail_waits) a.slots.items slot c.self.invariant.1 (λ none. rw c.new-slot.ensures refl),
+    )
