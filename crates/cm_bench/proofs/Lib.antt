@@ -1,3 +1,4 @@
+pub mod LineLemmas
 mod TextLemmas
 pub mod WordLemmas
 mod WordRows

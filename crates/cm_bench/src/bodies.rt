@@ -112,7 +112,7 @@ impl Body<Case> for FastText {
 }
 
 /// A number of a text's length and its last eight bytes: cheap beside making the text, and no text can be left out.
-fn weight(text: &[u8]) -> i64 {
+pub fn weight(text: &[u8]) -> i64 {
     let last = match text.last_chunk() {
         Some(bytes) => i64::from_le_bytes(*bytes),
         None => 0,

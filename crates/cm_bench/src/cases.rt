@@ -2,6 +2,7 @@
 
 ghost use Rattle.std.specs.Prelude.{pos, ◌<ℤ◌, ◌≤◌};
 ghost use Rattle.joint_body.specs.declared.TheConstants.{LONGEST_STEP};
+ghost use Rattle.cm_bench.specs.declared.cases.TheConstants.{FAR};
 
 use crate::points::SEGMENT_US;
 use fixed_num::{Fx, JointMode, Memory};
@@ -13,6 +14,9 @@ const COUNT: usize = 1000;
 
 /// How far from 0 a number is at most, in micro-units: a thousand units, so that the product of two fits 64 bits.
 const FAR: u64 = 1_000_000_000;
+
+/// Ten units, in micro-units: so far from 0 the joints of most machines are, and how fast they move.
+const NEAR: u64 = 10_000_000;
 
 /// What one turn of a body is given.
 #[derive(Clone, Copy)]
@@ -79,6 +83,16 @@ pub fn values(alloc: Global, seed: u64, count: usize) -> Result<Vec<Fx>, Memory>
     Ok(values)
 }
 
+/// So many numbers of a seed, of up to ten units either way.
+pub fn few_units(alloc: Global, seed: u64, count: usize) -> Result<Vec<Fx>, Memory> {
+    let mut source = Source::make(seed);
+    let mut numbers = Vec::new(alloc);
+    for _ in 0..count {
+        numbers.push(source.within(NEAR))?;
+    }
+    Ok(numbers)
+}
+
 /// Gives numbers without visible order: the generator known as SplitMix64.
 #[derive(Drop)]
 pub struct Source {
@@ -123,10 +137,18 @@ impl Source {
 
     /// The next number, of up to a thousand units either way.
     pub fn number(&mut self) -> Fx {
-        Fx::from_micro((self.next() % (2 * FAR + 1)) as i64 - FAR as i64)
+        self.within(FAR)
     }
 
-    fn next(&mut self) -> u64 {
+    /// The next number of at most so many micro-units either way.
+    fn within(&mut self, far: u64) -> Fx
+        requires { far ≤ FAR }
+    {
+        Fx::from_micro((self.next() % (2 * far + 1)) as i64 - far as i64)
+    }
+
+    /// The next number of 64 bits.
+    pub fn next(&mut self) -> u64 {
         self.state = self.state.wrapping_add(0x9E37_79B9_7F4A_7C15);
         let mixed = (self.state ^ (self.state >> 30)).wrapping_mul(0xBF58_476D_1CE4_E5B9);
         let mixed = (mixed ^ (mixed >> 27)).wrapping_mul(0x94D0_49BB_1331_11EB);

@@ -41,21 +41,24 @@ fn text_of(alloc: Global, first_claimed: u32) -> Result<String, Memory> {
     Ok(text)
 }
 
-/// A component with its two joints, each with all kinds of command and of state.
+/// A component with its two joints.
 fn push_component(text: &mut String, component: u32) -> Result<(), Memory> {
     write!(
         text,
         "[[component]]\nname = \"c{component}\"\nkind = \"system\"\n"
     )?;
-    for joint in [
-        component.saturating_mul(2),
-        component.saturating_mul(2).saturating_add(1),
-    ] {
-        write!(
-            text,
-            "[[component.joint]]\nname = \"j{joint}\"\nvmax = \"3.15\"\n{KINDS}"
-        )?;
-    }
+    let first = component.saturating_mul(2);
+    push_joint(text, first)?;
+    push_joint(text, first.saturating_add(1))
+}
+
+/// A joint with all kinds of command and of state.
+fn push_joint(text: &mut String, joint: u32) -> Result<(), Memory> {
+    write!(
+        text,
+        "[[component.joint]]\nname = \"j{joint}\"\nvmax = \"3.15\"\n"
+    )?;
+    text.push_str(KINDS)?;
     Ok(())
 }
 

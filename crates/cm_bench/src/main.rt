@@ -4,8 +4,10 @@
 use bodies::{FastMul, FastOver, FastText, PlainMul, PlainOver, PlainText};
 use cases::{Case, Moment};
 use cm_document::MOST_POINTS;
+use lines::{FastLine, PlainLine};
 use plan::Plan;
 use points::{SEGMENT_US, UnderWay};
+use ranks::{FastOrder, PlainOrder};
 use reading::{DescriptionChecker, DescriptionReader, ScriptReader, TomlReader};
 use std::alloc::Global;
 use std::process::ExitCode;
@@ -22,9 +24,11 @@ use words::plan_of;
 mod bodies;
 mod cases;
 mod described;
+mod lines;
 mod plain;
 mod plan;
 mod points;
+mod ranks;
 mod reading;
 mod steps;
 mod switches;
@@ -51,13 +55,33 @@ fn compare_all<R>(rt: &R, plan: Plan) -> anyhow::Result<bool>
 where
     R: Clock + Print + AllocGlobal + Wait,
 {
+    let motions = compare_motions(rt, plan)?;
+    let requests = compare_requests(rt, plan)?;
+    let readers = compare_readers(rt, plan)?;
+    Ok(motions && requests && readers)
+}
+
+/// Prints the lines of what a cycle does: numbers, steps and ways.
+fn compare_motions<R>(rt: &R, plan: Plan) -> anyhow::Result<bool>
+where
+    R: Clock + Print + AllocGlobal + Wait,
+{
     let numbers = compare_numbers(rt, plan)?;
     let steps = compare_steps(rt, plan)?;
     let ways = compare_ways(rt, plan)?;
+    Ok(numbers && steps && ways)
+}
+
+/// Prints the lines of what is done with a description and a history: orders, traces, switches and checks.
+fn compare_requests<R>(rt: &R, plan: Plan) -> anyhow::Result<bool>
+where
+    R: Clock + Print + AllocGlobal,
+{
+    let orders = compare_orders(rt, plan)?;
+    let lines = compare_lines(rt, plan)?;
     let switches = compare_switches(rt, plan)?;
     let checks = compare_checks(rt, plan)?;
-    let readers = compare_readers(rt, plan)?;
-    Ok(numbers && steps && ways && switches && checks && readers)
+    Ok(orders && lines && switches && checks)
 }
 
 /// Prints the lines of a product, a ratio, a number's text and a turn at a lock, over the same cases.
@@ -145,6 +169,47 @@ fn way(alloc: Global, seed: u64, after_us: u64) -> anyhow::Result<UnderWay> {
 
 /// When the last point is, in microseconds.
 const LAST_US: u64 = MOST_POINTS as u64 * SEGMENT_US;
+
+/// Prints the line of an order by rank.
+fn compare_orders<R>(rt: &R, plan: Plan) -> anyhow::Result<bool>
+where
+    R: Clock + Print + AllocGlobal,
+{
+    let alloc = rt.alloc();
+    let cases = [ranks::made(alloc, plan.seed)?];
+    let course = Course {
+        cases: cases.as_slice(),
+        turns: plan.turns / ORDER_SHARE + 1,
+    };
+    course.tell(
+        rt,
+        RANKS,
+        &mut PlainOrder::make(alloc),
+        &mut FastOrder::make(alloc),
+    )
+}
+
+/// An order is made in some microseconds, so it gets one turn for so many of the others.
+const ORDER_SHARE: u64 = 20;
+
+/// Prints the line of the trace of a cycle.
+fn compare_lines<R>(rt: &R, plan: Plan) -> anyhow::Result<bool>
+where
+    R: Clock + Print + AllocGlobal,
+{
+    let alloc = rt.alloc();
+    let mut plain = PlainLine::make(alloc)?;
+    let mut fast = FastLine::make(alloc)?;
+    let cases = [lines::made(alloc, plan.seed)?];
+    let course = Course {
+        cases: cases.as_slice(),
+        turns: plan.turns / LINE_SHARE + 1,
+    };
+    course.tell(rt, TRACE, &mut plain, &mut fast)
+}
+
+/// A line of 255 numbers is made in some microseconds, so it gets one turn for so many of the others.
+const LINE_SHARE: u64 = 200;
 
 /// Prints the line of a switch.
 fn compare_switches<R>(rt: &R, plan: Plan) -> anyhow::Result<bool>
@@ -275,6 +340,16 @@ const STEP: Title = Title {
 const POINTS: Title = Title {
     name: "points",
     what: "answers",
+};
+
+const RANKS: Title = Title {
+    name: "ranks",
+    what: "orders",
+};
+
+const TRACE: Title = Title {
+    name: "trace",
+    what: "bytes",
 };
 
 const SWITCH: Title = Title {

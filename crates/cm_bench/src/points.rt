@@ -93,7 +93,9 @@ fn points(alloc: Global, values: &[Fx], after_us: u64) -> Result<Seq<Point2>, Me
 }
 
 fn point(alloc: Global, at_us: u64, value: Fx) -> Result<Point2, Memory> {
-    let mut values = Seq::new(alloc);
-    values.push(value)?;
-    Ok(Point2 { at_us, values })
+    let values = vec![in alloc; value; 1]?;
+    Ok(Point2 {
+        at_us,
+        values: Seq::from_vec(values),
+    })
 }

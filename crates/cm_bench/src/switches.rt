@@ -71,9 +71,13 @@ fn of_request(
 fn names(alloc: Global, words: &[&str]) -> anyhow::Result<Seq<Name>> {
     let mut list = Seq::new(alloc);
     for word in words {
-        list.push(Name::read(alloc, word.as_bytes())?)?;
+        list.push(name(alloc, word)?)?;
     }
     Ok(list)
+}
+
+fn name(alloc: Global, word: &str) -> anyhow::Result<Name> {
+    Ok(Name::read(alloc, word.as_bytes())?)
 }
 
 /// Each described controller as it is loaded, the last described first.
@@ -95,15 +99,27 @@ fn seen(controllers: &[CtlDesc], serial: u32, place: u32) -> Seen
     ensures { result.place ≡ place }
 {
     let name = controllers[place as usize].name.as_str();
-    let first_mock = name == "m0";
-    let active = first_mock || !name.starts_with('m');
     Seen {
         serial,
         place,
-        life: if active { Life::Active } else { Life::Inactive },
-        chained: active && !first_mock && place != 0,
+        life: life_of(name),
+        chained: place != 0 && is_in_chain(name),
         ready: true,
     }
+}
+
+/// The chain is active, and so is the first mock.
+fn life_of(name: &str) -> Life {
+    if is_in_chain(name) || name == "m0" {
+        Life::Active
+    } else {
+        Life::Inactive
+    }
+}
+
+/// The chain has the passthroughs, `p0` and so on.
+fn is_in_chain(name: &str) -> bool {
+    name.starts_with('p')
 }
 
 /// A plan whose names are looked up for each request.

@@ -138,11 +138,20 @@ fn agree<C, P: Body<C>, F: Body<C>>(
     fast: &mut F,
 ) -> Result<bool, Memory> {
     for case in cases {
-        if plain.turn(case)? != fast.turn(case)? {
+        if !agree_at(case, plain, fast)? {
             return Ok(false);
         }
     }
     Ok(true)
+}
+
+fn agree_at<C, P: Body<C>, F: Body<C>>(
+    case: &C,
+    plain: &mut P,
+    fast: &mut F,
+) -> Result<bool, Memory> {
+    let answer = plain.turn(case)?;
+    Ok(answer == fast.turn(case)?)
 }
 
 /// One turn at each case, the answers added to the sum so far: so no round is the same call as another, and none is left out.
