@@ -7,10 +7,10 @@ ghost use Rattle.cm_document.specs.ScriptLaws.{MeetsRules};
 ghost use Rattle.cm_program.specs.Stock.{AreBlanks, blanks_of_each};
 ghost use Rattle.cm_program.specs.declared.stock.TheConstants.{BLANKS};
 
-use crate::page::page_of;
 use crate::unkept::Unkept;
 use cm_document::LONGEST_DOCUMENT;
 use cm_model::{CtlKind, Description, Document, DocumentFault, Entry, Memory, Script};
+use cm_picture::page_of;
 use cm_program::stock::{BLANKS, add};
 use cm_top::{Job, JobKind, Status, Stock, read_document, run_document};
 use ctl_bcast::Broadcaster;
@@ -26,27 +26,6 @@ use std::process::ExitCode;
 use std::rt::Env;
 use std::{env, io};
 
-mod axis;
-mod causes;
-mod course;
-mod curves;
-mod keys;
-mod lanes;
-mod layout;
-mod links;
-mod links_picture;
-mod marks;
-mod numbers;
-mod page;
-mod ports;
-mod present;
-mod replay;
-mod rows;
-mod run_picture;
-mod style;
-mod svg;
-#[cfg(test)]
-mod tests;
 mod unkept;
 
 fn main(rt: HostRuntime) -> ExitCode {

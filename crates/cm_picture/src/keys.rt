@@ -1,0 +1,94 @@
+//! What the lines and marks stand for.
+
+use cm_model::Memory;
+use cm_replay::Event;
+use link_picture::mark;
+use run_picture::draw_mark;
+use std::alloc::Global;
+use svg_text::{MARGIN, Point, Px, Svg};
+
+/// The key of who claims and reads what. Gives where it ends.
+pub fn draw_link_keys(svg: &mut Svg, top: Px) -> Result<Px, Memory> {
+    let at = Point {
+        x: Px::of(MARGIN),
+        y: top.plus(Px::of(10)),
+    };
+    draw_line_key(svg, at, "leads", "leads: claims a reference")?;
+    draw_line_key(svg, beside(at, 236), "claims", "claims a command interface")?;
+    draw_line_key(svg, beside(at, 468), "reads", "reads a state")?;
+    let square = beside(at, 616);
+    svg.rect("command", mark(square), "")?;
+    svg.words("key", square.beside(Px::of(10), Px::of(4)), "command", "")?;
+    let circle = beside(at, 706);
+    svg.circle("state", circle, 4, "")?;
+    svg.words("key", circle.beside(Px::of(10), Px::of(4)), "state", "")?;
+    Ok(top.plus(Px::of(34)))
+}
+
+fn draw_line_key(svg: &mut Svg, at: Point, class: &str, words: &str) -> Result<(), Memory> {
+    svg.line(class, at, beside(at, 34))?;
+    svg.words("key", at.beside(Px::of(42), Px::of(4)), words, "")
+}
+
+/// The key of what happens in a run. Gives where it ends.
+pub fn draw_run_keys(alloc: Global, svg: &mut Svg, top: Px) -> Result<Px, Memory> {
+    let at = Point {
+        x: Px::of(MARGIN + 10),
+        y: top.plus(Px::of(10)),
+    };
+    draw_event_key(alloc, svg, at, Event::Done, "request done")?;
+    draw_event_key(alloc, svg, beside(at, 120), Event::Refused, "refused")?;
+    draw_event_key(
+        alloc,
+        svg,
+        beside(at, 214),
+        Event::ReadFailed,
+        "read failed",
+    )?;
+    draw_event_key(
+        alloc,
+        svg,
+        beside(at, 324),
+        Event::WriteFailed,
+        "write failed",
+    )?;
+    draw_event_key(
+        alloc,
+        svg,
+        beside(at, 438),
+        Event::UpdateFailed,
+        "update failed",
+    )?;
+    draw_event_key(alloc, svg, beside(at, 562), Event::Stopped, "stopped")?;
+    let words = "switch: + on, - off; strict: all of it or nothing";
+    svg.words("key", at.beside(Px::of(660), Px::of(4)), words, "")?;
+    Ok(top.plus(Px::of(34)))
+}
+
+/// So many pixels to the right.
+fn beside(at: Point, right: u64) -> Point {
+    at.beside(Px::of(right), Px::of(0))
+}
+
+fn draw_event_key(
+    alloc: Global,
+    svg: &mut Svg,
+    at: Point,
+    event: Event,
+    words: &str,
+) -> Result<(), Memory> {
+    draw_mark(alloc, svg, at, event, "")?;
+    svg.words("key", at.beside(Px::of(16), Px::of(4)), words, "")
+}
+
+/// The key of the joints' curves. Gives where it ends.
+pub fn draw_curve_keys(svg: &mut Svg, top: Px) -> Result<Px, Memory> {
+    let at = Point {
+        x: Px::of(MARGIN),
+        y: top.plus(Px::of(10)),
+    };
+    draw_line_key(svg, at, "position-line", "position")?;
+    let words = "where it is commanded to be";
+    draw_line_key(svg, beside(at, 120), "command-line", words)?;
+    Ok(top.plus(Px::of(34)))
+}

@@ -1,0 +1,9 @@
+//! The page of SVG that shows a run: who commands whom, the run cycle by cycle, and where each joint was.
+#![tactic(auto)]
+
+pub use page::page_of;
+
+mod curves;
+mod keys;
+mod page;
+mod style;

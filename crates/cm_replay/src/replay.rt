@@ -1,0 +1,370 @@
+//! What happened in a run, read off its history: the rows of the requests, the controllers and the components, and the course of each
+//! joint. Which call an entry is of is known from the script, as each session makes its lines once and in order.
+
+use crate::columns::Columns;
+use crate::course::{Course, blank_courses, forget};
+use crate::links::{Linked, component_place, controller_place};
+use crate::present::{Asked, Present};
+use crate::rows::{Event, Row, Shown, blank_rows, mark_row};
+use cm_model::{
+    Call, Cause, CycleRecord, Decision, Done, Dropped, Entry, FailedPart, IfaceName, Memory, Name,
+    Outcome, RanRef, Reply, Script, SwitchRequest,
+};
+use std::alloc::Global;
+
+/// A request that was decided.
+#[derive(Clone, Copy)]
+pub struct Decided<'a> {
+    /// The cycle at whose begin it was decided; the number of cycles where the close ended it.
+    pub cycle: u64,
+    /// Its ticket.
+    pub ticket: u32,
+    /// The name of the session that asked, and what it asked, where that is known.
+    pub asked: Option<Asked<'a>>,
+    /// What became of it.
+    pub outcome: &'a Outcome,
+}
+
+/// How often things happened in a run.
+#[derive(Clone, Copy)]
+pub struct Counts {
+    /// Requests that were carried out, wholly or without some names.
+    pub done: u64,
+    /// Requests that were refused.
+    pub refused: u64,
+    /// Requests that waited when the loop closed.
+    pub ended: u64,
+    /// Reads, writes and updates that failed.
+    pub failed: u64,
+    /// Controllers that were stopped, each as often as it was.
+    pub stopped: u64,
+}
+
+/// A run as it is drawn.
+#[derive(Drop)]
+pub struct Replay<'a> {
+    /// The requests that were decided, in that order.
+    pub decided: Vec<Decided<'a>>,
+    /// The row of the requests.
+    pub requests: Row,
+    /// The rows of the controllers, by place.
+    pub controllers: Vec<Row>,
+    /// The rows of the components, by place.
+    pub components: Vec<Row>,
+    /// The courses of the joints, by place.
+    pub courses: Vec<Course>,
+    /// How often things happened.
+    pub counts: Counts,
+    columns: Columns,
+    present: Present<'a>,
+}
+
+impl<'a> Replay<'a> {
+    /// What happened in this history.
+    pub fn of(
+        alloc: Global,
+        columns: Columns,
+        linked: Linked<'a>,
+        script: &'a Script,
+        history: &'a [Entry],
+    ) -> Result<Replay<'a>, Memory> {
+        let mut replay = Replay::blank(alloc, columns, linked, script)?;
+        for entry in history {
+            replay.read(entry)?;
+        }
+        Ok(replay)
+    }
+
+    /// Of a run in which nothing happened yet.
+    fn blank(
+        alloc: Global,
+        columns: Columns,
+        linked: Linked<'a>,
+        script: &'a Script,
+    ) -> Result<Replay<'a>, Memory> {
+        let description = linked.description;
+        let controllers = linked.links.len();
+        let components = description.components.as_slice().len();
+        Ok(Replay {
+            decided: Vec::new(alloc),
+            requests: Row::blank(alloc, columns.count())?,
+            controllers: blank_rows(alloc, controllers, columns.count())?,
+            components: blank_rows(alloc, components, columns.count())?,
+            courses: blank_courses(alloc, description, columns.count())?,
+            counts: Counts {
+                done: 0,
+                refused: 0,
+                ended: 0,
+                failed: 0,
+                stopped: 0,
+            },
+            columns,
+            present: Present::at_start(alloc, linked, script)?,
+        })
+    }
+
+    /// One entry more.
+    fn read(&mut self, entry: &'a Entry) -> Result<(), Memory> {
+        match &entry.reply {
+            Reply::Decisions(decisions) => self.read_decisions(decisions.as_slice()),
+            Reply::Cycle(record) => {
+                self.read_cycle(record);
+                Ok(())
+            }
+            // A session is told what became of its request: that is no line of its own.
+            Reply::Outcome(_) => Ok(()),
+            reply => self.present.called(entry.who, reply),
+        }
+    }
+
+    // ---- Decisions
+
+    fn read_decisions(&mut self, decisions: &'a [Decision]) -> Result<(), Memory> {
+        for decision in decisions {
+            self.read_decision(decision)?;
+        }
+        self.present.link();
+        Ok(())
+    }
+
+    fn read_decision(&mut self, decision: &'a Decision) -> Result<(), Memory> {
+        let number = self.decided.len();
+        let asked = self.present.asked_under(decision.ticket);
+        let cycle = self.present.ended;
+        self.decided.push(Decided {
+            cycle,
+            ticket: decision.ticket,
+            asked,
+            outcome: &decision.outcome,
+        })?;
+        self.count(&decision.outcome);
+        let column = self.columns.of_cycle(cycle);
+        self.requests
+            .mark(column, event_of(&decision.outcome), cycle, number);
+        match &decision.outcome {
+            Outcome::Done { dropped } => self.carry_out(asked, dropped.as_slice()),
+            Outcome::Refused(name, _) => self.mark_refused(name.get(), column, number),
+            Outcome::LoopEnded => {}
+        }
+        Ok(())
+    }
+
+    fn count(&mut self, outcome: &Outcome) {
+        let counts = &mut self.counts;
+        let counted = match outcome {
+            Outcome::Done { .. } => &mut counts.done,
+            Outcome::Refused(..) => &mut counts.refused,
+            Outcome::LoopEnded => &mut counts.ended,
+        };
+        *counted = counted.saturating_add(1);
+    }
+
+    /// A request is refused because of this controller or component.
+    fn mark_refused(&mut self, name: &Name, column: usize, number: usize) {
+        let description = self.present.description;
+        let cycle = self.present.ended;
+        if let Some(place) = controller_place(description.controllers.as_slice(), name) {
+            if let Some(row) = self.controllers.get_mut(place) {
+                row.mark(column, Event::Refused, cycle, number);
+            }
+        } else if let Some(place) = component_place(description, name) {
+            if let Some(row) = self.components.get_mut(place) {
+                row.mark(column, Event::Refused, cycle, number);
+            }
+        }
+    }
+
+    /// A request is carried out without these names.
+    fn carry_out(&mut self, asked: Option<Asked<'a>>, dropped: &[Dropped]) {
+        match asked {
+            Some(
+                Asked {
+                    call: Call::Switch(request),
+                    ..
+                },
+            ) => self.switch(request, dropped),
+            Some(
+                Asked {
+                    call: Call::Hardware { component, target },
+                    ..
+                },
+            ) => self.present.move_component(component, *target),
+            _ => {}
+        }
+    }
+
+    /// Those that leave are inactive, and those that come are active. What a controller gave that leaves or restarts is gone.
+    fn switch(&mut self, request: &SwitchRequest, dropped: &[Dropped]) {
+        for name in request.off.as_slice() {
+            if !stays(name, dropped) {
+                self.stop(name);
+            }
+        }
+        for name in request.on.as_slice() {
+            if !is_left_out(name, dropped) {
+                self.present.start(name);
+            }
+        }
+    }
+
+    /// An active controller becomes inactive.
+    fn stop(&mut self, name: &Name) {
+        let controllers = self.present.description.controllers.as_slice();
+        if let Some(place) = controller_place(controllers, name) {
+            self.present.stop(place);
+            forget(&mut self.courses, place);
+        }
+    }
+
+    // ---- Cycles
+
+    fn read_cycle(&mut self, record: &'a CycleRecord) {
+        let cycle = record.cycle();
+        let column = self.columns.of_cycle(cycle);
+        self.read_failures(record.failed(), column, cycle);
+        for ran in record.ran() {
+            self.read_update(&ran, column, cycle);
+        }
+        for (course, body) in self.courses.iter_mut().zip(record.bodies()) {
+            course.reach(column, body.x.micro());
+        }
+        self.show(column);
+        self.read_stops(record.stops(), column, cycle);
+        self.present.fail(record.failed());
+        self.present.ended = cycle.saturating_add(1);
+    }
+
+    fn read_failures(&mut self, failed: &[FailedPart], column: usize, cycle: u64) {
+        for part in failed {
+            let event = if part.reading {
+                Event::ReadFailed
+            } else {
+                Event::WriteFailed
+            };
+            self.counts.failed = self.counts.failed.saturating_add(1);
+            mark_row(
+                &mut self.components,
+                part.place as usize,
+                column,
+                event,
+                cycle,
+            );
+        }
+    }
+
+    /// What an update gave stands at the joints whose positions it commands.
+    fn read_update(&mut self, ran: &RanRef<'_>, column: usize, cycle: u64) {
+        let Some(place) = self.present.place_of(ran.serial) else {
+            return;
+        };
+        if ran.done == Done::Error {
+            self.counts.failed = self.counts.failed.saturating_add(1);
+            mark_row(
+                &mut self.controllers,
+                place,
+                column,
+                Event::UpdateFailed,
+                cycle,
+            );
+            return;
+        }
+        let all = self.present.links;
+        let Some(links) = all.get(place) else {
+            return;
+        };
+        for (claim, value) in links.claims.iter().zip(ran.outs) {
+            if let Some(course) = self.courses.get_mut(claim.joint) {
+                course.take(place, claim, value.get());
+            }
+        }
+    }
+
+    /// What each controller and component was in this column.
+    fn show(&mut self, column: usize) {
+        show_controllers(&mut self.controllers, &self.present, column);
+        show_components(&mut self.components, &self.present, column);
+    }
+
+    fn read_stops(&mut self, stops: &[u32], column: usize, cycle: u64) {
+        for serial in stops {
+            if let Some(place) = self.present.place_of(*serial) {
+                self.counts.stopped = self.counts.stopped.saturating_add(1);
+                if let Some(row) = self.controllers.get_mut(place) {
+                    row.stop(column, cycle);
+                }
+                self.present.stop(place);
+                forget(&mut self.courses, place);
+            }
+        }
+        if !stops.is_empty() {
+            self.present.link();
+        }
+    }
+}
+
+/// What each controller was in this column.
+fn show_controllers(rows: &mut Vec<Row>, present: &Present<'_>, column: usize) {
+    for (place, row) in rows.iter_mut().enumerate() {
+        if let Some(life) = present.life_at(place) {
+            row.show(column, Shown::of(life, present.is_chained(place)));
+        }
+    }
+}
+
+/// What each component was in this column.
+fn show_components(rows: &mut Vec<Row>, present: &Present<'_>, column: usize) {
+    for (row, life) in rows.iter_mut().zip(&present.components) {
+        row.show(column, Shown::of(*life, false));
+    }
+}
+
+/// What a request comes to, as it is marked.
+fn event_of(outcome: &Outcome) -> Event {
+    match outcome {
+        Outcome::Done { dropped } => done_without(dropped.as_slice()),
+        Outcome::Refused(..) => Event::Refused,
+        Outcome::LoopEnded => Event::Ended,
+    }
+}
+
+/// A request is carried out without these.
+fn done_without(dropped: &[Dropped]) -> Event {
+    if dropped.is_empty() {
+        Event::Done
+    } else {
+        Event::Partly
+    }
+}
+
+/// Whether a controller that was to leave stays: another one that stays claims a reference of its own.
+fn stays(name: &Name, dropped: &[Dropped]) -> bool {
+    dropped
+        .iter()
+        .any(|it| it.name == *name && is_own(&it.cause, name))
+}
+
+/// Whether a controller that was to come is left out.
+fn is_left_out(name: &Name, dropped: &[Dropped]) -> bool {
+    dropped
+        .iter()
+        .any(|it| it.name == *name && speaks_against(&it.cause, name))
+}
+
+/// Whether this keeps a controller that is ready for it from becoming active.
+fn speaks_against(cause: &Cause, name: &Name) -> bool {
+    match cause {
+        Cause::MissingFollower(_) => !is_own(cause, name),
+        Cause::Unavailable(_) | Cause::Conflict(..) | Cause::ModeRefused(_) | Cause::NotReady => {
+            true
+        }
+        _ => false,
+    }
+}
+
+/// Whether a missing follower is the controller itself: it was to leave, and one that stays claims a reference of it.
+pub fn is_own(cause: &Cause, name: &Name) -> bool {
+    match cause {
+        Cause::MissingFollower(IfaceName::Reference { controller, .. }) => controller == name,
+        _ => false,
+    }
+}

@@ -1,0 +1,166 @@
+//! The rows of a run: what each controller and component was in each column, and what happened to it there.
+
+use cm_model::{Life, Memory};
+use std::alloc::Global;
+
+/// What is shown of a controller or a component in a column, the least serious first.
+#[derive(Clone, Copy, PartialEq, Eq)]
+pub enum Shown {
+    /// It is not loaded.
+    Nothing,
+    /// It is active.
+    Active,
+    /// It is active, and an active controller claims one of its references.
+    Chained,
+    /// It is inactive.
+    Inactive,
+    /// It is unconfigured.
+    Unconfigured,
+    /// It is finalized.
+    Finalized,
+}
+
+impl Shown {
+    /// What is shown of this lifecycle state.
+    pub fn of(life: Life, chained: bool) -> Shown {
+        match life {
+            Life::Active if chained => Shown::Chained,
+            Life::Active => Shown::Active,
+            Life::Inactive => Shown::Inactive,
+            Life::Unconfigured => Shown::Unconfigured,
+            Life::Finalized => Shown::Finalized,
+        }
+    }
+
+    /// The word for it; none where it is not loaded.
+    pub fn word(self) -> &'static str {
+        match self {
+            Shown::Nothing => "",
+            Shown::Active => "active",
+            Shown::Chained => "chained",
+            Shown::Inactive => "inactive",
+            Shown::Unconfigured => "unconfigured",
+            Shown::Finalized => "finalized",
+        }
+    }
+}
+
+/// What happened, the least serious first.
+#[derive(Clone, Copy, PartialEq, Eq)]
+pub enum Event {
+    /// Nothing that is marked.
+    Nothing,
+    /// A request was carried out.
+    Done,
+    /// A request was carried out without some of its names.
+    Partly,
+    /// A request waited when the loop closed.
+    Ended,
+    /// A request was refused.
+    Refused,
+    /// A controller was stopped at the end of a cycle.
+    Stopped,
+    /// An update failed.
+    UpdateFailed,
+    /// A write failed.
+    WriteFailed,
+    /// A read failed.
+    ReadFailed,
+}
+
+/// What a row has to show in a column.
+#[derive(Clone, Copy)]
+pub struct Cell {
+    /// The most serious that it was there.
+    pub shown: Shown,
+    /// The most serious that happened there.
+    pub event: Event,
+    /// The first cycle in which that happened.
+    pub cycle: u64,
+    /// The request by which it happened, among all that were decided, where one did.
+    pub decided: usize,
+    /// How many things happened there, stops apart.
+    pub count: u64,
+    /// The first cycle at whose end it was stopped, where it was.
+    pub stopped: Option<u64>,
+}
+
+/// A column in which nothing stands.
+const BLANK: Cell = Cell {
+    shown: Shown::Nothing,
+    event: Event::Nothing,
+    cycle: 0,
+    decided: 0,
+    count: 0,
+    stopped: None,
+};
+
+/// A row: its columns.
+#[derive(Drop)]
+pub struct Row {
+    cells: Vec<Cell>,
+}
+
+impl Row {
+    /// A row of so many columns, in which nothing stands yet.
+    pub fn blank(alloc: Global, columns: usize) -> Result<Row, Memory> {
+        let mut cells = Vec::new(alloc);
+        for _column in 0..columns {
+            cells.push(BLANK)?;
+        }
+        Ok(Row { cells })
+    }
+
+    /// The columns, from the left.
+    pub fn cells(&self) -> &[Cell] {
+        self.cells.as_slice()
+    }
+
+    /// It was this in a cycle of the column.
+    pub fn show(&mut self, column: usize, shown: Shown) {
+        if let Some(cell) = self.cells.get_mut(column) {
+            if shown as u8 > cell.shown as u8 {
+                cell.shown = shown;
+            }
+        }
+    }
+
+    /// This happened in a cycle of the column, by a request where one did it.
+    pub fn mark(&mut self, column: usize, event: Event, cycle: u64, decided: usize) {
+        if let Some(cell) = self.cells.get_mut(column) {
+            cell.count = cell.count.saturating_add(1);
+            if event as u8 > cell.event as u8 {
+                cell.event = event;
+                cell.cycle = cycle;
+                cell.decided = decided;
+            }
+        }
+    }
+}
+
+impl Row {
+    /// It was stopped at the end of a cycle of the column.
+    pub fn stop(&mut self, column: usize, cycle: u64) {
+        if let Some(cell) = self.cells.get_mut(column) {
+            if cell.stopped.is_none() {
+                cell.stopped = Some(cycle);
+            }
+        }
+    }
+}
+
+/// So many blank rows.
+pub fn blank_rows(alloc: Global, rows: usize, columns: usize) -> Result<Vec<Row>, Memory> {
+    let mut blank = Vec::new(alloc);
+    for _row in 0..rows {
+        blank.push(Row::blank(alloc, columns)?)?;
+    }
+    Ok(blank)
+}
+
+/// Marks the row at a place, where there is one.
+pub fn mark_row(rows: &mut Vec<Row>, place: usize, column: usize, event: Event, cycle: u64) {
+    if let Some(row) = rows.get_mut(place) {
+        row.mark(column, event, cycle, 0);
+    }
+}

@@ -1,0 +1,49 @@
+//! The pages of documents that are run over the program's stock.
+
+use case_calls::any_kind::AnyKind;
+use case_calls::stocks::blanks;
+use case_runs::runs::{IN_STOCK, OF_PROGRAM, ample_sink, run_over};
+use cm_desk::Book;
+use cm_document::LONGEST_DOCUMENT;
+use cm_model::Document;
+use cm_picture::page_of;
+use cm_top::read_document;
+use std::alloc::Global;
+use std::test::Fail;
+
+/// The page that shows the run of a document.
+pub fn drawn(alloc: Global, text: &str) -> Result<String, Fail> {
+    let document = read(alloc, text.as_bytes())?;
+    let book = run(alloc, text)?;
+    page(alloc, &document, &book)
+}
+
+/// The document that these bytes are.
+fn read(alloc: Global, bytes: &[u8]) -> Result<Document, Fail> {
+    if bytes.len() > LONGEST_DOCUMENT {
+        return Err(Fail::new("the document is too long"));
+    }
+    match read_document(alloc, bytes) {
+        Ok(document) => Ok(document),
+        Err(_) => Err(Fail::new("the document is refused")),
+    }
+}
+
+/// What the run of a document leaves.
+fn run(alloc: Global, text: &str) -> Result<Book<AnyKind>, Fail> {
+    let mut source = OF_PROGRAM.source(alloc, text)?;
+    let mut sink = ample_sink(alloc)?;
+    let blanks = blanks(alloc, IN_STOCK)?;
+    let (_, book) = run_over(alloc, &mut source, &mut sink, blanks);
+    Ok(book.ok_or("the run leaves no book")?)
+}
+
+fn page(alloc: Global, document: &Document, book: &Book<AnyKind>) -> Result<String, Fail> {
+    let description = document.description.description();
+    Ok(page_of(
+        alloc,
+        description,
+        &document.script,
+        book.history.as_slice(),
+    )?)
+}

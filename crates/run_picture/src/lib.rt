@@ -1,0 +1,14 @@
+//! The part of the picture of a run that tells cycle by cycle what happened.
+#![tactic(auto)]
+
+pub use axis::draw_axis;
+pub use marks::draw_mark;
+pub use run::{Run, draw_run};
+pub use strip::Strip;
+
+mod axis;
+mod causes;
+mod lanes;
+mod marks;
+mod run;
+mod strip;
