@@ -21,7 +21,7 @@ use Rattle.cm_model.specs.declared.request.Request.{Request}
 use Rattle.cm_model.specs.declared.request.Request.TheVariants as request
 use Rattle.make_document.specs.Made.{all_below, controller_name}
 use Rattle.make_document.specs.Meant.{robot_meant, strictly, opening_calls}
-use Rattle.made_laws.specs.Runs.{enough_blanks}
+use Rattle.made_laws.specs.Runs.{stocked}
 use Rattle.made_laws.proofs.AskedLemmas.{with_request, with_done}
 use Rattle.made_laws.proofs.CountingLemmas.{one_adds}
 use Rattle.made_laws.proofs.CycleLemmas.{cycle_on}
@@ -54,7 +54,7 @@ abbrev all_start : Request
 all_start = request.Switch (strictly [] (all_below (λ i. controller_name i ∷ []) 8))
 
 abbrev pub at_boot : ℕ → State
-at_boot cycles = boot (robot_meant cycles) enough_blanks 1
+at_boot cycles = boot (robot_meant cycles) stocked 1
 
 -- to advance some times and then to settle is to settle
 settle_after : (k who : ℕ) (a : Advanced) → settle who (advances k who a) ≡ settle who a

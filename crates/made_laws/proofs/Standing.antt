@@ -18,6 +18,7 @@ use Rattle.cm_model.specs.declared.cause.Outcome.{Outcome}
 use Rattle.cm_model.specs.declared.data.RunData.TheVariants as run
 use Rattle.cm_model.specs.declared.request.Request.{Request}
 use Rattle.make_document.specs.Meant.{robot_meant}
+use Rattle.made_laws.specs.Runs.{stocked}
 use Rattle.made_laws.proofs.DueLemmas.{cycle_of_all, cycle_is}
 
 -- ---- The state
@@ -63,7 +64,7 @@ abbrev pub between : ℕ → List Loaded → Held → Asked → ℕ → State
 between cycles loaded held asked n = record {
   description = robot_meant cycles;
   sessions = 1;
-  blanks = record { forward = 0; passthrough = 0; pid = 0; trajectory = 0; broadcaster = 0; mock = 0 };
+  blanks = record stocked { forward = 24 };
   loads = 8;
   loaded = loaded;
   lives = Active ∷ [];

@@ -3,17 +3,19 @@ use Rattle.std.specs.Prelude.{◌≡◌, ℕ, ◌+◌, ◌*◌, List, codes}
 use Rattle.cm_model.specs.Scheduled.{scheduled}
 use Rattle.cm_model.specs.declared.blanks.Blanks.{Blanks}
 use Rattle.cm_model.specs.declared.entry.Entry.{Entry}
+use Rattle.cm_program.specs.Stock.{blanks_of_each}
+use Rattle.cm_program.specs.declared.stock.TheConstants.{BLANKS}
 use Rattle.make_document.specs.Meant.{made_document}
 use Rattle.summary_text.specs.Counted.{Counted}
 use Rattle.summary_text.specs.Summary.{summary}
 
--- as many blanks as a made document has controllers
-abbrev pub enough_blanks : Blanks
-enough_blanks = record { forward = 8; passthrough = 0; pid = 0; trajectory = 0; broadcaster = 0; mock = 0 }
+-- the stock of the program: so many blanks of each kind
+abbrev pub stocked : Blanks
+stocked = blanks_of_each BLANKS
 
 -- the history of the run of so many rounds
 abbrev pub run_of : ℕ → List Entry
-run_of rounds = scheduled (made_document rounds) enough_blanks
+run_of rounds = scheduled (made_document rounds) stocked
 
 -- its summary
 abbrev pub summed_up : ℕ → List ℕ
