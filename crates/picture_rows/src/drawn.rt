@@ -1,11 +1,10 @@
 //! The pages of documents that are run over the program's stock.
 
-use case_calls::any_kind::AnyKind;
 use case_calls::stocks::blanks;
 use case_runs::runs::{IN_STOCK, OF_PROGRAM, ample_sink, run_over};
 use cm_desk::Book;
 use cm_document::LONGEST_DOCUMENT;
-use cm_model::Document;
+use cm_model::{Document, Entry};
 use cm_picture::page_of;
 use cm_top::read_document;
 use std::alloc::Global;
@@ -14,8 +13,8 @@ use std::test::Fail;
 /// The page that shows the run of a document.
 pub fn drawn(alloc: Global, text: &str) -> Result<String, Fail> {
     let document = read(alloc, text.as_bytes())?;
-    let book = run(alloc, text)?;
-    page(alloc, &document, &book)
+    let history = history_of(alloc, text)?;
+    page(alloc, &document, history.as_slice())
 }
 
 /// The document that these bytes are.
@@ -29,21 +28,19 @@ fn read(alloc: Global, bytes: &[u8]) -> Result<Document, Fail> {
     }
 }
 
-/// What the run of a document leaves.
-fn run(alloc: Global, text: &str) -> Result<Book<AnyKind>, Fail> {
+/// The history of the run of a document.
+fn history_of(alloc: Global, text: &str) -> Result<Vec<Entry>, Fail> {
     let mut source = OF_PROGRAM.source(alloc, text)?;
     let mut sink = ample_sink(alloc)?;
     let blanks = blanks(alloc, IN_STOCK)?;
     let (_, book) = run_over(alloc, &mut source, &mut sink, blanks);
-    Ok(book.ok_or("the run leaves no book")?)
+    match book {
+        Some(Book { history, .. }) => Ok(history),
+        None => Err(Fail::new("the run leaves no book")),
+    }
 }
 
-fn page(alloc: Global, document: &Document, book: &Book<AnyKind>) -> Result<String, Fail> {
+fn page(alloc: Global, document: &Document, history: &[Entry]) -> Result<String, Fail> {
     let description = document.description.description();
-    Ok(page_of(
-        alloc,
-        description,
-        &document.script,
-        book.history.as_slice(),
-    )?)
+    Ok(page_of(alloc, description, &document.script, history)?)
 }
