@@ -1,5 +1,5 @@
 -- What the desk keeps of its state after a commit, after a move of a component, and after a cycle.
-use Rattle.std.proofs.Common.{◌≡◌, ℕ, ◌+◌, Bool, true, false, List, [], length, Option, Some, None, refl, sym, ap, subst, ◌∙◌, arith}
+use Rattle.std.proofs.Common.{◌≡◌, ℕ, ◌+◌, Bool, true, false, List, [], length, map, Option, Some, None, refl, sym, ap, subst, ◌∙◌, arith}
 use Rattle.std.specs.Prelude.{not, is_some, Box, IfSome, IsSomeAnd}
 use Rattle.std.specs.List.{AllByRecursion}
 use Rattle.std.specs.declared.alloc.Global.{Global}
@@ -32,6 +32,7 @@ use Rattle.stop_plan.specs.declared.ending.Ending.{Ending}
 use Rattle.cm_desk.specs.Bay.{Base, base_of, HasLines, IsAtHome, IsBased, IsHome, IsRewired, IsUsedUp}
 use Rattle.cm_desk.specs.End.{HasSettled}
 use Rattle.cm_desk.specs.Roster.{Listed, serial_in}
+use Rattle.cm_desk.specs.Supplies.{stands_for}
 use Rattle.cm_desk.specs.Works.{IsKept, IsWorkedOut, HasCommitted, state_with}
 use Rattle.cm_desk.specs.declared.bay.Bay.{Bay}
 use Rattle.cm_desk.specs.declared.bay.Spare.{Spare}
@@ -44,9 +45,11 @@ pub record IsSameBase (before after : Base) : Type 0 where
   pub home : IsSomeAnd after.hangar (IsHome after.plant after.ending)
   pub mails : after.mails ≡ before.mails
   pub stations : after.stations ≡ before.stations
+  pub members : after.members ≡ before.members
   pub lists : after.lists ≡ before.lists
   pub untold : after.told ≡ false
   pub spare_lists : after.spare_lists ≡ before.spare_lists
+  pub size : after.size ≡ before.size
   pub room : after.room ≡ before.room
 
 -- so it is of a bay whose hardware changed
@@ -57,9 +60,11 @@ rewired b b' berths is = record {
   home = is.home;
   mails = is.mails;
   stations = ap (λ (x : Spare). x.stations.items) is.spare;
+  members = ap (λ (x : Spare). x.order.items) is.spare;
   lists = is.lists;
   untold = is.untold;
   spare_lists = is.spare_lists;
+  size = is.size;
   room = is.room;
 }
 
@@ -83,6 +88,7 @@ at_rest b left b' k r h home away room taken same rests plant =
       lists = ap (λ (x : Bay). x.lists) rests ∙ ap (λ (x : Bay). x.lists) away;
       untold = ap (λ (x : Bay). x.told) rests;
       spare_lists = ap (λ (x : Bay). x.spare_lists) rests ∙ ap (λ (x : Bay). x.spare_lists) away;
+      size = ap (λ (x : Bay). x.size) rests ∙ ap (λ (x : Bay). x.size) away;
       room = ap (λ (x : Bay). x.room) rests ∙ room;
     }
 
@@ -108,6 +114,8 @@ based_with d was order before after based same =
       home = home.1;
       home_is = home.0;
       fitted = rw (places, same.stations) based.fitted;
+      ordered = λ down. rw (same.members, same.stations) (based.ordered down);
+      size = rw (same.size) based.size;
       lines = rw (same.lists) based.lines;
       shown = λ away. (let no : false ≡ true = sym away ∙ home.0 in cc);
       told = λ yes. (let no : false ≡ true = sym same.untold ∙ yes in cc);
@@ -220,9 +228,11 @@ pub record IsHomeBase (d : Description) (before after : Base) : Type 0 where
   pub home : IsSomeAnd after.hangar (IsHome after.plant after.ending)
   pub flags : HasFlags (length d.controllers) after.ending
   pub fitted : AllByRecursion (IsFitted after.plant.places) after.stations
+  pub ordered : after.members ≡ map stands_for after.stations
   pub lines : HasLines d after.lists
   pub told : after.told ≡ true → Shows after.plant.hardware after.lists
   pub spare_lines : HasLines d after.spare_lists
+  pub size : after.size ≡ before.size
   pub room : after.room ≡ before.room
 
 based_at_home : (d : Description) (aloft : Bool) (was order : List Member) (before after : Base) → IsBased d aloft was before → IsHomeBase d before after → IsBased d false order after
@@ -234,6 +244,8 @@ based_at_home d aloft was order before after based is =
       home = home.1;
       home_is = home.0;
       fitted = is.fitted;
+      ordered = λ down. is.ordered;
+      size = rw (is.size) based.size;
       lines = is.lines;
       shown = λ away. (let no : false ≡ true = sym away ∙ home.0 in cc);
       told = is.told;
@@ -278,9 +290,9 @@ ended_view d blanks sessions loads slots slots' asked before after ended count c
 -- what is kept goes by these parts of a base, where no cycle is aloft
 pub kept_idle : (s : State) (names : List (List ℕ)) (before after : Base) (looked : Listed) → IsKept s names before looked → s.aloft ≡ false
     → after.plant ≡ before.plant → after.ending ≡ before.ending → after.hangar ≡ before.hangar → after.lists ≡ before.lists → after.told ≡ before.told → after.spare_lists ≡ before.spare_lists
-    → after.room ≡ before.room
-    → AllByRecursion (IsFitted after.plant.places) after.stations → IsKept s names after looked
-kept_idle s names before after looked kept down plant ending hangar lists told spare_lists room fitted = record {
+    → after.size ≡ before.size → after.room ≡ before.room
+    → AllByRecursion (IsFitted after.plant.places) after.stations → after.members ≡ map stands_for after.stations → IsKept s names after looked
+kept_idle s names before after looked kept down plant ending hangar lists told spare_lists size room fitted ordered = record {
   worked_out = rw plant kept.worked_out;
   described = kept.described;
   divided = kept.divided;
@@ -299,6 +311,8 @@ kept_idle s names before after looked kept down plant ending hangar lists told s
     home = rw (plant, ending, hangar) kept.based.home;
     home_is = ap (λ (o : Option (Box Craft Global)). is_some o) hangar ∙ kept.based.home_is;
     fitted = fitted;
+    ordered = λ yet. ordered;
+    size = rw size kept.based.size;
     lines = rw lists kept.based.lines;
     shown = λ away. rw (plant, lists) (kept.based.shown (sym (ap (λ (o : Option (Box Craft Global)). is_some o) hangar) ∙ away));
     told = λ yes. rw (plant, lists) (kept.based.told (sym told ∙ yes));
@@ -319,4 +333,4 @@ pub used_idle : (s : State) (names : List (List ℕ)) (before b : Bay) (m n : �
     → IsKept s names (base_of b n) looked
 used_idle s names before b m n looked kept down used =
     kept_idle s names (base_of before m) (base_of b n) looked kept down (ap (λ (x : Bay). x.plant.value) used.bay) (ap (λ (x : Bay). x.ending.value) used.bay) (ap (λ (x : Bay). x.hangar) used.bay)
-    (ap (λ (x : Bay). x.lists) used.bay) (ap (λ (x : Bay). x.told) used.bay) (ap (λ (x : Bay). x.spare_lists) used.bay) (ap (λ (x : Bay). x.room) used.bay) (rw (used.stations) tt)
+    (ap (λ (x : Bay). x.lists) used.bay) (ap (λ (x : Bay). x.told) used.bay) (ap (λ (x : Bay). x.spare_lists) used.bay) (ap (λ (x : Bay). x.size) used.bay) (ap (λ (x : Bay). x.room) used.bay) (rw (used.stations) tt) (rw (used.order, used.stations) refl)

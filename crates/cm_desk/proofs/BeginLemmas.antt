@@ -329,14 +329,16 @@ kept_aloft s names before after was listed kept numbered down unclosed within is
 
 -- What is kept of a base that is away.
 pub based_aloft : (d : Description) (was order : List Member) (before after : Base) → IsBased d false was before
-    → after.room ≡ before.room → after.ending ≡ before.ending → after.hangar ≡ None → after.stations ≡ [] → HasLines d after.lists → Shows after.plant.hardware after.lists
+    → after.size ≡ before.size → after.room ≡ before.room → after.ending ≡ before.ending → after.hangar ≡ None → after.stations ≡ [] → HasLines d after.lists → Shows after.plant.hardware after.lists
     → length order ≤ after.stands → length order ≤ after.berths → IsBased d true order after
-based_aloft d was order before after based room ending away none lines shown stands berths = record {
+based_aloft d was order before after based size room ending away none lines shown stands berths = record {
   wide = room ∙ based.wide;
   flags = rw ending based.flags;
   home = rw away tt;
   home_is = rw away refl;
   fitted = rw none tt;
+  ordered = λ down. cc;
+  size = rw size based.size;
   lines = lines;
   shown = λ gone. shown;
   told = λ yes. shown;

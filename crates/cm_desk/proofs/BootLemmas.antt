@@ -11,7 +11,7 @@ use Rattle.cm_model.specs.declared.blanks.Blanks.{Blanks}
 use Rattle.cm_model.specs.declared.member.Member.{Member}
 use Rattle.cm_hardware.specs.Holding.{IsHardwareOf}
 use Rattle.cm_hardware.specs.Shown.{HasLinesFor}
-use Rattle.cm_hardware.specs.Wiring.{Wired, Mounted}
+use Rattle.cm_hardware.specs.Wiring.{Wired, Mounted, most_failures, all_joints}
 use Rattle.cm_hardware.specs.declared.lists.Lists.{Lists}
 use Rattle.cm_hardware.proofs.ListLemmas.{state_is}
 use Rattle.ctl_rack.specs.Stocks.{total}
@@ -20,9 +20,12 @@ use Rattle.ctl_slots.specs.Slots.{Slotted}
 use Rattle.stop_plan.specs.Ending.{members_in_order}
 use Rattle.cm_desk.specs.Bay.{base_of, HasLines, IsAtStart}
 use Rattle.cm_desk.specs.Roster.{Listed, IsOfNobody}
+use Rattle.cm_desk.specs.Supplies.{IsSizeOf}
 use Rattle.cm_desk.specs.Works.{IsKept, state_with}
 use Rattle.cm_desk.specs.declared.bay.Bay.{Bay}
+use Rattle.cm_desk.specs.declared.supplies.HardwareSize.{HardwareSize}
 use Rattle.cm_desk.proofs.ActiveLemmas.{order_is}
+use Rattle.cm_desk.proofs.SuppliesLemmas.{most_of, joints_of}
 
 -- with nothing loaded, and the hardware at start, the state is that at boot
 pub booted : (d : Description) (blanks left : Blanks) (sessions : ℕ) (slots : Slotted) (asked : Asked) (b : Bay) (berths : ℕ) → left ≡ blanks → slots ≡ record slots { loaded = []; aloft = false }
@@ -72,4 +75,13 @@ lines_at_start d w l starts room =
     let is = starts (record { forward = 0; passthrough = 0; pid = 0; trajectory = 0; broadcaster = 0; mock = 0 }) 0 in record {
       components = omega (arith, room.components, ap length is.wired.components, length-map w.components (λ (m : Mounted). m.hardware.description));
       interfaces = omega (arith, room.interfaces, loans_count (boot d (record { forward = 0; passthrough = 0; pid = 0; trajectory = 0; broadcaster = 0; mock = 0 }) 0) w is);
+    }
+
+-- and there is as much to tell as is described
+pub size_at_start : (d : Description) (w : Wired) → ((blanks : Blanks) (sessions : ℕ) → IsHardwareOf (boot d blanks sessions) w) → (size : HardwareSize) → size.failures ≡ most_failures w.components
+    → size.joints ≡ all_joints w.components → IsSizeOf d size
+size_at_start d w starts size failures joints =
+    let is = starts (record { forward = 0; passthrough = 0; pid = 0; trajectory = 0; broadcaster = 0; mock = 0 }) 0 in record {
+      failures = failures ∙ most_of d w is.wired.components;
+      joints = joints ∙ joints_of d w is.wired.components;
     }

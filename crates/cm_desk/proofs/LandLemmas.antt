@@ -8,6 +8,7 @@ use Rattle.cm_model.specs.Happened.{Happened}
 use Rattle.cm_model.specs.Sound.{running_part}
 use Rattle.cm_model.specs.State.{State, Loaded}
 use Rattle.cm_model.specs.declared.data.CtlData.{CtlData}
+use Rattle.cm_model.specs.declared.member.Member.{Member}
 use Rattle.cm_hardware.specs.Holding.{IsMoved}
 use Rattle.cm_hardware.specs.Shown.{HasLinesFor, Shows}
 use Rattle.cm_hardware.specs.Wiring.{Wired}
@@ -16,7 +17,7 @@ use Rattle.ctl_places.specs.Placed.{Placed}
 use Rattle.ctl_slots.specs.Calls.Slots.{CanPark, HasParked}
 use Rattle.ctl_slots.specs.Slots.{Slotted, AreDataIn, IsRunOf}
 use Rattle.rt_flight.specs.Cells.{Seat}
-use Rattle.rt_flight.specs.Flights.{FlightFacts, AreSeatsAfter, ComesHome}
+use Rattle.rt_flight.specs.Flights.{FlightFacts, AreSeatsAfter, ComesHome, member_in}
 use Rattle.rt_flight.specs.Stations.{Standing, IsFitted}
 use Rattle.rt_flight.specs.declared.craft.Craft.{Craft}
 use Rattle.rt_flight.specs.declared.plant.Plant.{Plant}
@@ -26,6 +27,7 @@ use Rattle.cm_desk.specs.Bay.{base_of, HasLines}
 use Rattle.cm_desk.specs.Boarding.{CanLeave, HaveLeft}
 use Rattle.cm_desk.specs.End.{CanLand, CanComeHome, HasComeHome, CanSettle}
 use Rattle.cm_desk.specs.Roster.{Listed}
+use Rattle.cm_desk.specs.Supplies.{stands_for}
 use Rattle.cm_desk.specs.Works.{IsKept as KeepsState}
 use Rattle.cm_desk.specs.declared.bay.Bay.{Bay}
 use Rattle.cm_desk.proofs.AfterLemmas.{kept_ended}
@@ -50,6 +52,11 @@ cells_run loaded (l ∷ ls) (c ∷ cs) after = ap suc (cells_run loaded ls cs af
 stations_fitted : (placed : Placed) (cs : List Seat) → AllByRecursion (λ (c : Seat). IsFitted placed c.station) cs → AllByRecursion (IsFitted placed) (map (λ (c : Seat). c.station) cs)
 stations_fitted placed [] fitted = tt
 stations_fitted placed (c ∷ cs) fitted = (fitted.0, stations_fitted placed cs fitted.1)
+
+-- who stood in these cells stands at their stations
+who_stood : (cs : List Seat) → map stands_for (map (λ (c : Seat). c.station) cs) ≡ map member_in cs
+who_stood [] = refl
+who_stood (c ∷ cs) = ap (λ (ms : List Member). member_in c ∷ ms) (who_stood cs)
 
 -- there is room for the lists of a description where there is for those of its hardware
 lines_of : (s : State) (w : Wired) (l : Lists) → IsMoved s w → HasLinesFor w l → HasLines s.description l
@@ -115,6 +122,10 @@ module _ (s : State) (slots : Slotted) (looked : Listed) (b : Bay) (berths : ℕ
   pub fitted : (stations : List Standing) (boxes : List CtlData) → HaveLeft cells stations boxes → AllByRecursion (IsFitted k.plant.places) stations
   fitted stations boxes left = subst (AllByRecursion (IsFitted k.plant.places)) (sym left.stations) (stations_fitted k.plant.places cells home.equipped.fitted)
 
+  -- it is known who stands there
+  pub ordered : (stations : List Standing) (boxes : List CtlData) → HaveLeft cells stations boxes → k.order.items ≡ map stands_for stations
+  ordered stations boxes left = home.equipped.order ∙ sym (who_stood cells) ∙ ap (map stands_for) (sym left.stations)
+
   -- the lists that come home are those of the hardware, and there is room for as many lines
   pub lines : HasLines s.description k.lists
   lines = lines_of (landed s (cycle s)) k.plant.hardware k.lists (subst (λ (h : Plant). IsMoved (landed s (cycle s)) h.hardware) (sym home.plant) can.lands.computed.hardware) home.equipped.lines
@@ -153,4 +164,4 @@ kept_home s names b b' berths berths' was looked slots slots' f kept lands home 
       placed = ap (λ (g : Plant). g.places) home.plant ∙ lands.computed.placed;
       timed = ap (λ (g : Plant). g.period_us) home.plant ∙ lands.computed.timed;
     })
-    (record { home = home.home; flags = home.flags; fitted = home.fitted; lines = home.lines; told = home.told; spare_lines = home.spare_lines; room = home.room })
+    (record { home = home.home; flags = home.flags; fitted = home.fitted; ordered = home.ordered; lines = home.lines; told = home.told; spare_lines = home.spare_lines; size = home.size; room = home.room })

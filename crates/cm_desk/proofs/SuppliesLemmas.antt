@@ -1,12 +1,12 @@
 -- What a cycle can tell, of the hardware of a state.
-use Rattle.std.proofs.Common.{◌≡◌, ◌+◌, List, [], ◌∷◌, ◌++◌, length, map, refl, sym, ap, ◌∙◌}
+use Rattle.std.proofs.Common.{◌≡◌, ◌+◌, List, [], ◌∷◌, ◌++◌, length, map, refl, sym, ap, ap₂, ◌∙◌}
 use Rattle.cm_document.specs.declared.description.Description.{Description}
 use Rattle.sequence.proofs.ListLemmas.{all_push}
 use Rattle.cm_model.specs.declared.member.Member.{Member}
 use Rattle.cm_hardware.specs.Wiring.{Wired, Mounted, most_failures, all_joints, can_fail, one_if}
 use Rattle.ctl_places.specs.Placed.{Placed}
 use Rattle.rt_flight.specs.Stations.{Standing, IsFitted}
-use Rattle.cm_desk.specs.Supplies.{failing, joints, IsBuiltAs, IsStandOf, AreStandsOf, AreStations}
+use Rattle.cm_desk.specs.Supplies.{failing, joints, stands_for, IsBuiltAs, IsStandOf, AreStandsOf, AreStations}
 
 -- ---- Components
 
@@ -32,6 +32,14 @@ stands_pushed [] m [] s all one = (one, tt)
 stands_pushed [] m (x ∷ ss) s all one = absurd all
 stands_pushed (n ∷ ms) m [] s all one = absurd all
 stands_pushed (n ∷ ms) m (x ∷ ss) s all one = (all.0, stands_pushed ms m ss s all.1 one)
+
+-- who stands at the stations of controllers is these
+pub stands_same : (ms : List Member) (ss : List Standing) → AreStandsOf ms ss → map stands_for ss ≡ ms
+stands_same [] [] all = refl
+stands_same [] (x ∷ ss) all = absurd all
+stands_same (m ∷ ms) [] all = absurd all
+stands_same (m ∷ ms) (s ∷ ss) all =
+    ap₂ (λ (first : Member) (rest : List Member). first ∷ rest) (ap₂ (λ a b. record { serial = a; place = b }) all.0.serial all.0.place) (stands_same ms ss all.1)
 
 -- that of one more comes last
 pub stations_pushed : (placed : Placed) (ms : List Member) (m : Member) (ss : List Standing) (s : Standing) → AreStations placed ms ss → IsStandOf m s → IsFitted placed s

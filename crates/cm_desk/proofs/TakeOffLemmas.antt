@@ -317,9 +317,10 @@ kept_off s t names before b b' berths berths' was looked slots slots' f kept dec
     let order : looked.order ≡ members_in_order (begun t) = listed.order fresh ∙ sym (same_order t (begun t) actives refl) in
     let plant : b'.plant.value ≡ before.plant.value = ap (λ (x : Bay). x.plant.value) off.bay ∙ ap (λ (x : Bay). x.plant.value) used in
     let ending : b'.ending.value ≡ before.ending.value = ap (λ (x : Bay). x.ending.value) off.bay ∙ ap (λ (x : Bay). x.ending.value) used in
+    let size : b'.size ≡ before.size = ap (λ (x : Bay). x.size) off.bay ∙ ap (λ (x : Bay). x.size) used in
     let room : b'.room ≡ before.room = ap (λ (x : Bay). x.room) off.bay ∙ ap (λ (x : Bay). x.room) used in
     let same : b'.plant.value ≡ b.plant.value = ap (λ (x : Bay). x.plant.value) off.bay in
     let based : IsBased t.description false was.order (base_of before berths) = subst (λ (aloft : Bool). IsBased t.description aloft was.order (base_of before berths)) decided.down kept.based in
     kept_aloft t names (base_of before berths) (base_of b' berths') was looked kept decided.numbered decided.down decided.unclosed decided.within listed fresh plant
-    (based_aloft t.description was.order looked.order (base_of before berths) (base_of b' berths') based room ending (ap (λ (x : Bay). x.hangar) off.bay) off.none_stands off.lines
+    (based_aloft t.description was.order looked.order (base_of before berths) (base_of b' berths') based size room ending (ap (λ (x : Bay). x.hangar) off.bay) off.none_stands off.lines
     (rw same off.shown) (rw order off.stands) berth_places)

@@ -1,5 +1,5 @@
 -- What a cycle works on, at home or aloft.
-use Rattle.std.specs.Prelude.{◌≡◌, ℕ, ◌≤◌, Bool, true, false, not, List, [], length, vec_capacity, is_some, Box, Option, None, IfSome, IsSomeAnd}
+use Rattle.std.specs.Prelude.{◌≡◌, ℕ, ◌≤◌, Bool, true, false, not, List, [], length, map, vec_capacity, is_some, Box, Option, None, IfSome, IsSomeAnd}
 use Rattle.std.specs.List.{AllByRecursion}
 use Rattle.std.specs.declared.alloc.Global.{Global}
 use Rattle.cm_document.specs.Places.{interfaces_of}
@@ -19,11 +19,12 @@ use Rattle.rt_flight.specs.declared.plant.Plant.{Plant}
 use Rattle.stop_plan.specs.Ending.{HasFlags}
 use Rattle.stop_plan.specs.declared.ending.Ending.{Ending}
 use Rattle.switch_plan.specs.Relations.{relations_of}
-use Rattle.cm_desk.specs.Supplies.{CanSupply}
+use Rattle.cm_desk.specs.Supplies.{AreKept, CanSupply, IsSizeOf, stands_for}
 use Rattle.cm_desk.specs.declared.bay.Bay.{Bay}
+use Rattle.cm_desk.specs.declared.supplies.HardwareSize.{HardwareSize}
 
 -- What is seen of it: what a cycle works on and the sets of its end, as they stand at home, or as they were when they left; what of it
--- is at home; the mail that is aloft; the stations that are at home; the lists that were written down, whether they are those of the
+-- is at home; the mail that is aloft; the stations that are at home, and who stands there; the lists that were written down, whether they are those of the
 -- hardware, and room for the next; and for how many of those that run there is room for a box and for a station.
 pub record Base : Type 0 where
   pub plant : Plant
@@ -31,9 +32,11 @@ pub record Base : Type 0 where
   pub hangar : Option (Box Craft Global)
   pub mails : List MailAloft
   pub stations : List Standing
+  pub members : List Member
   pub lists : Lists
   pub told : Bool
   pub spare_lists : Lists
+  pub size : HardwareSize
   pub room : ℕ
   pub stands : ℕ
   pub berths : ℕ
@@ -46,9 +49,11 @@ base_of b berths = record {
   hangar = b.hangar;
   mails = b.mails.value.items;
   stations = b.spare.stations.items;
+  members = b.spare.order.items;
   lists = b.lists;
   told = b.told;
   spare_lists = b.spare_lists;
+  size = b.size;
   room = b.room;
   stands = vec_capacity b.spare.stations;
   berths = berths;
@@ -74,7 +79,7 @@ pub record IsListing (b : Bay) : Type 0 where
   pub shown : is_some b.hangar ≡ false → Shows b.plant.value.hardware b.lists
 
 -- What is kept of it, while a cycle is aloft or not, whose controllers these are: what is at home is so, and between two cycles all of
--- it is; each station that is at home is fitted; there is room for the lists, which are written down while it is away, for the next
+-- it is; each station that is at home is fitted, and it is known who stands there; so is how much there can be to tell; there is room for the lists, which are written down while it is away, for the next
 -- ones, while none is aloft, and for each box and each station that is away then. Where the lists are told, they are those of the hardware.
 pub record IsBased (d : Description) (aloft : Bool) (order : List Member) (b : Base) : Type 0 where
   pub wide : b.room ≡ widest
@@ -82,6 +87,8 @@ pub record IsBased (d : Description) (aloft : Bool) (order : List Member) (b : B
   pub home : IfSome b.hangar (IsHome b.plant b.ending)
   pub home_is : is_some b.hangar ≡ not aloft
   pub fitted : AllByRecursion (IsFitted b.plant.places) b.stations
+  pub ordered : aloft ≡ false → b.members ≡ map stands_for b.stations
+  pub size : IsSizeOf d b.size
   pub lines : HasLines d b.lists
   pub shown : is_some b.hangar ≡ false → Shows b.plant.hardware b.lists
   pub told : b.told ≡ true → Shows b.plant.hardware b.lists
@@ -99,17 +106,19 @@ pub record IsRewired (before after : Bay) : Type 0 where
   pub lists : after.lists ≡ before.lists
   pub untold : after.told ≡ false
   pub spare_lists : after.spare_lists ≡ before.spare_lists
+  pub size : after.size ≡ before.size
   pub room : after.room ≡ before.room
 
 -- What was left over is used up, and all else stays.
 pub record IsUsedUp (before after : Bay) : Type 0 where
   pub stations : after.spare.stations.items ≡ []
+  pub order : after.spare.order.items ≡ []
   pub bay : after ≡ record before { spare = after.spare }
 
--- It can be supplied for these controllers: it is that of the description, each is described, and the stations that are there are fitted.
+-- It can be supplied for these controllers: it is that of the description, each is described, and what was left over is kept.
 pub record CanBeSupplied (d : Description) (b : Bay) (order : List Member) : Type 0 where
-  pub plant : CanSupply d b.plant.value order
-  pub fitted : AllByRecursion (IsFitted b.plant.value.places) b.spare.stations.items
+  pub plant : CanSupply d b.plant.value.places b.size order
+  pub kept : AreKept b.plant.value.places b.spare.stations.items b.spare.order.items
 
 -- What works in a cycle can leave: it is at home, and there is room for its lists, which are those of its hardware where they are told.
 pub record CanCastOff (b : Bay) : Type 0 where
@@ -134,6 +143,7 @@ pub record HasUnloaded (before after : Bay) (k : Craft) : Type 0 where
   pub told : after.told ≡ not k.has_failed
   pub spare_lists : after.spare_lists ≡ before.lists
   pub stations : after.spare.stations ≡ before.spare.stations
+  pub order : after.spare.order ≡ k.order
   pub bay : after ≡ record before { lists = after.lists; told = after.told; spare_lists = after.spare_lists; spare = after.spare }
 
 -- This is at home, with its lists, and no mail is aloft.
@@ -143,9 +153,11 @@ pub record HasMoored (before after : Bay) (k : Craft) : Type 0 where
   pub home : IsAtHome after
   pub no_mail : after.mails.value.items ≡ []
   pub stations : after.spare.stations ≡ before.spare.stations
+  pub order : after.spare.order ≡ k.order
   pub lists : after.lists ≡ k.lists
   pub told : after.told ≡ not k.has_failed
   pub spare_lists : after.spare_lists ≡ before.lists
+  pub size : after.size ≡ before.size
   pub room : after.room ≡ before.room
 
 -- At start the hardware is that of the state at boot, whatever its blanks and sessions, and all is at home.

@@ -1,5 +1,5 @@
 -- The landing of a flight, in its parts: the boxes and what works in a cycle come home, and then those are stopped that failed.
-use Rattle.std.specs.Prelude.{◌≡◌, ℕ, ◌≤◌, true, false, List, [], length, vec_capacity}
+use Rattle.std.specs.Prelude.{◌≡◌, ℕ, ◌≤◌, true, false, List, [], length, map, vec_capacity}
 use Rattle.std.specs.List.{All, AllByRecursion}
 use Rattle.cm_document.specs.Valid.{IsValid}
 use Rattle.cm_model.specs.Cycle.{cycle, landed, after_cycle, failed_in}
@@ -18,6 +18,7 @@ use Rattle.sound_laws.proofs.SerialLemmas.{IsNumbered}
 use Rattle.stop_plan.specs.Ending.{HasFlags, IsEndingOf, told_in, erred_in}
 use Rattle.cm_desk.specs.Bay.{HasLines, IsAtHome}
 use Rattle.cm_desk.specs.Roster.{Listed, IsListedOf}
+use Rattle.cm_desk.specs.Supplies.{stands_for}
 use Rattle.cm_desk.specs.Works.{IsAsDescribed}
 use Rattle.cm_desk.specs.declared.bay.Bay.{Bay}
 
@@ -83,8 +84,10 @@ pub record HasComeHome (s : State) (before after : Slotted) (looked : Listed) (b
   pub home : IsAtHome b'
   pub flags : HasFlags (length s.description.controllers) b'.ending.value
   pub fitted : AllByRecursion (IsFitted b'.plant.value.places) b'.spare.stations.items
+  pub ordered : b'.spare.order.items ≡ map stands_for b'.spare.stations.items
   pub no_mail : b'.mails.value.items ≡ []
   pub lines : HasLines s.description b'.lists
   pub told : b'.told ≡ true → Shows b'.plant.value.hardware b'.lists
   pub spare_lines : HasLines s.description b'.spare_lists
+  pub size : b'.size ≡ b.size
   pub room : b'.room ≡ b.room

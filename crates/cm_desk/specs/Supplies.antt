@@ -12,7 +12,7 @@ use Rattle.chain_order.specs.Links.{linked}
 use Rattle.ctl_places.specs.Placed.{Placed, placed_of}
 use Rattle.ctl_slots.specs.Lives.{publishes}
 use Rattle.rt_flight.specs.Stations.{Standing, IsFitted}
-use Rattle.rt_flight.specs.declared.plant.Plant.{Plant}
+use Rattle.cm_desk.specs.declared.supplies.HardwareSize.{HardwareSize}
 use Rattle.cm_desk.specs.declared.supplies.Supplies.{Supplies}
 
 -- ---- Room to tell of a cycle
@@ -69,10 +69,29 @@ pub record AreStations (placed : Placed) (order : List Member) (stations : List 
   pub stands : AreStandsOf order stations
   pub fitted : AllByRecursion (IsFitted placed) stations
 
--- A cycle can be supplied on this plant in which these controllers are active: it is that of the description, and each is described.
-pub record CanSupply (d : Description) (g : Plant) (order : List Member) : Type 0 where
-  pub places : g.places ≡ placed_of d
-  pub build : IsBuiltAs d g.hardware
+-- who stands there
+abbrev pub stands_for : Standing → Member
+stands_for s = record { serial = s.serial; place = s.place }
+
+-- These were left over: stations that are fitted, and who stands there.
+pub record AreKept (placed : Placed) (stations : List Standing) (members : List Member) : Type 0 where
+  pub fitted : AllByRecursion (IsFitted placed) stations
+  pub ordered : members ≡ map stands_for stations
+
+-- These run: the stations of these controllers, and the same controllers once more, for the flight.
+pub record IsRun (placed : Placed) (run : List Member) (ss : List Standing) (ms : List Member) : Type 0 where
+  pub stations : AreStations placed run ss
+  pub order : ms ≡ run
+
+-- hardware of this description has so much to tell in a cycle
+pub record IsSizeOf (d : Description) (s : HardwareSize) : Type 0 where
+  pub failures : s.failures ≡ failing d.components
+  pub joints : s.joints ≡ joints d.components
+
+-- A cycle can be supplied in which these controllers are active: the places and the size are those of the description, and each is described.
+pub record CanSupply (d : Description) (placed : Placed) (s : HardwareSize) (order : List Member) : Type 0 where
+  pub places : placed ≡ placed_of d
+  pub size : IsSizeOf d s
   pub within : All (λ m. m.place < length d.controllers) order
 
 -- There are the stations of these controllers; the same controllers once more, for the flight; room for the serials of those

@@ -13,7 +13,7 @@ ghost use Rattle.cm_desk.specs.Works.{CanSwitch, HasSwitched, KeepsRest};
 
 use crate::commits::commit;
 use crate::roster::Roster;
-use crate::supplies::{Supplies, supplies_for};
+use crate::supplies::{HardwareSize, Supplies, supplies_for};
 use cm_hardware::{Lists, ResourceManager};
 use cm_model::{Checked, CompLine, CycleParts, IfaceLine, Life, Member, Memory, SECOND_US, Seq};
 use ctl_places::CtlPlaces;
@@ -45,6 +45,8 @@ pub(crate) struct Bay {
     pub(crate) told: bool,
     /// Room for the lists that the next flight writes down.
     pub(crate) spare_lists: Lists,
+    /// How much the hardware can have to tell in a cycle.
+    pub(crate) size: HardwareSize,
     /// Room for what one controller reads when it comes to run.
     pub(crate) room: Room,
 }
@@ -54,8 +56,9 @@ pub(crate) struct Bay {
 pub(crate) struct Spare {
     /// The stations of those that flew last; none while a cycle is aloft.
     pub(crate) stations: Vec<Station>,
-    /// Room for who flies, and for the serials of those whose update fails.
+    /// Who they are.
     pub(crate) order: Vec<Member>,
+    /// Room for the serials of those whose update fails.
     pub(crate) erred: Vec<u32>,
     /// Room for the mail that goes aloft.
     pub(crate) mails: Vec<MailAloft>,
@@ -67,6 +70,7 @@ impl Spare {
     /// Nothing is left over.
     pub(crate) fn none(alloc: Global) -> Spare
         ensures stations { result.stations.items ≡ [] }
+        ensures order { result.order.items ≡ [] }
         ensures mails { result.mails.items ≡ [] }
     {
         Spare {
@@ -88,6 +92,10 @@ impl Bay {
         let hardware = ResourceManager::make(alloc, checked)?;
         let lists = hardware.room_for_lists(alloc)?;
         let spare_lists = hardware.room_for_lists(alloc)?;
+        let size = HardwareSize {
+            failures: hardware.most_failures(),
+            joints: hardware.joints(),
+        };
         let plant = Plant {
             hardware,
             places: CtlPlaces::of(alloc, checked)?,
@@ -106,6 +114,7 @@ impl Bay {
             lists,
             told: false,
             spare_lists,
+            size,
             room,
         })
     }
@@ -194,7 +203,15 @@ impl Bay {
         let Some(hangar) = &self.hangar else {
             unreachable!();
         };
-        supplies_for(alloc, checked, &hangar.plant, order, loaded, spare)
+        supplies_for(
+            alloc,
+            checked,
+            &hangar.plant.places,
+            self.size,
+            order,
+            loaded,
+            spare,
+        )
     }
 
     /// What works in a cycle is here again, after something was done to its hardware. The lists are told anew before the next flight.

@@ -4,15 +4,14 @@ ghost use Rattle.std.specs.Prelude.{◌≡◌, ◌+◌, ◌≤◌, ◌<◌, [], 
 ghost use Rattle.std.specs.List.{AllByRecursion};
 ghost use Rattle.ctl_places.specs.Placed.{placed_of};
 ghost use Rattle.rt_flight.specs.Stations.{HasRows, IsFitted};
-ghost use Rattle.cm_desk.specs.Supplies.{AreStandsOf, AreStations, AreSupplies, CanSupply, HasRoom, IsBuiltAs, IsStandOf, outs_at, numbers_at};
+ghost use Rattle.cm_desk.specs.Supplies.{AreKept, AreStandsOf, AreStations, AreSupplies, CanSupply, HasRoom, IsRun, IsSizeOf, IsStandOf, outs_at, numbers_at};
 
 use crate::bay::Spare;
 use crate::works::described_at;
-use cm_hardware::ResourceManager;
 use cm_model::{Checked, CycleParts, Member, Memory, Params, RecordRoom, RecordSize};
 use ctl_places::CtlPlaces;
 use ctl_slots::MailAloft;
-use rt_flight::{Plant, Station};
+use rt_flight::Station;
 use std::alloc::Global;
 
 /// All that a cycle takes along, or works on, but for the hardware and the boxes.
@@ -30,18 +29,28 @@ pub(crate) struct Supplies {
     pub(crate) room: RecordRoom,
 }
 
+/// How much hardware can have to tell in a cycle. It stays as it is described.
+#[derive(Clone, Copy, Debug)]
+pub(crate) struct HardwareSize {
+    /// How many of its reads and writes can fail.
+    pub(crate) failures: usize,
+    /// How many joints it has.
+    pub(crate) joints: usize,
+}
+
 /// What a cycle takes in which these controllers are active, of so many that are loaded. What others left over is used again.
 pub(crate) fn supplies_for(
     alloc: Global,
     checked: &Checked,
-    plant: &Plant,
+    places: &CtlPlaces,
+    size: HardwareSize,
     order: &[Member],
     loaded: usize,
     spare: Spare,
 ) -> Result<Supplies, Memory>
-    requires plant { CanSupply checked.now plant.now order.now }
-    requires fitted { AllByRecursion (IsFitted plant.now.places) spare.stations.items }
-    ensures { IfOk result (AreSupplies checked.now plant.now.places order.now loaded) }
+    requires plant { CanSupply checked.now places.now size order.now }
+    requires kept { AreKept places.now spare.stations.items spare.order.items }
+    ensures { IfOk result (AreSupplies checked.now places.now order.now loaded) }
 {
     let Spare {
         stations,
@@ -50,32 +59,34 @@ pub(crate) fn supplies_for(
         mails,
         left_over,
     } = spare;
-    let places = &plant.places;
-    let room = record_for(alloc, checked, places, &plant.hardware, order, left_over)?;
+    let room = record_for(alloc, checked, places, size, order, left_over)?;
+    let (stations, members) = run_for(alloc, places, order, stations, members)?;
     Ok(Supplies {
-        stations: stations_for(alloc, places, order, stations)?,
-        order: filled(members, order)?,
+        stations,
+        order: members,
         erred: with_room(erred, order.len())?,
         mails: with_room(mails, loaded)?,
         room,
     })
 }
 
-/// The stations of these controllers: those that are there, where they are theirs, and else new ones.
-fn stations_for(
+/// The stations of these controllers, and who they are: those that are there, where the same flew last, and else new ones.
+fn run_for(
     alloc: Global,
     places: &CtlPlaces,
     order: &[Member],
     stations: Vec<Station>,
-) -> Result<Vec<Station>, Memory>
+    members: Vec<Member>,
+) -> Result<(Vec<Station>, Vec<Member>), Memory>
     requires rows { All (λ m. HasRows places.now m.place) order.now }
-    requires fitted { AllByRecursion (IsFitted places.now) stations.items }
-    ensures { IfOk result (λ all. AreStations places.now order.now all.items) }
+    requires kept { AreKept places.now stations.items members.items }
+    ensures { IfOk result (λ run. IsRun places.now order.now run.0.items run.1.items) }
 {
     if are_stations_of(&stations, order) {
-        return Ok(stations);
+        return Ok((stations, members));
     }
-    new_stations(alloc, places, order)
+    let members = filled(members, order)?;
+    Ok((new_stations(alloc, places, order)?, members))
 }
 
 /// New stations for these controllers.
@@ -132,27 +143,27 @@ fn with_room<T: Drop>(list: Vec<T>, count: usize) -> Result<Vec<T>, Memory>
     Ok(empty)
 }
 
-/// A record for a cycle of this hardware in which these controllers are active, with room for all that it can tell. Its parts come to stand
+/// A record for a cycle of hardware of this size in which these controllers are active, with room for all that it can tell. Its parts come to stand
 /// in the place that another cycle left over, where there is one.
 fn record_for(
     alloc: Global,
     checked: &Checked,
     places: &CtlPlaces,
-    hardware: &ResourceManager,
+    size: HardwareSize,
     order: &[Member],
     left_over: Option<Box<CycleParts>>,
 ) -> Result<RecordRoom, Memory>
     requires places { places.now ≡ placed_of checked.now }
-    requires build { IsBuiltAs checked.now hardware.now }
+    requires size { IsSizeOf checked.now size }
     requires within { All (λ m. m.place < length checked.now.controllers) order.now }
     ensures { IfOk result (HasRoom checked.now places.now order.now) }
 {
     let size = RecordSize {
-        failed: hardware.most_failures(),
+        failed: size.failures,
         ran: order.len(),
         values: count_values(places, order)?,
         numbers: count_numbers(checked, places, order)?,
-        bodies: hardware.joints(),
+        bodies: size.joints,
         stops: order.len(),
     };
     Ok(RecordRoom::with_room(alloc, size, left_over)?)

@@ -3,7 +3,7 @@ use Rattle.cm_hardware.specs.Wiring.{Wired}
 use Rattle.ctl_slots.specs.Slots.{Slotted}
 use Rattle.rt_flight.specs.declared.craft.Craft.{Craft}
 use Rattle.rt_flight.specs.declared.plant.Plant.{Plant}
-use Rattle.cm_desk.proofs.LandLemmas.{can_leave, can_park, can_settle, flags, fitted, lines, shows, not_so}
+use Rattle.cm_desk.proofs.LandLemmas.{can_leave, can_park, can_settle, flags, fitted, ordered, lines, shows, not_so}
 use Rattle.cm_desk.proofs.land.bring_home.Goals as goal
 
 pub come_home-cells-requires : goal.come_home-cells-requires
@@ -45,6 +45,8 @@ returns-clause-home g c = λ s is.
       flags = rw ending (flags s _ _ _ _ _ is _ _ _ came);
       fitted = rw (ap (λ (h : Plant). h.places) (plant ∙ ap (λ (k : Craft). k.plant) leaves ∙ ap (λ (k : Craft). record k.plant { hardware = c.settle.new.craft.plant.hardware }) c.deref_mut.ensures.value), ap (λ x. x.items) c.moor.ensures.stations)
           (fitted s _ _ _ _ _ is _ _ _ came _ _ c.disembark.ensures.left);
+      ordered = ap (λ x. x.items) (c.moor.ensures.order ∙ ap (λ (k : Craft). k.order) leaves ∙ ap (λ (k : Craft). k.order) c.deref_mut.ensures.value)
+          ∙ rw (ap (λ x. x.items) c.moor.ensures.stations) (ordered s _ _ _ _ _ is _ _ _ came _ _ c.disembark.ensures.left);
       no_mail = c.moor.ensures.no_mail;
       lines = rw lists (lines s _ _ _ _ _ is _ _ _ came);
       told = λ yes.
@@ -53,6 +55,7 @@ returns-clause-home g c = λ s is.
           let same : c.settle.new.craft ≡ c.come_home-cells.result.craft.value = c.settle.ensures.craft.quiet quiet ∙ c.deref_mut.ensures.value in
           rw (plant ∙ ap (λ (k : Craft). k.plant) same, lists) (shows s _ _ _ _ _ is _ _ _ came);
       spare_lines = rw (c.moor.ensures.spare_lists) is.lines;
+      size = c.moor.ensures.size;
       room = c.moor.ensures.room ∙ c.settle.ensures.rest.width;
     }
 

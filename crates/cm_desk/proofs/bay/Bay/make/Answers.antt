@@ -1,7 +1,7 @@
 use Rattle.std.proofs.Common.{refl, sym, ap, ◌∙◌}
 use Rattle.rt_flight.specs.declared.craft.Craft.{Craft}
 use Rattle.rt_flight.specs.declared.plant.Plant.{Plant}
-use Rattle.cm_desk.proofs.BootLemmas.{lines_at_start}
+use Rattle.cm_desk.proofs.BootLemmas.{lines_at_start, size_at_start}
 use Rattle.cm_desk.proofs.bay.Bay.make.Goals as goal
 
 pub returns : goal.returns
@@ -21,6 +21,8 @@ returns c =
         home = record { plant = ap (λ (k : Craft). k.plant) c.in_ok-craft.ensures.ok ∙ c.idle.ensures.plant ∙ sym plant; ending = ap (λ (k : Craft). k.ending) c.in_ok-craft.ensures.ok ∙ c.idle.ensures.ending ∙ sym ending };
         home_is = refl;
         fitted = rw (c.none-spare.ensures.stations) tt;
+        ordered = λ down. rw (c.none-spare.ensures.order, c.none-spare.ensures.stations) refl;
+        size = size_at_start c.args.checked.now _ c.in_ok-hardware.ensures _ c.most_failures.ensures c.joints.ensures;
         lines = lines_at_start c.args.checked.now _ c.in_ok-lists.lists c.in_ok-hardware.ensures c.in_ok-lists.ensures;
         shown = λ none. cc;
         told = λ yes. cc;

@@ -15,8 +15,10 @@ returns c =
       home = record { plant = sym plant; ending = sym ending };
       no_mail = rw (c.of-3.ensures) c.clear.ensures.items;
       stations = left.stations;
+      order = left.order ∙ ap (λ (k : Craft). k.order) same;
       lists = left.lists ∙ ap (λ (k : Craft). k.lists) same;
       told = left.told ∙ ap (λ (k : Craft). not k.has_failed) same;
       spare_lists = left.spare_lists;
+      size = ap (λ (b : Bay). b.size) left.bay;
       room = ap (λ (b : Bay). b.room) left.bay;
     }

@@ -29,10 +29,10 @@ supply-requires-clause-can g c =
     let settled = and_parts a.roster.fresh (none_waits a.requests.requests a.requests.outcomes) (sym c.is_settled.ensures ∙ c.if-not-is_settled.false) in record {
       plant = record {
         places = c.self.invariant.worked_out.placed;
-        build = c.self.invariant.hardware.wired.components;
+        size = c.self.invariant.based.size;
         within = rw (c.order.ensures, c.self.invariant.listed.order settled.0) (order_within s c.self.invariant.described);
       };
-      fitted = c.self.invariant.based.fitted;
+      kept = record { fitted = c.self.invariant.based.fitted; ordered = c.self.invariant.based.ordered (begins_down s (rw (← c.self.view_is) at c.requires.can)) };
     }
 
 -- where memory ran out the state is as before
@@ -41,7 +41,7 @@ invariant_of-self g c =
     let a = c.self.inside in
     let s = state_with a.checked a.blanks a.sessions a.loads a.slots a.requests (base_of a.bay (vec_capacity a.boxes)) a.ended a.closed in
     kept_idle s a.names.items (base_of a.bay (vec_capacity a.boxes)) (base_of a.bay (vec_capacity c.make_places.new.boxes)) a.roster c.self.invariant
-    (begins_down s (rw (← c.self.view_is) at c.requires.can)) refl refl refl refl refl refl refl c.self.invariant.based.fitted
+    (begins_down s (rw (← c.self.view_is) at c.requires.can)) refl refl refl refl refl refl refl refl c.self.invariant.based.fitted (c.self.invariant.based.ordered (begins_down s (rw (← c.self.view_is) at c.requires.can)))
 
 -- what others left over may be used up then
 pub invariant_of-self-in_err-supplies : goal.invariant_of-self-in_err-supplies

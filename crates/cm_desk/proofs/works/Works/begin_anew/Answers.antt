@@ -40,10 +40,10 @@ supply-requires-clause-can g c =
     let order : c.in_ok-plan.plan.order.items ≡ members_in_order (boundary s) = planned_order s c.in_ok-plan.plan planned in record {
       plant = record {
         places = c.self.invariant.worked_out.placed;
-        build = c.self.invariant.hardware.wired.components;
+        size = c.self.invariant.based.size;
         within = rw (c.deref.ensures.value, order) (order_decided s c.self.invariant.described);
       };
-      fitted = c.self.invariant.based.fitted;
+      kept = record { fitted = c.self.invariant.based.fitted; ordered = c.self.invariant.based.ordered (begins_down s (rw (← c.self.view_is) at c.requires.can)) };
     }
 
 -- where memory ran out the state is as before
@@ -52,14 +52,14 @@ invariant_of-self g c =
     let a = c.self.inside in
     let s = state_with a.checked a.blanks a.sessions a.loads a.slots a.requests (base_of a.bay (vec_capacity a.boxes)) a.ended a.closed in
     kept_idle s a.names.items (base_of a.bay (vec_capacity a.boxes)) (base_of a.bay (vec_capacity c.make_places.new.boxes)) a.roster c.self.invariant
-    (begins_down s (rw (← c.self.view_is) at c.requires.can)) refl refl refl refl refl refl refl c.self.invariant.based.fitted
+    (begins_down s (rw (← c.self.view_is) at c.requires.can)) refl refl refl refl refl refl refl refl c.self.invariant.based.fitted (c.self.invariant.based.ordered (begins_down s (rw (← c.self.view_is) at c.requires.can)))
 
 pub invariant_of-self-in_err-run : goal.invariant_of-self-in_err-run
 invariant_of-self-in_err-run g c =
     let a = c.self.inside in
     let s = state_with a.checked a.blanks a.sessions a.loads a.slots a.requests (base_of a.bay (vec_capacity a.boxes)) a.ended a.closed in
     kept_idle s a.names.items (base_of a.bay (vec_capacity a.boxes)) (base_of a.bay (vec_capacity c.make_places.new.boxes)) a.roster c.self.invariant
-    (begins_down s (rw (← c.self.view_is) at c.requires.can)) refl refl refl refl refl refl refl c.self.invariant.based.fitted
+    (begins_down s (rw (← c.self.view_is) at c.requires.can)) refl refl refl refl refl refl refl refl c.self.invariant.based.fitted (c.self.invariant.based.ordered (begins_down s (rw (← c.self.view_is) at c.requires.can)))
 
 pub invariant_of-self-in_err-supplies : goal.invariant_of-self-in_err-supplies
 invariant_of-self-in_err-supplies g c =
