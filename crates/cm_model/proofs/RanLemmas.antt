@@ -67,7 +67,8 @@ rans_length (h ∷ hs) vs ns = ap (λ n. suc n) (rans_length hs (drop h.outs vs)
 
 -- ---- Nothing to tell
 
-no_item : {A : Type 0} (xs : List A) → (length xs == 0) ≡ true → xs ≡ []
+-- of a list that is empty
+pub no_item : {A : Type 0} (xs : List A) → (length xs == 0) ≡ true → xs ≡ []
 no_item [] none = refl
 no_item (x ∷ xs) none = let some = not_empty (x ∷ xs) (omega arith) in cc
 

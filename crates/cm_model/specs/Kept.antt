@@ -1,6 +1,9 @@
 -- A call as the history keeps it stands for the call.
+use Rattle.std.specs.Prelude.{Bool, true, false}
 use Rattle.cm_document.specs.declared.call.Call.{Call}
 use Rattle.cm_document.specs.declared.call.Call.TheVariants as call
+use Rattle.cm_model.specs.declared.entry.CycleCall.{CycleCall}
+use Rattle.cm_model.specs.declared.entry.CycleCall.TheVariants as of_cycle
 use Rattle.cm_model.specs.declared.entry.Short.{Short}
 use Rattle.cm_model.specs.declared.entry.Short.TheVariants as short
 
@@ -15,3 +18,14 @@ kept_call (short.Begin cycle) = call.Begin cycle
 kept_call (short.End cycle) = call.End cycle
 kept_call short.Close = call.Close
 kept_call (short.Long kept) = kept
+
+-- whether a call begins or ends a cycle
+abbrev pub is_of_cycle : Call → Bool
+is_of_cycle (call.Begin _) = true
+is_of_cycle (call.End _) = true
+is_of_cycle _ = false
+
+-- what the loop calls so
+abbrev pub call_of : CycleCall → Call
+call_of (of_cycle.Begin cycle) = call.Begin cycle
+call_of (of_cycle.End cycle) = call.End cycle

@@ -1,8 +1,8 @@
 //! Entries: what a history keeps of a call.
 
-ghost use Rattle.std.specs.Prelude.{◌≡◌, ◌++◌, IfOk, IfSome, OnOk, option_map, string_bytes};
+ghost use Rattle.std.specs.Prelude.{◌≡◌, ◌++◌, false, IfOk, IfSome, OnOk, MatchOption, option_map, string_bytes};
 ghost use Rattle.cm_model.specs.Trace.{load_name};
-ghost use Rattle.cm_model.specs.Kept.{kept_call};
+ghost use Rattle.cm_model.specs.Kept.{kept_call, is_of_cycle, call_of};
 
 use crate::append::push_numbered;
 use crate::reply::Reply;
@@ -31,6 +31,15 @@ const _: () = prove!(size_of::<Entry>() == 48);
 #[derive(Clone, Debug, Drop)]
 pub struct KeptCall {
     kept: Short,
+}
+
+/// A call that the loop makes in each cycle, with the number of the cycle.
+#[derive(Clone, Copy, Debug, PartialEq, Eq)]
+pub enum CycleCall {
+    /// It begins.
+    Begin(u64),
+    /// It ends.
+    End(u64),
 }
 
 /// The calls that are short, and the others on the heap.
@@ -121,6 +130,29 @@ impl KeptCall {
             Short::Long(call) => load_name(call.get()),
             _ => None,
         }
+    }
+
+    /// The begin or the end of a cycle, where it is one.
+    pub fn of_cycle(&self) -> Option<CycleCall>
+        ensures { MatchOption result (is_of_cycle self.now ≡ false) (λ call. self.now ≡ call_of call) }
+    {
+        match &self.kept {
+            Short::Begin(cycle) => Some(CycleCall::Begin(*cycle)),
+            Short::End(cycle) => Some(CycleCall::End(*cycle)),
+            Short::Long(call) => of_cycle(call.get()),
+            _ => None,
+        }
+    }
+}
+
+/// The begin or the end of a cycle, where a call is one.
+fn of_cycle(call: &Call) -> Option<CycleCall>
+    ensures { MatchOption result (is_of_cycle call.now ≡ false) (λ it. call.now ≡ call_of it) }
+{
+    match call {
+        Call::Begin(cycle) => Some(CycleCall::Begin(*cycle)),
+        Call::End(cycle) => Some(CycleCall::End(*cycle)),
+        _ => None,
     }
 }
 

@@ -13,7 +13,7 @@ pub use cm_document::{
 };
 pub use component::JointInterface;
 pub use data::{CtlData, RunData};
-pub use entry::{Entry, KeptCall};
+pub use entry::{CycleCall, Entry, KeptCall};
 pub use fault_kind::{FAULT_KINDS, FaultKind};
 pub use fixed_num::{BodyState, JointMode, StoredValue, Value};
 pub use lines::{CompLine, CtlLine, IfaceLine};

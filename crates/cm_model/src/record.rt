@@ -75,7 +75,7 @@ impl Model for CycleRecord {
 }
 
 impl CycleRecord {
-    ghost use Rattle.cm_model.specs.Held.{happened_in_parts};
+    ghost use Rattle.cm_model.specs.Held.{happened_in_parts, tells_nothing};
 
     /// The record of a cycle of which there is nothing to tell. It takes no memory.
     pub fn quiet(cycle: u64) -> CycleRecord
@@ -111,6 +111,16 @@ impl CycleRecord {
         match &self.held {
             Held::Quiet(cycle) => *cycle,
             Held::Whole(parts) => parts.cycle,
+        }
+    }
+
+    /// Whether there is nothing to tell but the cycle's number.
+    pub fn tells_nothing(&self) -> bool
+        ensures { result ≡ tells_nothing self.now }
+    {
+        match &self.held {
+            Held::Quiet(_) => true,
+            Held::Whole(parts) => parts.tells_nothing(),
         }
     }
 
