@@ -3,3 +3,4 @@ pub mod HeadLemmas
 pub mod NameLemmas
 pub mod JoinLemmas
 pub mod LineLemmas
+pub mod NoneLemmas

@@ -1,11 +1,12 @@
 //! Words and numbers, appended to the bytes of a line.
 
-ghost use Rattle.std.specs.Prelude.{◌≡◌, ◌+◌, ◌*◌, ◌/◌, ◌%◌, ◌<◌, ◌≤◌, [], ◌∷◌, ◌++◌, codes, nat_abs, OnOk, vec_len, vec_capacity};
+ghost use Rattle.std.specs.Prelude.{◌≡◌, ◌+◌, ◌*◌, ◌/◌, ◌%◌, ◌<◌, ◌≤◌, [], ◌∷◌, ◌++◌, codes, decimal, nat_abs, OnOk, vec_len, vec_capacity};
 ghost use Rattle.fixed_num.specs.Text.{spelled, sign_text, six_digits};
 ghost use Rattle.fixed_num.specs.declared.TheConstants.{MICRO};
 
 use cm_model::{Fx, Memory};
 use fixed_num::MICRO;
+use itoa::Buffer;
 
 /// Appends a word.
 pub(crate) fn push_word(text: &mut Vec<u8>, word: &str) -> Result<(), Memory>
@@ -13,6 +14,15 @@ pub(crate) fn push_word(text: &mut Vec<u8>, word: &str) -> Result<(), Memory>
 {
     text.extend_from_slice(word.as_bytes())?;
     Ok(())
+}
+
+/// Appends a word and a count.
+pub(crate) fn push_counted(text: &mut Vec<u8>, word: &str, count: u64) -> Result<(), Memory>
+    ensures { OnOk result (text.new.items ≡ text.old.items ++ word.now ++ decimal count) }
+{
+    push_word(text, word)?;
+    let mut buffer = Buffer::new();
+    push_word(text, buffer.format(count))
 }
 
 /// Appends a space and a number's text. Nearly always one digit stands before the point: then the bytes are put down in a row, for a

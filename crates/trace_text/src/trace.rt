@@ -1,17 +1,20 @@
 //! The trace of a history, a line a piece.
 
-ghost use Rattle.std.specs.Prelude.{◌≡◌, ◌++◌, true, codes, flat_map, OnOk, OnErr, string_bytes};
+ghost use Rattle.std.specs.Prelude.{◌≡◌, ◌++◌, true, codes, flat_map, IfSome, OnOk, OnErr};
 ghost use Rattle.std.specs.Io.KnownBytes.{Appends};
 ghost use Rattle.outside_io.specs.Bytes.{AppendsPrefix};
+ghost use Rattle.cm_document.specs.CallText.{call_text};
+ghost use Rattle.cm_model.specs.Items.{Names as Told};
+ghost use Rattle.cm_model.specs.Kept.{call_of};
 ghost use Rattle.cm_model.specs.Trace.{caller_text, line_text, reply_text, trace};
 ghost use Rattle.trace_text.specs.Faults.{HasFault};
-ghost use Rattle.trace_text.specs.Replies.{is_in_words, head_text, cycle_text};
+ghost use Rattle.trace_text.specs.Replies.{head_text, rest_text};
 
-use crate::bytes::push_word;
+use crate::bytes::{push_counted, push_word};
 use crate::items::push_in_words;
 use crate::names::Names;
 use crate::records::push_record;
-use cm_model::{Checked, CycleRecord, Entry, Memory, Reply, Script, SessionText};
+use cm_model::{Checked, CycleCall, Entry, Memory, Reply, Script, SessionText};
 use outside_io::{Failed, Sink, write_whole};
 use std::alloc::Global;
 use thiserror::Error;
@@ -59,69 +62,108 @@ fn caller(sessions: &[SessionText], who: u32) -> &str
     }
 }
 
-/// Appends what stands before the reply in the line of an entry.
-fn push_head(text: &mut String, sessions: &[SessionText], entry: &Entry) -> Result<(), Memory>
-    ensures { OnOk result
-        (string_bytes text.new ≡ string_bytes text.old ++ head_text sessions.now entry.now) }
+/// The call of a cycle that an entry of the loop has, where it has one.
+fn cycle_of_loop(sessions: &[SessionText], entry: &Entry) -> Option<CycleCall>
+    ensures { IfSome result (λ call. head_text sessions.now entry.now ≡ codes "loop " ++ call_text (call_of call)) }
 {
-    text.push_str(caller(sessions, entry.who))?;
-    text.push(' ')?;
-    entry.call.push_to(text)?;
-    text.push(':')?;
-    text.push(' ')?;
-    Ok(())
+    match sessions.get(entry.who as usize) {
+        Some(_) => None,
+        None => entry.call.of_cycle(),
+    }
 }
 
-/// Appends what stands behind the head in a line that is told in words.
-fn push_rest(text: &mut String, names: &Names<'_>, reply: &Reply) -> Result<(), Memory>
-    requires { is_in_words reply.now ≡ true }
-    ensures { OnOk result
-        (string_bytes text.new ≡ string_bytes text.old ++ reply_text names.now reply.now ++ codes "\n") }
-{
-    push_in_words(text, names, reply)?;
-    text.push('\n')?;
-    Ok(())
-}
-
-/// Appends the line of a cycle, behind its head.
-fn push_cycle(
+/// Appends what stands before the reply in the line of an entry. Two lines of each cycle begin with the loop's call, which prints in two
+/// pieces.
+fn push_head(
     line: &mut Vec<u8>,
-    head: &str,
-    names: &Names<'_>,
-    record: &CycleRecord,
+    words: &mut String,
+    sessions: &[SessionText],
+    entry: &Entry,
 ) -> Result<(), Memory>
-    ensures { OnOk result
-        (line.new.items ≡ line.old.items ++ head.now ++ cycle_text names.now record.now) }
+    ensures { OnOk result (line.new.items ≡ line.old.items ++ head_text sessions.now entry.now) }
 {
-    push_word(line, head)?;
-    push_record(line, names, record)?;
-    line.push(b'\n')?;
-    Ok(())
+    if let Some(call) = cycle_of_loop(sessions, entry) {
+        return push_turn(line, call);
+    }
+    push_word(line, caller(sessions, entry.who))?;
+    push_word(line, " ")?;
+    words.clear();
+    entry.call.push_to(words)?;
+    push_word(line, words.as_str())
 }
 
-/// Writes the line of a cycle as one piece, and again what the sink did not take of it. What stood in its room is gone.
-fn write_cycle<K: Sink>(
-    sink: &mut K,
+/// Appends the loop's begin or end of a cycle.
+fn push_turn(line: &mut Vec<u8>, call: CycleCall) -> Result<(), Memory>
+    ensures { OnOk result (line.new.items ≡ line.old.items ++ codes "loop " ++ call_text (call_of call)) }
+{
+    match call {
+        CycleCall::Begin(cycle) => push_counted(line, "loop begin ", cycle),
+        CycleCall::End(cycle) => push_counted(line, "loop end ", cycle),
+    }
+}
+
+/// Appends what stands behind the head of a line, with its end.
+fn push_rest(
     line: &mut Vec<u8>,
-    head: &str,
+    words: &mut String,
     names: &Names<'_>,
-    record: &CycleRecord,
-) -> Result<(), OutFault>
-    ensures ok { OnOk result
-        (Appends (K.taken sink.old) (K.taken sink.new) (head.now ++ cycle_text names.now record.now)) }
-    ensures err { OnErr result
-        (AppendsPrefix (K.taken sink.old) (K.taken sink.new) (head.now ++ cycle_text names.now record.now)) }
-    ensures flushed { K.flushed sink.new ≡ K.flushed sink.old }
-    ensures fault { HasFault (K.faults sink.old) (K.faults sink.new) result }
+    reply: &Reply,
+) -> Result<(), Memory>
+    ensures { OnOk result (line.new.items ≡ line.old.items ++ rest_text names.now reply.now) }
+{
+    if has_no_item(reply) {
+        return push_word(line, ": none\n");
+    }
+    push_word(line, ": ")?;
+    push_reply(line, words, names, reply)?;
+    push_word(line, "\n")
+}
+
+/// Whether a begin decided nothing, or an end has nothing to tell: in most runs that is so in most cycles.
+#[tactic(auto, using(crate::proofs::NoneLemmas::nothing_prints_as_none))]
+fn has_no_item(reply: &Reply) -> bool
+    ensures { result ≡ true → (names : Told) → reply_text names reply.now ≡ codes "none" }
+{
+    match reply {
+        Reply::Decisions(decisions) => decisions.as_slice().is_empty(),
+        Reply::Cycle(record) => record.tells_nothing(),
+        _ => false,
+    }
+}
+
+/// Appends a reply: the record of a cycle as bytes, any other in words.
+fn push_reply(
+    line: &mut Vec<u8>,
+    words: &mut String,
+    names: &Names<'_>,
+    reply: &Reply,
+) -> Result<(), Memory>
+    ensures { OnOk result (line.new.items ≡ line.old.items ++ reply_text names.now reply.now) }
+{
+    if let Reply::Cycle(record) = reply {
+        return push_record(line, names, record);
+    }
+    words.clear();
+    push_in_words(words, names, reply)?;
+    push_word(line, words.as_str())
+}
+
+/// Makes the line of an entry. Both are only room: what stood there is gone.
+fn make_line(
+    line: &mut Vec<u8>,
+    words: &mut String,
+    sessions: &[SessionText],
+    names: &Names<'_>,
+    entry: &Entry,
+) -> Result<(), Memory>
+    ensures { OnOk result (line.new.items ≡ line_text sessions.now names.now entry.now) }
 {
     line.clear();
-    push_cycle(line, head, names, record)?;
-    write_whole(sink, line.as_slice())?;
-    Ok(())
+    push_head(line, words, sessions, entry)?;
+    push_rest(line, words, names, &entry.reply)
 }
 
-/// Writes the line of an entry as one piece, and again what the sink did not take of it: that of a cycle as bytes, any other in words.
-/// Both are only room: what stood there is gone.
+/// Writes the line of an entry as one piece, and again what the sink did not take of it. It is made in this room.
 fn write_line<K: Sink>(
     sink: &mut K,
     line: &mut Vec<u8>,
@@ -137,13 +179,8 @@ fn write_line<K: Sink>(
     ensures flushed { K.flushed sink.new ≡ K.flushed sink.old }
     ensures fault { HasFault (K.faults sink.old) (K.faults sink.new) result }
 {
-    words.clear();
-    push_head(words, sessions, entry)?;
-    if let Reply::Cycle(record) = &entry.reply {
-        return write_cycle(sink, line, words.as_str(), names, record);
-    }
-    push_rest(words, names, &entry.reply)?;
-    write_whole(sink, words.as_bytes())?;
+    make_line(line, words, sessions, names, entry)?;
+    write_whole(sink, line.as_slice())?;
     Ok(())
 }
 
