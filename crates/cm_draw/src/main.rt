@@ -97,11 +97,11 @@ fn job_of<E: Env + AllocGlobal>(rt: &E) -> Result<JobKind, Status> {
         Ok(words) => words,
         Err(_) => return Err(Status::Memory),
     };
-    kind_of(words.as_slice())
+    job_kind(words.as_slice())
 }
 
 /// The job of these words.
-fn kind_of(words: &[String]) -> Result<JobKind, Status> {
+fn job_kind(words: &[String]) -> Result<JobKind, Status> {
     let Some((word, others)) = words.split_first() else {
         return Ok(JobKind::Run);
     };
@@ -153,7 +153,7 @@ struct Described {
     script: Script,
 }
 
-fn parts_of(document: &Document) -> Result<Described, Memory> {
+fn own_parts(document: &Document) -> Result<Described, Memory> {
     Ok(Described {
         description: document.description.description().clone()?,
         script: document.script.clone()?,
@@ -170,7 +170,7 @@ fn draw_document<K: Sink, C: Controller>(
 ) -> Status
     requires rules { MeetsRules document.script }
 {
-    let Ok(described) = parts_of(&document) else {
+    let Ok(described) = own_parts(&document) else {
         return Status::Memory;
     };
     let job = Job { kind, make: None };

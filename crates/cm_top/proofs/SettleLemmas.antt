@@ -11,7 +11,7 @@ use Rattle.cm_model.specs.Ports.{Console}
 use Rattle.cm_model.proofs.AdvanceLemmas.{settle-next, settle-stays}
 use Rattle.cm_model.specs.declared.entry.Entry.{Entry}
 use Rattle.cm_desk.specs.Desk.{History, now_of, IsAloftAlike}
-use Rattle.console_session.specs.Sessions.{Standing, left_of, Advances, AdvancesAsWritten}
+use Rattle.console_session.specs.Sessions.{SessionState, left_of, Advances, AdvancesAsWritten}
 use Rattle.console_session.specs.declared.session.Progress.{Progress as CameTo}
 use Rattle.console_session.specs.declared.session.Progress.TheVariants as progress
 use Rattle.cm_top.specs.Jobs.{at, progress_of}
@@ -19,12 +19,12 @@ use Rattle.cm_top.specs.Ports.{DeskGround, desk_console, ground_of}
 
 -- ---- One advance
 
-same_advanced : (s s' : State) (made made' : List Entry) (x : Standing) → s ≡ s' → made ≡ made'
+same_advanced : (s s' : State) (made made' : List Entry) (x : SessionState) → s ≡ s' → made ≡ made'
     → ◌≡◌ {A = Advanced} (record { state = s; made = made; session = left_of x }) (record { state = s'; made = made'; session = left_of x })
 same_advanced s s' made made' x e f = rw (e, f) refl
 
 -- a session that ran over the desk's console has advanced as it is written
-pub port_ran : (who w w' : ℕ) (h h' : History) (x x' : Standing) → h'.opening ≡ h.opening
+pub port_ran : (who w w' : ℕ) (h h' : History) (x x' : SessionState) → h'.opening ≡ h.opening
     → AdvancesAsWritten progress.Ran (desk_console who h w) (desk_console who h' w') x x' → advance who (at h (left_of x)) ≡ Some (at h' (left_of x'))
 port_ran who w w' h h' x x' opening advanced =
     let grown = advanced h.made refl in
@@ -32,40 +32,40 @@ port_ran who w w' h h' x x' opening advanced =
     grown.2 ∙ ap (λ (a : Advanced). Some a) (same_advanced _ _ _ _ x' (rw (opening, made) refl) made)
 
 -- one that did not has no advance
-pub port_waits : (p : CameTo) (who w w' : ℕ) (h h' : History) (x x' : Standing) → (p ≡ progress.Ran → ⊥)
+pub port_waits : (p : CameTo) (who w w' : ℕ) (h h' : History) (x x' : SessionState) → (p ≡ progress.Ran → ⊥)
     → AdvancesAsWritten p (desk_console who h w) (desk_console who h' w') x x' → (advance who (at h (left_of x)) ≡ None) × (h'.made ≡ h.made)
 port_waits progress.Ran who w w' h h' x x' other advanced = absurd (other refl)
 port_waits progress.Waits who w w' h h' x x' other advanced = let grown = advanced h.made refl in (grown.2.0, same_Some _ _ grown.1 ∙ grown.2.1)
 port_waits progress.Ended who w w' h h' x x' other advanced = let grown = advanced h.made refl in (grown.2.0, same_Some _ _ grown.1 ∙ grown.2.1)
 
 -- its console is of the number that the session had
-same_number : (p : CameTo) (who a b w w' : ℕ) (h h' : History) (x x' : Standing) → a ≡ who → b ≡ a
+same_number : (p : CameTo) (who a b w w' : ℕ) (h h' : History) (x x' : SessionState) → a ≡ who → b ≡ a
     → AdvancesAsWritten p (desk_console a h w) (desk_console b h' w') x x' → AdvancesAsWritten p (desk_console who h w) (desk_console who h' w') x x'
 same_number p who a b w w' h h' x x' same kept advanced =
     subst (λ n. AdvancesAsWritten p (desk_console n h w) (desk_console n h' w') x x') same (subst (λ n. AdvancesAsWritten p (desk_console a h w) (desk_console n h' w') x x') kept advanced)
 
-same_console : (p : CameTo) (who a b w w' : ℕ) (h h' : History) (x x' : Standing) → a ≡ who → b ≡ a
+same_console : (p : CameTo) (who a b w w' : ℕ) (h h' : History) (x x' : SessionState) → a ≡ who → b ≡ a
     → Advances p (desk_console a h w) (desk_console b h' w') x x' → Advances p (desk_console who h w) (desk_console who h' w') x x'
 same_console p who a b w w' h h' x x' same kept advanced =
     subst (λ n. Advances p (desk_console n h w) (desk_console n h' w') x x') same (subst (λ n. Advances p (desk_console a h w) (desk_console n h' w') x x') kept advanced)
 
 -- to advance and then to settle is to settle
-pub settle_goes_on : (p : CameTo) (who a b w w' : ℕ) (h h' : History) (x x' : Standing) → p ≡ progress.Ran → a ≡ who → b ≡ a → h'.opening ≡ h.opening
+pub settle_goes_on : (p : CameTo) (who a b w w' : ℕ) (h h' : History) (x x' : SessionState) → p ≡ progress.Ran → a ≡ who → b ≡ a → h'.opening ≡ h.opening
     → AdvancesAsWritten p (desk_console a h w) (desk_console b h' w') x x' → settle who (at h' (left_of x')) ≡ settle who (at h (left_of x))
 settle_goes_on p who a b w w' h h' x x' ran same kept opening advanced =
     settle-next who (at h (left_of x)) (at h' (left_of x')) (port_ran who w w' h h' x x' opening (rw ran at (same_number p who a b w w' h h' x x' same kept advanced)))
 
 -- a session that did not run stands where it stood
-stays : (p : CameTo) (old new : Console) (x x' : Standing) → (p ≡ progress.Ran → ⊥) → Advances p old new x x' → x' ≡ x
+stays : (p : CameTo) (old new : Console) (x x' : SessionState) → (p ≡ progress.Ran → ⊥) → Advances p old new x x' → x' ≡ x
 stays progress.Ran old new x x' other advanced = absurd (other refl)
 stays progress.Waits old new x x' other advanced = advanced.stays
 stays progress.Ended old new x x' other advanced = advanced.stays
 
-same_at : (h h' : History) (x x' : Standing) → h'.opening ≡ h.opening → h'.made ≡ h.made → x' ≡ x → at h' (left_of x') ≡ at h (left_of x)
+same_at : (h h' : History) (x x' : SessionState) → h'.opening ≡ h.opening → h'.made ≡ h.made → x' ≡ x → at h' (left_of x') ≡ at h (left_of x)
 same_at h h' x x' opening made same = rw (opening, made, same) refl
 
 -- so it is settled, over the desk as its console leaves it
-pub settle_ends : (p : CameTo) (who a b w w' : ℕ) (first h h' last : History) (x₀ x x' : Standing) → (p ≡ progress.Ran → ⊥) → a ≡ who → b ≡ a → h'.opening ≡ h.opening
+pub settle_ends : (p : CameTo) (who a b w w' : ℕ) (first h h' last : History) (x₀ x x' : SessionState) → (p ≡ progress.Ran → ⊥) → a ≡ who → b ≡ a → h'.opening ≡ h.opening
     → AdvancesAsWritten p (desk_console a h w) (desk_console b h' w') x x' → Advances p (desk_console a h w) (desk_console b h' w') x x'
     → settle who (at h (left_of x)) ≡ settle who (at first (left_of x₀)) → last ≡ h' → settle who (at first (left_of x₀)) ≡ at last (left_of x')
 settle_ends p who a b w w' first h h' last x₀ x x' other same kept opening written advanced settled left =
@@ -87,18 +87,18 @@ abbrev first_of : SessionText → Session
 first_of text = record { lines = text.lines; ticket = None }
 
 -- one session more, at its first line
-pub waiting_more : (texts : List SessionText) (i : ℕ) (text : SessionText) (xs : List Standing) (x : Standing) → i < length texts → text ≡ get_or texts i text
+pub waiting_more : (texts : List SessionText) (i : ℕ) (text : SessionText) (xs : List SessionState) (x : SessionState) → i < length texts → text ≡ get_or texts i text
     → left_of x ≡ first_of text → map left_of xs ≡ map first_of (take i texts) → map left_of (xs ++ x ∷ []) ≡ map first_of (take (i + 1) texts)
 waiting_more texts i text xs x less is first so_far =
     let next_place : i + 1 ≡ suc i = omega arith in
     rw (next_place, take-suc texts i text less, ← is, map-append left_of xs (x ∷ []), map-append first_of (take i texts) (text ∷ []), so_far, first) refl
 
 -- so there are as many sessions as texts
-pub as_many : (texts : List SessionText) (xs : List Standing) → map left_of xs ≡ map first_of texts → length xs ≡ length texts
+pub as_many : (texts : List SessionText) (xs : List SessionState) → map left_of xs ≡ map first_of texts → length xs ≡ length texts
 as_many texts xs same = sym (length-map xs left_of) ∙ ap length same ∙ length-map texts first_of
 
 -- the next session settles, and then the sessions after it
-pub settle_from_next : (who : ℕ) (xs : List Standing) (i : ℕ) (d y : Standing) (h next : History) → i < length xs
+pub settle_from_next : (who : ℕ) (xs : List SessionState) (i : ℕ) (d y : SessionState) (h next : History) → i < length xs
     → settle who (at h (left_of (get_or xs i d))) ≡ at next (left_of y)
     → settle_from (who + 1) (map left_of (drop (i + 1) (slice_set xs i y))) (now_of next) next.made (map left_of (take (i + 1) (slice_set xs i y)))
     ≡ settle_from who (map left_of (drop i xs)) (now_of h) h.made (map left_of (take i xs))
@@ -109,7 +109,7 @@ settle_from_next who xs i d y h next less settled =
 -- ---- A turn
 
 -- a session that has this number and advanced once is that turn
-step_ran : (who : ℕ) (xs : List Standing) (d y : Standing) (h next : History) → who < length xs
+step_ran : (who : ℕ) (xs : List SessionState) (d y : SessionState) (h next : History) → who < length xs
     → advance who (at h (left_of (get_or xs who d))) ≡ Some (at next (left_of y))
     → progress_of (record { desk = next; sessions = slice_set xs who y }) ≡ turned (Step who) (progress_of (record { desk = h; sessions = xs }))
 step_ran who xs d y h next less ran =
@@ -117,7 +117,7 @@ step_ran who xs d y h next less ran =
     rw (found, ran, map-set left_of xs who y) refl
 
 -- one that cannot advance stands where it stood
-step_waits : (who : ℕ) (xs : List Standing) (d y : Standing) (h next : History) → who < length xs → next.opening ≡ h.opening
+step_waits : (who : ℕ) (xs : List SessionState) (d y : SessionState) (h next : History) → who < length xs → next.opening ≡ h.opening
     → (advance who (at h (left_of (get_or xs who d))) ≡ None) × (next.made ≡ h.made) → y ≡ get_or xs who d
     → progress_of (record { desk = next; sessions = slice_set xs who y }) ≡ turned (Step who) (progress_of (record { desk = h; sessions = xs }))
 step_waits who xs d y h next less opening waits stays =
@@ -125,7 +125,7 @@ step_waits who xs d y h next less opening waits stays =
     rw (found, waits.0, stays, set-get_or xs who d, opening, waits.1) refl
 
 -- so whatever its advance came to, that is the turn
-pub step_made : (p : CameTo) (who w w' : ℕ) (xs : List Standing) (d y : Standing) (h next : History) → who < length xs → next.opening ≡ h.opening
+pub step_made : (p : CameTo) (who w w' : ℕ) (xs : List SessionState) (d y : SessionState) (h next : History) → who < length xs → next.opening ≡ h.opening
     → Advances p (desk_console who h w) (desk_console who next w') (get_or xs who d) y
     → AdvancesAsWritten p (desk_console who h w) (desk_console who next w') (get_or xs who d) y
     → progress_of (record { desk = next; sessions = slice_set xs who y }) ≡ turned (Step who) (progress_of (record { desk = h; sessions = xs }))
@@ -137,7 +137,7 @@ step_made progress.Ended who w w' xs d y h next less opening made written =
     step_waits who xs d y h next less opening (port_waits progress.Ended who w w' h next (get_or xs who d) y (λ no. cc) written) made.stays
 
 -- over the desk as its console leaves it
-pub step_over : (p : CameTo) (who a b w w' : ℕ) (xs : List Standing) (d y : Standing) (first h h' last : History) → who < length xs → a ≡ who → b ≡ a
+pub step_over : (p : CameTo) (who a b w w' : ℕ) (xs : List SessionState) (d y : SessionState) (first h h' last : History) → who < length xs → a ≡ who → b ≡ a
     → h ≡ first → h'.opening ≡ h.opening
     → Advances p (desk_console a h w) (desk_console b h' w') (get_or xs who d) y → AdvancesAsWritten p (desk_console a h w) (desk_console b h' w') (get_or xs who d) y
     → last ≡ h' → progress_of (record { desk = last; sessions = slice_set xs who y }) ≡ turned (Step who) (progress_of (record { desk = first; sessions = xs }))

@@ -2,7 +2,7 @@
 use Rattle.std.specs.Prelude.{◌≡◌, List, map}
 use Rattle.cm_model.specs.Scheduled.{Session, Advanced, Progress}
 use Rattle.cm_desk.specs.Desk.{History, now_of}
-use Rattle.console_session.specs.Sessions.{Standing, left_of}
+use Rattle.console_session.specs.Sessions.{SessionState, left_of}
 
 -- how far the run has come where a session that stands so advances over a desk of this history
 abbrev pub at : History → Session → Advanced
@@ -11,7 +11,7 @@ at h x = record { state = now_of h; made = h.made; session = x }
 -- How far a job has come: what its desk did from the opening on, and where each session stands.
 pub record JobFacts : Type 0 where
   pub desk : History
-  pub sessions : List Standing
+  pub sessions : List SessionState
 
 -- that is a progress of the schedule
 abbrev pub progress_of : JobFacts → Progress

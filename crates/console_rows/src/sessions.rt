@@ -160,7 +160,7 @@ fn lines_of(alloc: Global, head: &str) -> Result<Seq<Call>, Fail>
 {
     let mut lines = Seq::new(alloc);
     for text in head.lines() {
-        add(&mut lines, line_of(alloc, text)?)?;
+        add(&mut lines, session_line(alloc, text)?)?;
     }
     Ok(lines)
 }
@@ -188,7 +188,7 @@ fn is_line(call: &Call) -> bool
     }
 }
 
-fn line_of(alloc: Global, text: &str) -> Result<Call, Fail> {
+fn session_line(alloc: Global, text: &str) -> Result<Call, Fail> {
     let (verb, rest) = text.split_once(" ").unwrap_or((text, ""));
     match verb {
         "await" => Ok(Call::Await(rest.parse()?)),

@@ -6,33 +6,33 @@ use Rattle.fixed_num.specs.declared.memory.Memory.{Memory}
 use Rattle.cm_document.specs.declared.call.Call.{Call}
 use Rattle.cm_model.specs.Scheduled.{advance, next_call, with_entry}
 use Rattle.cm_model.specs.Ports.{Console}
-use Rattle.console_session.specs.Sessions.{Standing, HasRun, HasWaited, HasEnded, Advances, AdvancesAsWritten}
+use Rattle.console_session.specs.Sessions.{SessionState, HasRun, HasWaited, HasEnded, Advances, AdvancesAsWritten}
 use Rattle.console_session.specs.declared.session.Progress.{Progress}
 use Rattle.console_session.specs.declared.session.Progress.TheVariants as progress
 
 -- ---- The written advance
 
 -- an entry that was made is the written advance
-pub ran_written : (old new : Console) (x x' : Standing) → HasRun old new x x' → AdvancesAsWritten progress.Ran old new x x'
+pub ran_written : (old new : Console) (x x' : SessionState) → HasRun old new x x' → AdvancesAsWritten progress.Ran old new x x'
 unfolding advance
 ran_written old new x x' ran = λ h told.
     let grown = rw told at ran.made.behind in
     (with_entry h old.who ran.call ran.reply, grown.0, rw (ran.next, grown.1, ran.left) refl)
 
 -- where the session waits there is none
-pub waited_written : (old new : Console) (x x' : Standing) → HasWaited old new x x' → AdvancesAsWritten progress.Waits old new x x'
+pub waited_written : (old new : Console) (x x' : SessionState) → HasWaited old new x x' → AdvancesAsWritten progress.Waits old new x x'
 unfolding advance
 waited_written old new x x' waited = λ h told.
     let none = rw told at waited.not_yet.behind in
     (h, waited.not_yet.none.behind ∙ told, (rw (waited.next, none) refl, refl))
 
 -- nor where it has ended
-pub ended_written : (old new : Console) (x x' : Standing) → HasEnded old new x x' → AdvancesAsWritten progress.Ended old new x x'
+pub ended_written : (old new : Console) (x x' : SessionState) → HasEnded old new x x' → AdvancesAsWritten progress.Ended old new x x'
 unfolding advance
 ended_written old new x x' ended = λ h told. (h, ap (λ (c : Console). c.whole) ended.none ∙ told, (rw (ended.next) refl, refl))
 
 -- so an advance is the written one, whatever it came to
-pub advance_written : (old new : Console) (x x' : Standing) (r : Result Progress Memory) → IfOk r (λ p. Advances p old new x x') → IfOk r (λ p. AdvancesAsWritten p old new x x')
+pub advance_written : (old new : Console) (x x' : SessionState) (r : Result Progress Memory) → IfOk r (λ p. Advances p old new x x') → IfOk r (λ p. AdvancesAsWritten p old new x x')
 advance_written old new x x' (Ok progress.Ran) advanced = ran_written old new x x' advanced
 advance_written old new x x' (Ok progress.Waits) advanced = waited_written old new x x' advanced
 advance_written old new x x' (Ok progress.Ended) advanced = ended_written old new x x' advanced

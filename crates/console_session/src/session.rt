@@ -3,7 +3,7 @@
 ghost use Rattle.std.specs.Prelude.{◌≡◌, ◌<◌, length, None, true, IfOk, IfSome, OnErr, MatchOption};
 ghost use Rattle.cm_model.specs.Scheduled.{ticket_in};
 ghost use Rattle.cm_model.specs.Ports.{Makes, MakesNone, IsNotYet};
-ghost use Rattle.console_session.specs.Sessions.{IsLine, AreLines, Standing, awaited, at_first, next_of, Advances, HasStopped, AdvancesAsWritten};
+ghost use Rattle.console_session.specs.Sessions.{IsLine, AreLines, SessionState, awaited, at_first, next_of, Advances, HasStopped, AdvancesAsWritten};
 
 use cm_model::{Call, Memory, Port, Reply, SessionText};
 use std::marker::Model;
@@ -30,9 +30,9 @@ pub struct Session {
 
 impl Model for Session {
     ghost use Rattle.std.specs.Prelude.{◌≤◌, length};
-    ghost use Rattle.console_session.specs.Sessions.{Standing, AreLines};
+    ghost use Rattle.console_session.specs.Sessions.{SessionState, AreLines};
 
-    ghost Value = { Standing };
+    ghost Value = { SessionState };
 
     ghost view = { λ s. record { who = s.who; lines = s.text.lines; line = s.line; ticket = s.ticket } };
 

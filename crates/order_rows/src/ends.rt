@@ -41,7 +41,7 @@ impl Player for Robot {
         let (active, failures) = halves(act, "; ")?;
         let (components, serials) = halves(failures, "; ")?;
         let active = members_of(alloc, &self.checked, active)?;
-        let failed = parts_of(alloc, components)?;
+        let failed = write_failures(alloc, components)?;
         let erred = numbers_of(alloc, serials)?;
         end_of(alloc, &self.checked, &active, &failed, &erred)
     }
@@ -138,7 +138,7 @@ fn push_member(told: &mut String, set: &PlaceSet, place: usize, name: &str) -> R
 }
 
 /// Components whose write failed, by place; `none` stands for none.
-fn parts_of(alloc: Global, words: &str) -> Result<Vec<FailedPart>, Fail> {
+fn write_failures(alloc: Global, words: &str) -> Result<Vec<FailedPart>, Fail> {
     let mut parts = Vec::new(alloc);
     for place in numbers_of(alloc, words)?.iter() {
         parts.push(FailedPart {

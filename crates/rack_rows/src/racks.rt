@@ -6,7 +6,7 @@ ghost use Rattle.std.specs.List.{All};
 ghost use Rattle.cm_model.specs.Controllers.{IsBlank};
 
 use case_pages::pages::{Teller, halves, hold, push_parted};
-use cm_document::MOST_CONTROLLERS;
+use cm_document::{CONTROLLER_KINDS, MOST_CONTROLLERS, meaning_of};
 use cm_model::CtlKind;
 use ctl_forward::{Forward, Passthrough};
 use ctl_mock::Mock;
@@ -188,7 +188,7 @@ fn answer<C: Controller>(
 /// `KIND SERIAL`.
 fn load<C: Controller>(rack: &mut Rack<C>, given: &str) -> Result<&'static str, Fail> {
     let (kind, serial) = halves(given, " ")?;
-    let kind = kind_of(kind)?;
+    let kind = kind_named(kind)?;
     let serial = serial.parse()?;
     if rack.whereabouts(serial) != Whereabouts::Nowhere {
         return Ok("taken");
@@ -245,14 +245,9 @@ fn move_out<C: Controller>(rack: &mut Rack<C>, serial: u32) -> &'static str {
     }
 }
 
-fn kind_of(word: &str) -> Result<CtlKind, Fail> {
-    match word {
-        "forward" => Ok(CtlKind::Forward),
-        "passthrough" => Ok(CtlKind::Passthrough),
-        "pid" => Ok(CtlKind::Pid),
-        "trajectory" => Ok(CtlKind::Trajectory),
-        "broadcaster" => Ok(CtlKind::Broadcaster),
-        "mock" => Ok(CtlKind::Mock),
-        _ => Err(Fail::new("an unknown kind")),
+fn kind_named(word: &str) -> Result<CtlKind, Fail> {
+    match meaning_of(&CONTROLLER_KINDS, word.as_bytes()) {
+        Some(kind) => Ok(kind),
+        None => Err(Fail::new("an unknown kind")),
     }
 }

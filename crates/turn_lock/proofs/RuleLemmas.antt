@@ -13,7 +13,7 @@ use Rattle.turn_lock.specs.declared.view.View.{View}
 use Rattle.turn_lock.specs.declared.kept.Kept.{Ghosts}
 use Rattle.turn_lock.specs.Entries.{of}
 use Rattle.turn_lock.specs.Views.{known}
-use Rattle.turn_lock.specs.Rule.{Standing, atomic_words, value, out, living, Saw, Absorbed, Posted, Apart, Fits, IsHome, IsOut, Ruled}
+use Rattle.turn_lock.specs.Rule.{LockState, atomic_words, value, out, living, Saw, Absorbed, Posted, Apart, Fits, IsHome, IsOut, Ruled}
 use Rattle.turn_lock.proofs.ListLemmas.{at_get, sum_set, every_set, pairs_set, snoc_at}
 
 pub some_none : {C : Type 0} (a : Option ℕ) (n : ℕ) → a ≡ None → a ≡ Some n → C
@@ -33,7 +33,7 @@ module _ {E G : Type 0} where
 module _ {K E G : Type 0} (m : Ghosts K E G) (footing : G) (seats : ℕ) where
   -- the seat i goes from v to w, and with it the words, the slot and where the lock stands
   unfoldable pub change : (s : State (Spot K) (View E G)) (r : Ruled m footing seats s) (i : ℕ) (v w : View E G) → get_elem? s.views i ≡ some v
-      → (ws : List ℕ) (hs : List (Maybe (Spot K))) (t : Standing E)
+      → (ws : List ℕ) (hs : List (Maybe (Spot K))) (t : LockState E)
       → ws ≡ atomic_words t
       → out w + t.serving + r.at.ticket ≡ out v + t.ticket + r.at.serving
       → living w ≤ living v
@@ -67,7 +67,7 @@ module _ {K E G : Type 0} (m : Ghosts K E G) (footing : G) (seats : ℕ) where
 
   -- where the slot is where it was
   pub slot_kept : (s : State (Spot K) (View E G)) (r : Ruled m footing seats s) (i : ℕ) (v w : View E G) → get_elem? s.views i ≡ some v
-      → (t : Standing E)
+      → (t : LockState E)
       → (IsHome m footing s.homes r.at → IsHome m footing s.homes t)
       → (v.holds ≡ true → w.holds ≡ true)
       → IsHome m footing s.homes t ⊎ IsOut s.homes (set s.views i w)
@@ -91,12 +91,12 @@ module _ {K E G : Type 0} (m : Ghosts K E G) (footing : G) (seats : ℕ) where
           })
 
   -- while one seat waits with the served ticket, or holds the turn, no other seat holds it
-  pub others_wait : (homes : List (Maybe (Spot K))) (t : Standing E) (v u : View E G) → v.number ≡ Some t.serving → Apart v u
+  pub others_wait : (homes : List (Maybe (Spot K))) (t : LockState E) (v u : View E G) → v.number ≡ Some t.serving → Apart v u
       → Fits m footing homes t u → {C : Type 0} → u.holds ≡ true → C
   others_wait homes t v u mine apart f h = absurd (apart.tickets t.serving mine (f.turn h).0)
 
   -- a seat that stays as it is fits wherever the slot, the next ticket and the served one go, if its own ticket and its turn do
-  pub still_fits : (hs homes : List (Maybe (Spot K))) (t : Standing E) (ticket serving : ℕ) (u : View E G) → Fits m footing hs t u
+  pub still_fits : (hs homes : List (Maybe (Spot K))) (t : LockState E) (ticket serving : ℕ) (u : View E G) → Fits m footing hs t u
       → ((n : ℕ) → u.number ≡ Some n → (serving ≤ n) × (n < ticket))
       → (u.holds ≡ true → (u.number ≡ Some serving) × (u.seen ≡ t.log) × (homes ≡ none ∷ []))
       → Fits m footing homes (record t { ticket = ticket; serving = serving }) u
@@ -114,7 +114,7 @@ module _ {K E G : Type 0} (m : Ghosts K E G) (footing : G) (seats : ℕ) where
   }
 
   -- a seat without a ticket
-  pub idle_fits : (homes : List (Maybe (Spot K))) (t : Standing E) (v : View E G) → v.number ≡ None → v.holds ≡ false
+  pub idle_fits : (homes : List (Maybe (Spot K))) (t : LockState E) (v : View E G) → v.number ≡ None → v.holds ≡ false
       → Saw m.caller t.log v.mine v.seen → All (Absorbed m.caller t.log v.mine) v.absorbed → (v.alive ≡ true → v.footing ≡ Some footing)
       → ((n : ℕ) → Contains v.mine n → n < t.given) → (v.alive ≡ true → (n : ℕ) × Contains v.mine n) → ((k : ℕ) → v.given ≡ Some k → k ≡ t.given)
       → ((which : Shown) → Posted (value which t) (m.shown which) (known which v) v.holds v.seen)

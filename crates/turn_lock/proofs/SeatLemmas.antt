@@ -18,7 +18,7 @@ use Rattle.turn_lock.specs.declared.view.View.{View}
 use Rattle.turn_lock.specs.declared.kept.Kept.{Ghosts}
 use Rattle.turn_lock.specs.Entries.{of, pick}
 use Rattle.turn_lock.specs.Views.{known, first_view, dealer, dealt, joined, spent, better, longer, either_count}
-use Rattle.turn_lock.specs.Rule.{Standing, value, out, living, Saw, Absorbed, Posted, Apart, Fits, IsHome, IsOut, Ruled}
+use Rattle.turn_lock.specs.Rule.{LockState, value, out, living, Saw, Absorbed, Posted, Apart, Fits, IsHome, IsOut, Ruled}
 use Rattle.turn_lock.specs.Calls.Finish.{Ends}
 use Rattle.turn_lock.proofs.ListLemmas.{sum_set, every_set, prefix_same, of_none, of_between, longer_is, only, nothing}
 use Rattle.turn_lock.proofs.RuleLemmas.{some_none, same_number, change, slot_kept, idle_fits, enter}
@@ -30,7 +30,7 @@ module _ {K E G : Type 0} (m : Ghosts K E G) where
       → Ruled m (m.footing kept) seats (opening (0 ∷ 0 ∷ 0 ∷ 0 ∷ 0 ∷ []) (Home kept ∷ []) (first_view (m.footing kept)))
   starts kept seats some_seat most empty =
       let v = first_view {E = E} (m.footing kept) in
-      let t : Standing E = record { ticket = 0; serving = 0; given = 1; log = []; cycles = 0; tickets = 0 } in
+      let t : LockState E = record { ticket = 0; serving = 0; given = 1; log = []; cycles = 0; tickets = 0 } in
       let none_yet : (which : Shown) → value which t ≡ 0 = λ which. zero_of which in
       let mine : Fits m (m.footing kept) (some (Home kept) ∷ []) t v = idle_fits m (m.footing kept) seats (some (Home kept) ∷ []) t v refl refl
       (record { begins = prefix_same []; own = λ n c. refl })
@@ -84,7 +84,7 @@ module _ {K E G : Type 0} (m : Ghosts K E G) (footing : G) (seats : ℕ) where
       let given : k ≡ r.at.given = f.counts k keeps in
       let left = dealer v in
       let right = dealt v in
-      let t : Standing E = record r.at { given = r.at.given + 1 } in
+      let t : LockState E = record r.at { given = r.at.given + 1 } in
       let left_given : left.given ≡ Some (k + 1) = rw keeps refl in
       let right_mine : right.mine ≡ k ∷ [] = rw keeps refl in
       let none : out v ≡ 0 = rw idle in

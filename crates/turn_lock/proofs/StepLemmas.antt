@@ -19,7 +19,7 @@ use Rattle.turn_lock.specs.declared.view.View.{View}
 use Rattle.turn_lock.specs.declared.kept.Kept.{Ghosts}
 use Rattle.turn_lock.specs.Entries.{of}
 use Rattle.turn_lock.specs.Views.{known, waiting, at_turn, counted, published, loaded, passed_on}
-use Rattle.turn_lock.specs.Rule.{Standing, atomic_words, value, with_value, out, living, Saw, Absorbed, Posted, IsHome, IsOut, Ruled}
+use Rattle.turn_lock.specs.Rule.{LockState, atomic_words, value, with_value, out, living, Saw, Absorbed, Posted, IsHome, IsOut, Ruled}
 use Rattle.turn_lock.specs.Steps.{atomic_word_of, drawn, looked, counts, publishes, Loads, loads, passes_on}
 use Rattle.turn_lock.proofs.ListLemmas.{at_get, sum_le, prefix_same, prefix_more, of_other}
 use Rattle.turn_lock.proofs.RuleLemmas.{some_none, same_number, change, slot_kept, still_fits, idle_fits, others_wait}
@@ -31,28 +31,28 @@ some_step = step 0 0 0 0 none
 -- ---- The words after a step
 
 module _ {E : Type 0} where
-  draw_words : (ws : List ℕ) (t : Standing E) → ws ≡ atomic_words t → set ws 0 ((get_or ws 0 0 + 1) % 2 ^ 64) ≡ atomic_words (record t { ticket = t.ticket + 1 })
+  draw_words : (ws : List ℕ) (t : LockState E) → ws ≡ atomic_words t → set ws 0 ((get_or ws 0 0 + 1) % 2 ^ 64) ≡ atomic_words (record t { ticket = t.ticket + 1 })
   draw_words ws t e = rw e (ap (λ n. n ∷ t.serving % 2 ^ 64 ∷ length t.log ∷ t.cycles ∷ t.tickets ∷ []) (mod-add-mod t.ticket (2 ^ 64) 1))
 
-  pass_words : (ws : List ℕ) (t : Standing E) → ws ≡ atomic_words t → set ws 1 ((get_or ws 1 0 + 1) % 2 ^ 64) ≡ atomic_words (record t { serving = t.serving + 1 })
+  pass_words : (ws : List ℕ) (t : LockState E) → ws ≡ atomic_words t → set ws 1 ((get_or ws 1 0 + 1) % 2 ^ 64) ≡ atomic_words (record t { serving = t.serving + 1 })
   pass_words ws t e = rw e (ap (λ n. t.ticket % 2 ^ 64 ∷ n ∷ length t.log ∷ t.cycles ∷ t.tickets ∷ []) (mod-add-mod t.serving (2 ^ 64) 1))
 
-  count_words : (ws : List ℕ) (t : Standing E) (e : E) (log : List E) → ws ≡ atomic_words t → log ≡ t.log ++ e ∷ [] → length log < 2 ^ 64
+  count_words : (ws : List ℕ) (t : LockState E) (e : E) (log : List E) → ws ≡ atomic_words t → log ≡ t.log ++ e ∷ [] → length log < 2 ^ 64
       → set ws 2 ((get_or ws 2 0 + 1) % 2 ^ 64) ≡ atomic_words (record t { log = log })
   count_words ws t e log is more few =
       let n : length log ≡ length t.log + 1 = ap length more ∙ length-append t.log (e ∷ []) in
       let long : (length t.log + 1) % 2 ^ 64 ≡ length log = mod-eq_of_lt (subst (λ k. k < 2 ^ 64) n few) ∙ sym n in
       rw is (ap (λ k. t.ticket % 2 ^ 64 ∷ t.serving % 2 ^ 64 ∷ k ∷ t.cycles ∷ t.tickets ∷ []) long)
 
-  publish_words : (which : Shown) (ws : List ℕ) (t : Standing E) (n : ℕ) → ws ≡ atomic_words t → set ws (atomic_word_of which) n ≡ atomic_words (with_value which n t)
+  publish_words : (which : Shown) (ws : List ℕ) (t : LockState E) (n : ℕ) → ws ≡ atomic_words t → set ws (atomic_word_of which) n ≡ atomic_words (with_value which n t)
   publish_words Cycles ws t n e = rw e refl
   publish_words Tickets ws t n e = rw e refl
 
-  load_words : (which : Shown) (ws : List ℕ) (t : Standing E) → ws ≡ atomic_words t → set ws (atomic_word_of which) (get_or ws (atomic_word_of which) 0) ≡ atomic_words t
+  load_words : (which : Shown) (ws : List ℕ) (t : LockState E) → ws ≡ atomic_words t → set ws (atomic_word_of which) (get_or ws (atomic_word_of which) 0) ≡ atomic_words t
   load_words Cycles ws t e = rw e refl
   load_words Tickets ws t e = rw e refl
 
-  load_finds : (which : Shown) (ws : List ℕ) (t : Standing E) → ws ≡ atomic_words t → get_or ws (atomic_word_of which) 0 ≡ value which t
+  load_finds : (which : Shown) (ws : List ℕ) (t : LockState E) → ws ≡ atomic_words t → get_or ws (atomic_word_of which) 0 ≡ value which t
   load_finds Cycles ws t e = rw e refl
   load_finds Tickets ws t e = rw e refl
 
@@ -60,14 +60,14 @@ module _ {E : Type 0} where
 
 module _ {E : Type 0} where
   -- no published number falls by a publish
-  value_grows : (which each : Shown) (t : Standing E) (n : ℕ) → value which t ≤ n → value each t ≤ value each (with_value which n t)
+  value_grows : (which each : Shown) (t : LockState E) (n : ℕ) → value which t ≤ n → value each t ≤ value each (with_value which n t)
   value_grows Cycles Cycles t n low = low
   value_grows Cycles Tickets t n low = omega arith
   value_grows Tickets Cycles t n low = omega arith
   value_grows Tickets Tickets t n low = low
 
   -- and it is not above what the list has, if the one that was stored is not
-  value_within : (which each : Shown) (t : Standing E) (n : ℕ) (most : Shown → ℕ) → ((other : Shown) → value other t ≤ most other) → n ≤ most which → value each (with_value which n t) ≤ most each
+  value_within : (which each : Shown) (t : LockState E) (n : ℕ) (most : Shown → ℕ) → ((other : Shown) → value other t ≤ most other) → n ≤ most which → value each (with_value which n t) ≤ most each
   value_within Cycles Cycles t n most old new = new
   value_within Cycles Tickets t n most old new = old Tickets
   value_within Tickets Cycles t n most old new = old Cycles
@@ -89,7 +89,7 @@ module _ {E G : Type 0} where
   counted_posted v now shown there p holds Tickets = record { knows = (p Tickets).knows; current = λ e. absurd (true≢false e); owes = λ _. holds }
 
   -- after a publish this one is owed no longer
-  published_posted : (which : Shown) (v : View E G) (n : ℕ) (shown : Shown → List E → ℕ) (t : Standing E)
+  published_posted : (which : Shown) (v : View E G) (n : ℕ) (shown : Shown → List E → ℕ) (t : LockState E)
       → ((each : Shown) → Posted (value each t) (shown each) (known each v) v.holds v.seen) → value which t ≤ n → shown which v.seen ≡ n
       → (each : Shown) → Posted (value each (with_value which n t)) (shown each) (known each (published which v)) v.holds v.seen
   published_posted Cycles v n shown t p low is Cycles = let k = (p Cycles).knows in record { knows = omega arith; current = λ _. omega arith; owes = λ e. absurd (true≢false (sym e)) }
@@ -134,7 +134,7 @@ module _ {K E G : Type 0} (m : Ghosts K E G) (footing : G) (seats : ℕ) where
       let v = me.0 in
       let f = r.fits i v at in
       let w = waiting r.at.ticket v in
-      let t : Standing E = record r.at { ticket = r.at.ticket + 1 } in
+      let t : LockState E = record r.at { ticket = r.at.ticket + 1 } in
       let many = r.as_many in
       let none : out v ≡ 0 = rw idle in
       let lives : living v ≡ 1 = rw alive in
@@ -283,7 +283,7 @@ module _ {K E G : Type 0} (m : Ghosts K E G) (footing : G) (seats : ℕ) where
       let turn = f.turn holds in
       let now = m.entries named.value in
       let w = counted now v in
-      let t : Standing E = record r.at { log = now } in
+      let t : LockState E = record r.at { log = now } in
       let longer_by : now ≡ r.at.log ++ e ∷ [] = more ∙ ap (λ l. l ++ e ∷ []) turn.1 in
       let given = f.given (m.caller e) own in
       let shows : (which : Shown) → value which r.at ≤ m.shown which now =
@@ -434,7 +434,7 @@ module _ {K E G : Type 0} (m : Ghosts K E G) (footing : G) (seats : ℕ) where
       let f = r.fits i v at in
       let turn = f.turn holds in
       let w = passed_on v in
-      let t : Standing E = record r.at { serving = r.at.serving + 1 } in
+      let t : LockState E = record r.at { serving = r.at.serving + 1 } in
       let one : out v ≡ 1 = rw turn.0 in
       let home : homes_after s.homes me.1 gives ≡ some (Home kept) ∷ [] = rw (has, turn.2) refl in (
         w,

@@ -15,7 +15,7 @@ use Rattle.turn_lock.specs.Entries.{of, pick}
 use Rattle.turn_lock.specs.Views.{known}
 
 -- where a lock stands: the next ticket and the one that is served, never wrapped, the count of numbers given, the counted list, and what is published
-pub record Standing (E : Type 0) : Type 0 where
+pub record LockState (E : Type 0) : Type 0 where
   pub ticket : ℕ
   pub serving : ℕ
   pub given : ℕ
@@ -24,14 +24,14 @@ pub record Standing (E : Type 0) : Type 0 where
   pub tickets : ℕ
 
 module _ {E : Type 0} where
-  abbrev pub value : Shown → Standing E → ℕ
+  abbrev pub value : Shown → LockState E → ℕ
   value which t = pick which t.cycles t.tickets
 
-  abbrev pub with_value : Shown → ℕ → Standing E → Standing E
+  abbrev pub with_value : Shown → ℕ → LockState E → LockState E
   with_value which n t = record t { cycles = pick which n t.cycles; tickets = pick which t.tickets n }
 
   -- the words: a ticket's word is its remainder, so tickets may wrap
-  abbrev pub atomic_words : Standing E → List ℕ
+  abbrev pub atomic_words : LockState E → List ℕ
   atomic_words t = t.ticket % 2 ^ 64 ∷ t.serving % 2 ^ 64 ∷ length t.log ∷ t.cycles ∷ t.tickets ∷ []
 
 module _ {E : Type 0} where
@@ -80,7 +80,7 @@ module _ {K E G : Type 0} where
 
 module _ {K E G : Type 0} (m : Ghosts K E G) (footing : G) where
   -- what holds of each seat
-  pub record Fits (homes : List (Maybe (Spot K))) (t : Standing E) (v : View E G) : Type 0 where
+  pub record Fits (homes : List (Maybe (Spot K))) (t : LockState E) (v : View E G) : Type 0 where
     -- only a pass's seat has a ticket out, at most one, which is from the served one up to the next one
     pub one : out v ≤ living v
     pub within : (ticket : ℕ) → v.number ≡ Some ticket → (t.serving ≤ ticket) × (ticket < t.ticket)
@@ -98,7 +98,7 @@ module _ {K E G : Type 0} (m : Ghosts K E G) (footing : G) where
     pub posted : (which : Shown) → Posted (value which t) (m.shown which) (known which v) v.holds v.seen
 
   -- the value is at home, with the counted list, all of which is published
-  pub record IsHome (homes : List (Maybe (Spot K))) (t : Standing E) : Type 0 where
+  pub record IsHome (homes : List (Maybe (Spot K))) (t : LockState E) : Type 0 where
     pub kept : K
     pub there : homes ≡ some (Home kept) ∷ []
     pub list : m.entries kept ≡ t.log
@@ -107,7 +107,7 @@ module _ {K E G : Type 0} (m : Ghosts K E G) (footing : G) where
 
   -- the rule, of a lock with so many passes at most
   pub record Ruled (seats : ℕ) (s : State (Spot K) (View E G)) : Type 0 where
-    pub at : Standing E
+    pub at : LockState E
     pub words_are : s.words ≡ atomic_words at
     -- as many tickets are out as lie from the served one up to the next one, and so few that their remainders differ
     pub as_many : sum_by out s.views + at.serving ≡ at.ticket

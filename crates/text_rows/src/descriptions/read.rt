@@ -50,12 +50,12 @@ fn push_component(text: &mut String, component: &CompDesc) -> Result<(), Fail> {
 
 fn push_head(text: &mut String, component: &CompDesc) -> Result<(), Fail> {
     let name = component.name.as_str();
-    write!(text, "\ncomponent {name} {}", kind_word(component.kind))?;
+    write!(text, "\ncomponent {name} {}", kind_in_words(component.kind))?;
     write!(text, " {} {}", component.initial, component.on_error)?;
     Ok(())
 }
 
-fn kind_word(kind: CompKind) -> &'static str {
+fn kind_in_words(kind: CompKind) -> &'static str {
     match kind {
         CompKind::Sensor => "sensor",
         CompKind::Actuator => "actuator",
