@@ -4,3 +4,5 @@ pub mod NameLemmas
 pub mod JoinLemmas
 pub mod LineLemmas
 pub mod NoneLemmas
+pub mod QuietLemmas
+pub mod PieceLemmas

@@ -3,3 +3,4 @@ pub mod Joined
 pub mod Faults
 pub mod Replies
 pub mod Heads
+pub mod Quiet

@@ -3,16 +3,19 @@
 ghost use Rattle.std.specs.Prelude.{◌≡◌, ◌++◌, true, codes, flat_map, IfSome, OnOk, OnErr};
 ghost use Rattle.std.specs.Io.KnownBytes.{Appends};
 ghost use Rattle.outside_io.specs.Bytes.{AppendsPrefix};
+ghost use Rattle.outside_io.specs.Faults.{HasCause};
 ghost use Rattle.cm_document.specs.CallText.{call_text};
 ghost use Rattle.cm_model.specs.Items.{Names as Told};
 ghost use Rattle.cm_model.specs.Kept.{call_of};
 ghost use Rattle.cm_model.specs.Trace.{caller_text, line_text, reply_text, trace};
 ghost use Rattle.trace_text.specs.Faults.{HasFault};
+ghost use Rattle.trace_text.specs.Quiet.{quiet_text};
 ghost use Rattle.trace_text.specs.Replies.{head_text, rest_text};
 
-use crate::bytes::{push_counted, push_word};
+use crate::bytes::push_word;
 use crate::items::push_in_words;
 use crate::names::Names;
+use crate::quiet::{QuietLine, push_turn};
 use crate::records::push_record;
 use cm_model::{Checked, CycleCall, Entry, Memory, Reply, Script, SessionText};
 use outside_io::{Failed, Sink, write_whole};
@@ -92,16 +95,6 @@ fn push_head(
     push_word(line, words.as_str())
 }
 
-/// Appends the loop's begin or end of a cycle.
-fn push_turn(line: &mut Vec<u8>, call: CycleCall) -> Result<(), Memory>
-    ensures { OnOk result (line.new.items ≡ line.old.items ++ codes "loop " ++ call_text (call_of call)) }
-{
-    match call {
-        CycleCall::Begin(cycle) => push_counted(line, "loop begin ", cycle),
-        CycleCall::End(cycle) => push_counted(line, "loop end ", cycle),
-    }
-}
-
 /// Appends what stands behind the head of a line, with its end.
 fn push_rest(
     line: &mut Vec<u8>,
@@ -111,9 +104,6 @@ fn push_rest(
 ) -> Result<(), Memory>
     ensures { OnOk result (line.new.items ≡ line.old.items ++ rest_text names.now reply.now) }
 {
-    if has_no_item(reply) {
-        return push_word(line, ": none\n");
-    }
     push_word(line, ": ")?;
     push_reply(line, words, names, reply)?;
     push_word(line, "\n")
@@ -148,6 +138,50 @@ fn push_reply(
     push_word(line, words.as_str())
 }
 
+/// The call of a cycle that an entry of the loop has, where there is nothing to tell of it.
+fn quiet_call(sessions: &[SessionText], entry: &Entry) -> Option<CycleCall>
+    ensures { IfSome result
+        (λ call. (names : Told) → line_text sessions.now names entry.now ≡ quiet_text call) }
+{
+    if !has_no_item(&entry.reply) {
+        return None;
+    }
+    cycle_of_loop(sessions, entry)
+}
+
+/// Where lines are made, each in the room of one before it.
+#[derive(Drop)]
+struct Room {
+    /// Of a begin of which there is nothing to tell.
+    begin: QuietLine,
+    /// Of an end of which there is nothing to tell.
+    end: QuietLine,
+    /// Of any entry.
+    line: Vec<u8>,
+    /// What is told in words.
+    words: String,
+}
+
+impl Room {
+    /// Room for no byte yet.
+    fn none(alloc: Global) -> Room {
+        Room {
+            begin: QuietLine::none(alloc),
+            end: QuietLine::none(alloc),
+            line: Vec::new(alloc),
+            words: String::new(alloc),
+        }
+    }
+
+    /// The line of a begin or an end of a cycle of which there is nothing to tell.
+    fn quiet(&mut self, call: CycleCall) -> &mut QuietLine {
+        match call {
+            CycleCall::Begin(_) => &mut self.begin,
+            CycleCall::End(_) => &mut self.end,
+        }
+    }
+}
+
 /// Makes the line of an entry. Both are only room: what stood there is gone.
 fn make_line(
     line: &mut Vec<u8>,
@@ -163,11 +197,36 @@ fn make_line(
     push_rest(line, words, names, &entry.reply)
 }
 
-/// Writes the line of an entry as one piece, and again what the sink did not take of it. It is made in this room.
+/// Writes a line as one piece, and again what the sink did not take of it: nearly always it takes all of it.
+fn write_piece<K: Sink>(sink: &mut K, line: &[u8]) -> Result<(), Failed>
+    ensures ok { OnOk result (Appends (K.taken sink.old) (K.taken sink.new) line.now) }
+    ensures err { OnErr result (AppendsPrefix (K.taken sink.old) (K.taken sink.new) line.now) }
+    ensures flushed { K.flushed sink.new ≡ K.flushed sink.old }
+    ensures cause { HasCause (K.faults sink.old) (K.faults sink.new) result }
+{
+    let count = sink.write(line)?;
+    if count < line.len() {
+        return write_whole(sink, &line[count..]);
+    }
+    Ok(())
+}
+
+/// Writes the line of a begin or an end of which there is nothing to tell.
+fn write_quiet<K: Sink>(sink: &mut K, line: &mut QuietLine, call: CycleCall) -> Result<(), OutFault>
+    ensures ok { OnOk result (Appends (K.taken sink.old) (K.taken sink.new) (quiet_text call)) }
+    ensures err { OnErr result (AppendsPrefix (K.taken sink.old) (K.taken sink.new) (quiet_text call)) }
+    ensures flushed { K.flushed sink.new ≡ K.flushed sink.old }
+    ensures fault { HasFault (K.faults sink.old) (K.faults sink.new) result }
+{
+    line.tell(call)?;
+    write_piece(sink, line.as_slice())?;
+    Ok(())
+}
+
+/// Writes the line of an entry as one piece, and again what the sink did not take of it.
 fn write_line<K: Sink>(
     sink: &mut K,
-    line: &mut Vec<u8>,
-    words: &mut String,
+    room: &mut Room,
     sessions: &[SessionText],
     names: &Names<'_>,
     entry: &Entry,
@@ -179,12 +238,15 @@ fn write_line<K: Sink>(
     ensures flushed { K.flushed sink.new ≡ K.flushed sink.old }
     ensures fault { HasFault (K.faults sink.old) (K.faults sink.new) result }
 {
-    make_line(line, words, sessions, names, entry)?;
-    write_whole(sink, line.as_slice())?;
+    if let Some(call) = quiet_call(sessions, entry) {
+        return write_quiet(sink, room.quiet(call), call);
+    }
+    make_line(&mut room.line, &mut room.words, sessions, names, entry)?;
+    write_piece(sink, room.line.as_slice())?;
     Ok(())
 }
 
-/// Writes the lines of a history, each in the room of the one before.
+/// Writes the lines of a history, each in the room of one before it.
 fn write_lines<K: Sink>(
     alloc: Global,
     sink: &mut K,
@@ -200,10 +262,9 @@ fn write_lines<K: Sink>(
     ensures flushed { K.flushed sink.new ≡ K.flushed sink.old }
     ensures fault { HasFault (K.faults sink.old) (K.faults sink.new) result }
 {
-    let mut line = Vec::new(alloc);
-    let mut words = String::new(alloc);
+    let mut room = Room::none(alloc);
     for entry in history {
-        write_line(sink, &mut line, &mut words, sessions, names, entry)?;
+        write_line(sink, &mut room, sessions, names, entry)?;
     }
     Ok(())
 }

@@ -1,0 +1,128 @@
+//! The lines of a cycle in which nothing happens. Long runs have mostly such, so each is made of the last one of its kind: nearly always
+//! its last two digits alone are others.
+
+ghost use Rattle.std.specs.Prelude.{◌≡◌, ◌+◌, ◌-◌, ◌/◌, ◌%◌, ◌≤◌, ◌++◌, codes, length, slice_set, IfSome, IsSomeAnd, OnOk};
+ghost use Rattle.cm_document.specs.CallText.{call_text};
+ghost use Rattle.cm_model.specs.Kept.{call_of};
+ghost use Rattle.trace_text.specs.Quiet.{quiet_text, DifferAtPair, IsNextWith};
+
+use crate::bytes::{push_counted, push_word};
+use cm_model::{CycleCall, Memory};
+use std::alloc::Global;
+use std::marker::Model;
+
+/// What stands behind the number.
+const QUIET_END: &str = ": none\n";
+
+/// The line of a begin or an end of which there is nothing to tell, kept for the next one of its kind. Contracts see its bytes.
+#[derive(Drop)]
+pub(crate) struct QuietLine {
+    bytes: Vec<u8>,
+    /// The call that it tells, where it is whole.
+    told: Option<CycleCall>,
+}
+
+impl Model for QuietLine {
+    ghost use Rattle.std.specs.Prelude.{◌≡◌, ℕ, List, IfSome};
+    ghost use Rattle.trace_text.specs.Quiet.{quiet_text};
+
+    ghost Value = { List ℕ };
+
+    ghost view = { λ line. line.bytes.items };
+
+    ghost invariant = { λ line. IfSome line.told (λ call. line.bytes.items ≡ quiet_text call) };
+}
+
+impl QuietLine {
+    /// No line yet.
+    pub(crate) fn none(alloc: Global) -> QuietLine {
+        QuietLine {
+            bytes: Vec::new(alloc),
+            told: None,
+        }
+    }
+
+    /// The line with its end.
+    pub(crate) fn as_slice(&self) -> &[u8]
+        ensures { result.now ≡ self.now }
+    {
+        self.bytes.as_slice()
+    }
+
+    /// Makes it the line of this call.
+    pub(crate) fn tell(&mut self, call: CycleCall) -> Result<(), Memory>
+        ensures { OnOk result (self.new ≡ quiet_text call) }
+    {
+        let told = self.told;
+        self.told = None;
+        renew(&mut self.bytes, told, call)?;
+        self.told = Some(call);
+        Ok(())
+    }
+}
+
+/// Makes a line that of this call, where it tells that one so far.
+fn renew(line: &mut Vec<u8>, told: Option<CycleCall>, call: CycleCall) -> Result<(), Memory>
+    requires { IfSome told (λ before. line.old.items ≡ quiet_text before) }
+    ensures { OnOk result (line.new.items ≡ quiet_text call) }
+{
+    if let Some(pair) = other_digits(told, call) {
+        put_digits(line, pair);
+        return Ok(());
+    }
+    make_quiet(line, call)
+}
+
+/// The last two digits of this call's number, where its line is that of the call before but for these.
+fn other_digits(told: Option<CycleCall>, call: CycleCall) -> Option<u8>
+    ensures { IfSome result
+        (λ pair. IsSomeAnd told (λ before. DifferAtPair (quiet_text before) (quiet_text call) pair)) }
+{
+    match (told?, call) {
+        (CycleCall::Begin(last), CycleCall::Begin(cycle)) => next_digits(last, cycle),
+        (CycleCall::End(last), CycleCall::End(cycle)) => next_digits(last, cycle),
+        _ => None,
+    }
+}
+
+/// The last two digits of a number, where it is the next one and the digits before these stay.
+fn next_digits(last: u64, number: u64) -> Option<u8>
+    ensures { IfSome result (λ pair. IsNextWith last number pair) }
+{
+    let pair = number % 100;
+    if pair == 0 || last < 10 || number - 1 != last {
+        return None;
+    }
+    Some(pair as u8)
+}
+
+/// Puts two other digits before the end of a line.
+fn put_digits(line: &mut Vec<u8>, pair: u8)
+    requires { 9 ≤ length line.old.items }
+    ensures { line.new.items
+        ≡ slice_set (slice_set line.old.items (length line.old.items - 9) (48 + pair / 10))
+        (length line.old.items - 8) (48 + pair % 10) }
+{
+    let end = line.len() - QUIET_END.len();
+    line[end - 2] = b'0' + pair / 10;
+    line[end - 1] = b'0' + pair % 10;
+}
+
+/// Makes the line of a call of which there is nothing to tell.
+fn make_quiet(line: &mut Vec<u8>, call: CycleCall) -> Result<(), Memory>
+    ensures { OnOk result (line.new.items ≡ quiet_text call) }
+{
+    line.clear();
+    push_turn(line, call)?;
+    push_word(line, QUIET_END)
+}
+
+/// Appends the loop's begin or end of a cycle.
+pub(crate) fn push_turn(line: &mut Vec<u8>, call: CycleCall) -> Result<(), Memory>
+    ensures { OnOk result (line.new.items ≡ line.old.items ++ codes "loop " ++ call_text (call_of call)) }
+{
+    match call {
+        CycleCall::Begin(cycle) => push_counted(line, "loop begin ", cycle),
+        CycleCall::End(cycle) => push_counted(line, "loop end ", cycle),
+    }
+}
