@@ -53,24 +53,16 @@ impl QuietLine {
     pub(crate) fn tell(&mut self, call: CycleCall) -> Result<(), Memory>
         ensures { OnOk result (self.new ≡ quiet_text call) }
     {
-        let told = self.told;
+        if let Some(pair) = other_digits(self.told, call) {
+            put_digits(&mut self.bytes, pair);
+            self.told = Some(call);
+            return Ok(());
+        }
         self.told = None;
-        renew(&mut self.bytes, told, call)?;
+        make_quiet(&mut self.bytes, call)?;
         self.told = Some(call);
         Ok(())
     }
-}
-
-/// Makes a line that of this call, where it tells that one so far.
-fn renew(line: &mut Vec<u8>, told: Option<CycleCall>, call: CycleCall) -> Result<(), Memory>
-    requires { IfSome told (λ before. line.old.items ≡ quiet_text before) }
-    ensures { OnOk result (line.new.items ≡ quiet_text call) }
-{
-    if let Some(pair) = other_digits(told, call) {
-        put_digits(line, pair);
-        return Ok(());
-    }
-    make_quiet(line, call)
 }
 
 /// The last two digits of this call's number, where its line is that of the call before but for these.

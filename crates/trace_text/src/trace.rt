@@ -1,6 +1,6 @@
 //! The trace of a history, a line a piece.
 
-ghost use Rattle.std.specs.Prelude.{◌≡◌, ◌++◌, true, codes, flat_map, IfSome, OnOk, OnErr};
+ghost use Rattle.std.specs.Prelude.{◌≡◌, ◌++◌, true, codes, flat_map, IfOk, IfSome, OnOk, OnErr};
 ghost use Rattle.std.specs.Io.KnownBytes.{Appends};
 ghost use Rattle.outside_io.specs.Bytes.{AppendsPrefix};
 ghost use Rattle.outside_io.specs.Faults.{HasCause};
@@ -197,7 +197,27 @@ fn make_line(
     push_rest(line, words, names, &entry.reply)
 }
 
-/// Writes a line as one piece, and again what the sink did not take of it: nearly always it takes all of it.
+/// The line of an entry, made in this room.
+fn line_in<'a>(
+    room: &'a mut Room,
+    sessions: &[SessionText],
+    names: &Names<'_>,
+    entry: &Entry,
+) -> Result<&'a [u8], Memory>
+    ensures { IfOk result (λ line. line.now ≡ line_text sessions.now names.now entry.now) }
+{
+    if let Some(call) = quiet_call(sessions, entry) {
+        let line = room.quiet(call);
+        line.tell(call)?;
+        return Ok(line.as_slice());
+    }
+    make_line(&mut room.line, &mut room.words, sessions, names, entry)?;
+    Ok(room.line.as_slice())
+}
+
+/// Writes a line as one piece, and again what the sink did not take of it, which is seldom a byte. To call it would take as long as what it
+/// does for a short line.
+#[inline(always)]
 fn write_piece<K: Sink>(sink: &mut K, line: &[u8]) -> Result<(), Failed>
     ensures ok { OnOk result (Appends (K.taken sink.old) (K.taken sink.new) line.now) }
     ensures err { OnErr result (AppendsPrefix (K.taken sink.old) (K.taken sink.new) line.now) }
@@ -211,19 +231,7 @@ fn write_piece<K: Sink>(sink: &mut K, line: &[u8]) -> Result<(), Failed>
     Ok(())
 }
 
-/// Writes the line of a begin or an end of which there is nothing to tell.
-fn write_quiet<K: Sink>(sink: &mut K, line: &mut QuietLine, call: CycleCall) -> Result<(), OutFault>
-    ensures ok { OnOk result (Appends (K.taken sink.old) (K.taken sink.new) (quiet_text call)) }
-    ensures err { OnErr result (AppendsPrefix (K.taken sink.old) (K.taken sink.new) (quiet_text call)) }
-    ensures flushed { K.flushed sink.new ≡ K.flushed sink.old }
-    ensures fault { HasFault (K.faults sink.old) (K.faults sink.new) result }
-{
-    line.tell(call)?;
-    write_piece(sink, line.as_slice())?;
-    Ok(())
-}
-
-/// Writes the line of an entry as one piece, and again what the sink did not take of it.
+/// Writes the line of an entry.
 fn write_line<K: Sink>(
     sink: &mut K,
     room: &mut Room,
@@ -238,11 +246,8 @@ fn write_line<K: Sink>(
     ensures flushed { K.flushed sink.new ≡ K.flushed sink.old }
     ensures fault { HasFault (K.faults sink.old) (K.faults sink.new) result }
 {
-    if let Some(call) = quiet_call(sessions, entry) {
-        return write_quiet(sink, room.quiet(call), call);
-    }
-    make_line(&mut room.line, &mut room.words, sessions, names, entry)?;
-    write_piece(sink, room.line.as_slice())?;
+    let line = line_in(room, sessions, names, entry)?;
+    write_piece(sink, line)?;
     Ok(())
 }
 
