@@ -13,6 +13,7 @@ use Rattle.cm_model.specs.State.{State, Loaded, MailAloft}
 use Rattle.cm_model.specs.Steady.{IsSteady}
 use Rattle.cm_model.specs.declared.blanks.Blanks.{Blanks}
 use Rattle.cm_model.specs.declared.member.Member.{Member}
+use Rattle.cm_model.specs.declared.record_room.RecordRoom.{RecordRoom}
 use Rattle.cm_hardware.specs.Holding.{IsHardwareOf, IsMoved}
 use Rattle.cm_hardware.specs.Listed.{with_hardware}
 use Rattle.cm_hardware.specs.Shown.{Shows}
@@ -24,12 +25,12 @@ use Rattle.ctl_slots.specs.Fit.{AreFit}
 use Rattle.ctl_slots.specs.Slots.{Slotted}
 use Rattle.ctl_slots.proofs.FitLemmas.{fit_committed, fit_landed}
 use Rattle.request_plan.specs.Requests.{Asked}
+use Rattle.rt_flight.specs.Flights.{TellsNothing}
 use Rattle.rt_flight.specs.Stations.{IsFitted}
 use Rattle.rt_flight.specs.declared.craft.Craft.{Craft}
 use Rattle.rt_flight.specs.declared.plant.Plant.{Plant}
 use Rattle.stop_plan.specs.Ending.{HasFlags, told_in, nobody_again}
-use Rattle.stop_plan.specs.declared.ending.Ending.{Ending}
-use Rattle.cm_desk.specs.Bay.{Base, base_of, HasLines, IsAtHome, IsBased, IsHome, IsRewired, IsUsedUp}
+use Rattle.cm_desk.specs.Bay.{Base, base_of, HasLines, IsAtHome, IsBased, IsHome, IsMadeReady, IsRewired}
 use Rattle.cm_desk.specs.End.{HasSettled}
 use Rattle.cm_desk.specs.Roster.{Listed, serial_in}
 use Rattle.cm_desk.specs.Supplies.{stands_for}
@@ -42,7 +43,7 @@ use Rattle.cm_desk.proofs.StayLemmas.{all_staying, commit_stays, landed_stays, c
 pub record IsSameBase (before after : Base) : Type 0 where
   pub plant : after.plant ≡ record before.plant { hardware = after.plant.hardware }
   pub ending : after.ending ≡ before.ending
-  pub home : IsSomeAnd after.hangar (IsHome after.plant after.ending)
+  pub home : IsSomeAnd after.hangar (IsHome after.plant after.ending after.members after.spare_lists)
   pub mails : after.mails ≡ before.mails
   pub stations : after.stations ≡ before.stations
   pub members : after.members ≡ before.members
@@ -60,7 +61,7 @@ rewired b b' berths is = record {
   home = is.home;
   mails = is.mails;
   stations = ap (λ (x : Spare). x.stations.items) is.spare;
-  members = ap (λ (x : Spare). x.order.items) is.spare;
+  members = is.members;
   lists = is.lists;
   untold = is.untold;
   spare_lists = is.spare_lists;
@@ -69,7 +70,7 @@ rewired b b' berths is = record {
 }
 
 -- where what works in a cycle comes to rest again, with other hardware
-pub at_rest : (b left b' : Bay) (k r : Box Craft Global) (h : Craft) → IsHome b.plant.value b.ending.value k → left ≡ record b { hangar = None; room = left.room } → left.room ≡ b.room
+pub at_rest : (b left b' : Bay) (k r : Box Craft Global) (h : Craft) → IsHome b.plant.value b.ending.value b.members.value.items b.spare_lists.value k → left ≡ record b { hangar = None; room = left.room } → left.room ≡ b.room
     → h ≡ k.value → r.value ≡ record h { plant = record h.plant { hardware = r.value.plant.hardware } }
     → b' ≡ record left { hangar = Some r; plant = b'.plant; told = false } → b'.plant.value ≡ r.value.plant → IsRewired b b'
 at_rest b left b' k r h home away room taken same rests plant =
@@ -79,34 +80,44 @@ at_rest b left b' k r h home away room taken same rests plant =
     let ending : b'.ending.value ≡ b.ending.value = ap (λ (x : Bay). x.ending.value) rests ∙ ap (λ (x : Bay). x.ending.value) away in
     let sets : r.value.ending ≡ b.ending.value = ap (λ (x : Craft). x.ending) same ∙ ap (λ (x : Craft). x.ending) taken ∙ home.ending in
     let hangar : b'.hangar ≡ Some r = ap (λ (x : Bay). x.hangar) rests in
+    let members : b'.members.value.items ≡ b.members.value.items = ap (λ (x : Bay). x.members.value.items) rests ∙ ap (λ (x : Bay). x.members.value.items) away in
+    let spare_lists : b'.spare_lists.value ≡ b.spare_lists.value = ap (λ (x : Bay). x.spare_lists.value) rests ∙ ap (λ (x : Bay). x.spare_lists.value) away in
+    let room_is : r.value.room ≡ k.value.room = ap (λ (x : Craft). x.room) same ∙ ap (λ (x : Craft). x.room) taken in
     record {
       plant = plant ∙ now ∙ ap (λ (w : Wired). record b.plant.value { hardware = w }) (sym (ap (λ (g : Plant). g.hardware) plant));
       ending = ending;
-      home = subst (λ (o : Option (Box Craft Global)). IsSomeAnd o (IsHome b'.plant.value b'.ending.value)) (sym hangar) (record { plant = sym plant; ending = sets ∙ sym ending });
+      home = subst (λ (o : Option (Box Craft Global)). IsSomeAnd o (IsHome b'.plant.value b'.ending.value b'.members.value.items b'.spare_lists.value)) (sym hangar) (record {
+        plant = sym plant;
+        ending = sets ∙ sym ending;
+        order = ap (λ (x : Craft). x.order.items) same ∙ ap (λ (x : Craft). x.order.items) taken ∙ home.order ∙ sym members;
+        spare_lists = ap (λ (x : Craft). x.lists) same ∙ ap (λ (x : Craft). x.lists) taken ∙ home.spare_lists ∙ sym spare_lists;
+        told = subst (λ (o : Option RecordRoom). IfSome o TellsNothing) (sym room_is) home.told;
+      });
       mails = ap (λ (x : Bay). x.mails.value.items) rests ∙ ap (λ (x : Bay). x.mails.value.items) away;
       spare = ap (λ (x : Bay). x.spare) rests ∙ ap (λ (x : Bay). x.spare) away;
+      members = members;
       lists = ap (λ (x : Bay). x.lists) rests ∙ ap (λ (x : Bay). x.lists) away;
       untold = ap (λ (x : Bay). x.told) rests;
-      spare_lists = ap (λ (x : Bay). x.spare_lists) rests ∙ ap (λ (x : Bay). x.spare_lists) away;
+      spare_lists = spare_lists;
       size = ap (λ (x : Bay). x.size) rests ∙ ap (λ (x : Bay). x.size) away;
       room = ap (λ (x : Bay). x.room) rests ∙ room;
     }
 
 -- where no cycle is aloft all is at home
-home_from : (plant : Plant) (ending : Ending) (o : Option (Box Craft Global)) → is_some o ≡ true → IfSome o (IsHome plant ending) → IsSomeAnd o (IsHome plant ending)
-home_from plant ending None some home = cc
-home_from plant ending (Some h) some home = home
+home_from : (P : Box Craft Global → Type 0) (o : Option (Box Craft Global)) → is_some o ≡ true → IfSome o P → IsSomeAnd o P
+home_from P None some home = cc
+home_from P (Some h) some home = home
 
 pub at_home : (d : Description) (order : List Member) (b : Bay) (berths : ℕ) (aloft : Bool) → IsBased d aloft order (base_of b berths) → aloft ≡ false → IsAtHome b
-at_home d order b berths aloft based down = home_from b.plant.value b.ending.value b.hangar (based.home_is ∙ ap not down) based.home
+at_home d order b berths aloft based down = home_from (IsHome b.plant.value b.ending.value b.members.value.items b.spare_lists.value) b.hangar (based.home_is ∙ ap not down) based.home
 
-some_home : (plant : Plant) (ending : Ending) (o : Option (Box Craft Global)) → IsSomeAnd o (IsHome plant ending) → (is_some o ≡ true) × IfSome o (IsHome plant ending)
-some_home plant ending None home = absurd home
-some_home plant ending (Some h) home = (refl, home)
+some_home : (P : Box Craft Global → Type 0) (o : Option (Box Craft Global)) → IsSomeAnd o P → (is_some o ≡ true) × IfSome o P
+some_home P None home = absurd home
+some_home P (Some h) home = (refl, home)
 
 based_with : (d : Description) (was order : List Member) (before after : Base) → IsBased d false was before → IsSameBase before after → IsBased d false order after
 based_with d was order before after based same =
-    let home = some_home after.plant after.ending after.hangar same.home in
+    let home = some_home (IsHome after.plant after.ending after.members after.spare_lists) after.hangar same.home in
     let places : after.plant.places ≡ before.plant.places = ap (λ (g : Plant). g.places) same.plant in
     record {
       wide = same.room ∙ based.wide;
@@ -225,7 +236,7 @@ ended_fit s fit = fit_committed (landed s (cycle s)) (stays_active s (told_in s)
 
 -- What is kept of a base that is at home again.
 pub record IsHomeBase (d : Description) (before after : Base) : Type 0 where
-  pub home : IsSomeAnd after.hangar (IsHome after.plant after.ending)
+  pub home : IsSomeAnd after.hangar (IsHome after.plant after.ending after.members after.spare_lists)
   pub flags : HasFlags (length d.controllers) after.ending
   pub fitted : AllByRecursion (IsFitted after.plant.places) after.stations
   pub ordered : after.members ≡ map stands_for after.stations
@@ -237,7 +248,7 @@ pub record IsHomeBase (d : Description) (before after : Base) : Type 0 where
 
 based_at_home : (d : Description) (aloft : Bool) (was order : List Member) (before after : Base) → IsBased d aloft was before → IsHomeBase d before after → IsBased d false order after
 based_at_home d aloft was order before after based is =
-    let home = some_home after.plant after.ending after.hangar is.home in
+    let home = some_home (IsHome after.plant after.ending after.members after.spare_lists) after.hangar is.home in
     record {
       wide = is.room ∙ based.wide;
       flags = is.flags;
@@ -289,10 +300,10 @@ ended_view d blanks sessions loads slots slots' asked before after ended count c
 
 -- what is kept goes by these parts of a base, where no cycle is aloft
 pub kept_idle : (s : State) (names : List (List ℕ)) (before after : Base) (looked : Listed) → IsKept s names before looked → s.aloft ≡ false
-    → after.plant ≡ before.plant → after.ending ≡ before.ending → after.hangar ≡ before.hangar → after.lists ≡ before.lists → after.told ≡ before.told → after.spare_lists ≡ before.spare_lists
+    → after.plant ≡ before.plant → after.ending ≡ before.ending → IsSomeAnd after.hangar (IsHome after.plant after.ending after.members after.spare_lists) → after.lists ≡ before.lists → after.told ≡ before.told → after.spare_lists ≡ before.spare_lists
     → after.size ≡ before.size → after.room ≡ before.room
     → AllByRecursion (IsFitted after.plant.places) after.stations → after.members ≡ map stands_for after.stations → IsKept s names after looked
-kept_idle s names before after looked kept down plant ending hangar lists told spare_lists size room fitted ordered = record {
+kept_idle s names before after looked kept down plant ending at lists told spare_lists size room fitted ordered = record {
   worked_out = rw plant kept.worked_out;
   described = kept.described;
   divided = kept.divided;
@@ -308,13 +319,13 @@ kept_idle s names before after looked kept down plant ending hangar lists told s
   based = record {
     wide = room ∙ kept.based.wide;
     flags = rw ending kept.based.flags;
-    home = rw (plant, ending, hangar) kept.based.home;
-    home_is = ap (λ (o : Option (Box Craft Global)). is_some o) hangar ∙ kept.based.home_is;
+    home = (some_home (IsHome after.plant after.ending after.members after.spare_lists) after.hangar at).1;
+    home_is = (some_home (IsHome after.plant after.ending after.members after.spare_lists) after.hangar at).0 ∙ sym (ap not down);
     fitted = fitted;
     ordered = λ yet. ordered;
     size = rw size kept.based.size;
     lines = rw lists kept.based.lines;
-    shown = λ away. rw (plant, lists) (kept.based.shown (sym (ap (λ (o : Option (Box Craft Global)). is_some o) hangar) ∙ away));
+    shown = λ away. (let no : false ≡ true = sym away ∙ (some_home (IsHome after.plant after.ending after.members after.spare_lists) after.hangar at).0 in cc);
     told = λ yes. rw (plant, lists) (kept.based.told (sym told ∙ yes));
     spare_lines = λ yet. rw spare_lists (kept.based.spare_lines yet);
     stands = λ aloft. (let no : false ≡ true = sym down ∙ aloft in cc);
@@ -322,15 +333,16 @@ kept_idle s names before after looked kept down plant ending hangar lists told s
   };
 }
 
--- where only what was left over is used up, the state is as before
-pub used_view : (d : Description) (blanks : Blanks) (sessions loads : ℕ) (slots : Slotted) (asked : Asked) (before b : Bay) (m n : ℕ) (ended : ℕ) (closed : Bool) → b ≡ record before { spare = b.spare }
+-- where it only is made ready for a cycle, the state is as before
+pub used_view : (d : Description) (blanks : Blanks) (sessions loads : ℕ) (slots : Slotted) (asked : Asked) (before b : Bay) (m n : ℕ) (ended : ℕ) (closed : Bool) → b ≡ record before { hangar = b.hangar; members = b.members; spare = b.spare }
     → state_with d blanks sessions loads slots asked (base_of b n) ended closed ≡ state_with d blanks sessions loads slots asked (base_of before m) ended closed
 used_view d blanks sessions loads slots asked before b m n ended closed used =
     subst (λ (x : Bay). state_with d blanks sessions loads slots asked (base_of x n) ended closed ≡ state_with d blanks sessions loads slots asked (base_of before m) ended closed) (sym used) refl
 
 -- and is kept
-pub used_idle : (s : State) (names : List (List ℕ)) (before b : Bay) (m n : ℕ) (looked : Listed) → IsKept s names (base_of before m) looked → s.aloft ≡ false → IsUsedUp before b
+pub used_idle : (s : State) (names : List (List ℕ)) (before b : Bay) (m n : ℕ) (looked : Listed) → IsKept s names (base_of before m) looked → s.aloft ≡ false → IsMadeReady before b
     → IsKept s names (base_of b n) looked
 used_idle s names before b m n looked kept down used =
-    kept_idle s names (base_of before m) (base_of b n) looked kept down (ap (λ (x : Bay). x.plant.value) used.bay) (ap (λ (x : Bay). x.ending.value) used.bay) (ap (λ (x : Bay). x.hangar) used.bay)
-    (ap (λ (x : Bay). x.lists) used.bay) (ap (λ (x : Bay). x.told) used.bay) (ap (λ (x : Bay). x.spare_lists) used.bay) (ap (λ (x : Bay). x.size) used.bay) (ap (λ (x : Bay). x.room) used.bay) (rw (used.stations) tt) (rw (used.order, used.stations) refl)
+    kept_idle s names (base_of before m) (base_of b n) looked kept down (ap (λ (x : Bay). x.plant.value) used.bay) (ap (λ (x : Bay). x.ending.value) used.bay) used.home
+    (ap (λ (x : Bay). x.lists) used.bay) (ap (λ (x : Bay). x.told) used.bay) (ap (λ (x : Bay). x.spare_lists.value) used.bay) (ap (λ (x : Bay). x.size) used.bay) (ap (λ (x : Bay). x.room) used.bay)
+    (subst (λ (g : Plant). AllByRecursion (IsFitted g.places) b.spare.stations.items) (sym (ap (λ (x : Bay). x.plant.value) used.bay)) used.kept.fitted) used.kept.ordered

@@ -1,5 +1,6 @@
 pub mod RosterLemmas
 pub mod SuppliesLemmas
+pub mod ReadyLemmas
 pub mod AnswerLemmas
 pub mod ActiveLemmas
 pub mod KeptLemmas

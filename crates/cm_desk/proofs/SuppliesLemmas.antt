@@ -3,10 +3,12 @@ use Rattle.std.proofs.Common.{◌≡◌, ◌+◌, List, [], ◌∷◌, ◌++◌,
 use Rattle.cm_document.specs.declared.description.Description.{Description}
 use Rattle.sequence.proofs.ListLemmas.{all_push}
 use Rattle.cm_model.specs.declared.member.Member.{Member}
+use Rattle.cm_model.specs.declared.record_room.RecordRoom.{RecordRoom}
 use Rattle.cm_hardware.specs.Wiring.{Wired, Mounted, most_failures, all_joints, can_fail, one_if}
 use Rattle.ctl_places.specs.Placed.{Placed}
+use Rattle.rt_flight.specs.Flights.{TellsNothing}
 use Rattle.rt_flight.specs.Stations.{Standing, IsFitted}
-use Rattle.cm_desk.specs.Supplies.{failing, joints, stands_for, IsBuiltAs, IsStandOf, AreStandsOf, AreStations}
+use Rattle.cm_desk.specs.Supplies.{failing, joints, stands_for, HasRoom, IsBuiltAs, IsStandOf, AreKept, AreStandsOf, AreStations}
 
 -- ---- Components
 
@@ -24,6 +26,10 @@ most_of d w built = failing_is w.components ∙ ap failing (sym built)
 
 pub joints_of : (d : Description) (w : Wired) → IsBuiltAs d w → all_joints w.components ≡ joints d.components
 joints_of d w built = joints_are w.components ∙ ap joints (sym built)
+
+-- in room that is enough nothing is told
+pub tells_nothing : (d : Description) (placed : Placed) (order : List Member) (r : RecordRoom) → HasRoom d placed order r → TellsNothing r
+tells_nothing d placed order r has = record { no_failure = has.no_failure; none_ran = has.none_ran; no_body = has.no_body; none_stopped = has.none_stopped }
 
 -- ---- Stations
 
@@ -48,3 +54,7 @@ stations_pushed placed ms m ss s all one fitted = record {
   stands = stands_pushed ms m ss s all.stands one;
   fitted = all_push (IsFitted placed) ss s all.fitted fitted;
 }
+
+-- the stations of controllers, with these, are kept
+pub kept_for : (placed : Placed) (ms : List Member) (ss : List Standing) (members : List Member) → AreStations placed ms ss → members ≡ ms → AreKept placed ss members
+kept_for placed ms ss members are same = record { fitted = are.fitted; ordered = same ∙ sym (stands_same ms ss are.stands) }

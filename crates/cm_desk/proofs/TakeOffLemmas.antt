@@ -1,6 +1,6 @@
 -- A cycle takes off: its flight is that of the state.
-use Rattle.std.proofs.Common.{◌≡◌, ℕ, suc, ◌+◌, ◌<◌, ◌≤◌, Bool, true, false, List, [], ◌∷◌, ◌++◌, length, map, vec_capacity, Some, None, refl, sym, ap, ap₂, subst, ◌∙◌, arith}
-use Rattle.std.specs.Prelude.{◌==◌, is_some, slice_get, filter_map}
+use Rattle.std.proofs.Common.{◌≡◌, ℕ, suc, ◌+◌, ◌<◌, ◌≤◌, Bool, true, false, List, [], ◌∷◌, ◌++◌, length, map, vec_capacity, Option, Some, None, refl, sym, ap, ap₂, subst, ◌∙◌, arith}
+use Rattle.std.specs.Prelude.{◌==◌, is_some, slice_get, filter_map, IsSomeAnd}
 use Rattle.std.specs.List.{All, AllByRecursion, IsDistinct}
 use Rattle.std.proofs.lemmas.List.{length-map}
 use Rattle.std.proofs.lemmas.List.Elements.{recursion_from_All, All-from_recursion}
@@ -35,22 +35,21 @@ use Rattle.hw_component.proofs.MakingLemmas.{valid_period}
 use Rattle.rt_flight.specs.Cells.{Seat}
 use Rattle.rt_flight.specs.Flights.{FlightFacts, round_over, CanSettle, IsAloftOver, IsEquipped, IsReady}
 use Rattle.rt_flight.specs.Stations.{Standing}
+use Rattle.rt_flight.specs.declared.craft.Craft.{Craft}
 use Rattle.rt_flight.specs.declared.plant.Plant.{Plant}
 use Rattle.sound_laws.proofs.ActiveLemmas.{from_active_order}
 use Rattle.sound_laws.proofs.ParamsLemmas.{all_at, all_each}
 use Rattle.sound_laws.proofs.RunLemmas.{ordered_once}
 use Rattle.sound_laws.proofs.ValidLemmas.{valid-IsChecked}
 use Rattle.switch_plan.specs.Relations.{Related, components_at, relations_of}
-use Rattle.cm_desk.specs.Bay.{base_of, HasLines, IsBased}
+use Rattle.cm_desk.specs.Bay.{base_of, HasLines, IsBased, IsMadeReady, IsSupplied}
 use Rattle.cm_desk.specs.Begin.{CanTakeOff, HasTakenOff}
 use Rattle.cm_desk.specs.Boarding.{boarded, CanBoard}
 use Rattle.cm_desk.specs.Roster.{Listed, IsListedOf}
-use Rattle.cm_desk.specs.Supplies.{AreStandsOf, AreSupplies}
+use Rattle.cm_desk.specs.Supplies.{AreStandsOf, HasRoom, IsFittedOut}
 use Rattle.cm_desk.specs.Works.{IsAsDescribed, IsDivided, IsKept as KeepsState}
 use Rattle.cm_desk.specs.declared.bay.Bay.{Bay}
-use Rattle.cm_desk.specs.declared.supplies.Supplies.{Supplies}
 use Rattle.cm_desk.proofs.ActiveLemmas.{same_order, hardware_stays}
-use Rattle.cm_desk.proofs.AfterLemmas.{at_home}
 use Rattle.cm_desk.proofs.BootLemmas.{loans_count}
 use Rattle.cm_desk.proofs.BeginLemmas.{HasDecided, begun_actives, based_aloft, kept_aloft}
 use Rattle.cm_desk.proofs.StayLemmas.{begun_stays, serials_stay, described_stay, divided_stay}
@@ -110,8 +109,8 @@ settles_so t g order r related is described room =
       stops = rw is room;
     }
 
-module _ (s : State) (slots : Slotted) (run : List ℕ) (b : Bay) (boxes : List CtlData) (berths : ℕ) (cells : List Seat) (places number : ℕ) (supplies : Supplies)
-    (can : CanTakeOff s slots run b boxes berths cells places number supplies) where
+module _ (s : State) (slots : Slotted) (run : List ℕ) (b : Bay) (boxes : List CtlData) (berths : ℕ) (cells : List Seat) (places number : ℕ)
+    (can : CanTakeOff s slots run b boxes berths cells places number) where
   -- ---- Who runs
 
   runs_at : map (slice_get (begun s).loaded) run ≡ map Some (active_order (begun s))
@@ -134,11 +133,11 @@ module _ (s : State) (slots : Slotted) (run : List ℕ) (b : Bay) (boxes : List 
 
   -- ---- They board
 
-  stands : length supplies.stations.items ≡ length run
-  stands = stands_count (members_in_order (begun s)) supplies.stations.items can.supplies.stations.stands ∙ sym run_count
+  stands : length b.spare.stations.items ≡ length run
+  stands = stands_count (members_in_order (begun s)) b.spare.stations.items can.supplied.stations.stands ∙ sym run_count
 
   pub can_board : (lent : List CtlData) → lent ≡ map (λ (l : Loaded). l.ctl) (active_order (begun s)) → AllByRecursion (IsKept Active) lent
-      → CanBoard (begun s).loaded run supplies.stations.items lent cells places
+      → CanBoard (begun s).loaded run b.spare.stations.items lent cells places
   can_board lent are running = record {
     within = all_within (begun s).loaded run (active_order (begun s)) runs_at;
     stations = stands;
@@ -149,11 +148,11 @@ module _ (s : State) (slots : Slotted) (run : List ℕ) (b : Bay) (boxes : List 
   }
 
   aboard : List Seat
-  aboard = seated (begun s).mails (active_order (begun s)) supplies.stations.items
+  aboard = seated (begun s).mails (active_order (begun s)) b.spare.stations.items
 
   pub aboard_are : (lent : List CtlData) → lent ≡ map (λ (l : Loaded). l.ctl) (active_order (begun s))
-      → boarded (begun s).loaded (begun s).mails run supplies.stations.items lent ≡ seated (begun s).mails (active_order (begun s)) supplies.stations.items
-  aboard_are lent are = boarded_are (begun s).loaded (begun s).mails run (active_order (begun s)) supplies.stations.items lent runs_at can.supplies.stations.stands are
+      → boarded (begun s).loaded (begun s).mails run b.spare.stations.items lent ≡ seated (begun s).mails (active_order (begun s)) b.spare.stations.items
+  aboard_are lent are = boarded_are (begun s).loaded (begun s).mails run (active_order (begun s)) b.spare.stations.items lent runs_at can.supplied.stations.stands are
 
   -- what the slots are once the boxes were lent, and the boxes
   pub record IsLent (before after : Slotted) (lent : List CtlData) : Type 0 where
@@ -172,18 +171,18 @@ module _ (s : State) (slots : Slotted) (run : List ℕ) (b : Bay) (boxes : List 
       }
 
   -- the mail that is aloft
-  pub mails_so : (mails : List MailAloft) → mails ≡ supplies.mails.items ++ filter_map (mail_off s) slots.loaded → mails ≡ (begun s).mails
-  mails_so mails off = off ∙ ap₂ (λ (ms : List MailAloft) (ls : List Loaded). ms ++ filter_map (mail_off s) ls) can.supplies.no_mail can.loaded
+  pub mails_so : (mails : List MailAloft) → mails ≡ b.spare.mails.items ++ filter_map (mail_off s) slots.loaded → mails ≡ (begun s).mails
+  mails_so mails off = off ∙ ap₂ (λ (ms : List MailAloft) (ls : List Loaded). ms ++ filter_map (mail_off s) ls) can.supplied.no_mail can.loaded
 
   -- and who boarded
   pub cells_so : (loaded : List Loaded) (lent : List CtlData) (mails : List MailAloft) (cells' : List Seat) → loaded ≡ (begun s).loaded → lent ≡ map (λ (l : Loaded). l.ctl) (active_order (begun s))
-      → mails ≡ supplies.mails.items ++ filter_map (mail_off s) slots.loaded → cells' ≡ boarded loaded mails run supplies.stations.items lent
-      → cells' ≡ seated (begun s).mails (active_order (begun s)) supplies.stations.items
+      → mails ≡ b.spare.mails.items ++ filter_map (mail_off s) slots.loaded → cells' ≡ boarded loaded mails run b.spare.stations.items lent
+      → cells' ≡ seated (begun s).mails (active_order (begun s)) b.spare.stations.items
   cells_so loaded lent mails cells' same are off made =
-      made ∙ ap₂ (λ (ls : List Loaded) (ms : List MailAloft). boarded ls ms run supplies.stations.items lent) same (mails_so mails off) ∙ aboard_are lent are
+      made ∙ ap₂ (λ (ls : List Loaded) (ms : List MailAloft). boarded ls ms run b.spare.stations.items lent) same (mails_so mails off) ∙ aboard_are lent are
 
-  pub stands_room : length supplies.stations.items ≡ length (members_in_order (begun s))
-  stands_room = stands_count (members_in_order (begun s)) supplies.stations.items can.supplies.stations.stands
+  pub stands_room : length b.spare.stations.items ≡ length (members_in_order (begun s))
+  stands_room = stands_count (members_in_order (begun s)) b.spare.stations.items can.supplied.stations.stands
 
   -- ---- Each can be updated
 
@@ -213,17 +212,18 @@ module _ (s : State) (slots : Slotted) (run : List ℕ) (b : Bay) (boxes : List 
 
   -- ---- The flight
 
-  pub equipped : IsEquipped (seated (begun s).mails (active_order (begun s)) supplies.stations.items) supplies.order.items b.plant.value b.ending.value b.spare_lists supplies.erred.items (vec_capacity supplies.erred)
-  equipped = record {
-    order = can.supplies.order ∙ sym (members_are (begun s).mails (active_order (begun s)) supplies.stations.items can.supplies.stations.stands);
-    fitted = cells_fitted b.plant.value.places (begun s).mails (active_order (begun s)) supplies.stations.items can.supplies.stations.fitted;
+  pub equipped : (k : Craft) → IsFittedOut s.description b.plant.value.places (members_in_order (begun s)) k
+      → IsEquipped (seated (begun s).mails (active_order (begun s)) b.spare.stations.items) k.order.items b.plant.value b.ending.value b.spare_lists.value k.erred.items (vec_capacity k.erred)
+  equipped k out = record {
+    order = out.order ∙ sym (members_are (begun s).mails (active_order (begun s)) b.spare.stations.items can.supplied.stations.stands);
+    fitted = cells_fitted b.plant.value.places (begun s).mails (active_order (begun s)) b.spare.stations.items can.supplied.stations.fitted;
     flags = flags_in s.description b.plant.value.relations b.ending.value can.worked_out.1.related can.flags;
-    lines = lines_for (begun s) b.plant.value.hardware b.spare_lists can.hardware can.spare_lines;
-    none_erred = can.supplies.none_erred;
-    erred = omega (arith, cells_count (begun s).mails (active_order (begun s)) supplies.stations.items can.supplies.stations.stands, can.supplies.erred, length-map {B = Member} (active_order (begun s)) (λ (l : Loaded). record { serial = l.serial; place = l.place }));
+    lines = lines_for (begun s) b.plant.value.hardware b.spare_lists.value can.hardware can.spare_lines;
+    none_erred = out.none_erred;
+    erred = omega (arith, cells_count (begun s).mails (active_order (begun s)) b.spare.stations.items can.supplied.stations.stands, out.erred, length-map {B = Member} (active_order (begun s)) (λ (l : Loaded). record { serial = l.serial; place = l.place }));
   }
 
-  pub aloft_over : IsAloftOver (begun s) number (seated (begun s).mails (active_order (begun s)) supplies.stations.items) b.plant.value
+  pub aloft_over : IsAloftOver (begun s) number (seated (begun s).mails (active_order (begun s)) b.spare.stations.items) b.plant.value
   aloft_over = record {
     valid = can.valid;
     steady = can.steady;
@@ -233,12 +233,13 @@ module _ (s : State) (slots : Slotted) (run : List ℕ) (b : Bay) (boxes : List 
     related = can.worked_out.1.related;
     timed = can.worked_out.1.timed;
     hardware = can.hardware;
-    cells = seats_are (begun s).mails (begun s).mails (active_order (begun s)) supplies.stations.items can.supplies.stations.stands divided apart (mailed_all (begun s).mails (active_order (begun s)));
+    cells = seats_are (begun s).mails (begun s).mails (active_order (begun s)) b.spare.stations.items can.supplied.stations.stands divided apart (mailed_all (begun s).mails (active_order (begun s)));
   }
 
-  pub ready : AllByRecursion (IsKept Active) (map (λ (l : Loaded). l.ctl) (active_order (begun s)))
-      → IsReady number (seated (begun s).mails (active_order (begun s)) supplies.stations.items) supplies.order.items b.plant.value supplies.room
-  ready running =
+  ready : (k : Craft) (r : RecordRoom) → k.order.items ≡ members_in_order (begun s) → HasRoom s.description b.plant.value.places (members_in_order (begun s)) r
+      → AllByRecursion (IsKept Active) (map (λ (l : Loaded). l.ctl) (active_order (begun s)))
+      → IsReady number (seated (begun s).mails (active_order (begun s)) b.spare.stations.items) k.order.items b.plant.value r
+  ready k r order told running =
       let fits = valid_period s.description can.valid in
       let kept = all_map_back (IsKept Active) (λ (l : Loaded). l.ctl) (active_order (begun s)) running in
       record {
@@ -247,40 +248,50 @@ module _ (s : State) (slots : Slotted) (run : List ℕ) (b : Bay) (boxes : List 
           timely = timely s.description (round_over number b.plant.value) can.valid (omega (arith, can.number, can.within)) can.worked_out.1.timed;
           short = rw (can.worked_out.1.timed) fits.2;
           each = each_flies b.plant.value.places b.plant.value.relations b.plant.value.period_us (length b.plant.value.hardware.loans) (begun s).mails (begun s).mails (active_order (begun s))
-              supplies.stations.items (runs_as kept) can.supplies.stations.stands can.supplies.stations.fitted divided apart (mailed_all (begun s).mails (active_order (begun s)));
-          told = can_tell s.description b.plant.value.places (begun s).mails (active_order (begun s)) supplies.stations.items supplies.room can.supplies.stations.stands can.supplies.stations.fitted
-              (order_described (begun s) can.described) can.supplies.told;
-          failures = omega (arith, most_of s.description b.plant.value.hardware can.hardware.wired.components, can.supplies.told.failures);
-          joints = omega (arith, joints_of s.description b.plant.value.hardware can.hardware.wired.components, can.supplies.told.bodies);
+              b.spare.stations.items (runs_as kept) can.supplied.stations.stands can.supplied.stations.fitted divided apart (mailed_all (begun s).mails (active_order (begun s)));
+          told = can_tell s.description b.plant.value.places (begun s).mails (active_order (begun s)) b.spare.stations.items r can.supplied.stations.stands can.supplied.stations.fitted
+              (order_described (begun s) can.described) told;
+          failures = omega (arith, most_of s.description b.plant.value.hardware can.hardware.wired.components, told.failures);
+          joints = omega (arith, joints_of s.description b.plant.value.hardware can.hardware.wired.components, told.bodies);
         };
-        settles = settles_so (begun s) b.plant.value supplies.order.items supplies.room can.worked_out.1.related can.supplies.order can.described can.supplies.told.stops;
+        settles = settles_so (begun s) b.plant.value k.order.items r can.worked_out.1.related order can.described told.stops;
         empty = record {
-          no_failure = can.supplies.told.no_failure;
-          none_ran = can.supplies.told.none_ran;
-          no_body = can.supplies.told.no_body;
-          none_stopped = can.supplies.told.none_stopped;
+          no_failure = told.no_failure;
+          none_ran = told.none_ran;
+          no_body = told.no_body;
+          none_stopped = told.none_stopped;
         };
       }
+
+  -- with the room that it has to tell in
+  pub ready_in : (k : Craft) → IsFittedOut s.description b.plant.value.places (members_in_order (begun s)) k
+      → AllByRecursion (IsKept Active) (map (λ (l : Loaded). l.ctl) (active_order (begun s)))
+      → IsSomeAnd k.room (IsReady number (seated (begun s).mails (active_order (begun s)) b.spare.stations.items) k.order.items b.plant.value)
+  ready_in k out running = each k.room out.told
+    where
+      each : (o : Option RecordRoom) → IsSomeAnd o (HasRoom s.description b.plant.value.places (members_in_order (begun s)))
+          → IsSomeAnd o (IsReady number (seated (begun s).mails (active_order (begun s)) b.spare.stations.items) k.order.items b.plant.value)
+      each None none = absurd none
+      each (Some r) told = ready k r out.order told running
 
 -- ---- A begin
 
 -- a cycle can take off once all is decided, with what was supplied for it
 pub can_take_off : (s t : State) (names : List (List ℕ)) (before b : Bay) (berths : ℕ) (was looked : Listed) (slots : Slotted) (boxes : List CtlData) (berth_room : ℕ) (cells : List Seat)
-    (cell_room count : ℕ) (all : Supplies)
-    → KeepsState t names (base_of before berths) was → HasDecided s t → IsListedOf t looked → looked.fresh ≡ true → b ≡ record before { spare = b.spare }
-    → slots.loaded ≡ t.loaded → slots.aloft ≡ t.aloft → count ≡ t.ended → AreSupplies t.description before.plant.value.places looked.order (length t.loaded) all
+    (cell_room count : ℕ)
+    → KeepsState t names (base_of before berths) was → HasDecided s t → IsListedOf t looked → looked.fresh ≡ true → IsMadeReady before b
+    → slots.loaded ≡ t.loaded → slots.aloft ≡ t.aloft → count ≡ t.ended → IsSupplied t.description looked.order (length t.loaded) b
     → boxes ≡ [] → length looked.order ≤ berth_room → cells ≡ [] → length looked.order ≤ cell_room
-    → CanTakeOff t slots looked.run b boxes berth_room cells cell_room count all
-can_take_off s t names before b berths was looked slots boxes berth_room cells cell_room count all kept decided listed fresh used loaded aloft number supplies no_box berth_places no_cell cell_places =
+    → CanTakeOff t slots looked.run b boxes berth_room cells cell_room count
+can_take_off s t names before b berths was looked slots boxes berth_room cells cell_room count kept decided listed fresh ready loaded aloft number supplied no_box berth_places no_cell cell_places =
     let actives = begun_actives t in
     let stays = begun_stays t in
     let order : looked.order ≡ members_in_order (begun t) = listed.order fresh ∙ sym (same_order t (begun t) actives refl) in
-    let plant : b.plant.value ≡ before.plant.value = ap (λ (x : Bay). x.plant.value) used in
-    let ending : b.ending.value ≡ before.ending.value = ap (λ (x : Bay). x.ending.value) used in
-    let hangar : b.hangar ≡ before.hangar = ap (λ (x : Bay). x.hangar) used in
-    let lists : b.lists ≡ before.lists = ap (λ (x : Bay). x.lists) used in
-    let told : b.told ≡ before.told = ap (λ (x : Bay). x.told) used in
-    let spare_lists : b.spare_lists ≡ before.spare_lists = ap (λ (x : Bay). x.spare_lists) used in
+    let plant : b.plant.value ≡ before.plant.value = ap (λ (x : Bay). x.plant.value) ready.bay in
+    let ending : b.ending.value ≡ before.ending.value = ap (λ (x : Bay). x.ending.value) ready.bay in
+    let lists : b.lists ≡ before.lists = ap (λ (x : Bay). x.lists) ready.bay in
+    let told : b.told ≡ before.told = ap (λ (x : Bay). x.told) ready.bay in
+    let spare_lists : b.spare_lists.value ≡ before.spare_lists.value = ap (λ (x : Bay). x.spare_lists.value) ready.bay in
     record {
       valid = kept.worked_out.valid;
       steady = decided.steady_then;
@@ -296,12 +307,12 @@ can_take_off s t names before b berths was looked slots boxes berth_room cells c
       run = rw (← order, serials_stay t.loaded (begun t).loaded stays) (listed.run fresh);
       hardware = rw plant (hardware_stays t (begun t) actives refl before.plant.value.hardware refl refl refl kept.hardware);
       worked_out = (names, rw plant kept.worked_out);
-      home = rw (plant, ending, hangar) (at_home t.description was.order before berths t.aloft kept.based decided.down);
+      home = ready.home;
       flags = rw ending kept.based.flags;
       lines = rw lists kept.based.lines;
       told = λ yes. rw (plant, lists) (kept.based.told (sym told ∙ yes));
       spare_lines = rw spare_lists (kept.based.spare_lines decided.down);
-      supplies = rw (← order, plant) supplies;
+      supplied = rw (← order) supplied;
       no_box = no_box;
       berths = rw (← order) berth_places;
       no_cell = no_cell;
@@ -310,15 +321,15 @@ can_take_off s t names before b berths was looked slots boxes berth_room cells c
 
 -- and once it did, this is kept
 pub kept_off : (s t : State) (names : List (List ℕ)) (before b b' : Bay) (berths : ℕ) (berths' : ℕ) (was looked : Listed) (slots slots' : Slotted) (f : FlightFacts)
-    → KeepsState t names (base_of before berths) was → HasDecided s t → IsListedOf t looked → looked.fresh ≡ true → b ≡ record before { spare = b.spare } → HasTakenOff t slots slots' b b' f
+    → KeepsState t names (base_of before berths) was → HasDecided s t → IsListedOf t looked → looked.fresh ≡ true → IsMadeReady before b → HasTakenOff t slots slots' b b' f
     → length looked.order ≤ berths' → KeepsState (begun t) names (base_of b' berths') looked
-kept_off s t names before b b' berths berths' was looked slots slots' f kept decided listed fresh used off berth_places =
+kept_off s t names before b b' berths berths' was looked slots slots' f kept decided listed fresh ready off berth_places =
     let actives = begun_actives t in
     let order : looked.order ≡ members_in_order (begun t) = listed.order fresh ∙ sym (same_order t (begun t) actives refl) in
-    let plant : b'.plant.value ≡ before.plant.value = ap (λ (x : Bay). x.plant.value) off.bay ∙ ap (λ (x : Bay). x.plant.value) used in
-    let ending : b'.ending.value ≡ before.ending.value = ap (λ (x : Bay). x.ending.value) off.bay ∙ ap (λ (x : Bay). x.ending.value) used in
-    let size : b'.size ≡ before.size = ap (λ (x : Bay). x.size) off.bay ∙ ap (λ (x : Bay). x.size) used in
-    let room : b'.room ≡ before.room = ap (λ (x : Bay). x.room) off.bay ∙ ap (λ (x : Bay). x.room) used in
+    let plant : b'.plant.value ≡ before.plant.value = ap (λ (x : Bay). x.plant.value) off.bay ∙ ap (λ (x : Bay). x.plant.value) ready.bay in
+    let ending : b'.ending.value ≡ before.ending.value = ap (λ (x : Bay). x.ending.value) off.bay ∙ ap (λ (x : Bay). x.ending.value) ready.bay in
+    let size : b'.size ≡ before.size = ap (λ (x : Bay). x.size) off.bay ∙ ap (λ (x : Bay). x.size) ready.bay in
+    let room : b'.room ≡ before.room = ap (λ (x : Bay). x.room) off.bay ∙ ap (λ (x : Bay). x.room) ready.bay in
     let same : b'.plant.value ≡ b.plant.value = ap (λ (x : Bay). x.plant.value) off.bay in
     let based : IsBased t.description false was.order (base_of before berths) = subst (λ (aloft : Bool). IsBased t.description aloft was.order (base_of before berths)) decided.down kept.based in
     kept_aloft t names (base_of before berths) (base_of b' berths') was looked kept decided.numbered decided.down decided.unclosed decided.within listed fresh plant

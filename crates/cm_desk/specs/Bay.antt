@@ -1,5 +1,5 @@
 -- What a cycle works on, at home or aloft.
-use Rattle.std.specs.Prelude.{◌≡◌, ℕ, ◌≤◌, Bool, true, false, not, List, [], length, map, vec_capacity, is_some, Box, Option, None, IfSome, IsSomeAnd}
+use Rattle.std.specs.Prelude.{◌≡◌, ℕ, ◌≤◌, Bool, true, false, not, List, [], length, map, vec_capacity, is_some, Box, Option, None, Some, IfSome, IsSomeAnd}
 use Rattle.std.specs.List.{AllByRecursion}
 use Rattle.std.specs.declared.alloc.Global.{Global}
 use Rattle.cm_document.specs.Places.{interfaces_of}
@@ -13,13 +13,14 @@ use Rattle.cm_hardware.specs.Shown.{HasLinesFor, Shows}
 use Rattle.cm_hardware.specs.declared.lists.Lists.{Lists}
 use Rattle.ctl_places.specs.Placed.{placed_of}
 use Rattle.ctl_slots.specs.Seats.{widest}
+use Rattle.rt_flight.specs.Flights.{TellsNothing}
 use Rattle.rt_flight.specs.Stations.{Standing, IsFitted}
 use Rattle.rt_flight.specs.declared.craft.Craft.{Craft}
 use Rattle.rt_flight.specs.declared.plant.Plant.{Plant}
 use Rattle.stop_plan.specs.Ending.{HasFlags}
 use Rattle.stop_plan.specs.declared.ending.Ending.{Ending}
 use Rattle.switch_plan.specs.Relations.{relations_of}
-use Rattle.cm_desk.specs.Supplies.{AreKept, CanSupply, IsSizeOf, stands_for}
+use Rattle.cm_desk.specs.Supplies.{AreKept, AreStations, CanSupply, IsFittedOut, IsSizeOf, stands_for}
 use Rattle.cm_desk.specs.declared.bay.Bay.{Bay}
 use Rattle.cm_desk.specs.declared.supplies.HardwareSize.{HardwareSize}
 
@@ -49,20 +50,31 @@ base_of b berths = record {
   hangar = b.hangar;
   mails = b.mails.value.items;
   stations = b.spare.stations.items;
-  members = b.spare.order.items;
+  members = b.members.value.items;
   lists = b.lists;
   told = b.told;
-  spare_lists = b.spare_lists;
+  spare_lists = b.spare_lists.value;
   size = b.size;
   room = b.room;
   stands = vec_capacity b.spare.stations;
   berths = berths;
 }
 
--- What is at home is this.
-pub record IsHome (g : Plant) (e : Ending) (h : Box Craft Global) : Type 0 where
+-- What is at home is this, with these who flew last and this room for lists; and in the room that it has for a record nothing is told.
+pub record IsHome (g : Plant) (e : Ending) (members : List Member) (lists : Lists) (h : Box Craft Global) : Type 0 where
   pub plant : h.value.plant ≡ g
   pub ending : h.value.ending ≡ e
+  pub order : h.value.order.items ≡ members
+  pub spare_lists : h.value.lists ≡ lists
+  pub told : IfSome h.value.room TellsNothing
+
+-- This works in cycles before the first one: nobody flew yet, and there is no room to tell.
+pub record IsIdle (g : Plant) (e : Ending) (room : Lists) (k : Craft) : Type 0 where
+  pub plant : k.plant ≡ g
+  pub ending : k.ending ≡ e
+  pub lists : k.lists ≡ room
+  pub order : k.order.items ≡ []
+  pub told : k.room ≡ None
 
 -- there is room for the lists of a description
 pub record HasLines (d : Description) (l : Lists) : Type 0 where
@@ -71,11 +83,11 @@ pub record HasLines (d : Description) (l : Lists) : Type 0 where
 
 -- What works in a cycle is at home, and so it is.
 abbrev pub IsAtHome : Bay → Type 0
-IsAtHome b = IsSomeAnd b.hangar (IsHome b.plant.value b.ending.value)
+IsAtHome b = IsSomeAnd b.hangar (IsHome b.plant.value b.ending.value b.members.value.items b.spare_lists.value)
 
 -- The lists of its hardware can be told: where it is at home it is so, and else they were written down.
 pub record IsListing (b : Bay) : Type 0 where
-  pub home : IfSome b.hangar (IsHome b.plant.value b.ending.value)
+  pub home : IfSome b.hangar (IsHome b.plant.value b.ending.value b.members.value.items b.spare_lists.value)
   pub shown : is_some b.hangar ≡ false → Shows b.plant.value.hardware b.lists
 
 -- What is kept of it, while a cycle is aloft or not, whose controllers these are: what is at home is so, and between two cycles all of
@@ -84,7 +96,7 @@ pub record IsListing (b : Bay) : Type 0 where
 pub record IsBased (d : Description) (aloft : Bool) (order : List Member) (b : Base) : Type 0 where
   pub wide : b.room ≡ widest
   pub flags : HasFlags (length d.controllers) b.ending
-  pub home : IfSome b.hangar (IsHome b.plant b.ending)
+  pub home : IfSome b.hangar (IsHome b.plant b.ending b.members b.spare_lists)
   pub home_is : is_some b.hangar ≡ not aloft
   pub fitted : AllByRecursion (IsFitted b.plant.places) b.stations
   pub ordered : aloft ≡ false → b.members ≡ map stands_for b.stations
@@ -103,22 +115,31 @@ pub record IsRewired (before after : Bay) : Type 0 where
   pub home : IsAtHome after
   pub mails : after.mails.value.items ≡ before.mails.value.items
   pub spare : after.spare ≡ before.spare
+  pub members : after.members.value.items ≡ before.members.value.items
   pub lists : after.lists ≡ before.lists
   pub untold : after.told ≡ false
-  pub spare_lists : after.spare_lists ≡ before.spare_lists
+  pub spare_lists : after.spare_lists.value ≡ before.spare_lists.value
   pub size : after.size ≡ before.size
   pub room : after.room ≡ before.room
 
--- What was left over is used up, and all else stays.
-pub record IsUsedUp (before after : Bay) : Type 0 where
-  pub stations : after.spare.stations.items ≡ []
-  pub order : after.spare.order.items ≡ []
-  pub bay : after ≡ record before { spare = after.spare }
+-- It was made ready for a cycle, or some of what was left over is lost: it is known still who stands at its stations, it is at home, and all
+-- else stays.
+pub record IsMadeReady (before after : Bay) : Type 0 where
+  pub kept : AreKept before.plant.value.places after.spare.stations.items after.members.value.items
+  pub home : IsAtHome after
+  pub bay : after ≡ record before { hangar = after.hangar; members = after.members; spare = after.spare }
+
+-- All is ready in it for a cycle in which these controllers are active, of so many that are loaded.
+pub record IsSupplied (d : Description) (order : List Member) (loaded : ℕ) (b : Bay) : Type 0 where
+  pub stations : AreStations b.plant.value.places order b.spare.stations.items
+  pub no_mail : b.spare.mails.items ≡ []
+  pub mails : loaded ≤ vec_capacity b.spare.mails
+  pub craft : IsSomeAnd b.hangar (λ h. IsFittedOut d b.plant.value.places order h.value)
 
 -- It can be supplied for these controllers: it is that of the description, each is described, and what was left over is kept.
 pub record CanBeSupplied (d : Description) (b : Bay) (order : List Member) : Type 0 where
   pub plant : CanSupply d b.plant.value.places b.size order
-  pub kept : AreKept b.plant.value.places b.spare.stations.items b.spare.order.items
+  pub kept : AreKept b.plant.value.places b.spare.stations.items b.members.value.items
 
 -- What works in a cycle can leave: it is at home, and there is room for its lists, which are those of its hardware where they are told.
 pub record CanCastOff (b : Bay) : Type 0 where
@@ -126,37 +147,29 @@ pub record CanCastOff (b : Bay) : Type 0 where
   pub lines : HasLinesFor b.plant.value.hardware b.lists
   pub told : b.told ≡ true → Shows b.plant.value.hardware b.lists
 
--- It left as it was, with the room for its lists; and the lists here are those of its hardware.
-pub record HasCastOff (before after : Bay) (k : Craft) : Type 0 where
-  pub plant : k.plant ≡ before.plant.value
-  pub ending : k.ending ≡ before.ending.value
-  pub spare_lists : k.lists ≡ before.spare_lists
-  pub bay : after ≡ record before { hangar = None; lists = after.lists; told = after.told; spare_lists = after.spare_lists }
+-- It left as it was; and the lists here are those of its hardware.
+pub record HasCastOff (before after : Bay) (h : Box Craft Global) : Type 0 where
+  pub hangar : before.hangar ≡ Some h
+  pub plant : h.value.plant ≡ before.plant.value
+  pub ending : h.value.ending ≡ before.ending.value
+  pub spare_lists : h.value.lists ≡ before.spare_lists.value
+  pub bay : after ≡ record before { hangar = None; lists = after.lists; told = after.told }
   pub shown : Shows before.plant.value.hardware after.lists
   pub components : vec_capacity after.lists.components ≡ vec_capacity before.lists.components
   pub interfaces : vec_capacity after.lists.interfaces ≡ vec_capacity before.lists.interfaces
 
--- The lists that this wrote down are told, which are those of its hardware where nothing failed; those of before are room for the next;
--- and what else cycles leave over is what it brought, but for the stations and the room for mail.
-pub record HasUnloaded (before after : Bay) (k : Craft) : Type 0 where
-  pub lists : after.lists ≡ k.lists
-  pub told : after.told ≡ not k.has_failed
-  pub spare_lists : after.spare_lists ≡ before.lists
-  pub stations : after.spare.stations ≡ before.spare.stations
-  pub order : after.spare.order ≡ k.order
-  pub bay : after ≡ record before { lists = after.lists; told = after.told; spare_lists = after.spare_lists; spare = after.spare }
-
--- This is at home, with its lists, and no mail is aloft.
+-- This is at home, where the lists that it wrote down are told, which are those of its hardware where nothing failed; those of before are
+-- room for the next; and no mail is aloft.
 pub record HasMoored (before after : Bay) (k : Craft) : Type 0 where
   pub plant : after.plant.value ≡ k.plant
   pub ending : after.ending.value ≡ k.ending
   pub home : IsAtHome after
   pub no_mail : after.mails.value.items ≡ []
   pub stations : after.spare.stations ≡ before.spare.stations
-  pub order : after.spare.order ≡ k.order
+  pub order : after.members.value.items ≡ k.order.items
   pub lists : after.lists ≡ k.lists
   pub told : after.told ≡ not k.has_failed
-  pub spare_lists : after.spare_lists ≡ before.lists
+  pub spare_lists : after.spare_lists.value ≡ before.lists
   pub size : after.size ≡ before.size
   pub room : after.room ≡ before.room
 

@@ -23,12 +23,10 @@ use Rattle.rt_flight.specs.Cells.{Seat}
 use Rattle.rt_flight.specs.Flights.{FlightFacts, IsAloft}
 use Rattle.sound_laws.proofs.SerialLemmas.{IsNumbered}
 use Rattle.stop_plan.specs.Ending.{HasFlags}
-use Rattle.cm_desk.specs.Bay.{HasLines, IsAtHome}
+use Rattle.cm_desk.specs.Bay.{HasLines, IsAtHome, IsSupplied}
 use Rattle.cm_desk.specs.Roster.{AreAt, serials_of}
-use Rattle.cm_desk.specs.Supplies.{AreSupplies}
 use Rattle.cm_desk.specs.Works.{IsAsDescribed, IsDivided, IsWorkedOut}
 use Rattle.cm_desk.specs.declared.bay.Bay.{Bay}
-use Rattle.cm_desk.specs.declared.supplies.Supplies.{Supplies}
 
 -- none of these requests waits for an outcome
 abbrev pub none_waits : List Request → List Outcome → Bool
@@ -61,9 +59,9 @@ pub record HasBegun (before after : State) (flight : FlightFacts) (decisions : L
 -- ---- The take-off
 
 -- With these a cycle of the state can take off, when all is decided: its controllers, none of which is away; the indices of those that
--- run, in the order of updates; what a cycle works on, which is at home; room for a box of each and an empty list for their cells; and
--- all else that a cycle takes. The state that comes of it is valid, steady and numbered, and all that is kept of controllers holds in it.
-pub record CanTakeOff (s : State) (slots : Slotted) (indices : List ℕ) (b : Bay) (boxes : List CtlData) (berth_room : ℕ) (cells : List Seat) (cell_room count : ℕ) (all : Supplies)
+-- run, in the order of updates; what a cycle works on, which is at home and has all ready that the cycle needs; and room for a box of each
+-- and an empty list for their cells. The state that comes of it is valid, steady and numbered, and all that is kept of controllers holds in it.
+pub record CanTakeOff (s : State) (slots : Slotted) (indices : List ℕ) (b : Bay) (boxes : List CtlData) (berth_room : ℕ) (cells : List Seat) (cell_room count : ℕ)
     : Type 0 where
   pub valid : IsValid s.description
   pub steady : IsSteady (begun s)
@@ -83,8 +81,8 @@ pub record CanTakeOff (s : State) (slots : Slotted) (indices : List ℕ) (b : Ba
   pub flags : HasFlags (length s.description.controllers) b.ending.value
   pub lines : HasLines s.description b.lists
   pub told : b.told ≡ true → Shows b.plant.value.hardware b.lists
-  pub spare_lines : HasLines s.description b.spare_lists
-  pub supplies : AreSupplies s.description b.plant.value.places (members_in_order (begun s)) (length s.loaded) all
+  pub spare_lines : HasLines s.description b.spare_lists.value
+  pub supplied : IsSupplied s.description (members_in_order (begun s)) (length s.loaded) b
   pub no_box : boxes ≡ []
   pub berths : length (members_in_order (begun s)) ≤ berth_room
   pub no_cell : cells ≡ []
@@ -94,7 +92,7 @@ pub record CanTakeOff (s : State) (slots : Slotted) (indices : List ℕ) (b : Ba
 -- written down; and there is room for the stations.
 pub record HasTakenOff (s : State) (before after : Slotted) (b b' : Bay) (f : FlightFacts) : Type 0 where
   pub slots : after ≡ record before { loaded = (begun s).loaded; aloft = true }
-  pub bay : b' ≡ record b { hangar = None; mails = b'.mails; spare = b'.spare; lists = b'.lists; told = b'.told; spare_lists = b'.spare_lists }
+  pub bay : b' ≡ record b { hangar = None; mails = b'.mails; spare = b'.spare; lists = b'.lists; told = b'.told }
   pub mails : b'.mails.value.items ≡ (begun s).mails
   pub none_stands : b'.spare.stations.items ≡ []
   pub stands : length (members_in_order (begun s)) ≤ vec_capacity b'.spare.stations

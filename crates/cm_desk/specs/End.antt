@@ -84,10 +84,10 @@ pub record HasComeHome (s : State) (before after : Slotted) (looked : Listed) (b
   pub home : IsAtHome b'
   pub flags : HasFlags (length s.description.controllers) b'.ending.value
   pub fitted : AllByRecursion (IsFitted b'.plant.value.places) b'.spare.stations.items
-  pub ordered : b'.spare.order.items ≡ map stands_for b'.spare.stations.items
+  pub ordered : b'.members.value.items ≡ map stands_for b'.spare.stations.items
   pub no_mail : b'.mails.value.items ≡ []
   pub lines : HasLines s.description b'.lists
   pub told : b'.told ≡ true → Shows b'.plant.value.hardware b'.lists
-  pub spare_lines : HasLines s.description b'.spare_lists
+  pub spare_lines : HasLines s.description b'.spare_lists.value
   pub size : b'.size ≡ b.size
   pub room : b'.room ≡ b.room

@@ -1,5 +1,5 @@
 -- The memory that a cycle takes when it goes aloft.
-use Rattle.std.specs.Prelude.{◌≡◌, ℕ, ◌≤◌, ◌<◌, ◌+◌, if◌then◌else◌, List, [], ◌∷◌, length, map, sum_by, vec_capacity}
+use Rattle.std.specs.Prelude.{◌≡◌, ℕ, ◌≤◌, ◌<◌, ◌+◌, if◌then◌else◌, List, [], ◌∷◌, length, map, sum_by, vec_capacity, IfSome, IsSomeAnd}
 use Rattle.std.specs.List.{All, AllByRecursion}
 use Rattle.cm_document.specs.Params.{kind_of}
 use Rattle.cm_document.specs.declared.description.CompDesc.{CompDesc}
@@ -11,7 +11,10 @@ use Rattle.cm_hardware.specs.Wiring.{Wired, one_if, can_fail}
 use Rattle.chain_order.specs.Links.{linked}
 use Rattle.ctl_places.specs.Placed.{Placed, placed_of}
 use Rattle.ctl_slots.specs.Lives.{publishes}
+use Rattle.rt_flight.specs.Flights.{TellsNothing}
 use Rattle.rt_flight.specs.Stations.{Standing, IsFitted}
+use Rattle.rt_flight.specs.declared.craft.Craft.{Craft}
+use Rattle.cm_desk.specs.declared.bay.Spare.{Spare}
 use Rattle.cm_desk.specs.declared.supplies.HardwareSize.{HardwareSize}
 use Rattle.cm_desk.specs.declared.supplies.Supplies.{Supplies}
 
@@ -88,6 +91,12 @@ pub record IsSizeOf (d : Description) (s : HardwareSize) : Type 0 where
   pub failures : s.failures ≡ failing d.components
   pub joints : s.joints ≡ joints d.components
 
+-- hardware of this size has nothing to tell where these controllers are active, whatever happens
+pub record IsSilent (s : HardwareSize) (order : List Member) : Type 0 where
+  pub no_failures : s.failures ≡ 0
+  pub no_joints : s.joints ≡ 0
+  pub nobody : order ≡ []
+
 -- A cycle can be supplied in which these controllers are active: the places and the size are those of the description, and each is described.
 pub record CanSupply (d : Description) (placed : Placed) (s : HardwareSize) (order : List Member) : Type 0 where
   pub places : placed ≡ placed_of d
@@ -104,3 +113,30 @@ pub record AreSupplies (d : Description) (placed : Placed) (members : List Membe
   pub no_mail : s.mails.items ≡ []
   pub mails : loaded ≤ vec_capacity s.mails
   pub told : HasRoom d placed members s.room
+
+-- This works in a cycle in which these controllers are active: it is known who they are; there is room for the serials of those that fail;
+-- and to tell of all that can happen.
+pub record IsFittedOut (d : Description) (placed : Placed) (members : List Member) (k : Craft) : Type 0 where
+  pub order : k.order.items ≡ members
+  pub none_erred : k.erred.items ≡ []
+  pub erred : length members ≤ vec_capacity k.erred
+  pub told : IsSomeAnd k.room (HasRoom d placed members)
+
+-- So it can from what cycles left over and what works in a cycle: it is known who stands at the stations, which are fitted, and in the room
+-- for a record nothing is told.
+pub record CanSupplyFrom (d : Description) (s : HardwareSize) (order : List Member) (spare : Spare) (k : Craft) : Type 0 where
+  pub plant : CanSupply d k.plant.places s order
+  pub kept : AreKept k.plant.places spare.stations.items k.order.items
+  pub told : IfSome k.room TellsNothing
+
+-- All of it is ready, in what cycles left over and in what works in a cycle.
+pub record HaveSupplies (d : Description) (placed : Placed) (members : List Member) (loaded : ℕ) (spare : Spare) (k : Craft) : Type 0 where
+  pub stations : AreStations placed members spare.stations.items
+  pub no_mail : spare.mails.items ≡ []
+  pub mails : loaded ≤ vec_capacity spare.mails
+  pub craft : IsFittedOut d placed members k
+
+-- Of what works in a cycle this alone changed, and in the room for a record nothing is told.
+pub record IsRefitted (before after : Craft) : Type 0 where
+  pub craft : after ≡ record before { order = after.order; erred = after.erred; room = after.room; left_over = after.left_over }
+  pub told : IfSome after.room TellsNothing

@@ -1,21 +1,24 @@
 //! What a cycle works on, at home or aloft.
 
-ghost use Rattle.std.specs.Prelude.{◌≡◌, ◌<◌, ◌≤◌, [], true, false, None, Some, length, vec_capacity, IfOk};
+ghost use Rattle.std.specs.Prelude.{◌≡◌, ℕ, ◌<◌, ◌≤◌, List, [], true, false, not, None, Some, length, vec_capacity, IfOk, OnOk, IfSome};
 ghost use Rattle.joint_body.specs.declared.TheConstants.{LONGEST_STEP};
+ghost use Rattle.cm_document.specs.declared.description.Description.{Description};
 ghost use Rattle.cm_model.specs.Cycle.{period};
 ghost use Rattle.cm_model.specs.State.{State, component_lines, interface_lines};
+ghost use Rattle.cm_model.specs.declared.member.Member.{Member};
 ghost use Rattle.cm_hardware.specs.Holding.{IsHardwareOf, MovesComponent};
 ghost use Rattle.cm_hardware.specs.Shown.{HasLinesFor, Shows};
 ghost use Rattle.stop_plan.specs.Ending.{HasFlags};
-ghost use Rattle.cm_desk.specs.Bay.{IsAtHome, IsAtStart, IsHome, IsListing, IsRewired, IsUsedUp, CanBeSupplied, CanCastOff, HasCastOff, HasMoored, HasUnloaded};
-ghost use Rattle.cm_desk.specs.Supplies.{AreSupplies};
+ghost use Rattle.cm_desk.specs.Bay.{IsAtHome, IsAtStart, IsHome, IsIdle, IsListing, IsMadeReady, IsRewired, IsSupplied, CanBeSupplied, CanCastOff, HasCastOff, HasMoored};
+ghost use Rattle.cm_desk.specs.Supplies.{AreSupplies, CanSupply};
+ghost use Rattle.rt_flight.specs.Flights.{TellsNothing};
 ghost use Rattle.cm_desk.specs.Works.{CanSwitch, HasSwitched, KeepsRest};
 
 use crate::commits::commit;
 use crate::roster::Roster;
-use crate::supplies::{HardwareSize, Supplies, supplies_for};
+use crate::supplies::{HardwareSize, Supplies, empty, supplies_for, supply};
 use cm_hardware::{Lists, ResourceManager};
-use cm_model::{Checked, CompLine, CycleParts, IfaceLine, Life, Member, Memory, SECOND_US, Seq};
+use cm_model::{Checked, CompLine, IfaceLine, Life, Member, Memory, SECOND_US, Seq};
 use ctl_places::CtlPlaces;
 use ctl_slots::{MailAloft, Room, Slots};
 use ctl_trait::Controller;
@@ -37,14 +40,16 @@ pub(crate) struct Bay {
     pub(crate) ending: Snapshot<Ending>,
     /// The mail that is aloft. It takes no byte either.
     pub(crate) mails: Snapshot<Vec<MailAloft>>,
+    /// Who flew last, as what works in a cycle has it at home. It takes no byte either.
+    pub(crate) members: Snapshot<Vec<Member>>,
     /// What cycles left over.
     pub(crate) spare: Spare,
     /// The lists that are told while a cycle is aloft.
     pub(crate) lists: Lists,
     /// Whether they are those of the hardware as it is: a flight writes them down, and what is done to the hardware here makes them stale.
     pub(crate) told: bool,
-    /// Room for the lists that the next flight writes down.
-    pub(crate) spare_lists: Lists,
+    /// Room for the lists that the next flight writes down, as it has it at home. It takes no byte either.
+    pub(crate) spare_lists: Snapshot<Lists>,
     /// How much the hardware can have to tell in a cycle.
     pub(crate) size: HardwareSize,
     /// Room for what one controller reads when it comes to run.
@@ -56,29 +61,19 @@ pub(crate) struct Bay {
 pub(crate) struct Spare {
     /// The stations of those that flew last; none while a cycle is aloft.
     pub(crate) stations: Vec<Station>,
-    /// Who they are.
-    pub(crate) order: Vec<Member>,
-    /// Room for the serials of those whose update fails.
-    pub(crate) erred: Vec<u32>,
     /// Room for the mail that goes aloft.
     pub(crate) mails: Vec<MailAloft>,
-    /// The place of a record of which there was nothing to tell.
-    pub(crate) left_over: Option<Box<CycleParts>>,
 }
 
 impl Spare {
     /// Nothing is left over.
     pub(crate) fn none(alloc: Global) -> Spare
         ensures stations { result.stations.items ≡ [] }
-        ensures order { result.order.items ≡ [] }
         ensures mails { result.mails.items ≡ [] }
     {
         Spare {
             stations: Vec::new(alloc),
-            order: Vec::new(alloc),
-            erred: Vec::new(alloc),
             mails: Vec::new(alloc),
-            left_over: None,
         }
     }
 }
@@ -103,17 +98,18 @@ impl Bay {
             period_us: period_us(checked),
         };
         let room = Room::make(alloc)?;
-        let craft = Box::new(alloc, idle(alloc, plant, ending))?;
+        let craft = Box::new(alloc, idle(alloc, plant, ending, spare_lists))?;
         let spare = Spare::none(alloc);
         Ok(Bay {
             plant: Snapshot::of(&craft.plant),
             ending: Snapshot::of(&craft.ending),
             mails: Snapshot::of(&spare.mails),
+            members: Snapshot::of(&craft.order),
+            spare_lists: Snapshot::of(&craft.lists),
             hangar: Some(craft),
             spare,
             lists,
             told: false,
-            spare_lists,
             size,
             room,
         })
@@ -184,22 +180,18 @@ impl Bay {
         self.rest(hangar);
     }
 
-    /// All that a cycle takes in which these controllers are active, of so many that are loaded. What is at home stays so; what others left
-    /// over is used up, or lost where memory runs out.
-    pub(crate) fn supply(
-        &mut self,
+    /// All that a cycle needs in which these controllers are active, of so many that are loaded. Nothing is touched.
+    pub(crate) fn supplies(
+        &self,
         alloc: Global,
         checked: &Checked,
         order: &[Member],
         loaded: usize,
     ) -> Result<Supplies, Memory>
-        requires home { IsAtHome self.old }
-        requires can { CanBeSupplied checked.now self.old order.now }
-        ensures supplies { IfOk result
-            (AreSupplies checked.now self.old.plant.value.places order.now loaded) }
-        ensures bay { IsUsedUp self.old self.new }
+        requires home { IsAtHome self.now }
+        requires plant { CanSupply checked.now self.now.plant.value.places self.now.size order.now }
+        ensures { IfOk result (AreSupplies checked.now self.now.plant.value.places order.now loaded) }
     {
-        let spare = std::mem::replace(&mut self.spare, Spare::none(alloc));
         let Some(hangar) = &self.hangar else {
             unreachable!();
         };
@@ -210,8 +202,68 @@ impl Bay {
             self.size,
             order,
             loaded,
-            spare,
         )
+    }
+
+    /// These come to their places, and with them all that a cycle needs is ready. It takes no memory.
+    pub(crate) fn take_in(&mut self, supplies: Supplies)
+        requires { IsAtHome self.old }
+        ensures supplied { (d : Description) (order : List Member) (loaded : ℕ)
+            → AreSupplies d self.old.plant.value.places order loaded supplies → IsSupplied d order loaded self.new }
+        ensures bay { (d : Description) (order : List Member) (loaded : ℕ)
+            → AreSupplies d self.old.plant.value.places order loaded supplies → IsMadeReady self.old self.new }
+    {
+        let mut hangar = self.leave();
+        let Supplies {
+            stations,
+            order,
+            erred,
+            mails,
+            room,
+        } = supplies;
+        self.spare.stations = stations;
+        self.spare.mails = mails;
+        hangar.order = order;
+        hangar.erred = erred;
+        hangar.room = Some(room);
+        self.put_back(hangar);
+    }
+
+    /// All that a cycle needs is made ready in which these controllers are active, of so many that are loaded. What is at home stays so; of
+    /// what others left over some may be lost where memory runs out.
+    pub(crate) fn supply(
+        &mut self,
+        alloc: Global,
+        checked: &Checked,
+        order: &[Member],
+        loaded: usize,
+    ) -> Result<(), Memory>
+        requires home { IsAtHome self.old }
+        requires can { CanBeSupplied checked.now self.old order.now }
+        ensures supplied { OnOk result (IsSupplied checked.now order.now loaded self.new) }
+        ensures bay { IsMadeReady self.old self.new }
+    {
+        let mut hangar = self.leave();
+        let answer = supply(
+            alloc,
+            checked,
+            self.size,
+            order,
+            loaded,
+            &mut self.spare,
+            &mut hangar,
+        );
+        self.put_back(hangar);
+        answer
+    }
+
+    /// What works in a cycle is at home again, with others in its order of updates.
+    fn put_back(&mut self, craft: Box<Craft>)
+        ensures bay { self.new ≡ record self.old { hangar = Some craft; members = self.new.members } }
+        ensures members { self.new.members.value ≡ craft.value.order }
+    {
+        self.members = Snapshot::of(&craft.order);
+        self.hangar = Some(craft);
     }
 
     /// What works in a cycle is here again, after something was done to its hardware. The lists are told anew before the next flight.
@@ -231,47 +283,46 @@ impl Bay {
     /// What works in a cycle leaves for one, with room for its lists; those that are told here meanwhile are the ones of now. It takes no memory.
     pub(crate) fn cast_off(&mut self) -> Box<Craft>
         requires { CanCastOff self.old }
-        ensures { HasCastOff self.old self.new result.value }
+        ensures { HasCastOff self.old self.new result }
     {
-        let mut craft = self.leave();
+        let craft = self.leave();
         show_once(self.told, &craft.plant.hardware, &mut self.lists);
         self.told = true;
-        std::mem::swap(&mut self.spare_lists, &mut craft.lists);
         craft
     }
 
     /// What worked in a cycle is at home again, with the lists that it wrote down, and no mail is aloft. It takes no memory.
     pub(crate) fn moor(&mut self, craft: Box<Craft>)
+        requires { IfSome craft.value.room TellsNothing }
         ensures { HasMoored self.old self.new craft.value }
     {
         let mut craft = craft;
         self.unload(&mut craft);
         self.plant = Snapshot::of(&craft.plant);
         self.ending = Snapshot::of(&craft.ending);
+        self.members = Snapshot::of(&craft.order);
+        self.spare_lists = Snapshot::of(&craft.lists);
         self.hangar = Some(craft);
-        self.spare.mails.clear();
+        empty(&mut self.spare.mails);
         self.mails = Snapshot::of(&self.spare.mails);
     }
 
-    /// What came home for the next cycle is taken from it: the lists, which are as the hardware is where nothing failed, and what the cycle
-    /// left over.
+    /// The lists that it wrote down are told from now on, which are as the hardware is where nothing failed; those of before are room for the
+    /// next.
     fn unload(&mut self, craft: &mut Craft)
-        ensures bay { HasUnloaded self.old self.new craft.old }
-        ensures plant { craft.new.plant ≡ craft.old.plant }
-        ensures ending { craft.new.ending ≡ craft.old.ending }
+        ensures bay { self.new ≡ record self.old { lists = craft.old.lists; told = not craft.old.has_failed } }
+        ensures craft { craft.new ≡ record craft.old { lists = self.old.lists } }
     {
         std::mem::swap(&mut self.lists, &mut craft.lists);
-        std::mem::swap(&mut self.spare_lists, &mut craft.lists);
-        std::mem::swap(&mut self.spare.order, &mut craft.order);
-        std::mem::swap(&mut self.spare.erred, &mut craft.erred);
-        self.spare.left_over = craft.left_over.take();
         self.told = !craft.has_failed;
     }
 
     /// What works in a cycle leaves its place.
     pub(crate) fn leave(&mut self) -> Box<Craft>
         requires { IsAtHome self.old }
-        ensures left { IsHome self.old.plant.value self.old.ending.value result }
+        ensures left { IsHome self.old.plant.value self.old.ending.value self.old.members.value.items
+            self.old.spare_lists.value result }
+        ensures hangar { self.old.hangar ≡ Some result }
         ensures bay { self.new ≡ record self.old { hangar = None } }
     {
         match self.hangar.take() {
@@ -282,14 +333,9 @@ impl Bay {
 }
 
 /// What works in a cycle, before the first one.
-fn idle(alloc: Global, plant: Plant, ending: Ending) -> Craft
-    ensures plant { result.plant ≡ plant }
-    ensures ending { result.ending ≡ ending }
+fn idle(alloc: Global, plant: Plant, ending: Ending, lists: Lists) -> Craft
+    ensures { IsIdle plant ending lists result }
 {
-    let lists = Lists {
-        components: Vec::new(alloc),
-        interfaces: Vec::new(alloc),
-    };
     Craft {
         plant,
         ending,

@@ -14,7 +14,7 @@ ghost use Rattle.cm_desk.specs.Begin.{IsNext, CanAct, CanBegin, HasBegun, CanTak
 use crate::bay::Bay;
 use crate::boarding::board;
 use crate::roster::Roster;
-use crate::supplies::Supplies;
+use crate::supplies::empty;
 use crate::works::{Works, described_at};
 use cm_model::{CtlDesc, Decision, Life, Memory, Rare, Seen};
 use ctl_slots::{Slot, Slots};
@@ -38,12 +38,7 @@ impl<C: Controller> Works<C> {
         }
         let count = self.roster.order().len();
         make_places(&mut self.cells, &mut self.boxes, count)?;
-        let supplies = self.bay.supply(
-            alloc,
-            &self.checked,
-            self.roster.order(),
-            self.slots.len(),
-        )?;
+        self.bay.supply(alloc, &self.checked, self.roster.order(), self.slots.len())?;
         let cells = std::mem::replace(&mut self.cells, Vec::new(alloc));
         let flight = take_off(
             &mut self.slots,
@@ -52,7 +47,6 @@ impl<C: Controller> Works<C> {
             &mut self.boxes,
             cells,
             self.ended,
-            supplies,
         );
         Ok((flight, Rare::none()))
     }
@@ -69,11 +63,12 @@ impl<C: Controller> Works<C> {
         let run = Vec::with_capacity(alloc, count)?;
         let supplies = self
             .bay
-            .supply(alloc, &self.checked, &plan.order, self.slots.len())?;
+            .supplies(alloc, &self.checked, &plan.order, self.slots.len())?;
         let cells = std::mem::replace(&mut self.cells, Vec::new(alloc));
         let boxes = std::mem::replace(&mut self.boxes, Vec::new(alloc));
         self.carry_out(plan.conclusions);
         self.roster.put(plan.order, run, self.slots.as_slice());
+        self.bay.take_in(supplies);
         self.boxes = boxes;
         let flight = take_off(
             &mut self.slots,
@@ -82,7 +77,6 @@ impl<C: Controller> Works<C> {
             &mut self.boxes,
             cells,
             self.ended,
-            supplies,
         );
         Ok((flight, plan.decisions))
     }
@@ -240,9 +234,9 @@ fn make_places<C: Controller>(
     ensures cells { OnOk result ((cells.new.items ≡ []) × (count ≤ vec_capacity cells.new)) }
     ensures boxes { OnOk result ((boxes.new.items ≡ []) × (count ≤ vec_capacity boxes.new)) }
 {
-    cells.clear();
+    empty(cells);
     cells.reserve(count)?;
-    boxes.clear();
+    empty(boxes);
     boxes.reserve(count)?;
     Ok(())
 }
@@ -256,25 +250,15 @@ fn take_off<C: Controller>(
     boxes: &mut Vec<C>,
     cells: Vec<Cell<C>>,
     number: u64,
-    supplies: Supplies,
 ) -> Flight<C>
     requires { (s : State) × CanTakeOff s slots.old run.now bay.old (map C.meaning boxes.old.items)
-        (vec_capacity boxes.old) cells.items (vec_capacity cells) number supplies }
+        (vec_capacity boxes.old) cells.items (vec_capacity cells) number }
     ensures off { (s : State) → CanTakeOff s slots.old run.now bay.old (map C.meaning boxes.old.items)
-        (vec_capacity boxes.old) cells.items (vec_capacity cells) number supplies
+        (vec_capacity boxes.old) cells.items (vec_capacity cells) number
         → HasTakenOff s slots.old slots.new bay.old bay.new result }
     ensures room { vec_capacity boxes.new ≡ vec_capacity boxes.old }
 {
-    let Supplies {
-        stations,
-        order,
-        erred,
-        mails,
-        room,
-    } = supplies;
     let mut cells = cells;
-    bay.spare.stations = stations;
-    bay.spare.mails = mails;
     slots.send_off(number, &mut bay.spare.mails);
     bay.mails = Snapshot::of(&bay.spare.mails);
     slots.lend(run, boxes);
@@ -289,9 +273,6 @@ fn take_off<C: Controller>(
     Flight::take_off(Payload {
         number,
         cells,
-        order,
-        erred,
-        room,
         craft: bay.cast_off(),
     })
 }

@@ -6,6 +6,7 @@ ghost use Rattle.ctl_slots.specs.Lives.{IsKept};
 ghost use Rattle.ctl_slots.specs.Mails.{mail_in, without_mail};
 ghost use Rattle.cm_desk.specs.Boarding.{boarded, seat_of, AreGone, CanBoard, CanLeave, HaveLeft};
 
+use crate::supplies::empty;
 use ctl_slots::{MailAloft, Slot, take_mail};
 use ctl_trait::Controller;
 use rt_flight::{Cell, Station};
@@ -65,8 +66,8 @@ pub(crate) fn disembark<C: Controller>(
     ensures room { (vec_capacity stations.new ≡ vec_capacity stations.old)
         × (vec_capacity boxes.new ≡ vec_capacity boxes.old) }
 {
-    stations.clear();
-    boxes.clear();
+    empty(stations);
+    empty(boxes);
     cells.reverse();
     while let Some(cell) = cells.pop() {
         let (station, ctl) = cell.leave();

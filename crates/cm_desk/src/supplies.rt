@@ -1,17 +1,18 @@
 //! The memory that a cycle takes when it goes aloft.
 
-ghost use Rattle.std.specs.Prelude.{◌≡◌, ◌+◌, ◌≤◌, ◌<◌, [], true, length, sum_by, vec_capacity, IfOk, OnOk, All};
+ghost use Rattle.std.specs.Prelude.{◌≡◌, ◌+◌, ◌≤◌, ◌<◌, [], true, length, sum_by, vec_capacity, IfOk, OnOk, IfSome, IsSomeAnd, All};
 ghost use Rattle.std.specs.List.{AllByRecursion};
 ghost use Rattle.ctl_places.specs.Placed.{placed_of};
+ghost use Rattle.rt_flight.specs.Flights.{TellsNothing};
 ghost use Rattle.rt_flight.specs.Stations.{HasRows, IsFitted};
-ghost use Rattle.cm_desk.specs.Supplies.{AreKept, AreStandsOf, AreStations, AreSupplies, CanSupply, HasRoom, IsRun, IsSizeOf, IsStandOf, outs_at, numbers_at};
+ghost use Rattle.cm_desk.specs.Supplies.{AreKept, AreStandsOf, AreStations, AreSupplies, CanSupply, CanSupplyFrom, HasRoom, HaveSupplies, IsRefitted, IsRun, IsSilent, IsSizeOf, IsStandOf, outs_at, numbers_at};
 
 use crate::bay::Spare;
 use crate::works::described_at;
 use cm_model::{Checked, CycleParts, Member, Memory, Params, RecordRoom, RecordSize};
 use ctl_places::CtlPlaces;
 use ctl_slots::MailAloft;
-use rt_flight::Station;
+use rt_flight::{Craft, Station};
 use std::alloc::Global;
 
 /// All that a cycle takes along, or works on, but for the hardware and the boxes.
@@ -38,7 +39,7 @@ pub(crate) struct HardwareSize {
     pub(crate) joints: usize,
 }
 
-/// What a cycle takes in which these controllers are active, of so many that are loaded. What others left over is used again.
+/// What a cycle takes in which these controllers are active, of so many that are loaded, all of it new.
 pub(crate) fn supplies_for(
     alloc: Global,
     checked: &Checked,
@@ -46,47 +47,87 @@ pub(crate) fn supplies_for(
     size: HardwareSize,
     order: &[Member],
     loaded: usize,
-    spare: Spare,
 ) -> Result<Supplies, Memory>
-    requires plant { CanSupply checked.now places.now size order.now }
-    requires kept { AreKept places.now spare.stations.items spare.order.items }
+    requires { CanSupply checked.now places.now size order.now }
     ensures { IfOk result (AreSupplies checked.now places.now order.now loaded) }
 {
-    let Spare {
-        stations,
-        order: members,
-        erred,
-        mails,
-        left_over,
-    } = spare;
-    let room = record_for(alloc, checked, places, size, order, left_over)?;
-    let (stations, members) = run_for(alloc, places, order, stations, members)?;
     Ok(Supplies {
-        stations,
-        order: members,
-        erred: with_room(erred, order.len())?,
-        mails: with_room(mails, loaded)?,
-        room,
+        stations: new_stations(alloc, places, order)?,
+        order: copy_of(alloc, order)?,
+        erred: Vec::with_capacity(alloc, order.len())?,
+        mails: Vec::with_capacity(alloc, loaded)?,
+        room: record_for(alloc, checked, places, size, order, None)?,
     })
 }
 
-/// The stations of these controllers, and who they are: those that are there, where the same flew last, and else new ones.
-fn run_for(
+/// These once more.
+fn copy_of(alloc: Global, members: &[Member]) -> Result<Vec<Member>, Memory>
+    ensures { IfOk result (λ copy. copy.items ≡ members.now) }
+{
+    let mut copy = Vec::with_capacity(alloc, members.len())?;
+    copy.extend_from_slice(members)?;
+    Ok(copy)
+}
+
+/// All that a cycle needs is made ready in which these controllers are active, of so many that are loaded: their stations, and in what works
+/// in the cycle who they are and room to tell of it. What others left over is used again.
+pub(crate) fn supply(
+    alloc: Global,
+    checked: &Checked,
+    size: HardwareSize,
+    order: &[Member],
+    loaded: usize,
+    spare: &mut Spare,
+    craft: &mut Craft,
+) -> Result<(), Memory>
+    requires { CanSupplyFrom checked.now size order.now spare.old craft.old }
+    ensures supplied { OnOk result
+        (HaveSupplies checked.now craft.old.plant.places order.now loaded spare.new craft.new) }
+    ensures kept { AreKept craft.old.plant.places spare.new.stations.items craft.new.order.items }
+    ensures craft { IsRefitted craft.old craft.new }
+{
+    man(
+        alloc,
+        &craft.plant.places,
+        order,
+        &mut spare.stations,
+        &mut craft.order,
+    )?;
+    make_room(&mut craft.erred, order.len())?;
+    make_room(&mut spare.mails, loaded)?;
+    equip(
+        alloc,
+        checked,
+        &craft.plant.places,
+        size,
+        order,
+        &mut craft.room,
+        &mut craft.left_over,
+    )
+}
+
+/// The stations are those of these controllers, and it is known who they are: those that are there, where the same flew last, and else new
+/// ones.
+fn man(
     alloc: Global,
     places: &CtlPlaces,
     order: &[Member],
-    stations: Vec<Station>,
-    members: Vec<Member>,
-) -> Result<(Vec<Station>, Vec<Member>), Memory>
+    stations: &mut Vec<Station>,
+    members: &mut Vec<Member>,
+) -> Result<(), Memory>
     requires rows { All (λ m. HasRows places.now m.place) order.now }
-    requires kept { AreKept places.now stations.items members.items }
-    ensures { IfOk result (λ run. IsRun places.now order.now run.0.items run.1.items) }
+    requires kept { AreKept places.now stations.old.items members.old.items }
+    ensures run { OnOk result (IsRun places.now order.now stations.new.items members.new.items) }
+    ensures kept { AreKept places.now stations.new.items members.new.items }
 {
-    if are_stations_of(&stations, order) {
-        return Ok((stations, members));
+    if are_stations_of(stations, order) {
+        return Ok(());
     }
-    let members = filled(members, order)?;
-    Ok((new_stations(alloc, places, order)?, members))
+    let others = new_stations(alloc, places, order)?;
+    let who = copy_of(alloc, order)?;
+    *stations = others;
+    *members = who;
+    Ok(())
 }
 
 /// New stations for these controllers.
@@ -123,24 +164,54 @@ fn is_station_of(station: &Station, member: Member) -> bool
     station.serial() == member.serial && station.place() == member.place
 }
 
-/// These, in the room of a list that is not needed any more.
-fn filled(list: Vec<Member>, members: &[Member]) -> Result<Vec<Member>, Memory>
-    ensures { IfOk result (λ filled. filled.items ≡ members.now) }
+/// Nothing stands in the list any more.
+pub(crate) fn empty<T: Drop>(list: &mut Vec<T>)
+    ensures items { list.new.items ≡ [] }
+    ensures capacity { vec_capacity list.new ≡ vec_capacity list.old }
 {
-    let mut filled = list;
-    filled.clear();
-    filled.extend_from_slice(members)?;
-    Ok(filled)
+    if !list.is_empty() {
+        list.clear();
+    }
 }
 
-/// An empty list with room for so many, in that of a list that is not needed any more.
-fn with_room<T: Drop>(list: Vec<T>, count: usize) -> Result<Vec<T>, Memory>
-    ensures { IfOk result (λ empty. (empty.items ≡ []) × (count ≤ vec_capacity empty)) }
+/// Nothing stands in the list any more, and it has room for so many.
+fn make_room<T: Drop>(list: &mut Vec<T>, count: usize) -> Result<(), Memory>
+    ensures { OnOk result ((list.new.items ≡ []) × (count ≤ vec_capacity list.new)) }
 {
-    let mut empty = list;
-    empty.clear();
-    empty.reserve(count)?;
-    Ok(empty)
+    empty(list);
+    list.reserve(count)?;
+    Ok(())
+}
+
+/// There is room to tell of a cycle of hardware of this size in which these controllers are active: that of the cycle before, where there is
+/// nothing that either of them can tell, and else new room.
+fn equip(
+    alloc: Global,
+    checked: &Checked,
+    places: &CtlPlaces,
+    size: HardwareSize,
+    order: &[Member],
+    room: &mut Option<RecordRoom>,
+    left_over: &mut Option<Box<CycleParts>>,
+) -> Result<(), Memory>
+    requires can { CanSupply checked.now places.now size order.now }
+    requires told { IfSome room.old TellsNothing }
+    ensures room { OnOk result (IsSomeAnd room.new (HasRoom checked.now places.now order.now)) }
+    ensures told { IfSome room.new TellsNothing }
+{
+    if room.is_some() && is_silent(size, order) {
+        return Ok(());
+    }
+    let made = record_for(alloc, checked, places, size, order, left_over.take())?;
+    *room = Some(made);
+    Ok(())
+}
+
+/// Whether a cycle of hardware of this size in which these controllers are active has nothing to tell, whatever happens.
+fn is_silent(size: HardwareSize, order: &[Member]) -> bool
+    ensures { result ≡ true → IsSilent size order.now }
+{
+    size.failures == 0 && size.joints == 0 && order.is_empty()
 }
 
 /// A record for a cycle of hardware of this size in which these controllers are active, with room for all that it can tell. Its parts come to stand

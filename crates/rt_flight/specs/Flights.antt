@@ -1,5 +1,5 @@
 -- A flight: one cycle that has left the desk. What it is of a state, and what it makes of it.
-use Rattle.std.specs.Prelude.{◌≡◌, ℕ, ◌<◌, ◌≤◌, ◌==◌, Bool, true, false, not, List, [], ◌∷◌, length, map, is_some, vec_capacity, Option, None, Some, IfSome}
+use Rattle.std.specs.Prelude.{◌≡◌, ℕ, ◌<◌, ◌≤◌, ◌==◌, Bool, true, false, List, [], ◌∷◌, length, map, is_some, vec_capacity, Option, None, Some, IfSome, IsSomeAnd}
 use Rattle.std.specs.List.{All, AllByRecursion, IsDistinct}
 use Rattle.joint_body.specs.declared.TheConstants.{LONGEST_STEP}
 use Rattle.cm_document.specs.Valid.{IsValid}
@@ -164,17 +164,23 @@ pub record TellsNothing (r : RecordRoom) : Type 0 where
   pub no_body : r.bodies.items ≡ []
   pub none_stopped : r.stops.items ≡ []
 
+-- nor is anything told in it but who ran
+pub record IsBlank (r : RecordRoom) : Type 0 where
+  pub no_failure : r.failed.items ≡ []
+  pub no_body : r.bodies.items ≡ []
+  pub none_stopped : r.stops.items ≡ []
+
 -- Until it is computed, all of it can be done, with this record to tell in.
 pub record IsReady (number : ℕ) (cells : List Seat) (members : List Member) (g : Plant) (r : RecordRoom) : Type 0 where
   pub makes : CanMake number cells g r
   pub settles : CanSettle g.relations members r
   pub empty : TellsNothing r
 
--- With this craft, a flight has either a record to tell in or the record of its cycle.
+-- With this craft, a flight has room to tell of its cycle until it has the record of it. Room that is left then tells nothing.
 pub record IsFlight (number : ℕ) (cells : List Seat) (k : Craft) : Type 0 where
   pub equipped : IsEquipped cells k.order.items k.plant k.ending k.lists k.erred.items (vec_capacity k.erred)
-  pub one_of_two : is_some k.room ≡ not (is_some k.record)
-  pub ready : IfSome k.room (IsReady number cells k.order.items k.plant)
+  pub ready : is_some k.record ≡ false → IsSomeAnd k.room (IsReady number cells k.order.items k.plant)
+  pub left : is_some k.record ≡ true → IfSome k.room TellsNothing
 
 -- what is seen of it
 abbrev pub facts_with : ℕ → List Seat → Craft → FlightFacts
@@ -188,7 +194,8 @@ facts_with number cells k = record {
   outcome = k.record;
 }
 
--- What a flight brings home: all that it took along as it is then, the record of its cycle, and whether something failed.
+-- What a flight brings home: all that it took along as it is then, the record of its cycle, and whether something failed; and room that is
+-- left tells nothing.
 pub record ComesHome (f : FlightFacts) (seats : List Seat) (k : Craft) (happened : Happened) : Type 0 where
   pub cells : seats ≡ f.cells
   pub plant : k.plant ≡ f.plant
@@ -197,6 +204,7 @@ pub record ComesHome (f : FlightFacts) (seats : List Seat) (k : Craft) (happened
   pub has_failed : k.has_failed ≡ f.has_failed
   pub told : Some happened ≡ f.outcome
   pub equipped : IsEquipped seats k.order.items k.plant k.ending k.lists k.erred.items (vec_capacity k.erred)
+  pub left : IfSome k.room TellsNothing
 
 -- ---- In parts
 

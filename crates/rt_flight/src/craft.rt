@@ -15,13 +15,13 @@ pub struct Craft {
     pub ending: Ending,
     /// Room for the lists of the hardware, which are written down as the cycle is computed.
     pub lists: Lists,
-    /// The running controllers by serial and place, in the order of updates; at home room for them.
+    /// The running controllers by serial and place, in the order of updates; at home those that ran last.
     pub order: Vec<Member>,
     /// No serial, and room for those of the updates that fail.
     pub erred: Vec<u32>,
     /// Whether a component or an update failed.
     pub has_failed: bool,
-    /// Room to tell of the cycle, until it is computed.
+    /// Room to tell of the cycle, until it is computed; and the same room still where nothing was told in it.
     pub room: Option<RecordRoom>,
     /// The record of the cycle, once it is.
     pub record: Option<CycleRecord>,

@@ -1,31 +1,25 @@
 //! The flight: one cycle that has left the desk.
 
-ghost use Rattle.std.specs.Prelude.{◌≡◌, true, false, None, Some, is_some, vec_capacity};
+ghost use Rattle.std.specs.Prelude.{◌≡◌, [], true, false, None, Some, is_some, vec_capacity, IfSome, IsSomeAnd};
 ghost use Rattle.cm_model.specs.State.{State};
-ghost use Rattle.rt_flight.specs.Flights.{IsEquipped, IsReady, IsAloft, IsComputed, ComesHome};
+ghost use Rattle.rt_flight.specs.Flights.{IsEquipped, IsReady, IsAloft, IsComputed, ComesHome, TellsNothing, IsBlank};
 
 use crate::cell::Cell;
 use crate::compute::{make_cycle, settle};
 use crate::craft::Craft;
-use cm_model::{CycleRecord, Member, RecordRoom};
+use cm_model::{CycleParts, CycleRecord, RecordRoom};
 use ctl_trait::Controller;
 use std::marker::Model;
 
-/// What a flight takes along: the number of its cycle, the cells of the running controllers in the order of updates, who they are, what
-/// they work on, and room to tell of it.
+/// What a flight takes along: the number of its cycle, the cells of the running controllers in the order of updates, and what they work on,
+/// with room to tell of it.
 #[derive(Drop)]
 pub struct Payload<C: Controller> {
     /// The number of the cycle.
     pub number: u64,
     /// The running controllers, in the order of updates.
     pub cells: Vec<Cell<C>>,
-    /// The same, by serial and place.
-    pub order: Vec<Member>,
-    /// No serial yet, and room for those of the updates that fail.
-    pub erred: Vec<u32>,
-    /// Room to tell of the cycle.
-    pub room: RecordRoom,
-    /// What works in the cycle. Of what it has to tell of an earlier one nothing is kept.
+    /// What works in the cycle, with who flies, and room to tell of it. Of what it has to tell of an earlier one nothing is kept.
     pub craft: Box<Craft>,
 }
 
@@ -62,10 +56,11 @@ impl<C: Controller> Model for Flight<C> {
 impl<C: Controller> Flight<C> {
     /// A flight with this payload. It takes no memory.
     pub fn take_off(payload: Payload<C>) -> Flight<C>
-        requires equipped { IsEquipped payload.cells.items payload.order.items payload.craft.value.plant
-            payload.craft.value.ending payload.craft.value.lists payload.erred.items (vec_capacity payload.erred) }
-        requires ready { IsReady payload.number payload.cells.items payload.order.items payload.craft.value.plant
-            payload.room }
+        requires equipped { IsEquipped payload.cells.items payload.craft.value.order.items payload.craft.value.plant
+            payload.craft.value.ending payload.craft.value.lists payload.craft.value.erred.items
+            (vec_capacity payload.craft.value.erred) }
+        requires ready { IsSomeAnd payload.craft.value.room
+            (IsReady payload.number payload.cells.items payload.craft.value.order.items payload.craft.value.plant) }
         ensures { result ≡ record {
           number = payload.number;
           cells = payload.cells.items;
@@ -79,15 +74,9 @@ impl<C: Controller> Flight<C> {
         let Payload {
             number,
             cells,
-            order,
-            erred,
-            room,
             mut craft,
         } = payload;
-        craft.order = order;
-        craft.erred = erred;
         craft.has_failed = false;
-        craft.room = Some(room);
         craft.record = None;
         Flight {
             number,
@@ -118,26 +107,27 @@ impl<C: Controller> Flight<C> {
         ensures number { self.new.number ≡ self.old.number }
     {
         let craft = &mut *self.craft;
-        let mut room = take_room(&mut craft.room);
+        let Some(room) = &mut craft.room else {
+            unreachable!();
+        };
         make_cycle(
             self.cells.as_mut_slice(),
             &mut craft.plant,
             self.number,
             &mut craft.erred,
-            &mut room,
+            room,
         );
         craft.has_failed = settle(
             &mut craft.ending,
             &craft.order,
             &craft.plant.relations,
             &craft.erred,
-            &mut room,
+            room,
         );
         craft.erred.clear();
         craft.plant.hardware.show(&mut craft.lists);
-        let (record, left_over) = room.land(self.number);
-        craft.record = Some(record);
-        craft.left_over = left_over;
+        let flies = !self.cells.is_empty();
+        craft.record = Some(told(self.number, flies, &mut craft.room, &mut craft.left_over));
     }
 
     /// What happened in the cycle.
@@ -169,6 +159,48 @@ impl<C: Controller> Flight<C> {
             craft,
             record,
         }
+    }
+}
+
+/// The record of the cycle of this number, of what was told in its room. The room stays where it is if no controller flew and nothing else
+/// was told; else it is taken, with the place of the record where nothing was told of those that flew. It takes no memory.
+fn told(
+    number: u64,
+    flies: bool,
+    room: &mut Option<RecordRoom>,
+    left_over: &mut Option<Box<CycleParts>>,
+) -> CycleRecord
+    requires there { is_some room.old ≡ true }
+    requires ran { flies ≡ false → IfSome room.old (λ r. r.ran.rans ≡ []) }
+    ensures told { IfSome room.old
+        (λ r. result ≡ record {
+          cycle = number;
+          failed = r.failed.items;
+          ran = r.ran.rans;
+          bodies = r.bodies.items;
+          stops = r.stops.items;
+        }) }
+    ensures left { IfSome room.new TellsNothing }
+{
+    if !flies && is_blank(room) {
+        return CycleRecord::quiet(number);
+    }
+    let (record, place) = take_room(room).land(number);
+    *left_over = place;
+    record
+}
+
+/// Whether no failure, no body and no stop was told in the room.
+fn is_blank(room: &Option<RecordRoom>) -> bool
+    ensures { result ≡ true → IfSome room.now IsBlank }
+{
+    match room {
+        Some(room) => {
+            room.failed.as_slice().is_empty()
+                && room.bodies.as_slice().is_empty()
+                && room.stops.as_slice().is_empty()
+        }
+        None => false,
     }
 }
 

@@ -17,12 +17,14 @@ use Rattle.rt_flight.specs.Cells.{Seat}
 use Rattle.rt_flight.specs.Flights.{member_in}
 use Rattle.rt_flight.specs.declared.plant.Plant.{Plant}
 
--- A cycle that was made leaves who flies, stations that are fitted, the plant but for its hardware, who stopped, and the room for serials.
+-- A cycle that was made leaves who flies, stations that are fitted, the plant but for its hardware, who stopped, and the room for serials;
+-- and who ran, where nobody flies.
 pub record LeavesFlight (cells cells' : List Seat) (g g' : Plant) (room room' : RecordRoom) (most most' : ℕ) : Type 0 where
   pub order : map member_in cells' ≡ map member_in cells
   pub fitted : AllByRecursion (λ c. IsFitted g.places c.station) cells'
   pub plant : g' ≡ record g { hardware = g'.hardware }
   pub stops : room'.stops ≡ room.stops
+  pub idle : cells ≡ [] → room'.ran.rans ≡ room.ran.rans
   pub capacity : most' ≡ most
 
 -- These are told of the cycle of the state: its relations, its active controllers in order, the components that failed, and the serials of

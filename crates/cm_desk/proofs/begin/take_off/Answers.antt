@@ -1,17 +1,21 @@
-use Rattle.std.proofs.Common.{◌≡◌, List, length, map, vec_capacity, refl, sym, ap, subst, ◌∙◌, arith}
-use Rattle.cm_model.specs.Cycle.{begun, without_mail_off}
+use Rattle.std.proofs.Common.{◌≡◌, List, length, map, vec_capacity, Option, refl, sym, ap, subst, ◌∙◌, arith}
+use Rattle.std.specs.Prelude.{Box, IsSomeAnd}
+use Rattle.std.specs.declared.alloc.Global.{Global}
+use Rattle.cm_model.specs.Cycle.{begun, members_in_order, without_mail_off}
 use Rattle.cm_model.specs.State.{Loaded}
 use Rattle.ctl_slots.specs.Slots.{Slotted, IsRunOf}
+use Rattle.rt_flight.specs.declared.craft.Craft.{Craft}
+use Rattle.cm_desk.specs.Supplies.{IsFittedOut}
 use Rattle.cm_desk.specs.declared.bay.Bay.{Bay}
 use Rattle.cm_desk.proofs.BeginLemmas.{all_timed}
-use Rattle.cm_desk.proofs.TakeOffLemmas.{lines_for, lines_stay, lent_so, cells_so, mails_so, stands_room, is_run, run_count, can_board, aloft_over, equipped, ready}
+use Rattle.cm_desk.proofs.TakeOffLemmas.{lines_for, lines_stay, lent_so, cells_so, mails_so, stands_room, is_run, run_count, can_board, aloft_over, equipped, ready_in}
 use Rattle.cm_desk.proofs.begin.take_off.Goals as goal
 
 -- no mail is aloft yet, and there is room for that of each
 pub send_off-requires-clause-room : goal.send_off-requires-clause-room
 send_off-requires-clause-room g c =
     let is = c.requires.1 in
-    omega (arith, ap length is.supplies.no_mail, is.supplies.mails, ap length is.loaded)
+    omega (arith, ap length is.supplied.no_mail, is.supplied.mails, ap length is.loaded)
 
 pub send_off-requires-clause-time : goal.send_off-requires-clause-time
 send_off-requires-clause-time g c =
@@ -27,9 +31,9 @@ lend-requires g c =
     let sent = c.send_off.ensures.slots s (sym is.number) in
     let loaded : c.send_off.new.self.loaded ≡ (begun s).loaded = ap (λ (x : Slotted). x.loaded) sent ∙ ap (map (without_mail_off s)) is.loaded in record {
       home = ap (λ (x : Slotted). x.aloft) sent ∙ is.down;
-      run = (begun s, subst (λ (ls : List Loaded). IsRunOf (begun s) ls c.args.run.now) (sym loaded) (is_run s _ _ _ _ _ _ _ _ _ is));
+      run = (begun s, subst (λ (ls : List Loaded). IsRunOf (begun s) ls c.args.run.now) (sym loaded) (is_run s _ _ _ _ _ _ _ _ is));
       empty = is.no_box;
-      room = omega (arith, run_count s _ _ _ _ _ _ _ _ _ is, is.berths);
+      room = omega (arith, run_count s _ _ _ _ _ _ _ _ is, is.berths);
     }
 
 -- with the boxes that were lent they board
@@ -37,8 +41,8 @@ pub board-requires : goal.board-requires
 board-requires g c =
     let s = c.requires.0 in
     let is = c.requires.1 in
-    let lent = lent_so s _ _ _ _ _ _ _ _ _ is c.send_off.new.self c.lend.new.self _ (c.send_off.ensures.slots s (sym is.number)) c.lend.ensures.lent in
-    rw (c.as_slice.ensures, lent.loaded) (can_board s _ _ _ _ _ _ _ _ _ is _ lent.ctls c.lend.ensures.lent.running)
+    let lent = lent_so s _ _ _ _ _ _ _ _ is c.send_off.new.self c.lend.new.self _ (c.send_off.ensures.slots s (sym is.number)) c.lend.ensures.lent in
+    rw (c.as_slice.ensures, lent.loaded) (can_board s _ _ _ _ _ _ _ _ is _ lent.ctls c.lend.ensures.lent.running)
 
 -- what works in the cycle is at home,
 pub cast_off-requires : goal.cast_off-requires
@@ -51,31 +55,33 @@ pub take_off-requires-clause-equipped : goal.take_off-requires-clause-equipped
 take_off-requires-clause-equipped g c =
     let s = c.requires.0 in
     let is = c.requires.1 in
-    let lent = lent_so s _ _ _ _ _ _ _ _ _ is c.send_off.new.self c.lend.new.self _ (c.send_off.ensures.slots s (sym is.number)) c.lend.ensures.lent in
-    let cells = cells_so s _ _ _ _ _ _ _ _ _ is c.as_slice.result.now _ c.send_off.new.mails.items c.board.new.cells.items (c.as_slice.ensures ∙ lent.loaded) lent.ctls (c.send_off.ensures.mails s (sym is.number)) c.board.ensures.boarded in
-    rw (cells, c.cast_off.ensures.plant, c.cast_off.ensures.ending, c.cast_off.ensures.spare_lists) (equipped s _ _ _ _ _ _ _ _ _ is)
+    let lent = lent_so s _ _ _ _ _ _ _ _ is c.send_off.new.self c.lend.new.self _ (c.send_off.ensures.slots s (sym is.number)) c.lend.ensures.lent in
+    let cells = cells_so s _ _ _ _ _ _ _ _ is c.as_slice.result.now _ c.send_off.new.mails.items c.board.new.cells.items (c.as_slice.ensures ∙ lent.loaded) lent.ctls (c.send_off.ensures.mails s (sym is.number)) c.board.ensures.boarded in
+    let out = subst (λ (o : Option (Box Craft Global)). IsSomeAnd o (λ h. IsFittedOut s.description c.args.bay.now.plant.value.places (members_in_order (begun s)) h.value)) c.cast_off.ensures.hangar is.supplied.craft in
+    rw (cells, c.cast_off.ensures.plant, c.cast_off.ensures.ending, c.cast_off.ensures.spare_lists) (equipped s _ _ _ _ _ _ _ _ is c.cast_off.result.value out)
 
 pub take_off-requires-clause-ready : goal.take_off-requires-clause-ready
 take_off-requires-clause-ready g c =
     let s = c.requires.0 in
     let is = c.requires.1 in
-    let lent = lent_so s _ _ _ _ _ _ _ _ _ is c.send_off.new.self c.lend.new.self _ (c.send_off.ensures.slots s (sym is.number)) c.lend.ensures.lent in
-    let cells = cells_so s _ _ _ _ _ _ _ _ _ is c.as_slice.result.now _ c.send_off.new.mails.items c.board.new.cells.items (c.as_slice.ensures ∙ lent.loaded) lent.ctls (c.send_off.ensures.mails s (sym is.number)) c.board.ensures.boarded in
-    rw (cells, c.cast_off.ensures.plant) (ready s _ _ _ _ _ _ _ _ _ is (rw (lent.ctls) at c.lend.ensures.lent.running))
+    let lent = lent_so s _ _ _ _ _ _ _ _ is c.send_off.new.self c.lend.new.self _ (c.send_off.ensures.slots s (sym is.number)) c.lend.ensures.lent in
+    let cells = cells_so s _ _ _ _ _ _ _ _ is c.as_slice.result.now _ c.send_off.new.mails.items c.board.new.cells.items (c.as_slice.ensures ∙ lent.loaded) lent.ctls (c.send_off.ensures.mails s (sym is.number)) c.board.ensures.boarded in
+    let out = subst (λ (o : Option (Box Craft Global)). IsSomeAnd o (λ h. IsFittedOut s.description c.args.bay.now.plant.value.places (members_in_order (begun s)) h.value)) c.cast_off.ensures.hangar is.supplied.craft in
+    rw (cells, c.cast_off.ensures.plant) (ready_in s _ _ _ _ _ _ _ _ is c.cast_off.result.value out (rw (lent.ctls) at c.lend.ensures.lent.running))
 
 pub returns-clause-off : goal.returns-clause-off
 returns-clause-off g c = λ s is.
-    let lent = lent_so s _ _ _ _ _ _ _ _ _ is c.send_off.new.self c.lend.new.self _ (c.send_off.ensures.slots s (sym is.number)) c.lend.ensures.lent in
-    let cells = cells_so s _ _ _ _ _ _ _ _ _ is c.as_slice.result.now _ c.send_off.new.mails.items c.board.new.cells.items (c.as_slice.ensures ∙ lent.loaded) lent.ctls (c.send_off.ensures.mails s (sym is.number)) c.board.ensures.boarded in
+    let lent = lent_so s _ _ _ _ _ _ _ _ is c.send_off.new.self c.lend.new.self _ (c.send_off.ensures.slots s (sym is.number)) c.lend.ensures.lent in
+    let cells = cells_so s _ _ _ _ _ _ _ _ is c.as_slice.result.now _ c.send_off.new.mails.items c.board.new.cells.items (c.as_slice.ensures ∙ lent.loaded) lent.ctls (c.send_off.ensures.mails s (sym is.number)) c.board.ensures.boarded in
     record {
       slots = lent.whole;
       bay = rw (c.cast_off.ensures.bay) refl;
-      mails = ap (λ (b : Bay). b.mails.value.items) c.cast_off.ensures.bay ∙ rw (c.of.ensures) (mails_so s _ _ _ _ _ _ _ _ _ is c.send_off.new.mails.items (c.send_off.ensures.mails s (sym is.number)));
+      mails = ap (λ (b : Bay). b.mails.value.items) c.cast_off.ensures.bay ∙ rw (c.of.ensures) (mails_so s _ _ _ _ _ _ _ _ is c.send_off.new.mails.items (c.send_off.ensures.mails s (sym is.number)));
       none_stands = ap (λ (b : Bay). b.spare.stations.items) c.cast_off.ensures.bay ∙ c.board.ensures.stations.empty;
-      stands = omega (arith, ap (λ (b : Bay). vec_capacity b.spare.stations) c.cast_off.ensures.bay, c.board.ensures.stations.room, stands_room s _ _ _ _ _ _ _ _ _ is, c.args.supplies.stations.ok.0);
+      stands = omega (arith, ap (λ (b : Bay). vec_capacity b.spare.stations) c.cast_off.ensures.bay, c.board.ensures.stations.room, stands_room s _ _ _ _ _ _ _ _ is, c.args.bay.now.spare.stations.ok.0);
       lines = lines_stay s _ c.cast_off.new.self.lists is.lines (c.cast_off.ensures.components, c.cast_off.ensures.interfaces);
       shown = c.cast_off.ensures.shown;
-      flight = rw (c.take_off.ensures) (record { over = rw (cells, c.cast_off.ensures.plant) (aloft_over s _ _ _ _ _ _ _ _ _ is); not_yet = refl });
+      flight = rw (c.take_off.ensures) (record { over = rw (cells, c.cast_off.ensures.plant) (aloft_over s _ _ _ _ _ _ _ _ is); not_yet = refl });
     }
 
 pub returns-clause-room : goal.returns-clause-room

@@ -1,6 +1,9 @@
-use Rattle.std.proofs.Common.{◌≡◌, false, refl, sym, ap, ap₂, ◌∙◌}
+use Rattle.std.proofs.Common.{◌≡◌, false, Option, refl, sym, ap, ap₂, subst, ◌∙◌}
+use Rattle.std.specs.Prelude.{IfSome}
+use Rattle.cm_model.specs.declared.record_room.RecordRoom.{RecordRoom}
 use Rattle.cm_hardware.specs.Wiring.{Wired}
 use Rattle.ctl_slots.specs.Slots.{Slotted}
+use Rattle.rt_flight.specs.Flights.{TellsNothing}
 use Rattle.rt_flight.specs.declared.craft.Craft.{Craft}
 use Rattle.rt_flight.specs.declared.plant.Plant.{Plant}
 use Rattle.cm_desk.proofs.LandLemmas.{can_leave, can_park, can_settle, flags, fitted, ordered, lines, shows, not_so}
@@ -21,6 +24,13 @@ settle-requires g c = (
   rw (c.deref_mut.ensures.value) (can_settle c.requires.0 _ _ _ _ _ c.requires.1 _ _ _ c.come_home-cells.ensures c.park.new.self _ _ c.disembark.ensures.left
       (rw (c.run.ensures) at c.park.ensures.parked)),
 )
+
+-- nothing is told in room that is left
+pub moor-requires : goal.moor-requires
+moor-requires g c =
+    let leaves = c.settle.ensures.craft.craft in
+    let same : c.settle.new.craft.room ≡ c.come_home-cells.result.craft.value.room = ap (λ (k : Craft). k.room) leaves ∙ ap (λ (k : Craft). k.room) c.deref_mut.ensures.value in
+    subst (λ (o : Option RecordRoom). IfSome o TellsNothing) (sym same) c.come_home-cells.ensures.left
 
 -- all is as after the cycle
 pub returns-clause-home : goal.returns-clause-home
@@ -45,7 +55,7 @@ returns-clause-home g c = λ s is.
       flags = rw ending (flags s _ _ _ _ _ is _ _ _ came);
       fitted = rw (ap (λ (h : Plant). h.places) (plant ∙ ap (λ (k : Craft). k.plant) leaves ∙ ap (λ (k : Craft). record k.plant { hardware = c.settle.new.craft.plant.hardware }) c.deref_mut.ensures.value), ap (λ x. x.items) c.moor.ensures.stations)
           (fitted s _ _ _ _ _ is _ _ _ came _ _ c.disembark.ensures.left);
-      ordered = ap (λ x. x.items) (c.moor.ensures.order ∙ ap (λ (k : Craft). k.order) leaves ∙ ap (λ (k : Craft). k.order) c.deref_mut.ensures.value)
+      ordered = c.moor.ensures.order ∙ ap (λ (k : Craft). k.order.items) leaves ∙ ap (λ (k : Craft). k.order.items) c.deref_mut.ensures.value
           ∙ rw (ap (λ x. x.items) c.moor.ensures.stations) (ordered s _ _ _ _ _ is _ _ _ came _ _ c.disembark.ensures.left);
       no_mail = c.moor.ensures.no_mail;
       lines = rw lists (lines s _ _ _ _ _ is _ _ _ came);

@@ -1,6 +1,6 @@
-use Rattle.std.proofs.Common.{refl, sym, ap, subst, ◌∙◌, length, arith}
+use Rattle.std.proofs.Common.{List, refl, sym, ap, subst, ◌∙◌, length, arith}
 use Rattle.cm_hardware.specs.Holding.{values_read}
-use Rattle.rt_flight.specs.Cells.{Seat, Flying, flying, TellsApart}
+use Rattle.rt_flight.specs.Cells.{Seat, Flying, flying, all_flown, TellsApart}
 use Rattle.ctl_places.specs.Placed.{Placed, placed_of}
 use Rattle.switch_plan.specs.Relations.{Related}
 use Rattle.ctl_slots.specs.Updates.{Aloft}
@@ -77,11 +77,15 @@ returns-clause-made g c = λ s is empty.
 pub returns-clause-kept : goal.returns-clause-kept
 returns-clause-kept g c =
     let posts = c.update_all.ensures.turned.posts in
-    let placed = c.args.plant.now.places in
+    let plant = c.args.plant.now in
+    let placed = plant.places in
+    let a : Aloft = record { number = c.args.number; period_us = plant.period_us; placed = placed; related = plant.relations; failed = c.as_slice.result.now } in
+    let begun : Flying = flying c.read.new.self c.args.room.now.ran.rans c.args.erred.now.items in
     record {
       order = members_by c.update_all.new.cells c.args.cells.now posts;
       fitted = all_by_posts (λ (d : Seat). IsFitted placed d.station) (fitted_by placed) c.args.cells.now c.update_all.new.cells (sym posts) (fitted_each placed _ _ _ c.args.cells.now c.requires.can.each);
       plant = refl;
       stops = refl;
+      idle = λ nobody. ap (λ (f : Flying). f.ran) c.update_all.ensures.turned.flying ∙ ap (λ (cs : List Seat). (all_flown a cs begun).ran) nobody;
       capacity = c.update_all.ensures.capacity;
     }

@@ -1,5 +1,7 @@
-use Rattle.std.proofs.Common.{sym, ap, ◌∙◌}
-use Rattle.std.specs.Prelude.{not}
+use Rattle.std.proofs.Common.{Option, sym, ap, subst, ◌∙◌}
+use Rattle.std.specs.Prelude.{not, IfSome}
+use Rattle.cm_model.specs.declared.record_room.RecordRoom.{RecordRoom}
+use Rattle.rt_flight.specs.Flights.{TellsNothing}
 use Rattle.rt_flight.specs.declared.craft.Craft.{Craft}
 use Rattle.cm_desk.specs.declared.bay.Bay.{Bay}
 use Rattle.cm_desk.proofs.bay.Bay.moor.Goals as goal
@@ -8,17 +10,26 @@ pub returns : goal.returns
 returns c =
     let same = c.deref_mut.ensures.value in
     let left = c.unload.ensures.bay in
+    let kept = c.unload.ensures.craft in
     let plant = c.of.ensures ∙ ap (λ (k : Craft). k.plant) c.deref.ensures in
-    let ending = c.of-2.ensures ∙ ap (λ (k : Craft). k.ending) c.deref-2.ensures in record {
-      plant = plant ∙ c.unload.ensures.plant ∙ ap (λ (k : Craft). k.plant) same;
-      ending = ending ∙ c.unload.ensures.ending ∙ ap (λ (k : Craft). k.ending) same;
-      home = record { plant = sym plant; ending = sym ending };
-      no_mail = rw (c.of-3.ensures) c.clear.ensures.items;
-      stations = left.stations;
-      order = left.order ∙ ap (λ (k : Craft). k.order) same;
-      lists = left.lists ∙ ap (λ (k : Craft). k.lists) same;
-      told = left.told ∙ ap (λ (k : Craft). not k.has_failed) same;
-      spare_lists = left.spare_lists;
-      size = ap (λ (b : Bay). b.size) left.bay;
-      room = ap (λ (b : Bay). b.room) left.bay;
+    let ending = c.of-2.ensures ∙ ap (λ (k : Craft). k.ending) c.deref-2.ensures in
+    let members = ap (λ x. x.items) (c.of-3.ensures ∙ ap (λ (k : Craft). k.order) c.deref-3.ensures) in
+    let lists = c.of-4.ensures ∙ ap (λ (k : Craft). k.lists) c.deref-4.ensures in record {
+      plant = plant ∙ ap (λ (k : Craft). k.plant) kept ∙ ap (λ (k : Craft). k.plant) same;
+      ending = ending ∙ ap (λ (k : Craft). k.ending) kept ∙ ap (λ (k : Craft). k.ending) same;
+      home = record {
+        plant = sym plant;
+        ending = sym ending;
+        order = sym members;
+        spare_lists = sym lists;
+        told = subst (λ (o : Option RecordRoom). IfSome o TellsNothing) (sym (ap (λ (k : Craft). k.room) kept ∙ ap (λ (k : Craft). k.room) same)) c.requires;
+      };
+      no_mail = rw (c.of-5.ensures) c.empty.ensures.items;
+      stations = ap (λ (b : Bay). b.spare.stations) left;
+      order = members ∙ ap (λ (k : Craft). k.order.items) kept ∙ ap (λ (k : Craft). k.order.items) same;
+      lists = ap (λ (b : Bay). b.lists) left ∙ ap (λ (k : Craft). k.lists) same;
+      told = ap (λ (b : Bay). b.told) left ∙ ap (λ (k : Craft). not k.has_failed) same;
+      spare_lists = lists ∙ ap (λ (k : Craft). k.lists) kept;
+      size = ap (λ (b : Bay). b.size) left;
+      room = ap (λ (b : Bay). b.room) left;
     }

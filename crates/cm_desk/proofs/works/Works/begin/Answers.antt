@@ -41,11 +41,12 @@ invariant_of-self g c =
     let a = c.self.inside in
     let s = state_with a.checked a.blanks a.sessions a.loads a.slots a.requests (base_of a.bay (vec_capacity a.boxes)) a.ended a.closed in
     kept_idle s a.names.items (base_of a.bay (vec_capacity a.boxes)) (base_of a.bay (vec_capacity c.make_places.new.boxes)) a.roster c.self.invariant
-    (begins_down s (rw (← c.self.view_is) at c.requires.can)) refl refl refl refl refl refl refl refl c.self.invariant.based.fitted (c.self.invariant.based.ordered (begins_down s (rw (← c.self.view_is) at c.requires.can)))
+    (begins_down s (rw (← c.self.view_is) at c.requires.can)) refl refl (at_home a.checked a.roster.order a.bay (vec_capacity a.boxes) a.slots.aloft c.self.invariant.based (begins_down s (rw (← c.self.view_is) at c.requires.can)))
+    refl refl refl refl refl c.self.invariant.based.fitted (c.self.invariant.based.ordered (begins_down s (rw (← c.self.view_is) at c.requires.can)))
 
 -- what others left over may be used up then
-pub invariant_of-self-in_err-supplies : goal.invariant_of-self-in_err-supplies
-invariant_of-self-in_err-supplies g c =
+pub invariant_of-self-in_err-supply : goal.invariant_of-self-in_err-supply
+invariant_of-self-in_err-supply g c =
     let a = c.self.inside in
     let s = state_with a.checked a.blanks a.sessions a.loads a.slots a.requests (base_of a.bay (vec_capacity a.boxes)) a.ended a.closed in
     let next = c.supply.new.self in
@@ -63,8 +64,8 @@ take_off-flight-requires g c =
     let decided = has_decided s s (sym (quiet_boundary s (nothing_waits s settled.1))) c.self.invariant.worked_out.valid can (rw (← c.self.view_is) at c.requires.steady) (rw (← c.self.view_is) at c.requires.numbered) in
     let order = ap length c.order-count.ensures in
     let fly = can_take_off s s a.names.items a.bay c.supply.new.self (vec_capacity a.boxes) a.roster a.roster a.slots (map g.C.Controller.meaning c.make_places.new.boxes.items) (vec_capacity c.make_places.new.boxes)
-    c.replace-cells.result.items (vec_capacity c.replace-cells.result) a.ended c.in_ok-supplies.supplies
-    c.self.invariant decided c.self.invariant.listed settled.0 c.supply.ensures.bay.bay refl refl refl (rw (c.order.ensures, c.len.ensures) at c.in_ok-supplies.ensures.supplies)
+    c.replace-cells.result.items (vec_capacity c.replace-cells.result) a.ended
+    c.self.invariant decided c.self.invariant.listed settled.0 c.supply.ensures.bay refl refl refl (rw (c.order.ensures, c.len.ensures) at c.in_ok-supply.ensures.supplied)
     (ap (map g.C.Controller.meaning) c.in_ok-make_places.ensures.boxes.0) (omega (arith, c.in_ok-make_places.ensures.boxes.1, order))
     (rw (c.replace-cells.ensures.value) c.in_ok-make_places.ensures.cells.0) (omega (arith, c.in_ok-make_places.ensures.cells.1, order, ap vec_capacity c.replace-cells.ensures.value)) in
     (s, rw (c.run.ensures) fly)
@@ -79,8 +80,8 @@ invariant_of-self-2 g c =
     let decided = has_decided s s (sym (quiet_boundary s (nothing_waits s settled.1))) c.self.invariant.worked_out.valid can (rw (← c.self.view_is) at c.requires.steady) (rw (← c.self.view_is) at c.requires.numbered) in
     let order = ap length c.order-count.ensures in
     let fly = can_take_off s s a.names.items a.bay c.supply.new.self (vec_capacity a.boxes) a.roster a.roster a.slots (map g.C.Controller.meaning c.make_places.new.boxes.items) (vec_capacity c.make_places.new.boxes)
-    c.replace-cells.result.items (vec_capacity c.replace-cells.result) a.ended c.in_ok-supplies.supplies
-    c.self.invariant decided c.self.invariant.listed settled.0 c.supply.ensures.bay.bay refl refl refl (rw (c.order.ensures, c.len.ensures) at c.in_ok-supplies.ensures.supplies)
+    c.replace-cells.result.items (vec_capacity c.replace-cells.result) a.ended
+    c.self.invariant decided c.self.invariant.listed settled.0 c.supply.ensures.bay refl refl refl (rw (c.order.ensures, c.len.ensures) at c.in_ok-supply.ensures.supplied)
     (ap (map g.C.Controller.meaning) c.in_ok-make_places.ensures.boxes.0) (omega (arith, c.in_ok-make_places.ensures.boxes.1, order))
     (rw (c.replace-cells.ensures.value) c.in_ok-make_places.ensures.cells.0) (omega (arith, c.in_ok-make_places.ensures.cells.1, order, ap vec_capacity c.replace-cells.ensures.value)) in
     let b = c.take_off-flight.new.bay in
@@ -90,7 +91,7 @@ invariant_of-self-2 g c =
     (ap (λ (x : Bay). x.plant.value) off.bay ∙ ap (λ (x : Bay). x.plant.value) c.supply.ensures.bay.bay) in
     subst (λ (t : State). IsKept t a.names.items (base_of b berths) a.roster) (sym view)
     (kept_off s s a.names.items a.bay c.supply.new.self b (vec_capacity a.boxes) berths a.roster a.roster a.slots c.take_off-flight.new.slots c.take_off-flight.result c.self.invariant decided
-    c.self.invariant.listed settled.0 c.supply.ensures.bay.bay off (omega (arith, c.in_ok-make_places.ensures.boxes.1, order, c.take_off-flight.ensures.room)))
+    c.self.invariant.listed settled.0 c.supply.ensures.bay off (omega (arith, c.in_ok-make_places.ensures.boxes.1, order, c.take_off-flight.ensures.room)))
 
 -- it began in the state of now, since nothing was decided
 pub returns-clause-begun : goal.returns-clause-begun
@@ -102,8 +103,8 @@ returns-clause-begun g c =
     let decided = has_decided s s (sym (quiet_boundary s (nothing_waits s settled.1))) c.self.invariant.worked_out.valid can (rw (← c.self.view_is) at c.requires.steady) (rw (← c.self.view_is) at c.requires.numbered) in
     let order = ap length c.order-count.ensures in
     let fly = can_take_off s s a.names.items a.bay c.supply.new.self (vec_capacity a.boxes) a.roster a.roster a.slots (map g.C.Controller.meaning c.make_places.new.boxes.items) (vec_capacity c.make_places.new.boxes)
-    c.replace-cells.result.items (vec_capacity c.replace-cells.result) a.ended c.in_ok-supplies.supplies
-    c.self.invariant decided c.self.invariant.listed settled.0 c.supply.ensures.bay.bay refl refl refl (rw (c.order.ensures, c.len.ensures) at c.in_ok-supplies.ensures.supplies)
+    c.replace-cells.result.items (vec_capacity c.replace-cells.result) a.ended
+    c.self.invariant decided c.self.invariant.listed settled.0 c.supply.ensures.bay refl refl refl (rw (c.order.ensures, c.len.ensures) at c.in_ok-supply.ensures.supplied)
     (ap (map g.C.Controller.meaning) c.in_ok-make_places.ensures.boxes.0) (omega (arith, c.in_ok-make_places.ensures.boxes.1, order))
     (rw (c.replace-cells.ensures.value) c.in_ok-make_places.ensures.cells.0) (omega (arith, c.in_ok-make_places.ensures.cells.1, order, ap vec_capacity c.replace-cells.ensures.value)) in
     let b = c.take_off-flight.new.bay in

@@ -1,4 +1,4 @@
-use Rattle.std.proofs.Common.{◌≡◌, length, map, None, refl, sym, ap, subst, ◌∙◌, arith}
+use Rattle.std.proofs.Common.{◌≡◌, ◌≤◌, length, map, None, refl, sym, ap, subst, ◌∙◌, arith}
 use Rattle.std.specs.Prelude.{slice_index_or, vec_capacity}
 use Rattle.cm_model.specs.Boundary.{waiting, boundary}
 use Rattle.cm_model.specs.Cycle.{begun}
@@ -13,7 +13,7 @@ use Rattle.cm_desk.specs.Roster.{IsListedOf}
 use Rattle.cm_desk.specs.Supplies.{AreSupplies}
 use Rattle.cm_desk.specs.Works.{IsKept, state_with}
 use Rattle.cm_desk.specs.declared.bay.Bay.{Bay}
-use Rattle.cm_desk.proofs.AfterLemmas.{at_home, kept_idle, used_view, used_idle}
+use Rattle.cm_desk.proofs.AfterLemmas.{at_home, kept_idle, used_view}
 use Rattle.cm_desk.proofs.BeginLemmas.{begins_down, planned_order, has_decided, order_decided, view_flown}
 use Rattle.cm_desk.proofs.OrderLemmas.{order_loaded}
 use Rattle.cm_desk.proofs.TakeOffLemmas.{can_take_off, kept_off}
@@ -25,25 +25,23 @@ plan-requires-clause-down g c =
     let s = state_with a.checked a.blanks a.sessions a.loads a.slots a.requests (base_of a.bay (vec_capacity a.boxes)) a.ended a.closed in
     rw (← c.self.view_is) (begins_down s (rw (← c.self.view_is) at c.requires.can))
 
-pub supply-requires-clause-home : goal.supply-requires-clause-home
-supply-requires-clause-home g c =
+pub supplies-requires-clause-home : goal.supplies-requires-clause-home
+supplies-requires-clause-home g c =
     let a = c.self.inside in
     let s = state_with a.checked a.blanks a.sessions a.loads a.slots a.requests (base_of a.bay (vec_capacity a.boxes)) a.ended a.closed in
     at_home a.checked a.roster.order a.bay (vec_capacity a.boxes) a.slots.aloft c.self.invariant.based (begins_down s (rw (← c.self.view_is) at c.requires.can))
 
 -- who is active after all that is decided is described
-pub supply-requires-clause-can : goal.supply-requires-clause-can
-supply-requires-clause-can g c =
+pub supplies-requires-clause-plant : goal.supplies-requires-clause-plant
+supplies-requires-clause-plant g c =
     let a = c.self.inside in
     let s = state_with a.checked a.blanks a.sessions a.loads a.slots a.requests (base_of a.bay (vec_capacity a.boxes)) a.ended a.closed in
     let planned : IsPlanOf s (waiting s) c.in_ok-plan.plan = subst (λ (u : State). IsPlanOf u (waiting u) c.in_ok-plan.plan) (sym c.self.view_is) c.in_ok-plan.ensures in
-    let order : c.in_ok-plan.plan.order.items ≡ members_in_order (boundary s) = planned_order s c.in_ok-plan.plan planned in record {
-      plant = record {
-        places = c.self.invariant.worked_out.placed;
-        size = c.self.invariant.based.size;
-        within = rw (c.deref.ensures.value, order) (order_decided s c.self.invariant.described);
-      };
-      kept = record { fitted = c.self.invariant.based.fitted; ordered = c.self.invariant.based.ordered (begins_down s (rw (← c.self.view_is) at c.requires.can)) };
+    let order : c.in_ok-plan.plan.order.items ≡ members_in_order (boundary s) = planned_order s c.in_ok-plan.plan planned in
+    record {
+      places = c.self.invariant.worked_out.placed;
+      size = c.self.invariant.based.size;
+      within = rw (c.deref.ensures.value, order) (order_decided s c.self.invariant.described);
     }
 
 -- where memory ran out the state is as before
@@ -52,35 +50,36 @@ invariant_of-self g c =
     let a = c.self.inside in
     let s = state_with a.checked a.blanks a.sessions a.loads a.slots a.requests (base_of a.bay (vec_capacity a.boxes)) a.ended a.closed in
     kept_idle s a.names.items (base_of a.bay (vec_capacity a.boxes)) (base_of a.bay (vec_capacity c.make_places.new.boxes)) a.roster c.self.invariant
-    (begins_down s (rw (← c.self.view_is) at c.requires.can)) refl refl refl refl refl refl refl refl c.self.invariant.based.fitted (c.self.invariant.based.ordered (begins_down s (rw (← c.self.view_is) at c.requires.can)))
+    (begins_down s (rw (← c.self.view_is) at c.requires.can)) refl refl (at_home a.checked a.roster.order a.bay (vec_capacity a.boxes) a.slots.aloft c.self.invariant.based (begins_down s (rw (← c.self.view_is) at c.requires.can)))
+    refl refl refl refl refl c.self.invariant.based.fitted (c.self.invariant.based.ordered (begins_down s (rw (← c.self.view_is) at c.requires.can)))
 
 pub invariant_of-self-in_err-run : goal.invariant_of-self-in_err-run
 invariant_of-self-in_err-run g c =
     let a = c.self.inside in
     let s = state_with a.checked a.blanks a.sessions a.loads a.slots a.requests (base_of a.bay (vec_capacity a.boxes)) a.ended a.closed in
     kept_idle s a.names.items (base_of a.bay (vec_capacity a.boxes)) (base_of a.bay (vec_capacity c.make_places.new.boxes)) a.roster c.self.invariant
-    (begins_down s (rw (← c.self.view_is) at c.requires.can)) refl refl refl refl refl refl refl refl c.self.invariant.based.fitted (c.self.invariant.based.ordered (begins_down s (rw (← c.self.view_is) at c.requires.can)))
+    (begins_down s (rw (← c.self.view_is) at c.requires.can)) refl refl (at_home a.checked a.roster.order a.bay (vec_capacity a.boxes) a.slots.aloft c.self.invariant.based (begins_down s (rw (← c.self.view_is) at c.requires.can)))
+    refl refl refl refl refl c.self.invariant.based.fitted (c.self.invariant.based.ordered (begins_down s (rw (← c.self.view_is) at c.requires.can)))
 
 pub invariant_of-self-in_err-supplies : goal.invariant_of-self-in_err-supplies
 invariant_of-self-in_err-supplies g c =
     let a = c.self.inside in
     let s = state_with a.checked a.blanks a.sessions a.loads a.slots a.requests (base_of a.bay (vec_capacity a.boxes)) a.ended a.closed in
-    let next = c.supply.new.self in
-    let berths = vec_capacity c.make_places.new.boxes in
-    subst (λ (t : State). IsKept t a.names.items (base_of next berths) a.roster)
-    (sym (used_view a.checked a.blanks a.sessions a.loads a.slots a.requests a.bay next (vec_capacity a.boxes) berths a.ended a.closed c.supply.ensures.bay.bay))
-    (used_idle s a.names.items a.bay next (vec_capacity a.boxes) berths a.roster c.self.invariant (begins_down s (rw (← c.self.view_is) at c.requires.can)) c.supply.ensures.bay)
+    kept_idle s a.names.items (base_of a.bay (vec_capacity a.boxes)) (base_of a.bay (vec_capacity c.make_places.new.boxes)) a.roster c.self.invariant
+    (begins_down s (rw (← c.self.view_is) at c.requires.can)) refl refl (at_home a.checked a.roster.order a.bay (vec_capacity a.boxes) a.slots.aloft c.self.invariant.based (begins_down s (rw (← c.self.view_is) at c.requires.can)))
+    refl refl refl refl refl c.self.invariant.based.fitted (c.self.invariant.based.ordered (begins_down s (rw (← c.self.view_is) at c.requires.can)))
 
 -- and so it is when all is there
 pub invariant_of-self-2 : goal.invariant_of-self-2
 invariant_of-self-2 g c =
     let a = c.self.inside in
     let s = state_with a.checked a.blanks a.sessions a.loads a.slots a.requests (base_of a.bay (vec_capacity a.boxes)) a.ended a.closed in
-    let next = c.supply.new.self in
     let berths = vec_capacity c.replace-boxes.new.dest in
-    let view = used_view a.checked a.blanks a.sessions a.loads a.slots a.requests a.bay next (vec_capacity a.boxes) berths a.ended a.closed c.supply.ensures.bay.bay in
-    subst (λ (u : State). IsKept u a.names.items (base_of next berths) a.roster) (sym view)
-    (used_idle s a.names.items a.bay next (vec_capacity a.boxes) berths a.roster c.self.invariant (begins_down s (rw (← c.self.view_is) at c.requires.can)) c.supply.ensures.bay)
+    let view = used_view a.checked a.blanks a.sessions a.loads a.slots a.requests a.bay a.bay (vec_capacity a.boxes) berths a.ended a.closed refl in
+    subst (λ (u : State). IsKept u a.names.items (base_of a.bay berths) a.roster) (sym view)
+    (kept_idle s a.names.items (base_of a.bay (vec_capacity a.boxes)) (base_of a.bay berths) a.roster c.self.invariant
+    (begins_down s (rw (← c.self.view_is) at c.requires.can)) refl refl (at_home a.checked a.roster.order a.bay (vec_capacity a.boxes) a.slots.aloft c.self.invariant.based (begins_down s (rw (← c.self.view_is) at c.requires.can)))
+    refl refl refl refl refl c.self.invariant.based.fitted (c.self.invariant.based.ordered (begins_down s (rw (← c.self.view_is) at c.requires.can))))
 
 pub carry_out-requires-clause-down : goal.carry_out-requires-clause-down
 carry_out-requires-clause-down g c =
@@ -92,18 +91,16 @@ pub carry_out-requires-clause-steady : goal.carry_out-requires-clause-steady
 carry_out-requires-clause-steady g c =
     let a = c.self.inside in
     let s = state_with a.checked a.blanks a.sessions a.loads a.slots a.requests (base_of a.bay (vec_capacity a.boxes)) a.ended a.closed in
-    let next = c.supply.new.self in
     let berths = vec_capacity c.replace-boxes.new.dest in
-    let view = used_view a.checked a.blanks a.sessions a.loads a.slots a.requests a.bay next (vec_capacity a.boxes) berths a.ended a.closed c.supply.ensures.bay.bay in
+    let view = used_view a.checked a.blanks a.sessions a.loads a.slots a.requests a.bay a.bay (vec_capacity a.boxes) berths a.ended a.closed refl in
     subst IsSteady (sym view) (rw (← c.self.view_is) at c.requires.steady)
 
 pub carry_out-requires-clause-concluded : goal.carry_out-requires-clause-concluded
 carry_out-requires-clause-concluded g c =
     let a = c.self.inside in
     let s = state_with a.checked a.blanks a.sessions a.loads a.slots a.requests (base_of a.bay (vec_capacity a.boxes)) a.ended a.closed in
-    let next = c.supply.new.self in
     let berths = vec_capacity c.replace-boxes.new.dest in
-    let view = used_view a.checked a.blanks a.sessions a.loads a.slots a.requests a.bay next (vec_capacity a.boxes) berths a.ended a.closed c.supply.ensures.bay.bay in
+    let view = used_view a.checked a.blanks a.sessions a.loads a.slots a.requests a.bay a.bay (vec_capacity a.boxes) berths a.ended a.closed refl in
     let planned : IsPlanOf s (waiting s) c.in_ok-plan.plan = subst (λ (u : State). IsPlanOf u (waiting u) c.in_ok-plan.plan) (sym c.self.view_is) c.in_ok-plan.ensures in
     subst (λ (u : State). AreConclusionsOf u (waiting u) c.in_ok-plan.plan.conclusions.items) (sym view) planned.conclusions
 
@@ -115,9 +112,8 @@ put-requires-clause-loaded g c =
     let s = state_with a.checked a.blanks a.sessions a.loads a.slots a.requests (base_of a.bay (vec_capacity a.boxes)) a.ended a.closed in
     let b = c.self-2.inside in
     let t = state_with b.checked b.blanks b.sessions b.loads b.slots b.requests (base_of b.bay (vec_capacity b.boxes)) b.ended b.closed in
-    let next = c.supply.new.self in
     let berths = vec_capacity c.replace-boxes.new.dest in
-    let view = used_view a.checked a.blanks a.sessions a.loads a.slots a.requests a.bay next (vec_capacity a.boxes) berths a.ended a.closed c.supply.ensures.bay.bay in
+    let view = used_view a.checked a.blanks a.sessions a.loads a.slots a.requests a.bay a.bay (vec_capacity a.boxes) berths a.ended a.closed refl in
     let is : t ≡ boundary s = c.self-2.view_is ∙ c.carry_out.ensures ∙ ap boundary view in
     let planned : IsPlanOf s (waiting s) c.in_ok-plan.plan = subst (λ (u : State). IsPlanOf u (waiting u) c.in_ok-plan.plan) (sym c.self.view_is) c.in_ok-plan.ensures in
     let order : c.in_ok-plan.plan.order.items ≡ members_in_order t = planned_order s c.in_ok-plan.plan planned ∙ ap members_in_order (sym is) in
@@ -129,6 +125,19 @@ put-requires-clause-room g c = omega (arith, c.in_ok-run.ensures.capacity, c.len
 pub put-requires-clause-few : goal.put-requires-clause-few
 put-requires-clause-few g c = omega (arith, ap length c.as_slice.ensures, c.self-2.invariant.few, c.self-2.invariant.counted)
 
+-- what was supplied comes to what is at home,
+pub take_in-requires : goal.take_in-requires
+take_in-requires g c =
+    let a = c.self.inside in
+    let s = state_with a.checked a.blanks a.sessions a.loads a.slots a.requests (base_of a.bay (vec_capacity a.boxes)) a.ended a.closed in
+    let b = c.self-2.inside in
+    let t = state_with b.checked b.blanks b.sessions b.loads b.slots b.requests (base_of b.bay (vec_capacity b.boxes)) b.ended b.closed in
+    let berths = vec_capacity c.replace-boxes.new.dest in
+    let view = used_view a.checked a.blanks a.sessions a.loads a.slots a.requests a.bay a.bay (vec_capacity a.boxes) berths a.ended a.closed refl in
+    let is : t ≡ boundary s = c.self-2.view_is ∙ c.carry_out.ensures ∙ ap boundary view in
+    let after = has_decided s t is c.self.invariant.worked_out.valid (rw (← c.self.view_is) at c.requires.can) (rw (← c.self.view_is) at c.requires.steady) (rw (← c.self.view_is) at c.requires.numbered) in
+    at_home b.checked b.roster.order b.bay (vec_capacity b.boxes) b.slots.aloft c.self-2.invariant.based after.down
+
 -- and the cycle takes off in the state after that
 pub take_off-flight-requires : goal.take_off-flight-requires
 take_off-flight-requires g c =
@@ -136,9 +145,8 @@ take_off-flight-requires g c =
     let s = state_with a.checked a.blanks a.sessions a.loads a.slots a.requests (base_of a.bay (vec_capacity a.boxes)) a.ended a.closed in
     let b = c.self-2.inside in
     let t = state_with b.checked b.blanks b.sessions b.loads b.slots b.requests (base_of b.bay (vec_capacity b.boxes)) b.ended b.closed in
-    let next = c.supply.new.self in
     let berths = vec_capacity c.replace-boxes.new.dest in
-    let view = used_view a.checked a.blanks a.sessions a.loads a.slots a.requests a.bay next (vec_capacity a.boxes) berths a.ended a.closed c.supply.ensures.bay.bay in
+    let view = used_view a.checked a.blanks a.sessions a.loads a.slots a.requests a.bay a.bay (vec_capacity a.boxes) berths a.ended a.closed refl in
     let is : t ≡ boundary s = c.self-2.view_is ∙ c.carry_out.ensures ∙ ap boundary view in
     let planned : IsPlanOf s (waiting s) c.in_ok-plan.plan = subst (λ (u : State). IsPlanOf u (waiting u) c.in_ok-plan.plan) (sym c.self.view_is) c.in_ok-plan.ensures in
     let after = has_decided s t is c.self.invariant.worked_out.valid (rw (← c.self.view_is) at c.requires.can) (rw (← c.self.view_is) at c.requires.steady) (rw (← c.self.view_is) at c.requires.numbered) in
@@ -151,10 +159,12 @@ take_off-flight-requires g c =
     } in
     let many = ap length c.put.ensures.order in
     let placed : b.bay.plant.value.places ≡ a.bay.plant.value.places = kept.worked_out.placed ∙ ap placed_of after.description ∙ sym c.self.invariant.worked_out.placed in
-    let supplied : AreSupplies a.checked a.bay.plant.value.places c.in_ok-plan.plan.order.items (length a.slots.loaded) c.in_ok-supplies.supplies = rw (c.deref.ensures.value, c.len.ensures) at c.in_ok-supplies.ensures.supplies in
+    let supplied : AreSupplies a.checked a.bay.plant.value.places c.in_ok-plan.plan.order.items (length a.slots.loaded) c.in_ok-supplies.supplies = rw (c.deref.ensures.value, c.len.ensures) at c.in_ok-supplies.ensures in
     let supplies : AreSupplies t.description b.bay.plant.value.places c.put.new.self.order (length t.loaded) c.in_ok-supplies.supplies = rw (after.description, placed, c.put.ensures.order, after.counted) supplied in
-    let fly = can_take_off s t b.names.items b.bay b.bay (vec_capacity b.boxes) b.roster c.put.new.self b.slots (map g.C.Controller.meaning c.replace-boxes.result.items) (vec_capacity c.replace-boxes.result)
-    c.replace-cells.result.items (vec_capacity c.replace-cells.result) b.ended c.in_ok-supplies.supplies kept after listed c.put.ensures.fresh refl refl refl refl supplies
+    let ready = c.take_in.ensures.bay t.description c.put.new.self.order (length t.loaded) supplies in
+    let supplied = c.take_in.ensures.supplied t.description c.put.new.self.order (length t.loaded) supplies in
+    let fly = can_take_off s t b.names.items b.bay c.take_in.new.self (vec_capacity b.boxes) b.roster c.put.new.self b.slots (map g.C.Controller.meaning c.replace-boxes.result.items) (vec_capacity c.replace-boxes.result)
+    c.replace-cells.result.items (vec_capacity c.replace-cells.result) b.ended kept after listed c.put.ensures.fresh ready refl refl refl supplied
     (rw (c.replace-boxes.ensures.value) (ap (map g.C.Controller.meaning) c.in_ok-make_places.ensures.boxes.0)) (omega (arith, c.in_ok-make_places.ensures.boxes.1, many, c.len-count.ensures, ap vec_capacity c.replace-boxes.ensures.value))
     (rw (c.replace-cells.ensures.value) c.in_ok-make_places.ensures.cells.0) (omega (arith, c.in_ok-make_places.ensures.cells.1, many, c.len-count.ensures, ap vec_capacity c.replace-cells.ensures.value)) in
     (t, rw (c.run.ensures) fly)
@@ -165,9 +175,8 @@ invariant_of-self-3 g c =
     let s = state_with a.checked a.blanks a.sessions a.loads a.slots a.requests (base_of a.bay (vec_capacity a.boxes)) a.ended a.closed in
     let b = c.self-2.inside in
     let t = state_with b.checked b.blanks b.sessions b.loads b.slots b.requests (base_of b.bay (vec_capacity b.boxes)) b.ended b.closed in
-    let next = c.supply.new.self in
     let berths = vec_capacity c.replace-boxes.new.dest in
-    let view = used_view a.checked a.blanks a.sessions a.loads a.slots a.requests a.bay next (vec_capacity a.boxes) berths a.ended a.closed c.supply.ensures.bay.bay in
+    let view = used_view a.checked a.blanks a.sessions a.loads a.slots a.requests a.bay a.bay (vec_capacity a.boxes) berths a.ended a.closed refl in
     let is : t ≡ boundary s = c.self-2.view_is ∙ c.carry_out.ensures ∙ ap boundary view in
     let planned : IsPlanOf s (waiting s) c.in_ok-plan.plan = subst (λ (u : State). IsPlanOf u (waiting u) c.in_ok-plan.plan) (sym c.self.view_is) c.in_ok-plan.ensures in
     let after = has_decided s t is c.self.invariant.worked_out.valid (rw (← c.self.view_is) at c.requires.can) (rw (← c.self.view_is) at c.requires.steady) (rw (← c.self.view_is) at c.requires.numbered) in
@@ -180,20 +189,25 @@ invariant_of-self-3 g c =
     } in
     let many = ap length c.put.ensures.order in
     let placed : b.bay.plant.value.places ≡ a.bay.plant.value.places = kept.worked_out.placed ∙ ap placed_of after.description ∙ sym c.self.invariant.worked_out.placed in
-    let supplied : AreSupplies a.checked a.bay.plant.value.places c.in_ok-plan.plan.order.items (length a.slots.loaded) c.in_ok-supplies.supplies = rw (c.deref.ensures.value, c.len.ensures) at c.in_ok-supplies.ensures.supplies in
+    let supplied : AreSupplies a.checked a.bay.plant.value.places c.in_ok-plan.plan.order.items (length a.slots.loaded) c.in_ok-supplies.supplies = rw (c.deref.ensures.value, c.len.ensures) at c.in_ok-supplies.ensures in
     let supplies : AreSupplies t.description b.bay.plant.value.places c.put.new.self.order (length t.loaded) c.in_ok-supplies.supplies = rw (after.description, placed, c.put.ensures.order, after.counted) supplied in
-    let fly = can_take_off s t b.names.items b.bay b.bay (vec_capacity b.boxes) b.roster c.put.new.self b.slots (map g.C.Controller.meaning c.replace-boxes.result.items) (vec_capacity c.replace-boxes.result)
-    c.replace-cells.result.items (vec_capacity c.replace-cells.result) b.ended c.in_ok-supplies.supplies kept after listed c.put.ensures.fresh refl refl refl refl supplies
+    let ready = c.take_in.ensures.bay t.description c.put.new.self.order (length t.loaded) supplies in
+    let supplied = c.take_in.ensures.supplied t.description c.put.new.self.order (length t.loaded) supplies in
+    let fly = can_take_off s t b.names.items b.bay c.take_in.new.self (vec_capacity b.boxes) b.roster c.put.new.self b.slots (map g.C.Controller.meaning c.replace-boxes.result.items) (vec_capacity c.replace-boxes.result)
+    c.replace-cells.result.items (vec_capacity c.replace-cells.result) b.ended kept after listed c.put.ensures.fresh ready refl refl refl supplied
     (rw (c.replace-boxes.ensures.value) (ap (map g.C.Controller.meaning) c.in_ok-make_places.ensures.boxes.0)) (omega (arith, c.in_ok-make_places.ensures.boxes.1, many, c.len-count.ensures, ap vec_capacity c.replace-boxes.ensures.value))
     (rw (c.replace-cells.ensures.value) c.in_ok-make_places.ensures.cells.0) (omega (arith, c.in_ok-make_places.ensures.cells.1, many, c.len-count.ensures, ap vec_capacity c.replace-cells.ensures.value)) in
     let d = c.take_off-flight.new.bay in
     let room = vec_capacity c.take_off-flight.new.boxes in
     let off = c.take_off-flight.ensures.off t (rw (c.run.ensures) fly) in
     let flown = view_flown b.checked b.blanks b.sessions b.loads b.slots c.take_off-flight.new.slots b.requests (base_of b.bay (vec_capacity b.boxes)) (base_of d room) b.ended b.closed off.slots off.mails
-    (ap (λ (x : Bay). x.plant.value) off.bay) in
+    (ap (λ (x : Bay). x.plant.value) off.bay ∙ ap (λ (x : Bay). x.plant.value) ready.bay) in
+    let fits : length c.put.new.self.order ≤ vec_capacity c.replace-boxes.result =
+    omega (arith, c.in_ok-make_places.ensures.boxes.1, many, c.len-count.ensures, ap vec_capacity c.replace-boxes.ensures.value, c.in_ok-plan.plan.order.ok.0) in
+    let same : room ≡ vec_capacity c.replace-boxes.result = c.take_off-flight.ensures.room in
     subst (λ (u : State). IsKept u b.names.items (base_of d room) c.put.new.self) (sym flown)
-    (kept_off s t b.names.items b.bay b.bay d (vec_capacity b.boxes) room b.roster c.put.new.self b.slots c.take_off-flight.new.slots c.take_off-flight.result kept after listed c.put.ensures.fresh refl off
-    (omega (arith, c.in_ok-make_places.ensures.boxes.1, many, c.len-count.ensures, ap vec_capacity c.replace-boxes.ensures.value, c.take_off-flight.ensures.room)))
+    (kept_off s t b.names.items b.bay c.take_in.new.self d (vec_capacity b.boxes) room b.roster c.put.new.self b.slots c.take_off-flight.new.slots c.take_off-flight.result kept after listed c.put.ensures.fresh ready off
+    (omega (arith, fits, same)))
 
 -- it began in the state after all that was decided
 pub returns-clause-begun : goal.returns-clause-begun
@@ -202,9 +216,8 @@ returns-clause-begun g c =
     let s = state_with a.checked a.blanks a.sessions a.loads a.slots a.requests (base_of a.bay (vec_capacity a.boxes)) a.ended a.closed in
     let b = c.self-2.inside in
     let t = state_with b.checked b.blanks b.sessions b.loads b.slots b.requests (base_of b.bay (vec_capacity b.boxes)) b.ended b.closed in
-    let next = c.supply.new.self in
     let berths = vec_capacity c.replace-boxes.new.dest in
-    let view = used_view a.checked a.blanks a.sessions a.loads a.slots a.requests a.bay next (vec_capacity a.boxes) berths a.ended a.closed c.supply.ensures.bay.bay in
+    let view = used_view a.checked a.blanks a.sessions a.loads a.slots a.requests a.bay a.bay (vec_capacity a.boxes) berths a.ended a.closed refl in
     let is : t ≡ boundary s = c.self-2.view_is ∙ c.carry_out.ensures ∙ ap boundary view in
     let planned : IsPlanOf s (waiting s) c.in_ok-plan.plan = subst (λ (u : State). IsPlanOf u (waiting u) c.in_ok-plan.plan) (sym c.self.view_is) c.in_ok-plan.ensures in
     let after = has_decided s t is c.self.invariant.worked_out.valid (rw (← c.self.view_is) at c.requires.can) (rw (← c.self.view_is) at c.requires.steady) (rw (← c.self.view_is) at c.requires.numbered) in
@@ -217,17 +230,19 @@ returns-clause-begun g c =
     } in
     let many = ap length c.put.ensures.order in
     let placed : b.bay.plant.value.places ≡ a.bay.plant.value.places = kept.worked_out.placed ∙ ap placed_of after.description ∙ sym c.self.invariant.worked_out.placed in
-    let supplied : AreSupplies a.checked a.bay.plant.value.places c.in_ok-plan.plan.order.items (length a.slots.loaded) c.in_ok-supplies.supplies = rw (c.deref.ensures.value, c.len.ensures) at c.in_ok-supplies.ensures.supplies in
+    let supplied : AreSupplies a.checked a.bay.plant.value.places c.in_ok-plan.plan.order.items (length a.slots.loaded) c.in_ok-supplies.supplies = rw (c.deref.ensures.value, c.len.ensures) at c.in_ok-supplies.ensures in
     let supplies : AreSupplies t.description b.bay.plant.value.places c.put.new.self.order (length t.loaded) c.in_ok-supplies.supplies = rw (after.description, placed, c.put.ensures.order, after.counted) supplied in
-    let fly = can_take_off s t b.names.items b.bay b.bay (vec_capacity b.boxes) b.roster c.put.new.self b.slots (map g.C.Controller.meaning c.replace-boxes.result.items) (vec_capacity c.replace-boxes.result)
-    c.replace-cells.result.items (vec_capacity c.replace-cells.result) b.ended c.in_ok-supplies.supplies kept after listed c.put.ensures.fresh refl refl refl refl supplies
+    let ready = c.take_in.ensures.bay t.description c.put.new.self.order (length t.loaded) supplies in
+    let supplied = c.take_in.ensures.supplied t.description c.put.new.self.order (length t.loaded) supplies in
+    let fly = can_take_off s t b.names.items b.bay c.take_in.new.self (vec_capacity b.boxes) b.roster c.put.new.self b.slots (map g.C.Controller.meaning c.replace-boxes.result.items) (vec_capacity c.replace-boxes.result)
+    c.replace-cells.result.items (vec_capacity c.replace-cells.result) b.ended kept after listed c.put.ensures.fresh ready refl refl refl supplied
     (rw (c.replace-boxes.ensures.value) (ap (map g.C.Controller.meaning) c.in_ok-make_places.ensures.boxes.0)) (omega (arith, c.in_ok-make_places.ensures.boxes.1, many, c.len-count.ensures, ap vec_capacity c.replace-boxes.ensures.value))
     (rw (c.replace-cells.ensures.value) c.in_ok-make_places.ensures.cells.0) (omega (arith, c.in_ok-make_places.ensures.cells.1, many, c.len-count.ensures, ap vec_capacity c.replace-cells.ensures.value)) in
     let d = c.take_off-flight.new.bay in
     let room = vec_capacity c.take_off-flight.new.boxes in
     let off = c.take_off-flight.ensures.off t (rw (c.run.ensures) fly) in
     let flown = view_flown b.checked b.blanks b.sessions b.loads b.slots c.take_off-flight.new.slots b.requests (base_of b.bay (vec_capacity b.boxes)) (base_of d room) b.ended b.closed off.slots off.mails
-    (ap (λ (x : Bay). x.plant.value) off.bay) in
+    (ap (λ (x : Bay). x.plant.value) off.bay ∙ ap (λ (x : Bay). x.plant.value) ready.bay) in
     rw (← c.self.view_is) (record {
       begun = flown ∙ ap begun is;
       told = ap reply.Decisions planned.decisions;

@@ -1,5 +1,5 @@
-use Rattle.std.proofs.Common.{◌≡◌, ℕ, false, List, length, Option, sym, ap, subst, ◌∙◌, arith}
-use Rattle.std.specs.Prelude.{is_some, not, vec_capacity, None, IfSome}
+use Rattle.std.proofs.Common.{◌≡◌, ℕ, true, false, List, length, Option, Some, sym, ap, subst, ◌∙◌, arith}
+use Rattle.std.specs.Prelude.{is_some, vec_capacity, None, IsSomeAnd}
 use Rattle.std.proofs.lemmas.List.{with_items_is}
 use Rattle.cm_model.specs.Happened.{Happened}
 use Rattle.cm_model.specs.declared.record_room.RecordRoom.{RecordRoom}
@@ -7,50 +7,11 @@ use Rattle.stop_plan.specs.Ending.{HasFlags}
 use Rattle.switch_plan.specs.Relations.{Related}
 use Rattle.rt_flight.specs.Calls.Cycles.{LeavesFlight}
 use Rattle.rt_flight.specs.Cells.{Seat}
-use Rattle.rt_flight.specs.Flights.{facts_with, CanMake, IsReady, IsAloft, IsAloftOver, IsFlight, HasMade}
+use Rattle.rt_flight.specs.Flights.{facts_with, IsReady, IsAloft, IsAloftOver, IsFlight, HasMade}
 use Rattle.rt_flight.specs.declared.craft.Craft.{Craft}
 use Rattle.rt_flight.specs.declared.plant.Plant.{Plant}
 use Rattle.rt_flight.proofs.CycleLemmas.{computed_is, flags_after, lines_after, lines_in, equipped_after}
 use Rattle.rt_flight.proofs.flight.Flight.compute.Goals as goal
-
--- while it is not computed, there is room to tell
-pub take_room-room-requires : goal.take_room-room-requires
-take_room-room-requires g c =
-    let a = c.self.inside in
-    let kept = subst (IsFlight a.number a.cells.items) (sym c.deref_mut-craft.ensures.value) c.self.invariant in
-    let record_is : a.craft.value.record ≡ None = rw (← c.self.view_is) at c.requires in
-    let none : is_some c.deref_mut-craft.result.now.record ≡ false =
-    ap (λ (k : Craft). is_some k.record) c.deref_mut-craft.ensures.value ∙ ap (λ (o : Option Happened). is_some o) record_is in
-    kept.one_of_two ∙ ap not none
-
--- so the cycle can be made,
-pub make_cycle-requires-clause-can : goal.make_cycle-requires-clause-can
-make_cycle-requires-clause-can g c =
-    let a = c.self.inside in
-    let k = c.deref_mut-craft.result.now in
-    let kept = subst (IsFlight a.number a.cells.items) (sym c.deref_mut-craft.ensures.value) c.self.invariant in
-    let ready = subst (λ (o : Option RecordRoom). IfSome o (IsReady a.number a.cells.items k.order.items k.plant)) c.take_room-room.ensures.taken kept.ready in
-    subst (λ (cs : List Seat). CanMake a.number cs k.plant c.take_room-room.result) (sym c.as_mut_slice.ensures.value) ready.makes
-
-pub make_cycle-requires-clause-erred : goal.make_cycle-requires-clause-erred
-make_cycle-requires-clause-erred g c =
-    let a = c.self.inside in
-    let kept = subst (IsFlight a.number a.cells.items) (sym c.deref_mut-craft.ensures.value) c.self.invariant in
-    let equipped = kept.equipped in
-    let slice : length c.as_mut_slice.result.now ≡ length a.cells.items = ap (λ (cs : List Seat). length cs) c.as_mut_slice.ensures.value in
-    (equipped.none_erred, omega (arith, equipped.erred, slice))
-
--- there is room for the lists of what flew,
-pub show-requires : goal.show-requires
-show-requires g c =
-    let a = c.self.inside in
-    let k = c.deref_mut-craft.result.now in
-    let kept = subst (IsFlight a.number a.cells.items) (sym c.deref_mut-craft.ensures.value) c.self.invariant in
-    let ready = subst (λ (o : Option RecordRoom). IfSome o (IsReady a.number a.cells.items k.order.items k.plant)) c.take_room-room.ensures.taken kept.ready in
-    lines_after ready.makes.aloft.0 a.number c.as_mut_slice.result.now c.make_cycle.new.cells k.plant c.make_cycle.new.plant c.make_cycle.new.erred.items c.make_cycle.new.room k.lists
-    (subst (λ (cs : List Seat). IsAloftOver ready.makes.aloft.0 a.number cs k.plant) (sym c.as_mut_slice.ensures.value) ready.makes.aloft.1)
-    (c.make_cycle.ensures.made ready.makes.aloft.0 (subst (λ (cs : List Seat). IsAloftOver ready.makes.aloft.0 a.number cs k.plant) (sym c.as_mut_slice.ensures.value) ready.makes.aloft.1) ready.empty)
-    kept.equipped.lines
 
 -- what a flight keeps is kept,
 pub invariant_of-self : goal.invariant_of-self
@@ -58,25 +19,27 @@ invariant_of-self g c =
     let a = c.self.inside in
     let k = c.deref_mut-craft.result.now in
     let kept = subst (IsFlight a.number a.cells.items) (sym c.deref_mut-craft.ensures.value) c.self.invariant in
+    let record_is : a.craft.value.record ≡ None = rw (← c.self.view_is) at c.requires in
+    let none : is_some k.record ≡ false = ap (λ (x : Craft). is_some x.record) c.deref_mut-craft.ensures.value ∙ ap (λ (o : Option Happened). is_some o) record_is in
     let equipped = kept.equipped in
     let long : length c.make_cycle.new.cells ≡ a.cells.len = omega (arith, c.make_cycle.auto.cells, c.as_mut_slice.ensures.len) in
-    let leaves = subst (λ (cs : List Seat). LeavesFlight cs c.make_cycle.new.cells k.plant c.make_cycle.new.plant c.take_room-room.result c.make_cycle.new.room (vec_capacity k.erred)
+    let leaves = subst (λ (cs : List Seat). LeavesFlight cs c.make_cycle.new.cells k.plant c.make_cycle.new.plant c.in-Some.room c.make_cycle.new.room (vec_capacity k.erred)
     (vec_capacity c.make_cycle.new.erred)) c.as_mut_slice.ensures.value c.make_cycle.ensures.kept in
     let before : HasFlags (length c.make_cycle.new.plant.relations.leaders) k.ending =
     subst (λ (w : Related). HasFlags (length w.leaders) k.ending) (sym (ap (λ (x : Plant). x.relations) leaves.plant)) equipped.flags in
     let flags = flags_after c.make_cycle.new.plant.relations c.deref.result.now c.deref-2.result.now c.make_cycle.new.room c.settle-craft.new.room k.ending c.settle-craft.new.ending
     c.settle-craft.result before c.settle-craft.ensures.quiet c.settle-craft.ensures.decided in
-    let ready = subst (λ (o : Option RecordRoom). IfSome o (IsReady a.number a.cells.items k.order.items k.plant)) c.take_room-room.ensures.taken kept.ready in
+    let ready = subst (λ (o : Option RecordRoom). IsSomeAnd o (IsReady a.number a.cells.items k.order.items k.plant)) c.in-Some.is (kept.ready none) in
     let over = subst (λ (cs : List Seat). IsAloftOver ready.makes.aloft.0 a.number cs k.plant) (sym c.as_mut_slice.ensures.value) ready.makes.aloft.1 in
     let lines = lines_in c.make_cycle.new.plant.hardware k.lists c.show.new.lists
     (lines_after ready.makes.aloft.0 a.number c.as_mut_slice.result.now c.make_cycle.new.cells k.plant c.make_cycle.new.plant c.make_cycle.new.erred.items c.make_cycle.new.room k.lists over
     (c.make_cycle.ensures.made ready.makes.aloft.0 over ready.empty) equipped.lines) c.show.ensures.room in
     rw (with_items_is a.cells c.make_cycle.new.cells long)
     (record {
-      equipped = equipped_after a.cells.items c.make_cycle.new.cells k.order.items k.plant c.make_cycle.new.plant c.take_room-room.result c.make_cycle.new.room k.ending c.settle-craft.new.ending
+      equipped = equipped_after a.cells.items c.make_cycle.new.cells k.order.items k.plant c.make_cycle.new.plant c.in-Some.room c.make_cycle.new.room k.ending c.settle-craft.new.ending
           k.lists c.show.new.lists k.erred.items c.clear.new.self.items (vec_capacity k.erred) (vec_capacity c.make_cycle.new.erred) (vec_capacity c.clear.new.self) equipped leaves flags lines c.clear.ensures.items c.clear.ensures.capacity;
-      one_of_two = ap (λ (o : Option RecordRoom). is_some o) c.take_room-room.ensures.left;
-      ready = subst (λ (o : Option RecordRoom). IfSome o (IsReady a.number c.make_cycle.new.cells k.order.items c.make_cycle.new.plant)) (sym c.take_room-room.ensures.left) tt;
+      ready = λ (not_yet : true ≡ false). cc;
+      left = λ yes. c.told.ensures.left;
     })
 
 -- and the flight is computed of each state of which it was
@@ -85,16 +48,18 @@ returns-clause-cycle g c = λ s aloft.
     let a = c.self.inside in
     let k = c.deref_mut-craft.result.now in
     let kept = subst (IsFlight a.number a.cells.items) (sym c.deref_mut-craft.ensures.value) c.self.invariant in
+    let record_is : a.craft.value.record ≡ None = rw (← c.self.view_is) at c.requires in
+    let none : is_some k.record ≡ false = ap (λ (x : Craft). is_some x.record) c.deref_mut-craft.ensures.value ∙ ap (λ (o : Option Happened). is_some o) record_is in
     let equipped = kept.equipped in
     let is : IsAloft s (facts_with a.number a.cells.items k) =
     subst (λ (x : Craft). IsAloft s (facts_with a.number a.cells.items x)) (sym c.deref_mut-craft.ensures.value) (subst (IsAloft s) (sym c.self.view_is) aloft) in
     let long : length c.make_cycle.new.cells ≡ a.cells.len = omega (arith, c.make_cycle.auto.cells, c.as_mut_slice.ensures.len) in
-    let ready = subst (λ (o : Option RecordRoom). IfSome o (IsReady a.number a.cells.items k.order.items k.plant)) c.take_room-room.ensures.taken kept.ready in
-    let leaves = subst (λ (cs : List Seat). LeavesFlight cs c.make_cycle.new.cells k.plant c.make_cycle.new.plant c.take_room-room.result c.make_cycle.new.room (vec_capacity k.erred)
+    let ready = subst (λ (o : Option RecordRoom). IsSomeAnd o (IsReady a.number a.cells.items k.order.items k.plant)) c.in-Some.is (kept.ready none) in
+    let leaves = subst (λ (cs : List Seat). LeavesFlight cs c.make_cycle.new.cells k.plant c.make_cycle.new.plant c.in-Some.room c.make_cycle.new.room (vec_capacity k.erred)
     (vec_capacity c.make_cycle.new.erred)) c.as_mut_slice.ensures.value c.make_cycle.ensures.kept in
     let over = subst (λ (cs : List Seat). IsAloftOver s a.number cs k.plant) (sym c.as_mut_slice.ensures.value) is.over in
     let made = subst (λ (ns : List ℕ). HasMade s c.make_cycle.new.cells c.make_cycle.new.plant ns c.make_cycle.new.room) (sym c.deref-2.ensures.value) (c.make_cycle.ensures.made s over ready.empty) in
     rw (with_items_is a.cells c.make_cycle.new.cells long)
-    (computed_is s (facts_with a.number a.cells.items k) c.deref.result.now c.take_room-room.result c.make_cycle.new.room c.settle-craft.new.room c.make_cycle.new.cells c.make_cycle.new.plant c.deref-2.result.now k.ending
+    (computed_is s (facts_with a.number a.cells.items k) c.deref.result.now c.in-Some.room c.make_cycle.new.room c.settle-craft.new.room c.make_cycle.new.cells c.make_cycle.new.plant c.deref-2.result.now k.ending
     c.settle-craft.new.ending c.settle-craft.result (vec_capacity k.erred) (vec_capacity c.make_cycle.new.erred) is (c.deref.ensures.value ∙ equipped.order) ready.empty made leaves
-    c.settle-craft.ensures.quiet c.settle-craft.ensures.decided c.show.new.lists c.land-record.result.0 c.show.ensures.shown c.land-record.ensures)
+    c.settle-craft.ensures.quiet c.settle-craft.ensures.decided c.show.new.lists c.told.result c.show.ensures.shown c.told.ensures.told)
