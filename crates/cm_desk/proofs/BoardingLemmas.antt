@@ -1,5 +1,5 @@
 -- One controller after the other comes to its cell, or leaves it.
-use Rattle.std.proofs.Common.{◌≡◌, ℕ, ◌+◌, ◌<◌, List, [], ◌∷◌, ◌++◌, length, get_or, drop, Option, Some, refl, sym, ap, ap₂, ◌∙◌}
+use Rattle.std.proofs.Common.{◌≡◌, ℕ, ◌+◌, ◌<◌, ◌≤◌, List, [], ◌∷◌, ◌++◌, length, get_or, drop, Option, Some, refl, sym, ap, ap₂, ◌∙◌, arith}
 use Rattle.std.specs.Prelude.{reverse, slice_get}
 use Rattle.std.specs.Option.{option_map_or}
 use Rattle.std.proofs.lemmas.List.{drop_more, reverse-append}
@@ -13,6 +13,12 @@ use Rattle.cm_desk.specs.Boarding.{boarded, seat_of}
 -- what is popped comes first of the list turned round
 pub popped : {A : Type 0} (xs ys : List A) (x : A) → xs ≡ ys ++ x ∷ [] → reverse xs ≡ x ∷ reverse ys
 popped xs ys x is = ap reverse is ∙ reverse-append ys (x ∷ [])
+
+-- a list of one, or of none, is the same turned round
+pub reverse_few : {A : Type 0} (xs : List A) → length xs ≤ 1 → xs ≡ reverse xs
+reverse_few [] few = refl
+reverse_few (x ∷ []) few = refl
+reverse_few (x ∷ y ∷ xs) few = absurd (omega (arith, few))
 
 -- one that was pushed stands before what is left
 pub pushed : {A : Type 0} (xs : List A) (x : A) (ys : List A) → (xs ++ x ∷ []) ++ ys ≡ xs ++ x ∷ ys

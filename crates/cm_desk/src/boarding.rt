@@ -1,6 +1,6 @@
 //! How controllers come to their cells, and leave them.
 
-ghost use Rattle.std.specs.Prelude.{◌≡◌, ◌<◌, [], map, length, vec_capacity};
+ghost use Rattle.std.specs.Prelude.{◌≡◌, ◌<◌, [], map, length, reverse, vec_capacity};
 ghost use Rattle.cm_document.specs.declared.life.Life.TheVariants.{Active};
 ghost use Rattle.ctl_slots.specs.Lives.{IsKept};
 ghost use Rattle.ctl_slots.specs.Mails.{mail_in, without_mail};
@@ -28,8 +28,8 @@ pub(crate) fn board<C: Controller>(
     ensures stations { AreGone stations.new.items (vec_capacity stations.old) (vec_capacity stations.new) }
     ensures boxes { AreGone boxes.new.items (vec_capacity boxes.old) (vec_capacity boxes.new) }
 {
-    stations.reverse();
-    boxes.reverse();
+    turn_round(stations);
+    turn_round(boxes);
     for index in run {
         let (Some(station), Some(ctl)) = (stations.pop(), boxes.pop()) else {
             unreachable!();
@@ -68,10 +68,21 @@ pub(crate) fn disembark<C: Controller>(
 {
     empty(stations);
     empty(boxes);
-    cells.reverse();
+    turn_round(cells);
     while let Some(cell) = cells.pop() {
         let (station, ctl) = cell.leave();
         stations.push_reserved(station);
         boxes.push_reserved(ctl);
+    }
+}
+
+/// The list is turned round.
+#[tactic(auto, using(crate::proofs::BoardingLemmas::reverse_few))]
+fn turn_round<T: Drop>(list: &mut Vec<T>)
+    ensures items { list.new.items ≡ reverse list.old.items }
+    ensures capacity { vec_capacity list.new ≡ vec_capacity list.old }
+{
+    if list.len() > 1 {
+        list.reverse();
     }
 }
