@@ -10,7 +10,7 @@ ghost use Rattle.cm_hardware.specs.Holding.{IsHardwareOf, MovesComponent};
 ghost use Rattle.cm_hardware.specs.Shown.{HasLinesFor, Shows};
 ghost use Rattle.stop_plan.specs.Ending.{HasFlags};
 ghost use Rattle.cm_desk.specs.Bay.{IsAtHome, IsAtStart, IsHome, IsIdle, IsListing, IsMadeReady, IsRewired, IsSupplied, CanBeSupplied, CanCastOff, HasCastOff, HasMoored};
-ghost use Rattle.cm_desk.specs.Supplies.{AreSupplies, CanSupply};
+ghost use Rattle.cm_desk.specs.Supplies.{AreSupplies};
 ghost use Rattle.rt_flight.specs.Flights.{TellsNothing};
 ghost use Rattle.cm_desk.specs.Works.{CanSwitch, HasSwitched, KeepsRest};
 
@@ -180,29 +180,35 @@ impl Bay {
         self.rest(hangar);
     }
 
-    /// All that a cycle needs in which these controllers are active, of so many that are loaded. Nothing is touched.
+    /// All that a cycle needs in which these controllers are active, of so many that are loaded. What is at home stays so; the stations that
+    /// are there are used for it, or lost where memory runs out.
     pub(crate) fn supplies(
-        &self,
+        &mut self,
         alloc: Global,
         checked: &Checked,
         order: &[Member],
         loaded: usize,
     ) -> Result<Supplies, Memory>
-        requires home { IsAtHome self.now }
-        requires plant { CanSupply checked.now self.now.plant.value.places self.now.size order.now }
-        ensures { IfOk result (AreSupplies checked.now self.now.plant.value.places order.now loaded) }
+        requires home { IsAtHome self.old }
+        requires can { CanBeSupplied checked.now self.old order.now }
+        ensures supplies { IfOk result (AreSupplies checked.now self.old.plant.value.places order.now loaded) }
+        ensures bay { IsMadeReady self.old self.new }
     {
-        let Some(hangar) = &self.hangar else {
-            unreachable!();
-        };
-        supplies_for(
+        let mut hangar = self.leave();
+        let stations = std::mem::replace(&mut self.spare.stations, Vec::new(alloc));
+        let members = std::mem::replace(&mut hangar.order, Vec::new(alloc));
+        let supplies = supplies_for(
             alloc,
             checked,
             &hangar.plant.places,
             self.size,
             order,
             loaded,
-        )
+            stations,
+            members,
+        );
+        self.put_back(hangar);
+        supplies
     }
 
     /// These come to their places, and with them all that a cycle needs is ready. It takes no memory.

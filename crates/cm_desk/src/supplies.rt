@@ -1,10 +1,9 @@
 //! The memory that a cycle takes when it goes aloft.
 
 ghost use Rattle.std.specs.Prelude.{◌≡◌, ◌+◌, ◌≤◌, ◌<◌, [], true, length, sum_by, vec_capacity, IfOk, OnOk, IfSome, IsSomeAnd, All};
-ghost use Rattle.std.specs.List.{AllByRecursion};
 ghost use Rattle.ctl_places.specs.Placed.{placed_of};
 ghost use Rattle.rt_flight.specs.Flights.{TellsNothing};
-ghost use Rattle.rt_flight.specs.Stations.{HasRows, IsFitted};
+ghost use Rattle.rt_flight.specs.Stations.{HasRows};
 ghost use Rattle.cm_desk.specs.Supplies.{AreKept, AreStandsOf, AreStations, AreSupplies, CanSupply, CanSupplyFrom, HasRoom, HaveSupplies, IsRefitted, IsRun, IsSilent, IsSizeOf, IsStandOf, outs_at, numbers_at};
 
 use crate::bay::Spare;
@@ -39,7 +38,8 @@ pub(crate) struct HardwareSize {
     pub(crate) joints: usize,
 }
 
-/// What a cycle takes in which these controllers are active, of so many that are loaded, all of it new.
+/// What a cycle takes in which these controllers are active, of so many that are loaded: these stations where they are theirs, and else
+/// all of it new.
 pub(crate) fn supplies_for(
     alloc: Global,
     checked: &Checked,
@@ -47,13 +47,19 @@ pub(crate) fn supplies_for(
     size: HardwareSize,
     order: &[Member],
     loaded: usize,
+    stations: Vec<Station>,
+    members: Vec<Member>,
 ) -> Result<Supplies, Memory>
-    requires { CanSupply checked.now places.now size order.now }
+    requires plant { CanSupply checked.now places.now size order.now }
+    requires kept { AreKept places.now stations.items members.items }
     ensures { IfOk result (AreSupplies checked.now places.now order.now loaded) }
 {
+    let mut stations = stations;
+    let mut members = members;
+    man(alloc, places, order, &mut stations, &mut members)?;
     Ok(Supplies {
-        stations: new_stations(alloc, places, order)?,
-        order: copy_of(alloc, order)?,
+        stations,
+        order: members,
         erred: Vec::with_capacity(alloc, order.len())?,
         mails: Vec::with_capacity(alloc, loaded)?,
         room: record_for(alloc, checked, places, size, order, None)?,

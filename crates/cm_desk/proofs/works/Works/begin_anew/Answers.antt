@@ -13,7 +13,7 @@ use Rattle.cm_desk.specs.Roster.{IsListedOf}
 use Rattle.cm_desk.specs.Supplies.{AreSupplies}
 use Rattle.cm_desk.specs.Works.{IsKept, state_with}
 use Rattle.cm_desk.specs.declared.bay.Bay.{Bay}
-use Rattle.cm_desk.proofs.AfterLemmas.{at_home, kept_idle, used_view}
+use Rattle.cm_desk.proofs.AfterLemmas.{at_home, kept_idle, used_view, used_idle}
 use Rattle.cm_desk.proofs.BeginLemmas.{begins_down, planned_order, has_decided, order_decided, view_flown}
 use Rattle.cm_desk.proofs.OrderLemmas.{order_loaded}
 use Rattle.cm_desk.proofs.TakeOffLemmas.{can_take_off, kept_off}
@@ -32,16 +32,18 @@ supplies-requires-clause-home g c =
     at_home a.checked a.roster.order a.bay (vec_capacity a.boxes) a.slots.aloft c.self.invariant.based (begins_down s (rw (← c.self.view_is) at c.requires.can))
 
 -- who is active after all that is decided is described
-pub supplies-requires-clause-plant : goal.supplies-requires-clause-plant
-supplies-requires-clause-plant g c =
+pub supplies-requires-clause-can : goal.supplies-requires-clause-can
+supplies-requires-clause-can g c =
     let a = c.self.inside in
     let s = state_with a.checked a.blanks a.sessions a.loads a.slots a.requests (base_of a.bay (vec_capacity a.boxes)) a.ended a.closed in
     let planned : IsPlanOf s (waiting s) c.in_ok-plan.plan = subst (λ (u : State). IsPlanOf u (waiting u) c.in_ok-plan.plan) (sym c.self.view_is) c.in_ok-plan.ensures in
-    let order : c.in_ok-plan.plan.order.items ≡ members_in_order (boundary s) = planned_order s c.in_ok-plan.plan planned in
-    record {
-      places = c.self.invariant.worked_out.placed;
-      size = c.self.invariant.based.size;
-      within = rw (c.deref.ensures.value, order) (order_decided s c.self.invariant.described);
+    let order : c.in_ok-plan.plan.order.items ≡ members_in_order (boundary s) = planned_order s c.in_ok-plan.plan planned in record {
+      plant = record {
+        places = c.self.invariant.worked_out.placed;
+        size = c.self.invariant.based.size;
+        within = rw (c.deref.ensures.value, order) (order_decided s c.self.invariant.described);
+      };
+      kept = record { fitted = c.self.invariant.based.fitted; ordered = c.self.invariant.based.ordered (begins_down s (rw (← c.self.view_is) at c.requires.can)) };
     }
 
 -- where memory ran out the state is as before
@@ -65,9 +67,11 @@ pub invariant_of-self-in_err-supplies : goal.invariant_of-self-in_err-supplies
 invariant_of-self-in_err-supplies g c =
     let a = c.self.inside in
     let s = state_with a.checked a.blanks a.sessions a.loads a.slots a.requests (base_of a.bay (vec_capacity a.boxes)) a.ended a.closed in
-    kept_idle s a.names.items (base_of a.bay (vec_capacity a.boxes)) (base_of a.bay (vec_capacity c.make_places.new.boxes)) a.roster c.self.invariant
-    (begins_down s (rw (← c.self.view_is) at c.requires.can)) refl refl (at_home a.checked a.roster.order a.bay (vec_capacity a.boxes) a.slots.aloft c.self.invariant.based (begins_down s (rw (← c.self.view_is) at c.requires.can)))
-    refl refl refl refl refl c.self.invariant.based.fitted (c.self.invariant.based.ordered (begins_down s (rw (← c.self.view_is) at c.requires.can)))
+    let next = c.supplies.new.self in
+    let berths = vec_capacity c.make_places.new.boxes in
+    subst (λ (t : State). IsKept t a.names.items (base_of next berths) a.roster)
+    (sym (used_view a.checked a.blanks a.sessions a.loads a.slots a.requests a.bay next (vec_capacity a.boxes) berths a.ended a.closed c.supplies.ensures.bay.bay))
+    (used_idle s a.names.items a.bay next (vec_capacity a.boxes) berths a.roster c.self.invariant (begins_down s (rw (← c.self.view_is) at c.requires.can)) c.supplies.ensures.bay)
 
 -- and so it is when all is there
 pub invariant_of-self-2 : goal.invariant_of-self-2
@@ -75,11 +79,9 @@ invariant_of-self-2 g c =
     let a = c.self.inside in
     let s = state_with a.checked a.blanks a.sessions a.loads a.slots a.requests (base_of a.bay (vec_capacity a.boxes)) a.ended a.closed in
     let berths = vec_capacity c.replace-boxes.new.dest in
-    let view = used_view a.checked a.blanks a.sessions a.loads a.slots a.requests a.bay a.bay (vec_capacity a.boxes) berths a.ended a.closed refl in
-    subst (λ (u : State). IsKept u a.names.items (base_of a.bay berths) a.roster) (sym view)
-    (kept_idle s a.names.items (base_of a.bay (vec_capacity a.boxes)) (base_of a.bay berths) a.roster c.self.invariant
-    (begins_down s (rw (← c.self.view_is) at c.requires.can)) refl refl (at_home a.checked a.roster.order a.bay (vec_capacity a.boxes) a.slots.aloft c.self.invariant.based (begins_down s (rw (← c.self.view_is) at c.requires.can)))
-    refl refl refl refl refl c.self.invariant.based.fitted (c.self.invariant.based.ordered (begins_down s (rw (← c.self.view_is) at c.requires.can))))
+    let view = used_view a.checked a.blanks a.sessions a.loads a.slots a.requests a.bay c.supplies.new.self (vec_capacity a.boxes) berths a.ended a.closed c.supplies.ensures.bay.bay in
+    subst (λ (u : State). IsKept u a.names.items (base_of c.supplies.new.self berths) a.roster) (sym view)
+    (used_idle s a.names.items a.bay c.supplies.new.self (vec_capacity a.boxes) berths a.roster c.self.invariant (begins_down s (rw (← c.self.view_is) at c.requires.can)) c.supplies.ensures.bay)
 
 pub carry_out-requires-clause-down : goal.carry_out-requires-clause-down
 carry_out-requires-clause-down g c =
@@ -92,7 +94,7 @@ carry_out-requires-clause-steady g c =
     let a = c.self.inside in
     let s = state_with a.checked a.blanks a.sessions a.loads a.slots a.requests (base_of a.bay (vec_capacity a.boxes)) a.ended a.closed in
     let berths = vec_capacity c.replace-boxes.new.dest in
-    let view = used_view a.checked a.blanks a.sessions a.loads a.slots a.requests a.bay a.bay (vec_capacity a.boxes) berths a.ended a.closed refl in
+    let view = used_view a.checked a.blanks a.sessions a.loads a.slots a.requests a.bay c.supplies.new.self (vec_capacity a.boxes) berths a.ended a.closed c.supplies.ensures.bay.bay in
     subst IsSteady (sym view) (rw (← c.self.view_is) at c.requires.steady)
 
 pub carry_out-requires-clause-concluded : goal.carry_out-requires-clause-concluded
@@ -100,7 +102,7 @@ carry_out-requires-clause-concluded g c =
     let a = c.self.inside in
     let s = state_with a.checked a.blanks a.sessions a.loads a.slots a.requests (base_of a.bay (vec_capacity a.boxes)) a.ended a.closed in
     let berths = vec_capacity c.replace-boxes.new.dest in
-    let view = used_view a.checked a.blanks a.sessions a.loads a.slots a.requests a.bay a.bay (vec_capacity a.boxes) berths a.ended a.closed refl in
+    let view = used_view a.checked a.blanks a.sessions a.loads a.slots a.requests a.bay c.supplies.new.self (vec_capacity a.boxes) berths a.ended a.closed c.supplies.ensures.bay.bay in
     let planned : IsPlanOf s (waiting s) c.in_ok-plan.plan = subst (λ (u : State). IsPlanOf u (waiting u) c.in_ok-plan.plan) (sym c.self.view_is) c.in_ok-plan.ensures in
     subst (λ (u : State). AreConclusionsOf u (waiting u) c.in_ok-plan.plan.conclusions.items) (sym view) planned.conclusions
 
@@ -113,7 +115,7 @@ put-requires-clause-loaded g c =
     let b = c.self-2.inside in
     let t = state_with b.checked b.blanks b.sessions b.loads b.slots b.requests (base_of b.bay (vec_capacity b.boxes)) b.ended b.closed in
     let berths = vec_capacity c.replace-boxes.new.dest in
-    let view = used_view a.checked a.blanks a.sessions a.loads a.slots a.requests a.bay a.bay (vec_capacity a.boxes) berths a.ended a.closed refl in
+    let view = used_view a.checked a.blanks a.sessions a.loads a.slots a.requests a.bay c.supplies.new.self (vec_capacity a.boxes) berths a.ended a.closed c.supplies.ensures.bay.bay in
     let is : t ≡ boundary s = c.self-2.view_is ∙ c.carry_out.ensures ∙ ap boundary view in
     let planned : IsPlanOf s (waiting s) c.in_ok-plan.plan = subst (λ (u : State). IsPlanOf u (waiting u) c.in_ok-plan.plan) (sym c.self.view_is) c.in_ok-plan.ensures in
     let order : c.in_ok-plan.plan.order.items ≡ members_in_order t = planned_order s c.in_ok-plan.plan planned ∙ ap members_in_order (sym is) in
@@ -133,7 +135,7 @@ take_in-requires g c =
     let b = c.self-2.inside in
     let t = state_with b.checked b.blanks b.sessions b.loads b.slots b.requests (base_of b.bay (vec_capacity b.boxes)) b.ended b.closed in
     let berths = vec_capacity c.replace-boxes.new.dest in
-    let view = used_view a.checked a.blanks a.sessions a.loads a.slots a.requests a.bay a.bay (vec_capacity a.boxes) berths a.ended a.closed refl in
+    let view = used_view a.checked a.blanks a.sessions a.loads a.slots a.requests a.bay c.supplies.new.self (vec_capacity a.boxes) berths a.ended a.closed c.supplies.ensures.bay.bay in
     let is : t ≡ boundary s = c.self-2.view_is ∙ c.carry_out.ensures ∙ ap boundary view in
     let after = has_decided s t is c.self.invariant.worked_out.valid (rw (← c.self.view_is) at c.requires.can) (rw (← c.self.view_is) at c.requires.steady) (rw (← c.self.view_is) at c.requires.numbered) in
     at_home b.checked b.roster.order b.bay (vec_capacity b.boxes) b.slots.aloft c.self-2.invariant.based after.down
@@ -146,7 +148,7 @@ take_off-flight-requires g c =
     let b = c.self-2.inside in
     let t = state_with b.checked b.blanks b.sessions b.loads b.slots b.requests (base_of b.bay (vec_capacity b.boxes)) b.ended b.closed in
     let berths = vec_capacity c.replace-boxes.new.dest in
-    let view = used_view a.checked a.blanks a.sessions a.loads a.slots a.requests a.bay a.bay (vec_capacity a.boxes) berths a.ended a.closed refl in
+    let view = used_view a.checked a.blanks a.sessions a.loads a.slots a.requests a.bay c.supplies.new.self (vec_capacity a.boxes) berths a.ended a.closed c.supplies.ensures.bay.bay in
     let is : t ≡ boundary s = c.self-2.view_is ∙ c.carry_out.ensures ∙ ap boundary view in
     let planned : IsPlanOf s (waiting s) c.in_ok-plan.plan = subst (λ (u : State). IsPlanOf u (waiting u) c.in_ok-plan.plan) (sym c.self.view_is) c.in_ok-plan.ensures in
     let after = has_decided s t is c.self.invariant.worked_out.valid (rw (← c.self.view_is) at c.requires.can) (rw (← c.self.view_is) at c.requires.steady) (rw (← c.self.view_is) at c.requires.numbered) in
@@ -159,7 +161,7 @@ take_off-flight-requires g c =
     } in
     let many = ap length c.put.ensures.order in
     let placed : b.bay.plant.value.places ≡ a.bay.plant.value.places = kept.worked_out.placed ∙ ap placed_of after.description ∙ sym c.self.invariant.worked_out.placed in
-    let supplied : AreSupplies a.checked a.bay.plant.value.places c.in_ok-plan.plan.order.items (length a.slots.loaded) c.in_ok-supplies.supplies = rw (c.deref.ensures.value, c.len.ensures) at c.in_ok-supplies.ensures in
+    let supplied : AreSupplies a.checked a.bay.plant.value.places c.in_ok-plan.plan.order.items (length a.slots.loaded) c.in_ok-supplies.supplies = rw (c.deref.ensures.value, c.len.ensures) at c.in_ok-supplies.ensures.supplies in
     let supplies : AreSupplies t.description b.bay.plant.value.places c.put.new.self.order (length t.loaded) c.in_ok-supplies.supplies = rw (after.description, placed, c.put.ensures.order, after.counted) supplied in
     let ready = c.take_in.ensures.bay t.description c.put.new.self.order (length t.loaded) supplies in
     let supplied = c.take_in.ensures.supplied t.description c.put.new.self.order (length t.loaded) supplies in
@@ -176,7 +178,7 @@ invariant_of-self-3 g c =
     let b = c.self-2.inside in
     let t = state_with b.checked b.blanks b.sessions b.loads b.slots b.requests (base_of b.bay (vec_capacity b.boxes)) b.ended b.closed in
     let berths = vec_capacity c.replace-boxes.new.dest in
-    let view = used_view a.checked a.blanks a.sessions a.loads a.slots a.requests a.bay a.bay (vec_capacity a.boxes) berths a.ended a.closed refl in
+    let view = used_view a.checked a.blanks a.sessions a.loads a.slots a.requests a.bay c.supplies.new.self (vec_capacity a.boxes) berths a.ended a.closed c.supplies.ensures.bay.bay in
     let is : t ≡ boundary s = c.self-2.view_is ∙ c.carry_out.ensures ∙ ap boundary view in
     let planned : IsPlanOf s (waiting s) c.in_ok-plan.plan = subst (λ (u : State). IsPlanOf u (waiting u) c.in_ok-plan.plan) (sym c.self.view_is) c.in_ok-plan.ensures in
     let after = has_decided s t is c.self.invariant.worked_out.valid (rw (← c.self.view_is) at c.requires.can) (rw (← c.self.view_is) at c.requires.steady) (rw (← c.self.view_is) at c.requires.numbered) in
@@ -189,7 +191,7 @@ invariant_of-self-3 g c =
     } in
     let many = ap length c.put.ensures.order in
     let placed : b.bay.plant.value.places ≡ a.bay.plant.value.places = kept.worked_out.placed ∙ ap placed_of after.description ∙ sym c.self.invariant.worked_out.placed in
-    let supplied : AreSupplies a.checked a.bay.plant.value.places c.in_ok-plan.plan.order.items (length a.slots.loaded) c.in_ok-supplies.supplies = rw (c.deref.ensures.value, c.len.ensures) at c.in_ok-supplies.ensures in
+    let supplied : AreSupplies a.checked a.bay.plant.value.places c.in_ok-plan.plan.order.items (length a.slots.loaded) c.in_ok-supplies.supplies = rw (c.deref.ensures.value, c.len.ensures) at c.in_ok-supplies.ensures.supplies in
     let supplies : AreSupplies t.description b.bay.plant.value.places c.put.new.self.order (length t.loaded) c.in_ok-supplies.supplies = rw (after.description, placed, c.put.ensures.order, after.counted) supplied in
     let ready = c.take_in.ensures.bay t.description c.put.new.self.order (length t.loaded) supplies in
     let supplied = c.take_in.ensures.supplied t.description c.put.new.self.order (length t.loaded) supplies in
@@ -217,7 +219,7 @@ returns-clause-begun g c =
     let b = c.self-2.inside in
     let t = state_with b.checked b.blanks b.sessions b.loads b.slots b.requests (base_of b.bay (vec_capacity b.boxes)) b.ended b.closed in
     let berths = vec_capacity c.replace-boxes.new.dest in
-    let view = used_view a.checked a.blanks a.sessions a.loads a.slots a.requests a.bay a.bay (vec_capacity a.boxes) berths a.ended a.closed refl in
+    let view = used_view a.checked a.blanks a.sessions a.loads a.slots a.requests a.bay c.supplies.new.self (vec_capacity a.boxes) berths a.ended a.closed c.supplies.ensures.bay.bay in
     let is : t ≡ boundary s = c.self-2.view_is ∙ c.carry_out.ensures ∙ ap boundary view in
     let planned : IsPlanOf s (waiting s) c.in_ok-plan.plan = subst (λ (u : State). IsPlanOf u (waiting u) c.in_ok-plan.plan) (sym c.self.view_is) c.in_ok-plan.ensures in
     let after = has_decided s t is c.self.invariant.worked_out.valid (rw (← c.self.view_is) at c.requires.can) (rw (← c.self.view_is) at c.requires.steady) (rw (← c.self.view_is) at c.requires.numbered) in
@@ -230,7 +232,7 @@ returns-clause-begun g c =
     } in
     let many = ap length c.put.ensures.order in
     let placed : b.bay.plant.value.places ≡ a.bay.plant.value.places = kept.worked_out.placed ∙ ap placed_of after.description ∙ sym c.self.invariant.worked_out.placed in
-    let supplied : AreSupplies a.checked a.bay.plant.value.places c.in_ok-plan.plan.order.items (length a.slots.loaded) c.in_ok-supplies.supplies = rw (c.deref.ensures.value, c.len.ensures) at c.in_ok-supplies.ensures in
+    let supplied : AreSupplies a.checked a.bay.plant.value.places c.in_ok-plan.plan.order.items (length a.slots.loaded) c.in_ok-supplies.supplies = rw (c.deref.ensures.value, c.len.ensures) at c.in_ok-supplies.ensures.supplies in
     let supplies : AreSupplies t.description b.bay.plant.value.places c.put.new.self.order (length t.loaded) c.in_ok-supplies.supplies = rw (after.description, placed, c.put.ensures.order, after.counted) supplied in
     let ready = c.take_in.ensures.bay t.description c.put.new.self.order (length t.loaded) supplies in
     let supplied = c.take_in.ensures.supplied t.description c.put.new.self.order (length t.loaded) supplies in
