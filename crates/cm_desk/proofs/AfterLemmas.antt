@@ -1,5 +1,5 @@
 -- What the desk keeps of its state after a commit, after a move of a component, and after a cycle.
-use Rattle.std.proofs.Common.{◌≡◌, ℕ, ◌+◌, Bool, true, false, List, [], length, map, Option, Some, None, refl, sym, ap, subst, ◌∙◌, arith}
+use Rattle.std.proofs.Common.{◌≡◌, ℕ, ◌+◌, Bool, true, false, List, [], length, map, Option, Some, None, refl, sym, ap, subst, ◌∙◌, arith, vec_capacity}
 use Rattle.std.specs.Prelude.{not, is_some, Box, IfSome, IsSomeAnd}
 use Rattle.std.specs.List.{AllByRecursion}
 use Rattle.std.specs.declared.alloc.Global.{Global}
@@ -37,6 +37,8 @@ use Rattle.cm_desk.specs.Supplies.{stands_for}
 use Rattle.cm_desk.specs.Works.{IsKept, IsWorkedOut, HasCommitted, state_with}
 use Rattle.cm_desk.specs.declared.bay.Bay.{Bay}
 use Rattle.cm_desk.specs.declared.bay.Spare.{Spare}
+use Rattle.cm_desk.specs.declared.works.Works.TheInside.{Inside}
+use Rattle.cm_desk.proofs.Insides.{base_in, state_of}
 use Rattle.cm_desk.proofs.StayLemmas.{all_staying, commit_stays, landed_stays, count_stays, described_stay, divided_stay}
 
 -- What else is kept of a base goes by these parts of it, where it is at home.
@@ -334,15 +336,28 @@ kept_idle s names before after looked kept down plant ending at lists told spare
 }
 
 -- where it only is made ready for a cycle, the state is as before
-pub used_view : (d : Description) (blanks : Blanks) (sessions loads : ℕ) (slots : Slotted) (asked : Asked) (before b : Bay) (m n : ℕ) (ended : ℕ) (closed : Bool) → b ≡ record before { hangar = b.hangar; members = b.members; spare = b.spare }
-    → state_with d blanks sessions loads slots asked (base_of b n) ended closed ≡ state_with d blanks sessions loads slots asked (base_of before m) ended closed
-used_view d blanks sessions loads slots asked before b m n ended closed used =
-    subst (λ (x : Bay). state_with d blanks sessions loads slots asked (base_of x n) ended closed ≡ state_with d blanks sessions loads slots asked (base_of before m) ended closed) (sym used) refl
+pub used_view : {C : Type 0} (a : Inside C) (next : Bay) (berths : ℕ) → IsMadeReady a.bay next
+    → state_with a.checked a.blanks a.sessions a.loads a.slots a.requests (base_of next berths) a.ended a.closed ≡ state_of a
+used_view a next berths made =
+    subst (λ (x : Bay). state_with a.checked a.blanks a.sessions a.loads a.slots a.requests (base_of x berths) a.ended a.closed ≡ state_of a) (sym made.bay) refl
 
--- and is kept
-pub used_idle : (s : State) (names : List (List ℕ)) (before b : Bay) (m n : ℕ) (looked : Listed) → IsKept s names (base_of before m) looked → s.aloft ≡ false → IsMadeReady before b
+used_idle : (s : State) (names : List (List ℕ)) (before b : Bay) (m n : ℕ) (looked : Listed) → IsKept s names (base_of before m) looked → s.aloft ≡ false → IsMadeReady before b
     → IsKept s names (base_of b n) looked
 used_idle s names before b m n looked kept down used =
     kept_idle s names (base_of before m) (base_of b n) looked kept down (ap (λ (x : Bay). x.plant.value) used.bay) (ap (λ (x : Bay). x.ending.value) used.bay) used.home
     (ap (λ (x : Bay). x.lists) used.bay) (ap (λ (x : Bay). x.told) used.bay) (ap (λ (x : Bay). x.spare_lists.value) used.bay) (ap (λ (x : Bay). x.size) used.bay) (ap (λ (x : Bay). x.room) used.bay)
     (subst (λ (g : Plant). AllByRecursion (IsFitted g.places) b.spare.stations.items) (sym (ap (λ (x : Bay). x.plant.value) used.bay)) used.kept.fitted) used.kept.ordered
+
+-- and is kept,
+pub kept_ready : {C : Type 0} (a : Inside C) (next : Bay) (berths : ℕ) → IsKept (state_of a) a.names.items (base_in a) a.roster → a.slots.aloft ≡ false → IsMadeReady a.bay next
+    → IsKept (state_with a.checked a.blanks a.sessions a.loads a.slots a.requests (base_of next berths) a.ended a.closed) a.names.items (base_of next berths) a.roster
+kept_ready a next berths kept down made =
+    subst (λ (t : State). IsKept t a.names.items (base_of next berths) a.roster) (sym (used_view a next berths made))
+    (used_idle (state_of a) a.names.items a.bay next (vec_capacity a.boxes) berths a.roster kept down made)
+
+-- also where there is other room for boxes alone
+pub kept_with_room : {C : Type 0} (a : Inside C) (berths : ℕ) → IsKept (state_of a) a.names.items (base_in a) a.roster → a.slots.aloft ≡ false
+    → IsKept (state_of a) a.names.items (base_of a.bay berths) a.roster
+kept_with_room a berths kept down =
+    kept_idle (state_of a) a.names.items (base_in a) (base_of a.bay berths) a.roster kept down refl refl
+    (at_home a.checked a.roster.order a.bay (vec_capacity a.boxes) a.slots.aloft kept.based down) refl refl refl refl refl kept.based.fitted (kept.based.ordered down)

@@ -1,3 +1,4 @@
+pub mod Insides
 pub mod RosterLemmas
 pub mod SuppliesLemmas
 pub mod ReadyLemmas

@@ -8,34 +8,37 @@ use Rattle.cm_model.specs.declared.reply.Reply.TheVariants as reply
 use Rattle.ctl_places.specs.Placed.{placed_of}
 use Rattle.request_plan.specs.Plans.{IsPlanOf, AreConclusionsOf}
 use Rattle.stop_plan.specs.Ending.{members_in_order}
-use Rattle.cm_desk.specs.Bay.{base_of}
+use Rattle.cm_desk.specs.Bay.{base_of, IsMadeReady}
+use Rattle.cm_desk.specs.Begin.{CanTakeOff, HasTakenOff}
 use Rattle.cm_desk.specs.Roster.{IsListedOf}
 use Rattle.cm_desk.specs.Supplies.{AreSupplies}
 use Rattle.cm_desk.specs.Works.{IsKept, state_with}
 use Rattle.cm_desk.specs.declared.bay.Bay.{Bay}
-use Rattle.cm_desk.proofs.AfterLemmas.{at_home, kept_idle, used_view, used_idle}
-use Rattle.cm_desk.proofs.BeginLemmas.{begins_down, planned_order, has_decided, order_decided, view_flown}
+use Rattle.cm_desk.proofs.AfterLemmas.{at_home, kept_ready, kept_with_room, used_view}
+use Rattle.cm_desk.proofs.BeginLemmas.{begins_down, planned_order, HasDecided, has_decided, order_decided, view_flown}
 use Rattle.cm_desk.proofs.OrderLemmas.{order_loaded}
 use Rattle.cm_desk.proofs.TakeOffLemmas.{can_take_off, kept_off}
+use Rattle.cm_desk.proofs.Insides.{base_in, state_of}
+use Rattle.cm_desk.proofs.works.Works.begin_anew.Given.{Over}
 use Rattle.cm_desk.proofs.works.Works.begin_anew.Goals as goal
 
 pub plan-requires-clause-down : goal.plan-requires-clause-down
 plan-requires-clause-down g c =
     let a = c.self.inside in
-    let s = state_with a.checked a.blanks a.sessions a.loads a.slots a.requests (base_of a.bay (vec_capacity a.boxes)) a.ended a.closed in
+    let s = state_of a in
     rw (← c.self.view_is) (begins_down s (rw (← c.self.view_is) at c.requires.can))
 
 pub supplies-requires-clause-home : goal.supplies-requires-clause-home
 supplies-requires-clause-home g c =
     let a = c.self.inside in
-    let s = state_with a.checked a.blanks a.sessions a.loads a.slots a.requests (base_of a.bay (vec_capacity a.boxes)) a.ended a.closed in
+    let s = state_of a in
     at_home a.checked a.roster.order a.bay (vec_capacity a.boxes) a.slots.aloft c.self.invariant.based (begins_down s (rw (← c.self.view_is) at c.requires.can))
 
 -- who is active after all that is decided is described
 pub supplies-requires-clause-can : goal.supplies-requires-clause-can
 supplies-requires-clause-can g c =
     let a = c.self.inside in
-    let s = state_with a.checked a.blanks a.sessions a.loads a.slots a.requests (base_of a.bay (vec_capacity a.boxes)) a.ended a.closed in
+    let s = state_of a in
     let planned : IsPlanOf s (waiting s) c.in_ok-plan.plan = subst (λ (u : State). IsPlanOf u (waiting u) c.in_ok-plan.plan) (sym c.self.view_is) c.in_ok-plan.ensures in
     let order : c.in_ok-plan.plan.order.items ≡ members_in_order (boundary s) = planned_order s c.in_ok-plan.plan planned in record {
       plant = record {
@@ -49,60 +52,43 @@ supplies-requires-clause-can g c =
 -- where memory ran out the state is as before
 pub invariant_of-self : goal.invariant_of-self
 invariant_of-self g c =
-    let a = c.self.inside in
-    let s = state_with a.checked a.blanks a.sessions a.loads a.slots a.requests (base_of a.bay (vec_capacity a.boxes)) a.ended a.closed in
-    kept_idle s a.names.items (base_of a.bay (vec_capacity a.boxes)) (base_of a.bay (vec_capacity c.make_places.new.boxes)) a.roster c.self.invariant
-    (begins_down s (rw (← c.self.view_is) at c.requires.can)) refl refl (at_home a.checked a.roster.order a.bay (vec_capacity a.boxes) a.slots.aloft c.self.invariant.based (begins_down s (rw (← c.self.view_is) at c.requires.can)))
-    refl refl refl refl refl c.self.invariant.based.fitted (c.self.invariant.based.ordered (begins_down s (rw (← c.self.view_is) at c.requires.can)))
+    kept_with_room c.self.inside (vec_capacity c.make_places.new.boxes) c.self.invariant (begins_down (state_of c.self.inside) (rw (← c.self.view_is) at c.requires.can))
 
 pub invariant_of-self-in_err-run : goal.invariant_of-self-in_err-run
 invariant_of-self-in_err-run g c =
-    let a = c.self.inside in
-    let s = state_with a.checked a.blanks a.sessions a.loads a.slots a.requests (base_of a.bay (vec_capacity a.boxes)) a.ended a.closed in
-    kept_idle s a.names.items (base_of a.bay (vec_capacity a.boxes)) (base_of a.bay (vec_capacity c.make_places.new.boxes)) a.roster c.self.invariant
-    (begins_down s (rw (← c.self.view_is) at c.requires.can)) refl refl (at_home a.checked a.roster.order a.bay (vec_capacity a.boxes) a.slots.aloft c.self.invariant.based (begins_down s (rw (← c.self.view_is) at c.requires.can)))
-    refl refl refl refl refl c.self.invariant.based.fitted (c.self.invariant.based.ordered (begins_down s (rw (← c.self.view_is) at c.requires.can)))
+    kept_with_room c.self.inside (vec_capacity c.make_places.new.boxes) c.self.invariant (begins_down (state_of c.self.inside) (rw (← c.self.view_is) at c.requires.can))
 
 pub invariant_of-self-in_err-supplies : goal.invariant_of-self-in_err-supplies
 invariant_of-self-in_err-supplies g c =
-    let a = c.self.inside in
-    let s = state_with a.checked a.blanks a.sessions a.loads a.slots a.requests (base_of a.bay (vec_capacity a.boxes)) a.ended a.closed in
-    let next = c.supplies.new.self in
-    let berths = vec_capacity c.make_places.new.boxes in
-    subst (λ (t : State). IsKept t a.names.items (base_of next berths) a.roster)
-    (sym (used_view a.checked a.blanks a.sessions a.loads a.slots a.requests a.bay next (vec_capacity a.boxes) berths a.ended a.closed c.supplies.ensures.bay.bay))
-    (used_idle s a.names.items a.bay next (vec_capacity a.boxes) berths a.roster c.self.invariant (begins_down s (rw (← c.self.view_is) at c.requires.can)) c.supplies.ensures.bay)
+    kept_ready c.self.inside c.supplies.new.self (vec_capacity c.make_places.new.boxes) c.self.invariant (begins_down (state_of c.self.inside) (rw (← c.self.view_is) at c.requires.can))
+    c.supplies.ensures.bay
 
 -- and so it is when all is there
 pub invariant_of-self-2 : goal.invariant_of-self-2
 invariant_of-self-2 g c =
-    let a = c.self.inside in
-    let s = state_with a.checked a.blanks a.sessions a.loads a.slots a.requests (base_of a.bay (vec_capacity a.boxes)) a.ended a.closed in
-    let berths = vec_capacity c.replace-boxes.new.dest in
-    let view = used_view a.checked a.blanks a.sessions a.loads a.slots a.requests a.bay c.supplies.new.self (vec_capacity a.boxes) berths a.ended a.closed c.supplies.ensures.bay.bay in
-    subst (λ (u : State). IsKept u a.names.items (base_of c.supplies.new.self berths) a.roster) (sym view)
-    (used_idle s a.names.items a.bay c.supplies.new.self (vec_capacity a.boxes) berths a.roster c.self.invariant (begins_down s (rw (← c.self.view_is) at c.requires.can)) c.supplies.ensures.bay)
+    kept_ready c.self.inside c.supplies.new.self (vec_capacity c.replace-boxes.new.dest) c.self.invariant (begins_down (state_of c.self.inside) (rw (← c.self.view_is) at c.requires.can))
+    c.supplies.ensures.bay
 
 pub carry_out-requires-clause-down : goal.carry_out-requires-clause-down
 carry_out-requires-clause-down g c =
     let a = c.self.inside in
-    let s = state_with a.checked a.blanks a.sessions a.loads a.slots a.requests (base_of a.bay (vec_capacity a.boxes)) a.ended a.closed in
+    let s = state_of a in
     begins_down s (rw (← c.self.view_is) at c.requires.can)
 
 pub carry_out-requires-clause-steady : goal.carry_out-requires-clause-steady
 carry_out-requires-clause-steady g c =
     let a = c.self.inside in
-    let s = state_with a.checked a.blanks a.sessions a.loads a.slots a.requests (base_of a.bay (vec_capacity a.boxes)) a.ended a.closed in
+    let s = state_of a in
     let berths = vec_capacity c.replace-boxes.new.dest in
-    let view = used_view a.checked a.blanks a.sessions a.loads a.slots a.requests a.bay c.supplies.new.self (vec_capacity a.boxes) berths a.ended a.closed c.supplies.ensures.bay.bay in
+    let view = used_view a c.supplies.new.self berths c.supplies.ensures.bay in
     subst IsSteady (sym view) (rw (← c.self.view_is) at c.requires.steady)
 
 pub carry_out-requires-clause-concluded : goal.carry_out-requires-clause-concluded
 carry_out-requires-clause-concluded g c =
     let a = c.self.inside in
-    let s = state_with a.checked a.blanks a.sessions a.loads a.slots a.requests (base_of a.bay (vec_capacity a.boxes)) a.ended a.closed in
+    let s = state_of a in
     let berths = vec_capacity c.replace-boxes.new.dest in
-    let view = used_view a.checked a.blanks a.sessions a.loads a.slots a.requests a.bay c.supplies.new.self (vec_capacity a.boxes) berths a.ended a.closed c.supplies.ensures.bay.bay in
+    let view = used_view a c.supplies.new.self berths c.supplies.ensures.bay in
     let planned : IsPlanOf s (waiting s) c.in_ok-plan.plan = subst (λ (u : State). IsPlanOf u (waiting u) c.in_ok-plan.plan) (sym c.self.view_is) c.in_ok-plan.ensures in
     subst (λ (u : State). AreConclusionsOf u (waiting u) c.in_ok-plan.plan.conclusions.items) (sym view) planned.conclusions
 
@@ -111,11 +97,11 @@ carry_out-requires-clause-concluded g c =
 pub put-requires-clause-loaded : goal.put-requires-clause-loaded
 put-requires-clause-loaded g c =
     let a = c.self.inside in
-    let s = state_with a.checked a.blanks a.sessions a.loads a.slots a.requests (base_of a.bay (vec_capacity a.boxes)) a.ended a.closed in
+    let s = state_of a in
     let b = c.self-2.inside in
-    let t = state_with b.checked b.blanks b.sessions b.loads b.slots b.requests (base_of b.bay (vec_capacity b.boxes)) b.ended b.closed in
+    let t = state_of b in
     let berths = vec_capacity c.replace-boxes.new.dest in
-    let view = used_view a.checked a.blanks a.sessions a.loads a.slots a.requests a.bay c.supplies.new.self (vec_capacity a.boxes) berths a.ended a.closed c.supplies.ensures.bay.bay in
+    let view = used_view a c.supplies.new.self berths c.supplies.ensures.bay in
     let is : t ≡ boundary s = c.self-2.view_is ∙ c.carry_out.ensures ∙ ap boundary view in
     let planned : IsPlanOf s (waiting s) c.in_ok-plan.plan = subst (λ (u : State). IsPlanOf u (waiting u) c.in_ok-plan.plan) (sym c.self.view_is) c.in_ok-plan.ensures in
     let order : c.in_ok-plan.plan.order.items ≡ members_in_order t = planned_order s c.in_ok-plan.plan planned ∙ ap members_in_order (sym is) in
@@ -131,122 +117,108 @@ put-requires-clause-few g c = omega (arith, ap length c.as_slice.ensures, c.self
 pub take_in-requires : goal.take_in-requires
 take_in-requires g c =
     let a = c.self.inside in
-    let s = state_with a.checked a.blanks a.sessions a.loads a.slots a.requests (base_of a.bay (vec_capacity a.boxes)) a.ended a.closed in
+    let s = state_of a in
     let b = c.self-2.inside in
-    let t = state_with b.checked b.blanks b.sessions b.loads b.slots b.requests (base_of b.bay (vec_capacity b.boxes)) b.ended b.closed in
+    let t = state_of b in
     let berths = vec_capacity c.replace-boxes.new.dest in
-    let view = used_view a.checked a.blanks a.sessions a.loads a.slots a.requests a.bay c.supplies.new.self (vec_capacity a.boxes) berths a.ended a.closed c.supplies.ensures.bay.bay in
+    let view = used_view a c.supplies.new.self berths c.supplies.ensures.bay in
     let is : t ≡ boundary s = c.self-2.view_is ∙ c.carry_out.ensures ∙ ap boundary view in
     let after = has_decided s t is c.self.invariant.worked_out.valid (rw (← c.self.view_is) at c.requires.can) (rw (← c.self.view_is) at c.requires.steady) (rw (← c.self.view_is) at c.requires.numbered) in
     at_home b.checked b.roster.order b.bay (vec_capacity b.boxes) b.slots.aloft c.self-2.invariant.based after.down
 
--- and the cycle takes off in the state after that
-pub take_off-flight-requires : goal.take_off-flight-requires
-take_off-flight-requires g c =
+-- ---- The cycle takes off in the state after that
+
+-- it is the state of now,
+decided_there : (g : Over) (c : goal.After-take_off-arg-3-1 g) → state_of c.self-2.inside ≡ boundary (state_of c.self.inside)
+decided_there g c =
     let a = c.self.inside in
-    let s = state_with a.checked a.blanks a.sessions a.loads a.slots a.requests (base_of a.bay (vec_capacity a.boxes)) a.ended a.closed in
-    let b = c.self-2.inside in
-    let t = state_with b.checked b.blanks b.sessions b.loads b.slots b.requests (base_of b.bay (vec_capacity b.boxes)) b.ended b.closed in
     let berths = vec_capacity c.replace-boxes.new.dest in
-    let view = used_view a.checked a.blanks a.sessions a.loads a.slots a.requests a.bay c.supplies.new.self (vec_capacity a.boxes) berths a.ended a.closed c.supplies.ensures.bay.bay in
-    let is : t ≡ boundary s = c.self-2.view_is ∙ c.carry_out.ensures ∙ ap boundary view in
-    let planned : IsPlanOf s (waiting s) c.in_ok-plan.plan = subst (λ (u : State). IsPlanOf u (waiting u) c.in_ok-plan.plan) (sym c.self.view_is) c.in_ok-plan.ensures in
-    let after = has_decided s t is c.self.invariant.worked_out.valid (rw (← c.self.view_is) at c.requires.can) (rw (← c.self.view_is) at c.requires.steady) (rw (← c.self.view_is) at c.requires.numbered) in
-    let kept = c.self-2.invariant in
-    let order : c.put.new.self.order ≡ members_in_order t = c.put.ensures.order ∙ planned_order s c.in_ok-plan.plan planned ∙ ap members_in_order (sym is) in
-    let listed : IsListedOf t c.put.new.self = record {
+    c.self-2.view_is ∙ c.carry_out.ensures
+    ∙ ap boundary (used_view a c.supplies.new.self berths c.supplies.ensures.bay)
+
+decided : (g : Over) (c : goal.After-take_off-arg-3-1 g) → HasDecided (state_of c.self.inside) (state_of c.self-2.inside)
+decided g c =
+    has_decided (state_of c.self.inside) (state_of c.self-2.inside) (decided_there g c) c.self.invariant.worked_out.valid
+    (rw (← c.self.view_is) at c.requires.can) (rw (← c.self.view_is) at c.requires.steady) (rw (← c.self.view_is) at c.requires.numbered)
+
+planned : (g : Over) (c : goal.After-take_off-arg-3-1 g) → IsPlanOf (state_of c.self.inside) (waiting (state_of c.self.inside)) c.in_ok-plan.plan
+planned g c = subst (λ (u : State). IsPlanOf u (waiting u) c.in_ok-plan.plan) (sym c.self.view_is) c.in_ok-plan.ensures
+
+-- its controllers are listed anew,
+listed : (g : Over) (c : goal.After-take_off-arg-3-1 g) → IsListedOf (state_of c.self-2.inside) c.put.new.self
+listed g c =
+    let kept = c.self-2.invariant in record {
       active = record { counted = ap length c.put.ensures.active ∙ kept.listed.active.counted; told = λ p below. ap (λ found. slice_index_or found p None) c.put.ensures.active ∙ kept.listed.active.told p below };
-      order = λ fresh. order;
+      order = λ fresh. c.put.ensures.order ∙ planned_order (state_of c.self.inside) c.in_ok-plan.plan (planned g c) ∙ ap members_in_order (sym (decided_there g c));
       run = λ fresh. rw (c.put.ensures.order) (rw (c.as_slice.ensures) at c.put.ensures.run);
-    } in
+    }
+
+-- what was supplied is for these,
+supplied : (g : Over) (c : goal.After-take_off-arg-3-1 g)
+    → AreSupplies (state_of c.self-2.inside).description c.self-2.inside.bay.plant.value.places c.put.new.self.order (length (state_of c.self-2.inside).loaded) c.in_ok-supplies.supplies
+supplied g c =
+    let a = c.self.inside in
+    let b = c.self-2.inside in
+    let after = decided g c in
+    let placed : b.bay.plant.value.places ≡ a.bay.plant.value.places = c.self-2.invariant.worked_out.placed ∙ ap placed_of after.description ∙ sym c.self.invariant.worked_out.placed in
+    let for_plan : AreSupplies a.checked a.bay.plant.value.places c.in_ok-plan.plan.order.items (length a.slots.loaded) c.in_ok-supplies.supplies = rw (c.deref.ensures.value, c.len.ensures) at c.in_ok-supplies.ensures.supplies in
+    rw (after.description, placed, c.put.ensures.order, after.counted) for_plan
+
+-- and all is ready
+ready : (g : Over) (c : goal.After-take_off-arg-3-1 g) → IsMadeReady c.self-2.inside.bay c.take_in.new.self
+ready g c = c.take_in.ensures.bay (state_of c.self-2.inside).description c.put.new.self.order (length (state_of c.self-2.inside).loaded) (supplied g c)
+
+flies : (g : Over) (c : goal.After-take_off-arg-3-1 g)
+    → CanTakeOff (state_of c.self-2.inside) c.self-2.inside.slots c.run.result.now c.take_in.new.self (map g.C.Controller.meaning c.replace-boxes.result.items) (vec_capacity c.replace-boxes.result)
+    c.replace-cells.result.items (vec_capacity c.replace-cells.result) c.self-2.inside.ended
+flies g c =
+    let s = state_of c.self.inside in
+    let b = c.self-2.inside in
+    let t = state_of b in
     let many = ap length c.put.ensures.order in
-    let placed : b.bay.plant.value.places ≡ a.bay.plant.value.places = kept.worked_out.placed ∙ ap placed_of after.description ∙ sym c.self.invariant.worked_out.placed in
-    let supplied : AreSupplies a.checked a.bay.plant.value.places c.in_ok-plan.plan.order.items (length a.slots.loaded) c.in_ok-supplies.supplies = rw (c.deref.ensures.value, c.len.ensures) at c.in_ok-supplies.ensures.supplies in
-    let supplies : AreSupplies t.description b.bay.plant.value.places c.put.new.self.order (length t.loaded) c.in_ok-supplies.supplies = rw (after.description, placed, c.put.ensures.order, after.counted) supplied in
-    let ready = c.take_in.ensures.bay t.description c.put.new.self.order (length t.loaded) supplies in
-    let supplied = c.take_in.ensures.supplied t.description c.put.new.self.order (length t.loaded) supplies in
-    let fly = can_take_off s t b.names.items b.bay c.take_in.new.self (vec_capacity b.boxes) b.roster c.put.new.self b.slots (map g.C.Controller.meaning c.replace-boxes.result.items) (vec_capacity c.replace-boxes.result)
-    c.replace-cells.result.items (vec_capacity c.replace-cells.result) b.ended kept after listed c.put.ensures.fresh ready refl refl refl supplied
+    rw (c.run.ensures)
+    (can_take_off s t b.names.items b.bay c.take_in.new.self (vec_capacity b.boxes) b.roster c.put.new.self b.slots (map g.C.Controller.meaning c.replace-boxes.result.items) (vec_capacity c.replace-boxes.result)
+    c.replace-cells.result.items (vec_capacity c.replace-cells.result) b.ended c.self-2.invariant (decided g c) (listed g c) c.put.ensures.fresh (ready g c) refl refl refl
+    (c.take_in.ensures.supplied t.description c.put.new.self.order (length t.loaded) (supplied g c))
     (rw (c.replace-boxes.ensures.value) (ap (map g.C.Controller.meaning) c.in_ok-make_places.ensures.boxes.0)) (omega (arith, c.in_ok-make_places.ensures.boxes.1, many, c.len-count.ensures, ap vec_capacity c.replace-boxes.ensures.value))
-    (rw (c.replace-cells.ensures.value) c.in_ok-make_places.ensures.cells.0) (omega (arith, c.in_ok-make_places.ensures.cells.1, many, c.len-count.ensures, ap vec_capacity c.replace-cells.ensures.value)) in
-    (t, rw (c.run.ensures) fly)
+    (rw (c.replace-cells.ensures.value) c.in_ok-make_places.ensures.cells.0) (omega (arith, c.in_ok-make_places.ensures.cells.1, many, c.len-count.ensures, ap vec_capacity c.replace-cells.ensures.value)))
+
+pub take_off-flight-requires : goal.take_off-flight-requires
+take_off-flight-requires g c = (state_of c.self-2.inside, flies g c)
+
+-- where it took off the state is that of the cycle which began
+begun_there : (g : Over) (c : goal.After-take_off-flight g)
+    → HasTakenOff (state_of c.self-2.inside) c.self-2.inside.slots c.take_off-flight.new.slots c.take_in.new.self c.take_off-flight.new.bay c.take_off-flight.result
+    → state_with c.self-2.inside.checked c.self-2.inside.blanks c.self-2.inside.sessions c.self-2.inside.loads c.take_off-flight.new.slots c.self-2.inside.requests
+    (base_of c.take_off-flight.new.bay (vec_capacity c.take_off-flight.new.boxes)) c.self-2.inside.ended c.self-2.inside.closed ≡ begun (state_of c.self-2.inside)
+begun_there g c off =
+    let b = c.self-2.inside in
+    view_flown b.checked b.blanks b.sessions b.loads b.slots c.take_off-flight.new.slots b.requests (base_in b) (base_of c.take_off-flight.new.bay (vec_capacity c.take_off-flight.new.boxes))
+    b.ended b.closed off.slots off.mails (ap (λ (x : Bay). x.plant.value) off.bay ∙ ap (λ (x : Bay). x.plant.value) (ready g c.before).bay)
 
 pub invariant_of-self-3 : goal.invariant_of-self-3
 invariant_of-self-3 g c =
-    let a = c.self.inside in
-    let s = state_with a.checked a.blanks a.sessions a.loads a.slots a.requests (base_of a.bay (vec_capacity a.boxes)) a.ended a.closed in
+    let s = state_of c.self.inside in
     let b = c.self-2.inside in
-    let t = state_with b.checked b.blanks b.sessions b.loads b.slots b.requests (base_of b.bay (vec_capacity b.boxes)) b.ended b.closed in
-    let berths = vec_capacity c.replace-boxes.new.dest in
-    let view = used_view a.checked a.blanks a.sessions a.loads a.slots a.requests a.bay c.supplies.new.self (vec_capacity a.boxes) berths a.ended a.closed c.supplies.ensures.bay.bay in
-    let is : t ≡ boundary s = c.self-2.view_is ∙ c.carry_out.ensures ∙ ap boundary view in
-    let planned : IsPlanOf s (waiting s) c.in_ok-plan.plan = subst (λ (u : State). IsPlanOf u (waiting u) c.in_ok-plan.plan) (sym c.self.view_is) c.in_ok-plan.ensures in
-    let after = has_decided s t is c.self.invariant.worked_out.valid (rw (← c.self.view_is) at c.requires.can) (rw (← c.self.view_is) at c.requires.steady) (rw (← c.self.view_is) at c.requires.numbered) in
-    let kept = c.self-2.invariant in
-    let order : c.put.new.self.order ≡ members_in_order t = c.put.ensures.order ∙ planned_order s c.in_ok-plan.plan planned ∙ ap members_in_order (sym is) in
-    let listed : IsListedOf t c.put.new.self = record {
-      active = record { counted = ap length c.put.ensures.active ∙ kept.listed.active.counted; told = λ p below. ap (λ found. slice_index_or found p None) c.put.ensures.active ∙ kept.listed.active.told p below };
-      order = λ fresh. order;
-      run = λ fresh. rw (c.put.ensures.order) (rw (c.as_slice.ensures) at c.put.ensures.run);
-    } in
-    let many = ap length c.put.ensures.order in
-    let placed : b.bay.plant.value.places ≡ a.bay.plant.value.places = kept.worked_out.placed ∙ ap placed_of after.description ∙ sym c.self.invariant.worked_out.placed in
-    let supplied : AreSupplies a.checked a.bay.plant.value.places c.in_ok-plan.plan.order.items (length a.slots.loaded) c.in_ok-supplies.supplies = rw (c.deref.ensures.value, c.len.ensures) at c.in_ok-supplies.ensures.supplies in
-    let supplies : AreSupplies t.description b.bay.plant.value.places c.put.new.self.order (length t.loaded) c.in_ok-supplies.supplies = rw (after.description, placed, c.put.ensures.order, after.counted) supplied in
-    let ready = c.take_in.ensures.bay t.description c.put.new.self.order (length t.loaded) supplies in
-    let supplied = c.take_in.ensures.supplied t.description c.put.new.self.order (length t.loaded) supplies in
-    let fly = can_take_off s t b.names.items b.bay c.take_in.new.self (vec_capacity b.boxes) b.roster c.put.new.self b.slots (map g.C.Controller.meaning c.replace-boxes.result.items) (vec_capacity c.replace-boxes.result)
-    c.replace-cells.result.items (vec_capacity c.replace-cells.result) b.ended kept after listed c.put.ensures.fresh ready refl refl refl supplied
-    (rw (c.replace-boxes.ensures.value) (ap (map g.C.Controller.meaning) c.in_ok-make_places.ensures.boxes.0)) (omega (arith, c.in_ok-make_places.ensures.boxes.1, many, c.len-count.ensures, ap vec_capacity c.replace-boxes.ensures.value))
-    (rw (c.replace-cells.ensures.value) c.in_ok-make_places.ensures.cells.0) (omega (arith, c.in_ok-make_places.ensures.cells.1, many, c.len-count.ensures, ap vec_capacity c.replace-cells.ensures.value)) in
+    let t = state_of b in
     let d = c.take_off-flight.new.bay in
     let room = vec_capacity c.take_off-flight.new.boxes in
-    let off = c.take_off-flight.ensures.off t (rw (c.run.ensures) fly) in
-    let flown = view_flown b.checked b.blanks b.sessions b.loads b.slots c.take_off-flight.new.slots b.requests (base_of b.bay (vec_capacity b.boxes)) (base_of d room) b.ended b.closed off.slots off.mails
-    (ap (λ (x : Bay). x.plant.value) off.bay ∙ ap (λ (x : Bay). x.plant.value) ready.bay) in
+    let off = c.take_off-flight.ensures.off t (flies g c.before) in
+    let many = ap length c.put.ensures.order in
     let fits : length c.put.new.self.order ≤ vec_capacity c.replace-boxes.result =
     omega (arith, c.in_ok-make_places.ensures.boxes.1, many, c.len-count.ensures, ap vec_capacity c.replace-boxes.ensures.value, c.in_ok-plan.plan.order.ok.0) in
     let same : room ≡ vec_capacity c.replace-boxes.result = c.take_off-flight.ensures.room in
-    subst (λ (u : State). IsKept u b.names.items (base_of d room) c.put.new.self) (sym flown)
-    (kept_off s t b.names.items b.bay c.take_in.new.self d (vec_capacity b.boxes) room b.roster c.put.new.self b.slots c.take_off-flight.new.slots c.take_off-flight.result kept after listed c.put.ensures.fresh ready off
-    (omega (arith, fits, same)))
+    subst (λ (u : State). IsKept u b.names.items (base_of d room) c.put.new.self) (sym (begun_there g c off))
+    (kept_off s t b.names.items b.bay c.take_in.new.self d (vec_capacity b.boxes) room b.roster c.put.new.self b.slots c.take_off-flight.new.slots c.take_off-flight.result
+    c.self-2.invariant (decided g c.before) (listed g c.before) c.put.ensures.fresh (ready g c.before) off (omega (arith, fits, same)))
 
 -- it began in the state after all that was decided
 pub returns-clause-begun : goal.returns-clause-begun
 returns-clause-begun g c =
-    let a = c.self.inside in
-    let s = state_with a.checked a.blanks a.sessions a.loads a.slots a.requests (base_of a.bay (vec_capacity a.boxes)) a.ended a.closed in
-    let b = c.self-2.inside in
-    let t = state_with b.checked b.blanks b.sessions b.loads b.slots b.requests (base_of b.bay (vec_capacity b.boxes)) b.ended b.closed in
-    let berths = vec_capacity c.replace-boxes.new.dest in
-    let view = used_view a.checked a.blanks a.sessions a.loads a.slots a.requests a.bay c.supplies.new.self (vec_capacity a.boxes) berths a.ended a.closed c.supplies.ensures.bay.bay in
-    let is : t ≡ boundary s = c.self-2.view_is ∙ c.carry_out.ensures ∙ ap boundary view in
-    let planned : IsPlanOf s (waiting s) c.in_ok-plan.plan = subst (λ (u : State). IsPlanOf u (waiting u) c.in_ok-plan.plan) (sym c.self.view_is) c.in_ok-plan.ensures in
-    let after = has_decided s t is c.self.invariant.worked_out.valid (rw (← c.self.view_is) at c.requires.can) (rw (← c.self.view_is) at c.requires.steady) (rw (← c.self.view_is) at c.requires.numbered) in
-    let kept = c.self-2.invariant in
-    let order : c.put.new.self.order ≡ members_in_order t = c.put.ensures.order ∙ planned_order s c.in_ok-plan.plan planned ∙ ap members_in_order (sym is) in
-    let listed : IsListedOf t c.put.new.self = record {
-      active = record { counted = ap length c.put.ensures.active ∙ kept.listed.active.counted; told = λ p below. ap (λ found. slice_index_or found p None) c.put.ensures.active ∙ kept.listed.active.told p below };
-      order = λ fresh. order;
-      run = λ fresh. rw (c.put.ensures.order) (rw (c.as_slice.ensures) at c.put.ensures.run);
-    } in
-    let many = ap length c.put.ensures.order in
-    let placed : b.bay.plant.value.places ≡ a.bay.plant.value.places = kept.worked_out.placed ∙ ap placed_of after.description ∙ sym c.self.invariant.worked_out.placed in
-    let supplied : AreSupplies a.checked a.bay.plant.value.places c.in_ok-plan.plan.order.items (length a.slots.loaded) c.in_ok-supplies.supplies = rw (c.deref.ensures.value, c.len.ensures) at c.in_ok-supplies.ensures.supplies in
-    let supplies : AreSupplies t.description b.bay.plant.value.places c.put.new.self.order (length t.loaded) c.in_ok-supplies.supplies = rw (after.description, placed, c.put.ensures.order, after.counted) supplied in
-    let ready = c.take_in.ensures.bay t.description c.put.new.self.order (length t.loaded) supplies in
-    let supplied = c.take_in.ensures.supplied t.description c.put.new.self.order (length t.loaded) supplies in
-    let fly = can_take_off s t b.names.items b.bay c.take_in.new.self (vec_capacity b.boxes) b.roster c.put.new.self b.slots (map g.C.Controller.meaning c.replace-boxes.result.items) (vec_capacity c.replace-boxes.result)
-    c.replace-cells.result.items (vec_capacity c.replace-cells.result) b.ended kept after listed c.put.ensures.fresh ready refl refl refl supplied
-    (rw (c.replace-boxes.ensures.value) (ap (map g.C.Controller.meaning) c.in_ok-make_places.ensures.boxes.0)) (omega (arith, c.in_ok-make_places.ensures.boxes.1, many, c.len-count.ensures, ap vec_capacity c.replace-boxes.ensures.value))
-    (rw (c.replace-cells.ensures.value) c.in_ok-make_places.ensures.cells.0) (omega (arith, c.in_ok-make_places.ensures.cells.1, many, c.len-count.ensures, ap vec_capacity c.replace-cells.ensures.value)) in
-    let d = c.take_off-flight.new.bay in
-    let room = vec_capacity c.take_off-flight.new.boxes in
-    let off = c.take_off-flight.ensures.off t (rw (c.run.ensures) fly) in
-    let flown = view_flown b.checked b.blanks b.sessions b.loads b.slots c.take_off-flight.new.slots b.requests (base_of b.bay (vec_capacity b.boxes)) (base_of d room) b.ended b.closed off.slots off.mails
-    (ap (λ (x : Bay). x.plant.value) off.bay ∙ ap (λ (x : Bay). x.plant.value) ready.bay) in
+    let off = c.take_off-flight.ensures.off (state_of c.self-2.inside) (flies g c.before) in
+    let flown = begun_there g c off in
     rw (← c.self.view_is) (record {
-      begun = flown ∙ ap begun is;
-      told = ap reply.Decisions planned.decisions;
+      begun = flown ∙ ap begun (decided_there g c.before);
+      told = ap reply.Decisions (planned g c.before).decisions;
       aloft = rw flown off.flight;
     })

@@ -1,12 +1,11 @@
-use Rattle.std.proofs.Common.{◌≡◌, false, refl, vec_capacity}
+use Rattle.std.proofs.Common.{◌≡◌, false, refl}
 use Rattle.std.specs.Prelude.{slice_set}
 use Rattle.cm_model.specs.Order.{divisor}
 use Rattle.cm_model.specs.State.{Loaded, is_active}
-use Rattle.cm_desk.specs.Bay.{base_of}
-use Rattle.cm_desk.specs.Works.{state_with}
 use Rattle.cm_desk.proofs.ChangeLemmas.{fit_after_configure}
 use Rattle.cm_desk.proofs.KeptLemmas.{kept_after_change}
 use Rattle.cm_desk.proofs.WorksLemmas.{there, kept_there, can_be_configured, still_as_described, still_divided, divided_here, configured_slots, configured_there}
+use Rattle.cm_desk.proofs.Insides.{base_in, state_of}
 use Rattle.cm_desk.proofs.works.Works.configure_at.Goals as goal
 
 pub configure-requires : goal.configure-requires
@@ -21,7 +20,7 @@ configure-requires g c =
 pub invariant_of-self : goal.invariant_of-self
 invariant_of-self g c =
     let a = c.self.inside in
-    let s = state_with a.checked a.blanks a.sessions a.loads a.slots a.requests (base_of a.bay (vec_capacity a.boxes)) a.ended a.closed in
+    let s = state_of a in
     let l = c.index-as_slice-index.result in
     let d = c.described-controller.result.now in
     let here = there (λ (m : Loaded). is_active m ≡ false) a.slots.loaded c.args.index l (rw (← c.self.view_is) at c.requires) (rw (c.as_slice.ensures) at c.index-as_slice-index.is) in
@@ -32,7 +31,7 @@ invariant_of-self g c =
     let after = still_as_described a.checked l made.0 d.params c.divisor-divisor.result c.configure.result made.1.1.0 made.1.1.1 same here.1 in
     let divided = still_divided l made.0 d.params c.divisor-divisor.result c.configure.result made.1.1.0 made.1.1.1 (divided_here a.slots.loaded c.args.index l c.self.invariant.divided here.0) in
     rw (made.1.0)
-    (kept_after_change s a.names.items (base_of a.bay (vec_capacity a.boxes)) a.roster c.args.index l made.0 c.self.invariant here.0 after.0 divided after.1
+    (kept_after_change s a.names.items (base_in a) a.roster c.args.index l made.0 c.self.invariant here.0 after.0 divided after.1
     (fit_after_configure s c.args.index l here.0 c.self.invariant.fit d c.divisor-divisor.result made.0 c.configure.result c.self.invariant.worked_out.valid here.1 rate
     made.1.1.0 made.1.1.1))
 
@@ -40,7 +39,7 @@ invariant_of-self g c =
 pub returns : goal.returns
 returns g c =
     let a = c.self.inside in
-    let s = state_with a.checked a.blanks a.sessions a.loads a.slots a.requests (base_of a.bay (vec_capacity a.boxes)) a.ended a.closed in
+    let s = state_of a in
     let l = c.index-as_slice-index.result in
     let d = c.described-controller.result.now in
     let here = there (λ (m : Loaded). is_active m ≡ false) a.slots.loaded c.args.index l (rw (← c.self.view_is) at c.requires) (rw (c.as_slice.ensures) at c.index-as_slice-index.is) in

@@ -1,14 +1,13 @@
-use Rattle.std.proofs.Common.{◌<◌, length, ap, ◌∙◌, arith, vec_capacity}
+use Rattle.std.proofs.Common.{◌<◌, length, ap, ◌∙◌, arith}
 use Rattle.std.specs.Prelude.{is_some, slice_index_or, None}
 use Rattle.std.specs.List.{list_any}
 use Rattle.cm_document.proofs.FewLemmas.{few_controllers}
 use Rattle.cm_model.specs.Order.{precedes_at}
 use Rattle.chain_order.specs.Links.{linked, places_below}
 use Rattle.chain_order.proofs.LinkLemmas.{length-each_below}
-use Rattle.cm_desk.specs.Bay.{base_of}
-use Rattle.cm_desk.specs.Works.{state_with}
 use Rattle.cm_desk.proofs.CommitLemmas.{places_within}
 use Rattle.cm_desk.proofs.RosterLemmas.{led_by}
+use Rattle.cm_desk.proofs.Insides.{state_of}
 use Rattle.cm_desk.proofs.works.Works.is_led_by.Goals as goal
 
 pub overflow_cast-place : goal.overflow_cast-place
@@ -26,7 +25,7 @@ pub returns : goal.returns
 returns g c =
     let a = c.self.inside in
     let cs = a.checked.controllers in
-    let s = state_with a.checked a.blanks a.sessions a.loads a.slots a.requests (base_of a.bay (vec_capacity a.boxes)) a.ended a.closed in
+    let s = state_of a in
     rw (← c.self.view_is)
     (c.has_any.ensures
     ∙ ap (list_any (λ q. is_some (slice_index_or a.roster.active q None))) (c.row.ensures.row ∙ ap (λ links. linked links c.args.place) (rw (← c.self.view_is) at c.requires.leaders))

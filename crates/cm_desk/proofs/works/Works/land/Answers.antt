@@ -5,22 +5,23 @@ use Rattle.cm_model.specs.State.{State}
 use Rattle.ctl_slots.specs.Slots.{Slotted}
 use Rattle.cm_desk.specs.Bay.{base_of}
 use Rattle.cm_desk.specs.End.{CanLand}
-use Rattle.cm_desk.specs.Works.{IsKept, state_with}
+use Rattle.cm_desk.specs.Works.{IsKept}
 use Rattle.cm_desk.proofs.AfterLemmas.{ended_view}
 use Rattle.cm_desk.proofs.LandLemmas.{comes_home, kept_home}
+use Rattle.cm_desk.proofs.Insides.{base_in, state_of}
 use Rattle.cm_desk.proofs.works.Works.land.Goals as goal
 
 pub bring_home-record-requires : goal.bring_home-record-requires
 bring_home-record-requires g c =
     let a = c.self.inside in
-    let s = state_with a.checked a.blanks a.sessions a.loads a.slots a.requests (base_of a.bay (vec_capacity a.boxes)) a.ended a.closed in
+    let s = state_of a in
     let lands : CanLand s c.args.flight = rw (← c.self.view_is) at c.requires in
     (s, comes_home s a.names.items a.bay (vec_capacity a.boxes) a.roster a.slots c.args.flight c.self.invariant lands refl refl)
 
 pub one_more-self-inside-requires : goal.one_more-self-inside-requires
 one_more-self-inside-requires g c =
     let a = c.self.inside in
-    let s = state_with a.checked a.blanks a.sessions a.loads a.slots a.requests (base_of a.bay (vec_capacity a.boxes)) a.ended a.closed in
+    let s = state_of a in
     let lands : CanLand s c.args.flight = rw (← c.self.view_is) at c.requires in
     rw (c.description.ensures.same) (c.self.invariant.within lands.aloft)
 
@@ -28,12 +29,12 @@ one_more-self-inside-requires g c =
 pub invariant_of-self : goal.invariant_of-self
 invariant_of-self g c =
     let a = c.self.inside in
-    let s = state_with a.checked a.blanks a.sessions a.loads a.slots a.requests (base_of a.bay (vec_capacity a.boxes)) a.ended a.closed in
+    let s = state_of a in
     let lands : CanLand s c.args.flight = rw (← c.self.view_is) at c.requires in
     let home = c.bring_home-record.ensures.home s (comes_home s a.names.items a.bay (vec_capacity a.boxes) a.roster a.slots c.args.flight c.self.invariant lands refl refl) in
     let b = c.bring_home-record.new.bay in
     let berths = vec_capacity c.bring_home-record.new.boxes in
-    let view = ended_view a.checked a.blanks a.sessions a.loads a.slots c.bring_home-record.new.slots a.requests (base_of a.bay (vec_capacity a.boxes)) (base_of b berths) a.ended c.one_more-self-inside.result a.closed
+    let view = ended_view a.checked a.blanks a.sessions a.loads a.slots c.bring_home-record.new.slots a.requests (base_in a) (base_of b berths) a.ended c.one_more-self-inside.result a.closed
     c.bring_home-record.new.roster home.settled (ap (λ (x : Slotted). x.aloft) home.slots) home.no_mail c.one_more-self-inside.ensures in
     subst (λ (t : State). IsKept t a.names.items (base_of b berths) c.bring_home-record.new.roster) (sym view)
     (kept_home s a.names.items a.bay b (vec_capacity a.boxes) berths a.roster c.bring_home-record.new.roster a.slots c.bring_home-record.new.slots c.args.flight c.self.invariant lands home)
@@ -41,13 +42,13 @@ invariant_of-self g c =
 pub returns-clause-after : goal.returns-clause-after
 returns-clause-after g c =
     let a = c.self.inside in
-    let s = state_with a.checked a.blanks a.sessions a.loads a.slots a.requests (base_of a.bay (vec_capacity a.boxes)) a.ended a.closed in
+    let s = state_of a in
     let lands : CanLand s c.args.flight = rw (← c.self.view_is) at c.requires in
     let home = c.bring_home-record.ensures.home s (comes_home s a.names.items a.bay (vec_capacity a.boxes) a.roster a.slots c.args.flight c.self.invariant lands refl refl) in
     let b = c.bring_home-record.new.bay in
     let berths = vec_capacity c.bring_home-record.new.boxes in
     rw (← c.self.view_is)
-    (ended_view a.checked a.blanks a.sessions a.loads a.slots c.bring_home-record.new.slots a.requests (base_of a.bay (vec_capacity a.boxes)) (base_of b berths) a.ended c.one_more-self-inside.result a.closed
+    (ended_view a.checked a.blanks a.sessions a.loads a.slots c.bring_home-record.new.slots a.requests (base_in a) (base_of b berths) a.ended c.one_more-self-inside.result a.closed
     c.bring_home-record.new.roster home.settled (ap (λ (x : Slotted). x.aloft) home.slots) home.no_mail c.one_more-self-inside.ensures)
 
 -- it tells what the flight tells

@@ -1,10 +1,9 @@
-use Rattle.std.proofs.Common.{◌≡◌, ℕ, ◌+◌, List, [], ◌∷◌, map, refl, ap, ◌∙◌, arith, vec_capacity}
+use Rattle.std.proofs.Common.{◌≡◌, ℕ, ◌+◌, List, [], ◌∷◌, map, refl, ap, ◌∙◌, arith}
 use Rattle.std.proofs.lemmas.List.{take_all}
 use Rattle.cm_document.specs.declared.life.Life.{Life}
 use Rattle.cm_model.specs.State.{component_lines_from}
 use Rattle.cm_model.specs.declared.lines.CompLine.{CompLine}
-use Rattle.cm_desk.specs.Bay.{base_of}
-use Rattle.cm_desk.specs.Works.{state_with}
+use Rattle.cm_desk.proofs.Insides.{state_of}
 use Rattle.cm_desk.proofs.works.Works.lives.Goals as goal
 
 -- each line tells one
@@ -15,7 +14,7 @@ lives_of place (l ∷ ls) = ap (λ ms. l ∷ ms) (lives_of (place + 1) ls)
 pub returns : goal.returns
 returns g c =
     let a = c.self.inside in
-    let s = state_with a.checked a.blanks a.sessions a.loads a.slots a.requests (base_of a.bay (vec_capacity a.boxes)) a.ended a.closed in
+    let s = state_of a in
     rw (← c.self.view_is)
     (c.loop-line.invariant
     ∙ ap (map (λ (line : CompLine). line.life)) (take_all c.loop-line.line-index _ (omega (arith, c.loop-line-test.false)) ∙ c.as_slice-line-items.ensures ∙ c.in_ok-lines.ensures s c.self.invariant.hardware)

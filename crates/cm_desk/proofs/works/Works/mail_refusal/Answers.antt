@@ -1,18 +1,17 @@
-use Rattle.std.proofs.Common.{◌≡◌, ◌<◌, true, false, sym, ◌∙◌, vec_capacity}
+use Rattle.std.proofs.Common.{◌≡◌, ◌<◌, true, false, sym, ◌∙◌}
 use Rattle.std.specs.Prelude.{length}
 use Rattle.cm_model.specs.State.{is_active, is_chained}
 use Rattle.cm_model.specs.Steady.{IsSteady}
-use Rattle.cm_desk.specs.Bay.{base_of}
-use Rattle.cm_desk.specs.Works.{state_with}
 use Rattle.cm_desk.proofs.SendLemmas.{refused_idle, refused_chained, refused_none, refused_count, not_refused}
 use Rattle.cm_desk.proofs.WorksLemmas.{stands_here}
+use Rattle.cm_desk.proofs.Insides.{state_of}
 use Rattle.cm_desk.proofs.works.Works.mail_refusal.Goals as goal
 
 -- one that is not active is refused as such
 pub returns-then-not-is_active : goal.returns-then-not-is_active
 returns-then-not-is_active g c =
     let a = c.self.inside in
-    let s = state_with a.checked a.blanks a.sessions a.loads a.slots a.requests (base_of a.bay (vec_capacity a.boxes)) a.ended a.closed in
+    let s = state_of a in
     let l = c.index-as_slice-index.result in
     let within : c.args.index < length a.slots.loaded = rw (← c.self.view_is) at c.requires.within in
     let here = stands_here a.checked a.slots.loaded c.args.index l c.self.invariant.described within (rw (c.as_slice.ensures) at c.index-as_slice-index.is) in
@@ -27,7 +26,7 @@ is_chained-requires g c = rw (← c.self.view_is) c.described-controller.ensures
 pub returns-then-is_chained : goal.returns-then-is_chained
 returns-then-is_chained g c =
     let a = c.self.inside in
-    let s = state_with a.checked a.blanks a.sessions a.loads a.slots a.requests (base_of a.bay (vec_capacity a.boxes)) a.ended a.closed in
+    let s = state_of a in
     let l = c.index-as_slice-index.result in
     let d = c.described-controller.result.now in
     let within : c.args.index < length a.slots.loaded = rw (← c.self.view_is) at c.requires.within in
@@ -41,7 +40,7 @@ returns-then-is_chained g c =
 pub returns-then-takes_none : goal.returns-then-takes_none
 returns-then-takes_none g c =
     let a = c.self.inside in
-    let s = state_with a.checked a.blanks a.sessions a.loads a.slots a.requests (base_of a.bay (vec_capacity a.boxes)) a.ended a.closed in
+    let s = state_of a in
     let l = c.index-as_slice-index.result in
     let d = c.described-controller.result.now in
     let within : c.args.index < length a.slots.loaded = rw (← c.self.view_is) at c.requires.within in
@@ -56,7 +55,7 @@ returns-then-takes_none g c =
 pub returns-then-not-takes : goal.returns-then-not-takes
 returns-then-not-takes g c =
     let a = c.self.inside in
-    let s = state_with a.checked a.blanks a.sessions a.loads a.slots a.requests (base_of a.bay (vec_capacity a.boxes)) a.ended a.closed in
+    let s = state_of a in
     let l = c.index-as_slice-index.result in
     let d = c.described-controller.result.now in
     let within : c.args.index < length a.slots.loaded = rw (← c.self.view_is) at c.requires.within in
@@ -72,7 +71,7 @@ returns-then-not-takes g c =
 pub returns : goal.returns
 returns g c =
     let a = c.self.inside in
-    let s = state_with a.checked a.blanks a.sessions a.loads a.slots a.requests (base_of a.bay (vec_capacity a.boxes)) a.ended a.closed in
+    let s = state_of a in
     let l = c.index-as_slice-index.result in
     let d = c.described-controller.result.now in
     let within : c.args.index < length a.slots.loaded = rw (← c.self.view_is) at c.requires.within in

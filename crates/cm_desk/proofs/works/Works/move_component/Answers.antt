@@ -6,8 +6,9 @@ use Rattle.cm_model.specs.State.{State}
 use Rattle.cm_model.specs.Steady.{IsSteady}
 use Rattle.cm_hardware.specs.Wiring.{Mounted}
 use Rattle.cm_desk.specs.Bay.{base_of}
-use Rattle.cm_desk.specs.Works.{IsKept, state_with}
+use Rattle.cm_desk.specs.Works.{IsKept}
 use Rattle.cm_desk.proofs.AfterLemmas.{at_home, rewired, held_when_steady, view_moved, kept_moved}
+use Rattle.cm_desk.proofs.Insides.{base_in, state_of}
 use Rattle.cm_desk.proofs.works.Works.move_component.Goals as goal
 
 pub move_component-requires-clause-home : goal.move_component-requires-clause-home
@@ -26,7 +27,7 @@ move_component-requires-clause-within g c =
 pub unreachable-requires : goal.unreachable-requires
 unreachable-requires g c =
     let a = c.self.inside in
-    let s = state_with a.checked a.blanks a.sessions a.loads a.slots a.requests (base_of a.bay (vec_capacity a.boxes)) a.ended a.closed in
+    let s = state_of a in
     let p = rw (← c.self.view_is) at c.requires.can in
     let refused = c.in-Err.ensures.moved s c.self.invariant.hardware in
     let no : true ≡ false = sym p.1.0.possible ∙ refused.0.0 in
@@ -35,7 +36,7 @@ unreachable-requires g c =
 pub invariant_of-self : goal.invariant_of-self
 invariant_of-self g c =
     let a = c.self.inside in
-    let s = state_with a.checked a.blanks a.sessions a.loads a.slots a.requests (base_of a.bay (vec_capacity a.boxes)) a.ended a.closed in
+    let s = state_of a in
     let lives = slice_set s.lives c.args.component c.args.target in
     let after = c.move_component.new.self in
     let w = after.plant.value.hardware in
@@ -45,13 +46,13 @@ invariant_of-self g c =
     let held = held_when_steady s lives w c.self.invariant.worked_out.valid steady done.1 in
     let same = rewired a.bay after (vec_capacity a.boxes) c.move_component.ensures.bay in
     subst (λ (t : State). IsKept t a.names.items (base_of after (vec_capacity a.boxes)) a.roster)
-    (sym (view_moved s lives (base_of a.bay (vec_capacity a.boxes)) (base_of after (vec_capacity a.boxes)) refl same held))
-    (kept_moved s lives a.names.items (base_of a.bay (vec_capacity a.boxes)) (base_of after (vec_capacity a.boxes)) a.roster c.self.invariant (rw (← c.self.view_is) at c.requires.down) held same)
+    (sym (view_moved s lives (base_in a) (base_of after (vec_capacity a.boxes)) refl same held))
+    (kept_moved s lives a.names.items (base_in a) (base_of after (vec_capacity a.boxes)) a.roster c.self.invariant (rw (← c.self.view_is) at c.requires.down) held same)
 
 pub returns : goal.returns
 returns g c =
     let a = c.self.inside in
-    let s = state_with a.checked a.blanks a.sessions a.loads a.slots a.requests (base_of a.bay (vec_capacity a.boxes)) a.ended a.closed in
+    let s = state_of a in
     let lives = slice_set s.lives c.args.component c.args.target in
     let after = c.move_component.new.self in
     let w = after.plant.value.hardware in
@@ -60,4 +61,4 @@ returns g c =
     let steady : IsSteady (moved s lives) = subst IsSteady p.1.0.is p.1.1 in
     let held = held_when_steady s lives w c.self.invariant.worked_out.valid steady done.1 in
     let same = rewired a.bay after (vec_capacity a.boxes) c.move_component.ensures.bay in
-    rw (← c.self.view_is) (λ t is. view_moved s lives (base_of a.bay (vec_capacity a.boxes)) (base_of after (vec_capacity a.boxes)) refl same held ∙ sym is.is)
+    rw (← c.self.view_is) (λ t is. view_moved s lives (base_in a) (base_of after (vec_capacity a.boxes)) refl same held ∙ sym is.is)

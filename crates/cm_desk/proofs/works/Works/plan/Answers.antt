@@ -1,9 +1,8 @@
-use Rattle.std.proofs.Common.{refl, sym, ap, ◌∙◌, vec_capacity}
+use Rattle.std.proofs.Common.{refl, sym, ap, ◌∙◌}
 use Rattle.rt_flight.specs.declared.craft.Craft.{Craft}
 use Rattle.rt_flight.specs.declared.plant.Plant.{Plant}
-use Rattle.cm_desk.specs.Bay.{base_of}
-use Rattle.cm_desk.specs.Works.{state_with}
 use Rattle.cm_desk.proofs.ActingLemmas.{stands_so, seen_so}
+use Rattle.cm_desk.proofs.Insides.{state_of}
 use Rattle.cm_desk.proofs.works.Works.plan.Goals as goal
 
 pub plan-requires-clause-relations : goal.plan-requires-clause-relations
@@ -14,14 +13,14 @@ plan-requires-clause-relations g c =
 pub plan-requires-clause-stand : goal.plan-requires-clause-stand
 plan-requires-clause-stand g c =
     let a = c.self.inside in
-    let s = state_with a.checked a.blanks a.sessions a.loads a.slots a.requests (base_of a.bay (vec_capacity a.boxes)) a.ended a.closed in
+    let s = state_of a in
     stands_so s c.in_ok-stand.stand c.self.invariant.described (rw (← c.self.view_is) at c.requires.steady)
     (rw (← c.self.view_is) at c.in_ok-stand.ensures.loaded) (rw (← c.self.view_is) at c.in_ok-stand.ensures.lives)
 
 pub returns : goal.returns
 returns g c =
     let a = c.self.inside in
-    let s = state_with a.checked a.blanks a.sessions a.loads a.slots a.requests (base_of a.bay (vec_capacity a.boxes)) a.ended a.closed in
+    let s = state_of a in
     let seen = seen_so s c.in_ok-stand.stand (rw (← c.self.view_is) at c.requires.steady) (rw (← c.self.view_is) at c.requires.numbered)
     (rw (← c.self.view_is) at c.in_ok-stand.ensures.loaded) (rw (← c.self.view_is) at c.in_ok-stand.ensures.lives) in
     rw (← c.self.view_is) (c.in_ok-plan.ensures s (record { requests = refl; outcomes = refl }) seen)

@@ -1,13 +1,12 @@
-use Rattle.std.proofs.Common.{◌≡◌, ◌<◌, ap, sym, ◌∙◌, arith, vec_capacity}
+use Rattle.std.proofs.Common.{◌≡◌, ◌<◌, ap, sym, ◌∙◌, arith}
 use Rattle.std.specs.Prelude.{length}
 use Rattle.std.proofs.lemmas.Option.{slice_get_within, same_Some}
 use Rattle.cm_document.proofs.FewLemmas.{few_controllers}
 use Rattle.cm_model.specs.Commit.{seen}
 use Rattle.cm_model.specs.State.{State}
-use Rattle.cm_desk.specs.Bay.{base_of}
-use Rattle.cm_desk.specs.Works.{state_with}
 use Rattle.cm_desk.proofs.ActingLemmas.{seen_as}
 use Rattle.cm_desk.proofs.WorksLemmas.{described_there, stands_here}
+use Rattle.cm_desk.proofs.Insides.{state_of}
 use Rattle.cm_desk.proofs.works.Works.seen.Goals as goal
 
 -- it has its place in the description
@@ -36,7 +35,7 @@ runs_chained-requires g c = rw (← c.self.view_is) (rw (c.place.ensures) at c.d
 pub returns : goal.returns
 returns g c = λ l at.
     let a = c.self.inside in
-    let s = state_with a.checked a.blanks a.sessions a.loads a.slots a.requests (base_of a.bay (vec_capacity a.boxes)) a.ended a.closed in
+    let s = state_of a in
     let m = c.index-as_slice-index.result in
     let within : c.args.index < length a.slots.loaded = rw (← c.self.view_is) at c.requires.within in
     let here = stands_here a.checked a.slots.loaded c.args.index m c.self.invariant.described within (rw (c.as_slice.ensures) at c.index-as_slice-index.is) in

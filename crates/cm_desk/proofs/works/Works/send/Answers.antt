@@ -1,20 +1,20 @@
-use Rattle.std.proofs.Common.{◌≡◌, ◌<◌, Some, refl, subst, vec_capacity}
+use Rattle.std.proofs.Common.{◌≡◌, ◌<◌, Some, refl, subst}
 use Rattle.std.specs.Prelude.{length, slice_get, slice_set}
 use Rattle.cm_model.specs.Console.{send_refusals, after_send, reply_on}
 use Rattle.cm_model.specs.declared.reply.Reply.TheVariants as reply
-use Rattle.cm_desk.specs.Bay.{base_of}
-use Rattle.cm_desk.specs.Works.{state_with, IsAsDescribed}
+use Rattle.cm_desk.specs.Works.{IsAsDescribed}
 use Rattle.cm_desk.proofs.ChangeLemmas.{fit_sent}
 use Rattle.cm_desk.proofs.KeptLemmas.{kept_after_change}
 use Rattle.cm_desk.proofs.SendLemmas.{allowed_fits}
 use Rattle.cm_desk.proofs.WorksLemmas.{stands_at, divided_here, changed_there, described_there}
+use Rattle.cm_desk.proofs.Insides.{base_in, state_of}
 use Rattle.cm_desk.proofs.works.Works.send.Goals as goal
 
 -- its kind stays, it stays active, and it can take the mail
 pub invariant_of-self : goal.invariant_of-self
 invariant_of-self g c =
     let a = c.self.inside in
-    let s = state_with a.checked a.blanks a.sessions a.loads a.slots a.requests (base_of a.bay (vec_capacity a.boxes)) a.ended a.closed in
+    let s = state_of a in
     let within : c.in-Some.index < length a.slots.loaded = rw (← c.self.view_is) at c.in-Some.ensures.within in
     let at = stands_at a.checked a.slots.loaded c.in-Some.index c.self.invariant.described within in
     let l = at.0 in
@@ -23,14 +23,14 @@ invariant_of-self g c =
     let allowed : reply_on (send_refusals s c.args.mail) (slice_get a.slots.loaded c.in-Some.index) ≡ reply.Done = rw (← c.self.view_is) at c.in_default-mail_refusal.ensures in
     let fits = allowed_fits s c.in-Some.index l there.0 c.args.mail (rw (← c.self.view_is) at c.requires) here.0 there.1 (subst (λ o. reply_on (send_refusals s c.args.mail) o ≡ reply.Done) here.0 allowed) in
     rw (c.post.ensures l here.0)
-    (kept_after_change s a.names.items (base_of a.bay (vec_capacity a.boxes)) a.roster c.in-Some.index l (after_send c.args.mail l) c.self.invariant here.0 here.1
+    (kept_after_change s a.names.items (base_in a) a.roster c.in-Some.index l (after_send c.args.mail l) c.self.invariant here.0 here.1
     (divided_here a.slots.loaded c.in-Some.index l c.self.invariant.divided here.0)
     (record { serial = refl; place = refl; active = refl }) (fit_sent s c.in-Some.index l here.0 c.self.invariant.fit c.args.mail fits.0 fits.1))
 
 pub returns : goal.returns
 returns g c =
     let a = c.self.inside in
-    let s = state_with a.checked a.blanks a.sessions a.loads a.slots a.requests (base_of a.bay (vec_capacity a.boxes)) a.ended a.closed in
+    let s = state_of a in
     let within : c.in-Some.index < length a.slots.loaded = rw (← c.self.view_is) at c.in-Some.ensures.within in
     let at = stands_at a.checked a.slots.loaded c.in-Some.index c.self.invariant.described within in
     let l = at.0 in

@@ -1,11 +1,10 @@
-use Rattle.std.proofs.Common.{◌≡◌, ◌<◌, false, refl, sym, ◌∙◌, arith, vec_capacity}
+use Rattle.std.proofs.Common.{◌≡◌, ◌<◌, false, refl, sym, ◌∙◌, arith}
 use Rattle.std.specs.Prelude.{length}
 use Rattle.std.specs.List.{remove}
 use Rattle.cm_model.specs.State.{is_active}
-use Rattle.cm_desk.specs.Bay.{base_of}
-use Rattle.cm_desk.specs.Works.{state_with}
 use Rattle.cm_desk.proofs.KeptLemmas.{kept_after_unload, order_still_loaded, as_many_at, length_remove}
 use Rattle.cm_desk.proofs.WorksLemmas.{stands_here, unloaded_there, handed_there}
+use Rattle.cm_desk.proofs.Insides.{base_in, state_of}
 use Rattle.cm_desk.proofs.works.Works.unload.Goals as goal
 
 pub unload-ctl-requires : goal.unload-ctl-requires
@@ -21,7 +20,7 @@ unload-ctl-requires g c =
 pub reindex-requires-clause-loaded : goal.reindex-requires-clause-loaded
 reindex-requires-clause-loaded g c = λ fresh.
     let a = c.self.inside in
-    let s = state_with a.checked a.blanks a.sessions a.loads a.slots a.requests (base_of a.bay (vec_capacity a.boxes)) a.ended a.closed in
+    let s = state_of a in
     let l = c.index-as_slice-index.result in
     let within : c.in-Some.index < length a.slots.loaded = rw (← c.self.view_is) at c.in-Some.ensures.within in
     let here = stands_here a.checked a.slots.loaded c.in-Some.index l c.self.invariant.described within (rw (c.as_slice.ensures) at c.index-as_slice-index.is) in
@@ -41,19 +40,19 @@ reindex-requires-clause-few g c =
 pub invariant_of-self : goal.invariant_of-self
 invariant_of-self g c =
     let a = c.self.inside in
-    let s = state_with a.checked a.blanks a.sessions a.loads a.slots a.requests (base_of a.bay (vec_capacity a.boxes)) a.ended a.closed in
+    let s = state_of a in
     let l = c.index-as_slice-index.result in
     let within : c.in-Some.index < length a.slots.loaded = rw (← c.self.view_is) at c.in-Some.ensures.within in
     let here = stands_here a.checked a.slots.loaded c.in-Some.index l c.self.invariant.described within (rw (c.as_slice.ensures) at c.index-as_slice-index.is) in
     let idle : is_active l ≡ false = sym c.is_active.ensures.active ∙ c.if-is_active.false in
     rw (c.unload-ctl.ensures.unloaded)
-    (kept_after_unload s a.names.items (base_of a.bay (vec_capacity a.boxes)) a.roster c.reindex.new.self c.in-Some.index l c.self.invariant here.0 idle
+    (kept_after_unload s a.names.items (base_in a) a.roster c.reindex.new.self c.in-Some.index l c.self.invariant here.0 idle
     c.reindex.ensures.active c.reindex.ensures.order c.reindex.ensures.fresh (rw (c.as_slice-2.ensures, c.unload-ctl.ensures.unloaded) at c.reindex.ensures.run))
 
 pub returns-clause-made : goal.returns-clause-made
 returns-clause-made g c =
     let a = c.self.inside in
-    let s = state_with a.checked a.blanks a.sessions a.loads a.slots a.requests (base_of a.bay (vec_capacity a.boxes)) a.ended a.closed in
+    let s = state_of a in
     let l = c.index-as_slice-index.result in
     let within : c.in-Some.index < length a.slots.loaded = rw (← c.self.view_is) at c.in-Some.ensures.within in
     let here = stands_here a.checked a.slots.loaded c.in-Some.index l c.self.invariant.described within (rw (c.as_slice.ensures) at c.index-as_slice-index.is) in
@@ -64,7 +63,7 @@ returns-clause-made g c =
 pub returns-clause-given : goal.returns-clause-given
 returns-clause-given g c =
     let a = c.self.inside in
-    let s = state_with a.checked a.blanks a.sessions a.loads a.slots a.requests (base_of a.bay (vec_capacity a.boxes)) a.ended a.closed in
+    let s = state_of a in
     let l = c.index-as_slice-index.result in
     let within : c.in-Some.index < length a.slots.loaded = rw (← c.self.view_is) at c.in-Some.ensures.within in
     let here = stands_here a.checked a.slots.loaded c.in-Some.index l c.self.invariant.described within (rw (c.as_slice.ensures) at c.index-as_slice-index.is) in
