@@ -123,7 +123,7 @@ module _ (s : State) (slots : Slotted) (run : List ℕ) (b : Bay) (boxes : List 
   run_count = as_many (begun s).loaded run (active_order (begun s)) runs_at ∙ sym (length-map (active_order (begun s)) _)
 
   apart : IsDistinct (λ m n. m == n) (map (λ (l : Loaded). l.serial) (active_order (begun s)))
-  apart = ordered_once (begun s) (valid-IsChecked s.description can.valid.no_fault).free can.numbered.once
+  apart = ordered_once (begun s) (valid-IsChecked s.description can.valid).free can.numbered.once
 
   divided : AllByRecursion (λ (l : Loaded). is_some l.divisor ≡ true) (active_order (begun s))
   divided = all_each (λ (l : Loaded). is_some l.divisor ≡ true) (active_order (begun s)) (λ l inside.

@@ -1,9 +1,9 @@
 -- Lists in which nothing stands twice: joined, mapped, read without a repeat, and seen by place.
 use Rattle.std.proofs.Common.{◌≡◌, ℕ, ◌<◌, Bool, true, false, List, [], ◌∷◌, ◌++◌, map, Option, Some, None, refl, sym, ap, ◌∙◌, append_assoc, append-nil, true≢false, inl, inr}
 use Rattle.std.specs.Prelude.{if◌then◌else◌, flat_map, slice_get}
-use Rattle.std.specs.List.{AllByRecursion, IsDistinct, list_any}
+use Rattle.std.specs.List.{AllByRecursion, IsDistinct, list_any, find}
 use Rattle.std.specs.Cmp.{IsEquivalence}
-use Rattle.std.proofs.lemmas.Bool.{cases_order}
+use Rattle.std.proofs.lemmas.Bool.{cases_Bool, cases_order}
 use Rattle.std.proofs.lemmas.Option.{slice_get_within, get_or_from_slice_get}
 use Rattle.std.proofs.lemmas.List.Concat.{flat_map-append}
 use Rattle.std.proofs.lemmas.Map.Keys.{IsDistinct-push, apart_from_distinct}
@@ -31,6 +31,15 @@ all_map P f (x ∷ xs) all = (all.0, all_map P f xs all.1)
 pub all_flat_map : {A B : Type 0} (P : B → Type 0) (f : A → List B) (xs : List A) → AllByRecursion (λ x. AllByRecursion P (f x)) xs → AllByRecursion P (flat_map f xs)
 all_flat_map P f [] all = tt
 all_flat_map P f (x ∷ xs) all = all_append P (f x) (flat_map f xs) all.0 (all_flat_map P f xs all.1)
+
+-- nothing found: none passes
+pub none_found : {A : Type 0} (test : A → Bool) (xs : List A) → find test xs ≡ None → AllByRecursion (λ x. test x ≡ false) xs
+none_found test [] none = tt
+none_found test (x ∷ xs) none =
+    elim (cases_Bool (test x)) [
+      | inl passes ↦ (let h = rw passes at none in cc)
+      | inr fails ↦ (fails, none_found test xs (rw fails at none))
+    ]
 
 -- ---- Joined and mapped
 

@@ -2,7 +2,7 @@
 use Rattle.std.proofs.Common.{◌≡◌, ℕ, List, Result, Ok, Err}
 use Rattle.cm_document.specs.Reading.{◌>>=◌, fault_as}
 use Rattle.cm_document.specs.Described.{tree_of, description_in}
-use Rattle.cm_document.specs.Valid.{valid, IsValid}
+use Rattle.cm_document.specs.Valid.{IsValid}
 use Rattle.cm_document.specs.Lines.{Parts, parts_of}
 use Rattle.cm_document.specs.Document.{accepted_description, accepted_script, document_of, document}
 use Rattle.cm_document.specs.declared.description.Description.{Description}

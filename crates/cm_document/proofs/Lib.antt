@@ -7,9 +7,9 @@ pub mod LineLemmas
 pub mod DistinctLemmas
 pub mod GivenLemmas
 pub mod KindLemmas
-pub mod PlaceLemmas
 pub mod ValidLemmas
-pub mod FewLemmas
+pub mod ValidParts
+pub mod PlaceLemmas
 pub mod RouteLemmas
 pub mod ChainLemmas
 mod Rows

@@ -1,12 +1,10 @@
 -- Each interface of a valid description stands at one place.
-use Rattle.std.proofs.Common.{◌≡◌, ℕ, ◌+◌, Bool, true, false, List, [], ◌∷◌, ◌++◌, length, map, Option, Some, None, Result, Ok, Err, refl, sym, ap₂, ◌∙◌}
+use Rattle.std.proofs.Common.{◌≡◌, ℕ, ◌+◌, Bool, true, false, List, [], ◌∷◌, ◌++◌, length, map, refl, sym, ap₂, ◌∙◌}
 use Rattle.std.proofs.lemmas.List.{map-append}
 use Rattle.std.proofs.lemmas.Simd.{map-map}
 use Rattle.std.specs.Prelude.{◌&&◌, not, flat_map}
-use Rattle.std.specs.Cmp.{IsEquivalence}
 use Rattle.std.specs.List.{AllByRecursion, IsDistinct}
 use Rattle.std.proofs.lemmas.Bool.{and_left, and_right}
-use Rattle.std.proofs.lemmas.Cmp.{nat_list_eq_equiv}
 use Rattle.iface_names.specs.Interfaces.{same_kind, same_interface}
 use Rattle.iface_names.specs.Names.{same_name}
 use Rattle.iface_names.specs.Sameness.{same_interface-IsEquivalence}
@@ -16,55 +14,15 @@ use Rattle.iface_names.specs.declared.kind.Kind.{Kind}
 use Rattle.cm_document.specs.Described.{states_of}
 use Rattle.cm_document.specs.Links.{joints_of, commands_of, commands_of_joint, reference_for, exported_for, refs_of, references_of}
 use Rattle.cm_document.specs.Places.{Called, a_state, a_command, of_controller, at_joint, at_joints, at_components, at_controllers, called_in, EachStandsOnce}
-use Rattle.cm_document.specs.Valid.{repeated_after, apart, names_apart, interfaces_apart, few_enough, named_apart, valid, IsValid}
+use Rattle.cm_document.specs.Valid.{IsValid}
 use Rattle.cm_document.specs.declared.description.CompDesc.{CompDesc}
 use Rattle.cm_document.specs.declared.description.CtlDesc.{CtlDesc}
 use Rattle.cm_document.specs.declared.description.Description.{Description}
 use Rattle.cm_document.specs.declared.description.JointDesc.{JointDesc}
-use Rattle.cm_document.specs.declared.faults.CheckFault.{CheckFault}
-use Rattle.cm_document.specs.declared.faults.CheckFault.TheVariants.{NameTwice}
 use Rattle.sequence.proofs.ListLemmas.{all_append}
-use Rattle.cm_document.proofs.DistinctLemmas.{AreApart, all_of, all_so, all_map, all_flat_map, IsDistinct-append, IsDistinct-map, flat_map-flat_map, repeated_after-IsDistinct, one_place}
+use Rattle.cm_document.proofs.DistinctLemmas.{AreApart, all_of, all_so, all_map, all_flat_map, IsDistinct-append, IsDistinct-map, flat_map-flat_map, one_place}
 use Rattle.cm_document.proofs.KindLemmas.{KindsOnce, IsDescribed-DescribesOnce}
-use Rattle.cm_document.proofs.ReadingLemmas.{bind_Ok}
-
--- ---- Names differ
-
--- where no repeat is told, none was found
-pub found_none : {A : Type 0} (text : A → List ℕ) (found : Option A) (u : Unit {0})
-    → ◌≡◌ {A = Result (Unit {0}) CheckFault} (elim found [ None ↦ Ok tt | Some x ↦ Err (NameTwice (text x)) ]) (Ok u) → found ≡ None
-found_none text None u e = refl
-found_none text (Some x) u e = cc
-
--- what was found apart is distinct
-apart-IsDistinct : {A : Type 0} (same : A → A → Bool) → IsEquivalence same → (text : A → List ℕ) (xs : List A) (u : Unit {0}) → apart same text xs ≡ Ok u → IsDistinct same xs
-unfolding IsDistinct
-apart-IsDistinct same laws text xs u e = repeated_after-IsDistinct same laws [] xs (found_none text (repeated_after same [] xs) u e) tt
-
--- what the check of names says of interfaces
-record NamesDiffer (d : Description) : Type 0 where
-  joints : IsDistinct same_name (map (λ j. j.name) (joints_of d.components))
-  references : IsDistinct same_interface (references_of d.controllers)
-
--- where names are apart, they differ
-named_apart-NamesDiffer : (d : Description) (u : Unit {0}) → named_apart d ≡ Ok u → NamesDiffer d
-named_apart-NamesDiffer d u e =
-    let components = bind_Ok (names_apart (map (λ c. c.name) d.components)) _ u e in
-    let joints = bind_Ok (names_apart (map (λ j. j.name) (joints_of d.components))) _ u components.2 in
-    let controllers = bind_Ok (names_apart (map (λ c. c.name) d.controllers)) _ u joints.2 in
-    let references = bind_Ok (interfaces_apart (references_of d.controllers)) _ u controllers.2 in
-    record {
-      joints = apart-IsDistinct same_name nat_list_eq_equiv _ _ joints.0 joints.1;
-      references = apart-IsDistinct same_interface same_interface-IsEquivalence _ _ references.0 references.1;
-    }
-
--- names of a valid description differ
-valid-NamesDiffer : (d : Description) → valid d ≡ Ok d → NamesDiffer d
-unfolding valid
-valid-NamesDiffer d e =
-    let counted = bind_Ok (few_enough d) _ d e in
-    let named = bind_Ok (named_apart d) _ d counted.2 in
-    named_apart-NamesDiffer d named.0 named.1
+use Rattle.cm_document.proofs.ValidParts.{parts_of_valid}
 
 -- ---- Interfaces of joints
 
@@ -174,7 +132,7 @@ called_by_names d =
 -- what the interfaces of a valid description are called differs
 interfaces-IsDistinct : (d : Description) → IsValid d → IsDistinct same_listed (called_in d)
 interfaces-IsDistinct d ok =
-    let names = valid-NamesDiffer d ok.no_fault in
+    let names = (parts_of_valid d ok).names in
     let once = all_flat_map KindsOnce (λ (c : CompDesc). c.joints) d.components (IsDescribed-DescribesOnce d ok.described) in
     let states = of_components (λ j. j.states) d.components names.joints (all_so _ _ (λ j h. h.states) _ once) in
     let commands = of_components (λ j. j.commands) d.components names.joints (all_so _ _ (λ j h. h.commands) _ once) in

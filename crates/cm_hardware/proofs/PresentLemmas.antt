@@ -43,6 +43,7 @@ use Rattle.cm_model.proofs.InterfaceLemmas.{all_map_back}
 use Rattle.ctl_places.specs.Placed.{command_place}
 use Rattle.cm_hardware.specs.Outputs.{is_there_at}
 use Rattle.cm_hardware.proofs.HeldLemmas.{components_so}
+use Rattle.cm_document.proofs.ValidParts.{parts_of_valid}
 
 -- ---- What stands once
 
@@ -76,30 +77,6 @@ position_after test pre rest x before here =
     let first : position_or_len test all ≡ length pre = first_after test pre rest x before here in
     let inside : position_or_len test all < length all = omega (arith, first, length-append pre (x ∷ rest)) in
     rw (lt-ltb (position_or_len test all) (length all) inside) (ap (λ (n : ℕ). Some n) first)
-
--- ---- What a valid description says of names
-
--- joints differ by name, and so do references
-record NamesDiffer (d : Description) : Type 0 where
-  joints : IsDistinct same_name (map (λ j. j.name) (joints_of d.components))
-  references : IsDistinct same_interface (references_of d.controllers)
-
-names_differ : (d : Description) → IsValid d → NamesDiffer d
-unfolding valid IsDistinct
-names_differ d ok =
-    let counted = bind_Ok (few_enough d) _ d ok.no_fault in
-    let named = bind_Ok (named_apart d) _ d counted.2 in
-    let components = bind_Ok (names_apart (map (λ c. c.name) d.components)) _ named.0 named.1 in
-    let joints = bind_Ok (names_apart (map (λ j. j.name) (joints_of d.components))) _ named.0 components.2 in
-    let controllers = bind_Ok (names_apart (map (λ c. c.name) d.controllers)) _ named.0 joints.2 in
-    let references = bind_Ok (interfaces_apart (references_of d.controllers)) _ named.0 controllers.2 in
-    let joint_names = map (λ (j : JointDesc). j.name) (joints_of d.components) in
-    record {
-      joints = repeated_after-IsDistinct same_name nat_list_eq_equiv [] joint_names
-          (found_none (λ (name : List ℕ). name) (repeated_after same_name [] joint_names) joints.0 joints.1) tt;
-      references = repeated_after-IsDistinct same_interface same_interface-IsEquivalence [] (references_of d.controllers)
-          (found_none interface_text (repeated_after same_interface [] (references_of d.controllers)) references.0 references.1) tt;
-    }
 
 -- ---- Whose an interface is
 
@@ -255,7 +232,7 @@ module _ (d : Description) (lives : List Life) (set : Places) (together : CanRun
   -- Of a valid description each interface that a controller of the set claims is available.
   pub claimed_is_present : IsValid d → AllByRecursion (IsPresent d lives set) (interfaces_of d)
   claimed_is_present ok =
-      let names = names_differ d ok in
+      let names = (parts_of_valid d ok).names in
       let each : (i : Interface) → IsNamed d.components d.controllers i → IsPresent d lives set i = λ i is command p member claims. present_so i.called.name i.whose is p member claims in
       let states = at_components a_state (λ j. j.states) 0 0 d.components in
       let commands = at_components a_command (λ j. j.commands) 0 0 d.components in

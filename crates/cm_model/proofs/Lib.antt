@@ -28,3 +28,4 @@ mod StepRows
 mod SoundRows
 mod ConsoleRows
 pub mod RangedLemmas
+pub mod LinkedLemmas

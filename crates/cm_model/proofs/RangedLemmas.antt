@@ -8,7 +8,7 @@ use Rattle.sequence.proofs.ListLemmas.{all_at}
 use Rattle.iface_names.specs.declared.interface.IfaceName.{IfaceName}
 use Rattle.cm_document.specs.Forms.{item_path, inside, tables_of}
 use Rattle.cm_document.specs.Described.{count, a_description, claiming_table, pid_table, trajectory_table, broadcaster_table, mock_table, controller_table, controller_form, type_of, top_table, described_states, description_form}
-use Rattle.cm_document.specs.Valid.{few_enough, named_apart, not_negative, ranged, each_ranged, component_ranged, controller_ranged, claims_fit, reads_fit, limits_ranged, in_range, valid, IsDescribed, IsValid}
+use Rattle.cm_document.specs.Valid.{not_negative, ranged, each_ranged, controller_ranged, claims_fit, reads_fit, limits_ranged, IsDescribed, IsValid}
 use Rattle.cm_document.specs.declared.description.CompDesc.{CompDesc}
 use Rattle.cm_document.specs.declared.description.CtlDesc.{CtlDesc}
 use Rattle.cm_document.specs.declared.description.CtlKind.{CtlKind}
@@ -19,6 +19,7 @@ use Rattle.cm_document.specs.declared.description.Params.TheVariants.{Forward, P
 use Rattle.cm_document.specs.declared.limits.TheConstants.{VERSION, HIGHEST_RATE, MOST_CYCLES}
 use Rattle.cm_document.proofs.GivenLemmas.{Gives, filled_gives, next_key, any_key, defaulted_gives, walk_gives, tables_give, anything}
 use Rattle.cm_document.proofs.ReadingLemmas.{bind_keeps, bind_Ok}
+use Rattle.cm_document.proofs.ValidParts.{in_range_passes, parts_of_valid}
 use Rattle.cm_model.specs.Kinds.{are_ranged}
 
 -- ---- Parameters count the links
@@ -106,39 +107,24 @@ described_shapes d described place c there = all_at IsShaped d.controllers place
 
 -- ---- Ranges
 
--- what was found within its range is so
-pub ranged_so : (fits : Bool) (path : List ℕ) (unit : Unit {0}) → ranged fits path ≡ Ok unit → fits ≡ true
-ranged_so true path unit passes = refl
-ranged_so false path unit passes = cc
-
 -- A controller was found within its ranges, under some path.
 pub record IsRanged (c : CtlDesc) : Type 0 where
   pub path : List ℕ
-  pub unit : Unit {0}
-  pub passes : controller_ranged path c ≡ Ok unit
+  pub passes : controller_ranged path c ≡ Ok tt
 
-in_range_at : (key : List ℕ) (k : ℕ) (cs : List CtlDesc) (unit : Unit {0}) → each_ranged controller_ranged key k cs ≡ Ok unit
+in_range_at : (key : List ℕ) (k : ℕ) (cs : List CtlDesc) → each_ranged controller_ranged key k cs ≡ Ok tt
     → (place : ℕ) (c : CtlDesc) → slice_get cs place ≡ Some c → IsRanged c
-in_range_at key k [] unit passes place c there = cc
-in_range_at key k (first ∷ later) unit passes zero c there =
-    let here = bind_Ok (controller_ranged (inside (item_path key k)) first) _ unit passes in
-    subst IsRanged (same_Some first c there) (record { path = inside (item_path key k); unit = here.0; passes = here.1 })
-in_range_at key k (first ∷ later) unit passes (suc place) c there =
-    let here = bind_Ok (controller_ranged (inside (item_path key k)) first) _ unit passes in
-    in_range_at key (k + 1) later unit here.2 place c there
+in_range_at key k [] passes place c there = cc
+in_range_at key k (first ∷ later) passes zero c there =
+    let here = bind_Ok (controller_ranged (inside (item_path key k)) first) _ tt passes in
+    subst IsRanged (same_Some first c there) (record { path = inside (item_path key k); passes = here.1 })
+in_range_at key k (first ∷ later) passes (suc place) c there =
+    let here = bind_Ok (controller_ranged (inside (item_path key k)) first) _ tt passes in
+    in_range_at key (k + 1) later here.2 place c there
 
 -- so was each of a valid description
 pub controller_in_range : (d : Description) → IsValid d → (place : ℕ) (c : CtlDesc) → slice_get d.controllers place ≡ Some c → IsRanged c
-unfolding valid
-controller_in_range d sound =
-    let few = bind_Ok (few_enough d) _ d sound.no_fault in
-    let named = bind_Ok (named_apart d) _ d few.2 in
-    let ranges = bind_Ok (in_range d) _ d named.2 in
-    let version = bind_Ok (ranged (d.version == VERSION) (codes "version")) _ ranges.0 ranges.1 in
-    let rate = bind_Ok (ranged (nat_le 1 d.update_rate && nat_le d.update_rate HIGHEST_RATE) (codes "update_rate")) _ ranges.0 version.2 in
-    let cycles = bind_Ok (ranged (nat_le d.cycles MOST_CYCLES) (codes "cycles")) _ ranges.0 rate.2 in
-    let components = bind_Ok (each_ranged component_ranged (codes "component") 0 d.components) _ ranges.0 cycles.2 in
-    in_range_at (codes "controller") 0 d.controllers ranges.0 components.2
+controller_in_range d ok = in_range_at (codes "controller") 0 d.controllers (parts_of_valid d ok).ranges.controllers
 
 -- at most 32 claims are counted
 few : (n : ℕ) → n ≤ 32 → min n (2 ^ 32 - 1) ≡ n
@@ -160,42 +146,26 @@ not_many outs n counted fits =
 both_true : (first b : Bool) → first ≡ true → b ≡ true → (first && b) ≡ true
 both_true first b one other = rw (one, other) refl
 
-params_so : (path : List ℕ) (params : Params) (claims reads : List IfaceName) (unit : Unit {0}) → IsShapeOf params claims reads → claims_fit params (length claims) ≡ true
-    → limits_ranged path params ≡ Ok unit → are_ranged params ≡ true
-params_so path (Forward outs) claims reads unit shape fits limits = some_few outs (length claims) shape.0 fits
-params_so path (Passthrough outs) claims reads unit shape fits limits = some_few outs (length claims) shape.0 fits
-params_so path (Trajectory outs) claims reads unit shape fits limits = some_few outs (length claims) shape fits
-params_so path (Mock outs refuse_config not_ready fail_update) claims reads unit shape fits limits = not_many outs (length claims) shape fits
-params_so path (Broadcaster ins) claims reads unit shape fits limits = refl
-params_so path (Pid kp ki kd imax omax) claims reads unit shape fits limits =
-    let integral = bind_Ok (ranged (not_negative imax) _) _ unit limits in
-    both_true (not_negative imax) (not_negative omax) (ranged_so _ _ integral.0 integral.1) (ranged_so _ _ unit integral.2)
+params_so : (path : List ℕ) (params : Params) (claims reads : List IfaceName) → IsShapeOf params claims reads → claims_fit params (length claims) ≡ true
+    → limits_ranged path params ≡ Ok tt → are_ranged params ≡ true
+params_so path (Forward outs) claims reads shape fits limits = some_few outs (length claims) shape.0 fits
+params_so path (Passthrough outs) claims reads shape fits limits = some_few outs (length claims) shape.0 fits
+params_so path (Trajectory outs) claims reads shape fits limits = some_few outs (length claims) shape fits
+params_so path (Mock outs refuse_config not_ready fail_update) claims reads shape fits limits = not_many outs (length claims) shape fits
+params_so path (Broadcaster ins) claims reads shape fits limits = refl
+params_so path (Pid kp ki kd imax omax) claims reads shape fits limits =
+    let integral = bind_Ok (ranged (not_negative imax) _) _ tt limits in
+    both_true (not_negative imax) (not_negative omax) (in_range_passes _ _ integral.1) (in_range_passes _ _ integral.2)
 
-controller_so : (path : List ℕ) (c : CtlDesc) (unit : Unit {0}) → IsShaped c → controller_ranged path c ≡ Ok unit → are_ranged c.params ≡ true
-controller_so path c unit shaped passes =
-    let rate = bind_Ok (ranged (nat_le c.rate HIGHEST_RATE) _) _ unit passes in
-    let claims = bind_Ok (ranged (claims_fit c.params (length c.claims)) _) _ unit rate.2 in
-    let reads = bind_Ok (ranged (reads_fit c.params (length c.claims) (length c.reads)) _) _ unit claims.2 in
-    params_so _ c.params c.claims c.reads unit shaped (ranged_so _ _ claims.0 claims.1) reads.2
+controller_so : (path : List ℕ) (c : CtlDesc) → IsShaped c → controller_ranged path c ≡ Ok tt → are_ranged c.params ≡ true
+controller_so path c shaped passes =
+    let rate = bind_Ok (ranged (nat_le c.rate HIGHEST_RATE) _) _ tt passes in
+    let claims = bind_Ok (ranged (claims_fit c.params (length c.claims)) _) _ tt rate.2 in
+    let reads = bind_Ok (ranged (reads_fit c.params (length c.claims) (length c.reads)) _) _ tt claims.2 in
+    params_so _ c.params c.claims c.reads shaped (in_range_passes _ _ claims.1) reads.2
 
 -- The parameters of each controller of a valid description are in their ranges.
 pub described_params_are_ranged : (d : Description) → IsValid d → (place : ℕ) (c : CtlDesc) → slice_get d.controllers place ≡ Some c → are_ranged c.params ≡ true
 described_params_are_ranged d sound place c there =
     let range = controller_in_range d sound place c there in
-    controller_so range.path c range.unit (described_shapes d sound.described place c there) range.passes
-
--- the update rate of a valid description is one that is allowed
-pub described_rate_fits : (d : Description) → IsValid d → (1 ≤ d.update_rate) × (d.update_rate ≤ HIGHEST_RATE)
-unfolding valid
-described_rate_fits d sound =
-    let few = bind_Ok (few_enough d) _ d sound.no_fault in
-    let named = bind_Ok (named_apart d) _ d few.2 in
-    let ranges = bind_Ok (in_range d) _ d named.2 in
-    let version = bind_Ok (ranged (d.version == VERSION) (codes "version")) _ ranges.0 ranges.1 in
-    let rate = bind_Ok (ranged (nat_le 1 d.update_rate && nat_le d.update_rate HIGHEST_RATE) (codes "update_rate")) _ ranges.0 version.2 in
-    let both = and_parts (nat_le 1 d.update_rate) (nat_le d.update_rate HIGHEST_RATE) (ranged_so _ _ rate.0 rate.1) in
-    (leb-true 1 d.update_rate both.0, leb-true d.update_rate HIGHEST_RATE both.1)
-
--- it is at least 1
-pub described_rate_is_some : (d : Description) → IsValid d → 1 ≤ d.update_rate
-described_rate_is_some d sound = (described_rate_fits d sound).0
+    controller_so range.path c (described_shapes d sound.described place c there) range.passes

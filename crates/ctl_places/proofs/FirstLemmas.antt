@@ -1,7 +1,7 @@
 -- Where the first of a list stands that passes a test, and what is found so of several names.
 use Rattle.std.proofs.Common.{◌≡◌, ℕ, suc, ◌+◌, Bool, true, false, List, [], ◌∷◌, length, map, Option, Some, None, inl, inr, refl, ap, ap₂, ◌∙◌, arith}
 use Rattle.std.specs.Prelude.{if◌then◌else◌, nat_lt, slice_get, position, filter_map}
-use Rattle.std.specs.List.{AllByRecursion, list_any, find, position_or_len, cons_option}
+use Rattle.std.specs.List.{AllByRecursion, list_any, position_or_len, cons_option}
 use Rattle.std.specs.Option.{option_map}
 use Rattle.std.proofs.lemmas.Bool.{cases_Bool, lt-ltb}
 use Rattle.std.proofs.lemmas.Bool.Decides.{nat_tests}
@@ -66,15 +66,6 @@ place_of_any test (x ∷ xs) some =
       | inr fails ↦
           let r = place_of_any test xs (rw fails at some) in
           (suc r.0, position-cons test x xs ∙ rw (fails, r.1) refl)
-    ]
-
--- nothing found: none passes
-pub none_found : {A : Type 0} (test : A → Bool) (xs : List A) → find test xs ≡ None → AllByRecursion (λ x. test x ≡ false) xs
-none_found test [] none = tt
-none_found test (x ∷ xs) none =
-    elim (cases_Bool (test x)) [
-      | inl passes ↦ (let h = rw passes at none in cc)
-      | inr fails ↦ (fails, none_found test xs (rw fails at none))
     ]
 
 -- ---- Several

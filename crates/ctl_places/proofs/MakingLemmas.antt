@@ -74,7 +74,7 @@ all_listed d =
 
 -- what is listed of a valid description has numbers of 32 bits
 pub few_listed : (d : Description) (listed : List Listed) → IsValid d → listed ≡ map listed_of (interfaces_of d) → length listed < 2 ^ 32
-few_listed d listed ok are = rw (are, length-map (interfaces_of d) listed_of) (interfaces_few d ok.no_fault)
+few_listed d listed ok are = rw (are, length-map (interfaces_of d) listed_of) (interfaces_few d ok)
 
 -- ---- Looked up
 

@@ -18,7 +18,6 @@ use Rattle.cm_document.specs.declared.description.CtlDesc.{CtlDesc}
 use Rattle.cm_document.specs.declared.description.Description.{Description}
 use Rattle.cm_document.specs.declared.description.Params.{Params}
 use Rattle.cm_model.proofs.ControllerLemmas.{ctl_step_keeps_chained}
-use Rattle.cm_model.proofs.RangedLemmas.{described_rate_is_some}
 use Rattle.cm_model.specs.Claims.{states_for, refs_for}
 use Rattle.cm_model.specs.Commit.{described_of, coming, leaving, committed, scene_of, commit}
 use Rattle.cm_model.specs.Components.{read_succeeds}
@@ -44,6 +43,7 @@ use Rattle.sound_laws.proofs.UpdatedLemmas.{updates_all}
 use Rattle.ctl_slots.specs.Fit.{IsTimedIn, IsWaiting, IsFor, AreFit}
 use Rattle.ctl_slots.specs.Updates.{HasTime, IsInTime}
 use Rattle.ctl_slots.proofs.UpdateLemmas.{still_takes}
+use Rattle.cm_document.proofs.ValidParts.{parts_of_valid}
 
 -- ---- Lists
 
@@ -117,7 +117,7 @@ timed_in manager rate some =
 
 pub timed_configured : (d : Description) (l : Loaded) (c : CtlDesc) → IsValid d
     → IsTimedIn d (record l { ctl = configured l.ctl c.params; divisor = Some (divisor d.update_rate l.rate) })
-timed_configured d l c valid = timed_in d.update_rate l.rate (described_rate_is_some d valid)
+timed_configured d l c valid = timed_in d.update_rate l.rate ((parts_of_valid d valid).ranges.rate_is_some)
 
 -- ---- It is sent mail
 

@@ -137,7 +137,7 @@ module _ (s : State) (run : List ℕ) (runs : IsRunOf s s.loaded run) where
   order_stands = at_from s.loaded run (active_order s) runs.order
 
   pub apart : IsDistinct (λ m n. m == n) (map (λ (l : Loaded). l.serial) (active_order s))
-  apart = ordered_once s (valid-IsChecked s.description runs.valid.no_fault).free runs.once
+  apart = ordered_once s (valid-IsChecked s.description runs.valid).free runs.once
 
   pub all_run : AllByRecursion (λ l. is_active l ≡ true) (active_order s)
   all_run = all_each (λ l. is_active l ≡ true) (active_order s) (λ l inside. (from_active_order s l inside).1)

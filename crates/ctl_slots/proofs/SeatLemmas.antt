@@ -21,7 +21,7 @@ use Rattle.cm_model.specs.Controllers.{AreItsCounts}
 use Rattle.cm_model.specs.Order.{controller_at, nobody}
 use Rattle.cm_model.specs.State.{Loaded}
 use Rattle.cm_model.specs.Steady.{IsOwn}
-use Rattle.cm_document.proofs.FewLemmas.{within_limit, few_controllers}
+use Rattle.cm_document.proofs.ValidParts.{few_controllers, parts_of_valid}
 use Rattle.chain_order.specs.Links.{linked}
 use Rattle.sound_laws.proofs.ValidLemmas.{none_told, valid-IsChecked}
 use Rattle.ctl_places.specs.Placed.{placed_of, AreFound}
@@ -29,6 +29,7 @@ use Rattle.ctl_places.proofs.ExistLemmas.{among_itself}
 use Rattle.ctl_places.proofs.PlacedLemmas.{placed_of-HasAllRows, reads-AreFound, references-AreFound, claims-AreFound}
 use Rattle.ctl_slots.specs.Seats.{IsSeated, HasRoom, widest}
 use Rattle.ctl_slots.proofs.ShapeLemmas.{IsWellShaped, described_shape}
+use Rattle.cm_model.proofs.LinkedLemmas.{links_of_valid}
 
 -- ---- Distinct names among others are no more than these
 
@@ -75,47 +76,14 @@ distinct_most (x ∷ xs) ys apart among =
 
 -- ---- Reads
 
-reads_distinct : (cs : List CtlDesc) (u : Unit {0}) → links_apart cs ≡ Ok u → (p : ℕ) → IsDistinct same_interface (controller_at cs p).reads
-unfolding IsDistinct
-reads_distinct [] u e p = tt
-reads_distinct (c ∷ cs) u e zero =
-    let claims = bind_Ok (interfaces_apart c.claims) _ u e in
-    let reads = bind_Ok (interfaces_apart c.reads) _ u claims.2 in
-    repeated_after-IsDistinct same_interface same_interface-IsEquivalence [] c.reads
-    (none_told (λ x. NameTwice (interface_text x)) (repeated_after same_interface [] c.reads) reads.0 reads.1) tt
-reads_distinct (c ∷ cs) u e (suc p) =
-    let claims = bind_Ok (interfaces_apart c.claims) _ u e in
-    let reads = bind_Ok (interfaces_apart c.reads) _ u claims.2 in
-    reads_distinct cs u reads.2 p
-
-valid_reads_distinct : (d : Description) → valid d ≡ Ok d → (p : ℕ) → IsDistinct same_interface (controller_at d.controllers p).reads
-unfolding valid
-valid_reads_distinct d e =
-    let counted = bind_Ok (few_enough d) _ d e in
-    let named = bind_Ok (named_apart d) _ d counted.2 in
-    let components = bind_Ok (names_apart (map (λ c. c.name) d.components)) _ named.0 named.1 in
-    let joints = bind_Ok (names_apart (map (λ j. j.name) (joints_of d.components))) _ named.0 components.2 in
-    let controllers = bind_Ok (names_apart (map (λ c. c.name) d.controllers)) _ named.0 joints.2 in
-    let references = bind_Ok (interfaces_apart (references_of d.controllers)) _ named.0 controllers.2 in
-    reads_distinct d.controllers named.0 references.2
-
-few_states : (d : Description) → valid d ≡ Ok d → length (states_of d.components) ≤ 96
-unfolding valid
-few_states d e =
-    let counted = bind_Ok (few_enough d) _ d e in
-    let components = bind_Ok (limited Components (length d.components) 16) _ counted.0 counted.1 in
-    let joints = bind_Ok (limited Joints (length (joints_of d.components)) 32) _ counted.0 components.2 in
-    let states = bind_Ok (limited States (length (states_of d.components)) 96) _ counted.0 joints.2 in
-    within_limit States (length (states_of d.components)) 96 states.0 states.1
-
 -- A controller reads no more interfaces than there may be states.
 few_reads : (d : Description) → IsValid d → (p : ℕ) → length (controller_at d.controllers p).reads ≤ 96
 few_reads d ok p =
     let reads = (controller_at d.controllers p).reads in
     let there = all_so (λ name. is_among name reads ≡ true) (λ name. is_among name (states_of d.components) ≡ true)
-    (λ name. (valid-IsChecked d ok.no_fault).reads p name) reads (among_itself reads) in
-    let most = distinct_most reads (states_of d.components) (valid_reads_distinct d ok.no_fault p) there in
-    omega (arith, most, few_states d ok.no_fault)
+    (λ name. (valid-IsChecked d ok).reads p name) reads (among_itself reads) in
+    let most = distinct_most reads (states_of d.components) (links_of_valid d ok p).reads_differ there in
+    omega (arith, most, (parts_of_valid d ok).few.states)
 
 -- ---- Seats
 

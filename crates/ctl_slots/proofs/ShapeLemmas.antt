@@ -12,7 +12,8 @@ use Rattle.cm_document.specs.declared.description.Params.{Params}
 use Rattle.cm_document.specs.declared.description.Params.TheVariants.{Forward, Passthrough, Pid, Trajectory, Broadcaster, Mock}
 use Rattle.cm_document.specs.declared.limits.TheConstants.{HIGHEST_RATE, MOST_CLAIMS_OF_ONE}
 use Rattle.cm_document.proofs.ReadingLemmas.{bind_Ok}
-use Rattle.cm_model.proofs.RangedLemmas.{IsShapeOf, IsShaped, ranged_so, described_shapes, controller_in_range}
+use Rattle.cm_document.proofs.ValidParts.{in_range_passes}
+use Rattle.cm_model.proofs.RangedLemmas.{IsShapeOf, IsShaped, described_shapes, controller_in_range}
 use Rattle.cm_model.specs.Controllers.{AreItsCounts}
 
 -- ---- Ranges
@@ -70,15 +71,15 @@ pub record IsWellShaped (c : CtlDesc) : Type 0 where
   pub counts : AreItsCounts c.params (length c.reads) (length (refs_of c)) (length c.claims)
   pub few_claims : length c.claims ≤ 32
 
-controller_so : (path : List ℕ) (c : CtlDesc) (unit : Unit {0}) → IsShaped c → controller_ranged path c ≡ Ok unit → length c.reads ≤ 256
+controller_so : (path : List ℕ) (c : CtlDesc) → IsShaped c → controller_ranged path c ≡ Ok tt → length c.reads ≤ 256
     → IsWellShaped c
-controller_so path c unit shaped passes few =
-    let rate = bind_Ok (ranged (nat_le c.rate HIGHEST_RATE) _) _ unit passes in
-    let claims = bind_Ok (ranged (claims_fit c.params (length c.claims)) _) _ unit rate.2 in
-    let reads = bind_Ok (ranged (reads_fit c.params (length c.claims) (length c.reads)) _) _ unit claims.2 in
+controller_so path c shaped passes few =
+    let rate = bind_Ok (ranged (nat_le c.rate HIGHEST_RATE) _) _ tt passes in
+    let claims = bind_Ok (ranged (claims_fit c.params (length c.claims)) _) _ tt rate.2 in
+    let reads = bind_Ok (ranged (reads_fit c.params (length c.claims) (length c.reads)) _) _ tt claims.2 in
     record {
-      counts = counts_by c c.params shaped (ranged_so _ _ claims.0 claims.1) (ranged_so _ _ reads.0 reads.1) few;
-      few_claims = few_by c.params c.claims c.reads shaped (ranged_so _ _ claims.0 claims.1);
+      counts = counts_by c c.params shaped (in_range_passes _ _ claims.1) (in_range_passes _ _ reads.1) few;
+      few_claims = few_by c.params c.claims c.reads shaped (in_range_passes _ _ claims.1);
     }
 
 -- Each controller of a valid description, which reads no more than may be read, has the counts that its parameters say.
@@ -86,4 +87,4 @@ pub described_shape : (d : Description) → IsValid d → (place : ℕ) (c : Ctl
     → IsWellShaped c
 described_shape d sound place c there few =
     let range = controller_in_range d sound place c there in
-    controller_so range.path c range.unit (described_shapes d sound.described place c there) range.passes few
+    controller_so range.path c (described_shapes d sound.described place c there) range.passes few

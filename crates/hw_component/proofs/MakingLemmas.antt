@@ -1,6 +1,6 @@
 -- What can be made of a description: the components of a valid one.
 use Rattle.std.proofs.Common.{◌≡◌, ℕ, ◌+◌, ◌*◌, div-le_self, ◌≤◌, ℤ, pos, negsuc, ◌≤ℤ◌, true, List, [], ◌∷◌, length, Result, Ok, arith, length-append}
-use Rattle.std.specs.Prelude.{nat_le, ◌==◌, ◌&&◌, codes}
+use Rattle.std.specs.Prelude.{codes}
 use Rattle.std.specs.List.{All}
 use Rattle.std.proofs.lemmas.Nat.{le-div}
 use Rattle.joint_body.specs.declared.TheConstants.{LONGEST_STEP}
@@ -8,22 +8,20 @@ use Rattle.cm_model.specs.Cycle.{period}
 use Rattle.cm_model.specs.declared.TheConstants.{SECOND_US}
 use Rattle.std.proofs.lemmas.Int.{ints}
 use Rattle.std.proofs.lemmas.List.Elements.{All-nil, All-cons}
-use Rattle.cm_document.proofs.FewLemmas.{within_limit}
 use Rattle.fixed_num.specs.Bodies.{IsPlant}
-use Rattle.cm_document.specs.declared.limits.TheConstants.{VERSION, HIGHEST_RATE, MOST_CYCLES, MOST_COMPONENTS, MOST_JOINTS}
+use Rattle.cm_document.specs.declared.limits.TheConstants.{MOST_JOINTS}
 use Rattle.cm_document.specs.Forms.{item_path, inside}
 use Rattle.cm_document.specs.Links.{joints_of}
-use Rattle.cm_document.specs.Valid.{limited, few_enough, named_apart, not_negative, ranged, each_ranged, joint_ranged, component_ranged, joint_count_fits, in_range, valid, IsValid}
+use Rattle.cm_document.specs.Valid.{not_negative, ranged, each_ranged, joint_ranged, component_ranged, joint_count_fits, IsValid}
 use Rattle.cm_document.specs.declared.description.CompDesc.{CompDesc}
 use Rattle.cm_document.specs.declared.description.CompKind.{CompKind}
 use Rattle.cm_document.specs.declared.description.Description.{Description}
 use Rattle.cm_document.specs.declared.description.JointDesc.{JointDesc}
 use Rattle.cm_document.specs.declared.faults.CheckFault.{CheckFault}
-use Rattle.cm_document.specs.declared.faults.What.TheVariants.{Components, Joints}
 use Rattle.cm_document.proofs.ReadingLemmas.{bind_Ok}
 use Rattle.cm_model.specs.Components.{plant_of}
-use Rattle.cm_model.proofs.RangedLemmas.{ranged_so, described_rate_fits}
 use Rattle.hw_component.specs.Hardware.{CanBeMade}
+use Rattle.cm_document.proofs.ValidParts.{in_range_passes, parts_of_valid}
 
 -- ---- Ranges
 
@@ -47,9 +45,9 @@ joint_so kind path joint u e =
     let gain = bind_Ok (ranged (not_negative joint.gain) _) _ u vmax.2 in
     let damping = bind_Ok (ranged (not_negative joint.damping) _) _ u gain.2 in
     record {
-      vmax = some joint.vmax (ranged_so _ _ vmax.0 vmax.1);
-      gain = some joint.gain (ranged_so _ _ gain.0 gain.1);
-      damping = some joint.damping (ranged_so _ _ damping.0 damping.1);
+      vmax = some joint.vmax (in_range_passes _ _ vmax.1);
+      gain = some joint.gain (in_range_passes _ _ gain.1);
+      damping = some joint.damping (in_range_passes _ _ damping.1);
     }
 
 -- nor of one of a component
@@ -76,25 +74,16 @@ both_so cs plants few k d below = record { plants = plants k d below; joints = l
 -- the period of a valid description is a time by which bodies can step
 pub valid_period : (d : Description) → IsValid d → (1 ≤ d.update_rate) × (1 ≤ period d) × (period d ≤ LONGEST_STEP)
 valid_period d sound =
-    let rate = described_rate_fits d sound in
-    let fits : 1 * d.update_rate ≤ SECOND_US = omega (arith, rate.1) in
-    (rate.0, le-div 1 SECOND_US d.update_rate rate.0 fits, div-le_self SECOND_US d.update_rate)
+    let ranges = (parts_of_valid d sound).ranges in
+    let fits : 1 * d.update_rate ≤ SECOND_US = omega (arith, ranges.rate) in
+    (ranges.rate_is_some, le-div 1 SECOND_US d.update_rate ranges.rate_is_some fits, div-le_self SECOND_US d.update_rate)
 
 -- ---- Components
 
 -- each component of a valid description can be made
 pub valid_can_be_made : (d : Description) → IsValid d → All CanBeMade d.components
-unfolding valid
-valid_can_be_made d sound =
-    let few = bind_Ok (few_enough d) _ d sound.no_fault in
-    let named = bind_Ok (named_apart d) _ d few.2 in
-    let ranges = bind_Ok (in_range d) _ d named.2 in
-    let components = bind_Ok (limited Components (length d.components) MOST_COMPONENTS) _ few.0 few.1 in
-    let joints = bind_Ok (limited Joints (length (joints_of d.components)) MOST_JOINTS) _ few.0 components.2 in
-    let version = bind_Ok (ranged (d.version == VERSION) (codes "version")) _ ranges.0 ranges.1 in
-    let rate = bind_Ok (ranged (nat_le 1 d.update_rate && nat_le d.update_rate HIGHEST_RATE) (codes "update_rate")) _ ranges.0 version.2 in
-    let cycles = bind_Ok (ranged (nat_le d.cycles MOST_CYCLES) (codes "cycles")) _ ranges.0 rate.2 in
-    let each = bind_Ok (each_ranged component_ranged (codes "component") 0 d.components) _ ranges.0 cycles.2 in
+valid_can_be_made d ok =
+    let parts = parts_of_valid d ok in
     both_so d.components
-    (each_so (λ c. All (λ joint. IsPlant (plant_of joint)) c.joints) component_ranged component_so (codes "component") 0 d.components each.0 each.1)
-    (joints_fit MOST_JOINTS d.components (within_limit Joints (length (joints_of d.components)) MOST_JOINTS joints.0 joints.1))
+    (each_so (λ c. All (λ joint. IsPlant (plant_of joint)) c.joints) component_ranged component_so (codes "component") 0 d.components tt parts.ranges.components)
+    (joints_fit MOST_JOINTS d.components parts.few.joints)

@@ -8,7 +8,7 @@ ghost use Rattle.hw_component.specs.Hardware.{Hardware, CanBeMade, after_step};
 use cm_model::Checked;
 
 /// Each component of a valid description can be made, and has a number of 32 bits.
-#[tactic(auto, using(crate::proofs::MakingLemmas::valid_can_be_made, cm_document::proofs::FewLemmas::few_components))]
+#[tactic(auto, using(crate::proofs::MakingLemmas::valid_can_be_made, cm_document::proofs::ValidParts::few_components))]
 pub fn described_components_can_be_made(checked: &Checked)
     ensures each { All CanBeMade checked.now.components }
     ensures few { length checked.now.components < 2 ^ 32 }

@@ -1,25 +1,22 @@
 -- All interfaces of a description, each idle at first.
-use Rattle.std.proofs.Common.{◌≡◌, ℕ, zero, suc, drop, ◌+◌, ◌<◌, ◌^◌, Ok, arith, Bool, true, false, List, [], ◌∷◌, ◌++◌, length, map, refl, sym, ap, ap₂, ◌∙◌}
+use Rattle.std.proofs.Common.{◌≡◌, ℕ, zero, suc, drop, ◌+◌, ◌<◌, ◌^◌, arith, Bool, true, false, List, [], ◌∷◌, ◌++◌, length, map, refl, sym, ap, ap₂, ◌∙◌}
 use Rattle.std.specs.Prelude.{flat_map}
 use Rattle.std.proofs.lemmas.List.{append_assoc, map-append, length-append, length-map}
-use Rattle.cm_document.proofs.FewLemmas.{within_limit}
 use Rattle.iface_names.specs.declared.interface.IfaceName.{IfaceName}
 use Rattle.iface_names.specs.declared.interface.IfaceName.TheVariants.{Joint}
 use Rattle.iface_names.specs.declared.kind.Kind.{Kind}
 use Rattle.cm_document.specs.Described.{states_of}
-use Rattle.cm_document.specs.Links.{joints_of, commands_of, exported_for, refs_of, references_of, reference_for}
+use Rattle.cm_document.specs.Links.{commands_of, exported_for, refs_of, references_of, reference_for}
 use Rattle.cm_document.specs.Places.{Called, Interface, a_state, a_command, of_joint, of_controller, at_joint, at_joints, at_components, at_controllers, interfaces_of, kinds_of}
-use Rattle.cm_document.specs.Valid.{limited, few_enough, valid}
+use Rattle.cm_document.specs.Valid.{IsValid}
 use Rattle.cm_document.specs.declared.description.CompDesc.{CompDesc}
 use Rattle.cm_document.specs.declared.description.CtlDesc.{CtlDesc}
 use Rattle.cm_document.specs.declared.description.Description.{Description}
 use Rattle.cm_document.specs.declared.description.JointDesc.{JointDesc}
-use Rattle.cm_document.specs.declared.faults.What.TheVariants.{Components, Joints, States, Commands, Controllers, References}
-use Rattle.cm_document.specs.declared.limits.TheConstants.{MOST_COMPONENTS, MOST_JOINTS, MOST_STATES, MOST_COMMANDS, MOST_CONTROLLERS, MOST_REFERENCES}
 use Rattle.cm_document.proofs.PlaceLemmas.{called_by_names}
-use Rattle.cm_document.proofs.ReadingLemmas.{bind_Ok}
 use Rattle.loan_board.specs.Loans.{idle, idle_of}
 use Rattle.loan_board.specs.declared.board.Loan.{Loan}
+use Rattle.cm_document.proofs.ValidParts.{parts_of_valid}
 
 -- an idle loan for each of these
 abbrev all_of : {A : Type 0} → Bool → List A → List Loan
@@ -97,14 +94,7 @@ interfaces_count d =
     ∙ ap₂ (λ m n. m + n) (length-map (states_of d.components) a_state) (length-map (commands_of d.components ++ references_of d.controllers) a_command ∙ length-append (commands_of d.components) (references_of d.controllers))
 
 -- Each interface of a valid description has a number of 32 bits.
-pub interfaces_few : (d : Description) → valid d ≡ Ok d → length (interfaces_of d) < 2 ^ 32
-unfolding valid
-interfaces_few d e =
-    let counted = bind_Ok (few_enough d) _ d e in
-    let components = bind_Ok (limited Components (length d.components) MOST_COMPONENTS) _ counted.0 counted.1 in
-    let joints = bind_Ok (limited Joints (length (joints_of d.components)) MOST_JOINTS) _ counted.0 components.2 in
-    let states = bind_Ok (limited States (length (states_of d.components)) MOST_STATES) _ counted.0 joints.2 in
-    let commands = bind_Ok (limited Commands (length (commands_of d.components)) MOST_COMMANDS) _ counted.0 states.2 in
-    let controllers = bind_Ok (limited Controllers (length d.controllers) MOST_CONTROLLERS) _ counted.0 commands.2 in
-    let references = bind_Ok (limited References (length (references_of d.controllers)) MOST_REFERENCES) _ counted.0 controllers.2 in
-    omega (arith, interfaces_count d, within_limit States _ MOST_STATES states.0 states.1, within_limit Commands _ MOST_COMMANDS commands.0 commands.1, within_limit References _ MOST_REFERENCES references.0 references.1)
+pub interfaces_few : (d : Description) → IsValid d → length (interfaces_of d) < 2 ^ 32
+interfaces_few d ok =
+    let few = (parts_of_valid d ok).few in
+    omega (arith, interfaces_count d, few.states, few.commands, few.references)

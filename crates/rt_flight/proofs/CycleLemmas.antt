@@ -94,7 +94,7 @@ has_flown s number cells g a f is aloft inside =
     record {
       stands = all_stand s a is.valid aloft is.steady f.ran f.erred (active_order s) cells begun f stands left;
       seats = seats_are s a is.valid aloft is.steady f.ran f.erred (active_order s) cells begun f stands left
-          (ordered_once s (valid-IsChecked s.description is.valid.no_fault).free is.once) found;
+          (ordered_once s (valid-IsChecked s.description is.valid).free is.once) found;
     }
 
 -- ---- The cells after them

@@ -138,5 +138,5 @@ module _ (s : State) (checked : IsChecked s.description) (steady : IsSteady s) w
 pub after_steady : (s : State) → IsValid s.description → IsSteady s → IsSteady (after_cycle s (cycle s))
 unfolding after_cycle cycle
 after_steady s valid steady =
-    let checked = valid-IsChecked s.description valid.no_fault in
+    let checked = valid-IsChecked s.description valid in
     end_steady s checked steady (cycle_with s (made s checked steady)).happened.ran

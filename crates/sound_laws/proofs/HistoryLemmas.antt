@@ -104,7 +104,7 @@ module _ (d : Description) (blanks : Blanks) (sessions : ℕ) (history : List En
         decisions = λ decides decisions. tt;
         queued = tt;
         became = λ became. tt;
-        cycle = runs_once s (valid-IsChecked s.description kept.valid.no_fault).free kept.numbered.once;
+        cycle = runs_once s (valid-IsChecked s.description kept.valid).free kept.numbered.once;
       }) made.1 is.replied)
       (boot d blanks sessions) history begins legal
 

@@ -177,7 +177,7 @@ module _ (s : State) (checked : IsChecked s.description) (steady : IsSteady s) w
 pub loans_hold : (s : State) → IsValid s.description → IsSteady s → LoansHold s
 loans_hold s valid steady = record {
   together = steady.together;
-  present = read_number s (valid-IsChecked s.description valid.no_fault) steady;
+  present = read_number s (valid-IsChecked s.description valid) steady;
   empty = steady.in_order.empty;
   marked = steady.in_order.marked;
 }

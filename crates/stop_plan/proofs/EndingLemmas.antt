@@ -77,7 +77,7 @@ pub stays_committed : (s : State) → IsValid s.description → IsSteady s → C
 unfolding cycle
 stays_committed s valid steady =
     let read : List InterfaceValue = after_reads (component_is read_succeeds s) s.bodies s.values in
-    let checked = valid-IsChecked s.description valid.no_fault in
+    let checked = valid-IsChecked s.description valid in
     let free = checked.free in
     let kept : IsInOrder (landed s (cycle s)) = landed_in_order s checked steady in
     let params : HaveParams (landed s (cycle s)).loaded (stays_active s (told_in s)) =
@@ -99,7 +99,7 @@ module _ (s : State) (valid : IsValid s.description) where
   stay = stays_active s (told_in s)
 
   free : first_in_loop cs ≡ None
-  free = (valid-IsChecked s.description valid.no_fault).free
+  free = (valid-IsChecked s.description valid).free
 
   -- the order of updates is one by depth
   ordered : members_in_order s ≡ in_order cs (active s) (map member_of (filter is_active s.loaded))

@@ -1,4 +1,4 @@
-use Rattle.cm_document.proofs.FewLemmas.{few_controllers}
+use Rattle.cm_document.proofs.ValidParts.{few_controllers}
 use Rattle.ctl_places.proofs.MakingLemmas.{all_listed}
 use Rattle.ctl_places.proofs.listed.list.Goals as goal
 

@@ -1,7 +1,7 @@
 use Rattle.std.proofs.Common.{◌≡◌, ◌<◌, ◌^◌, length, ap, ◌∙◌, arith}
 use Rattle.std.proofs.lemmas.Int.{ints}
 use Rattle.cm_document.specs.declared.description.Description.{Description}
-use Rattle.cm_document.proofs.FewLemmas.{few_components}
+use Rattle.cm_document.proofs.ValidParts.{few_components}
 use Rattle.request_plan.proofs.components.component_place.Goals as goal
 
 pub overflow_cast-result : goal.overflow_cast-result

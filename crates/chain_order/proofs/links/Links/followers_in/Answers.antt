@@ -1,4 +1,4 @@
-use Rattle.cm_document.proofs.FewLemmas.{few_controllers}
+use Rattle.cm_document.proofs.ValidParts.{few_controllers}
 use Rattle.chain_order.proofs.links.Links.followers_in.Goals as goal
 
 pub resolve-requires : goal.resolve-requires

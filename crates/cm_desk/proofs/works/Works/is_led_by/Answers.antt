@@ -1,7 +1,7 @@
 use Rattle.std.proofs.Common.{◌<◌, length, ap, ◌∙◌, arith}
 use Rattle.std.specs.Prelude.{is_some, slice_index_or, None}
 use Rattle.std.specs.List.{list_any}
-use Rattle.cm_document.proofs.FewLemmas.{few_controllers}
+use Rattle.cm_document.proofs.ValidParts.{few_controllers}
 use Rattle.cm_model.specs.Order.{precedes_at}
 use Rattle.chain_order.specs.Links.{linked, places_below}
 use Rattle.chain_order.proofs.LinkLemmas.{length-each_below}

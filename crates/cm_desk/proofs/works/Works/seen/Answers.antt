@@ -1,7 +1,7 @@
 use Rattle.std.proofs.Common.{◌≡◌, ◌<◌, ap, sym, ◌∙◌, arith}
 use Rattle.std.specs.Prelude.{length}
 use Rattle.std.proofs.lemmas.Option.{slice_get_within, same_Some}
-use Rattle.cm_document.proofs.FewLemmas.{few_controllers}
+use Rattle.cm_document.proofs.ValidParts.{few_controllers}
 use Rattle.cm_model.specs.Commit.{seen}
 use Rattle.cm_model.specs.State.{State}
 use Rattle.cm_desk.proofs.ActingLemmas.{seen_as}

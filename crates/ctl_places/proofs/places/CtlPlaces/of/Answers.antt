@@ -1,4 +1,4 @@
-use Rattle.cm_document.proofs.FewLemmas.{few_controllers}
+use Rattle.cm_document.proofs.ValidParts.{few_controllers}
 use Rattle.ctl_places.proofs.MakingLemmas.{few_listed, looked_up-placed}
 use Rattle.ctl_places.proofs.places.CtlPlaces.of.Goals as goal
 

@@ -13,4 +13,4 @@ returns c =
 pub invariant_of-result : goal.invariant_of-result
 invariant_of-result c =
     rw (c.in_ok-push_references.ensures, c.in_ok-push_components-2.ensures, c.in_ok-push_components.ensures, c.new-loans.ensures.items, c.as_slice.ensures, c.as_slice-components.ensures, c.description-description.ensures.same, all_idle c.args.checked.now)
-    (idle-IsBoard (interfaces_of c.args.checked.now) (interfaces_few c.args.checked.now c.description-description.ensures.valid.no_fault))
+    (idle-IsBoard (interfaces_of c.args.checked.now) (interfaces_few c.args.checked.now c.description-description.ensures.valid))

@@ -1,4 +1,4 @@
-use Rattle.cm_document.proofs.FewLemmas.{few_controllers}
+use Rattle.cm_document.proofs.ValidParts.{few_controllers}
 use Rattle.switch_plan.proofs.relations.Relations.of.Goals as goal
 
 pub odds-requires : goal.odds-requires
