@@ -369,7 +369,7 @@ fn show_once(told: bool, hardware: &ResourceManager, lists: &mut Lists)
 }
 
 /// The time from one cycle to the next, in microseconds.
-#[tactic(auto, using(hw_component::proofs::MakingLemmas::valid_period, cm_model::proofs::RangedLemmas::described_rate_is_some))]
+#[tactic(auto, using(hw_component::proofs::MakingLemmas::valid_period, cm_document::proofs::ValidParts::described_rate_is_some))]
 fn period_us(checked: &Checked) -> u32
     ensures period { result ≡ period checked.now }
     ensures some_time { 1 ≤ result }

@@ -36,7 +36,7 @@ impl<C: Controller> Works<C> {
     }
 
     /// The loaded controller that stands there, which is not active, gets its described parameters. With any fault it stays as it was.
-    #[tactic(auto, using(crate::proofs::WorksLemmas::can_be_configured, cm_model::proofs::RangedLemmas::described_rate_is_some))]
+    #[tactic(auto, using(crate::proofs::WorksLemmas::can_be_configured, cm_document::proofs::ValidParts::described_rate_is_some))]
     fn configure_at(&mut self, alloc: Global, index: usize) -> Result<(), CfgFault>
         requires { IsSomeAnd (slice_get self.old.loaded index) (λ l. is_active l ≡ false) }
         ensures { IsConfigured self.old index self.new result }

@@ -180,3 +180,7 @@ few_controllers d ok = omega (arith, (parts_of_valid d ok).few.controllers)
 -- the place of a component has 32 bits
 pub few_components : (d : Description) → IsValid d → length d.components < 2 ^ 32
 few_components d ok = omega (arith, (parts_of_valid d ok).few.components)
+
+-- its update rate is not 0
+pub described_rate_is_some : (d : Description) → IsValid d → 1 ≤ d.update_rate
+described_rate_is_some d ok = (parts_of_valid d ok).ranges.rate_is_some

@@ -43,7 +43,7 @@ use Rattle.sound_laws.proofs.UpdatedLemmas.{updates_all}
 use Rattle.ctl_slots.specs.Fit.{IsTimedIn, IsWaiting, IsFor, AreFit}
 use Rattle.ctl_slots.specs.Updates.{HasTime, IsInTime}
 use Rattle.ctl_slots.proofs.UpdateLemmas.{still_takes}
-use Rattle.cm_document.proofs.ValidParts.{parts_of_valid}
+use Rattle.cm_document.proofs.ValidParts.{described_rate_is_some}
 
 -- ---- Lists
 
@@ -117,7 +117,7 @@ timed_in manager rate some =
 
 pub timed_configured : (d : Description) (l : Loaded) (c : CtlDesc) → IsValid d
     → IsTimedIn d (record l { ctl = configured l.ctl c.params; divisor = Some (divisor d.update_rate l.rate) })
-timed_configured d l c valid = timed_in d.update_rate l.rate ((parts_of_valid d valid).ranges.rate_is_some)
+timed_configured d l c valid = timed_in d.update_rate l.rate ((described_rate_is_some d valid))
 
 -- ---- It is sent mail
 
