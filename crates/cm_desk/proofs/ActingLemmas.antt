@@ -11,6 +11,7 @@ use Rattle.cm_model.specs.Commit.{seen, described_of}
 use Rattle.cm_model.specs.Controllers.{is_ready}
 use Rattle.cm_model.specs.Order.{Places, set_of, nobody}
 use Rattle.cm_model.specs.Scene.{is_chained_in}
+use Rattle.cm_model.specs.Serials.{IsNumbered}
 use Rattle.cm_model.specs.State.{State, Loaded, life_of, is_active, active, is_chained}
 use Rattle.cm_model.specs.Steady.{IsSteady}
 use Rattle.cm_model.specs.declared.request.Request.{Request}
@@ -26,7 +27,6 @@ use Rattle.request_plan.specs.declared.acts.Switched.{Switched}
 use Rattle.request_plan.specs.declared.stand.Stand.{Stand}
 use Rattle.request_plan.proofs.StandLemmas.{chained_among}
 use Rattle.sound_laws.proofs.BoundaryLemmas.{concluded_steady}
-use Rattle.sound_laws.proofs.SerialLemmas.{IsNumbered}
 use Rattle.cm_desk.specs.Bay.{Base}
 use Rattle.cm_desk.specs.Begin.{IsNext, CanAct}
 use Rattle.cm_desk.specs.Roster.{Listed}

@@ -15,6 +15,7 @@ use Rattle.cm_model.specs.Commit.{scene_of, commit}
 use Rattle.cm_model.specs.Cycle.{begun, without_mail_off, is_due_now}
 use Rattle.cm_document.specs.Valid.{IsValid}
 use Rattle.cm_model.specs.Machine.{can_begin, can_close, effect, step}
+use Rattle.cm_model.specs.Serials.{AreNumbered, IsNumbered}
 use Rattle.cm_model.specs.State.{State, Loaded, is_active}
 use Rattle.cm_model.specs.Steady.{IsSteady}
 use Rattle.cm_model.specs.Switches.{Decided, refused, done}
@@ -35,7 +36,7 @@ use Rattle.request_plan.specs.declared.plans.Plan.{Plan}
 use Rattle.stop_plan.specs.Ending.{members_in_order}
 use Rattle.sound_laws.proofs.BoundaryLemmas.{concluded_steady, outcome_steady}
 use Rattle.sound_laws.proofs.HistoryLemmas.{step_steady}
-use Rattle.sound_laws.proofs.SerialLemmas.{AreNumbered, IsNumbered, renumbered_numbered, effect_renumbered}
+use Rattle.sound_laws.proofs.SerialLemmas.{renumbered_numbered, effect_renumbered}
 use Rattle.cm_desk.specs.Begin.{none_waits, IsNext}
 use Rattle.ctl_slots.specs.Fit.{IsTimedIn}
 use Rattle.ctl_slots.specs.Updates.{HasTime}

@@ -7,6 +7,7 @@ use Rattle.cm_model.specs.Commit.{commit}
 use Rattle.cm_model.specs.Cycle.{after_cycle}
 use Rattle.cm_model.specs.Machine.{LegalFrom, state_after, step}
 use Rattle.cm_model.specs.Scheduled.{with_entry}
+use Rattle.cm_model.specs.Serials.{IsNumbered}
 use Rattle.cm_model.specs.Sessions.{IsConsole}
 use Rattle.cm_model.specs.Sound.{Moment, moments, aloft_after}
 use Rattle.cm_model.specs.State.{State}
@@ -19,7 +20,6 @@ use Rattle.rt_flight.specs.Flights.{FlightFacts, IsAloft, IsComputed, StaysAloft
 use Rattle.rt_flight.proofs.AlikeLemmas.{stays_aloft}
 use Rattle.sound_laws.proofs.BetweenLemmas.{HasBegun, goes_on}
 use Rattle.sound_laws.proofs.MomentLemmas.{legal_step}
-use Rattle.sound_laws.proofs.SerialLemmas.{IsNumbered}
 use Rattle.cm_desk.specs.Desk.{History, begun_among, begun_of, now_of, Grows, IsOut, MayLand, IsFlown, IsAloftAlike, CanBeCalled}
 use Rattle.cm_desk.specs.End.{CanLand}
 

@@ -14,6 +14,7 @@ use Rattle.cm_model.specs.Components.{read_succeeds}
 use Rattle.cm_model.specs.Cycle.{CycleResult, component_is, updated_in, updates, cycle, after_cycle}
 use Rattle.cm_model.specs.Machine.{is_reached, is_enabled, reply_of, effect, with_controller, with_loaded, load_effect, can_close, step}
 use Rattle.cm_model.specs.Scheduled.{with_entry}
+use Rattle.cm_model.specs.Serials.{IsNumbered}
 use Rattle.cm_model.specs.State.{State, Loaded, boot, newly_loaded}
 use Rattle.cm_model.specs.Values.{after_reads}
 use Rattle.cm_model.specs.declared.blanks.Blanks.{Blanks}
@@ -27,7 +28,7 @@ use Rattle.cm_model.proofs.LegalLemmas.{Leads, Leads-step}
 use Rattle.cm_model.proofs.StayLemmas.{step-Stands, step-IsStep}
 use Rattle.cm_model.proofs.UpdateLemmas.{updates_keep}
 use Rattle.sound_laws.proofs.HistoryLemmas.{legal_sound, step_steady}
-use Rattle.sound_laws.proofs.SerialLemmas.{IsNumbered, renumbered_numbered, effect_renumbered}
+use Rattle.sound_laws.proofs.SerialLemmas.{renumbered_numbered, effect_renumbered}
 use Rattle.cm_hardware.specs.Wiring.{one_if}
 use Rattle.cm_desk.specs.Desk.{owed, seen, Keeps, Grows, CanBeCalled}
 use Rattle.cm_desk.proofs.BeginLemmas.{boundary_stays, loop_itself}

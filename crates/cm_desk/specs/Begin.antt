@@ -5,6 +5,7 @@ use Rattle.cm_document.specs.Valid.{IsValid}
 use Rattle.cm_model.specs.Boundary.{waiting, begin_effect, begin_reply}
 use Rattle.cm_model.specs.Cycle.{begun, members_in_order}
 use Rattle.cm_model.specs.Machine.{can_begin}
+use Rattle.cm_model.specs.Serials.{IsNumbered}
 use Rattle.cm_model.specs.State.{State}
 use Rattle.cm_model.specs.Steady.{IsSteady}
 use Rattle.cm_model.specs.declared.cause.Decision.{Decision}
@@ -21,7 +22,6 @@ use Rattle.ctl_slots.specs.Fit.{AreFit}
 use Rattle.ctl_slots.specs.Slots.{Slotted}
 use Rattle.rt_flight.specs.Cells.{Seat}
 use Rattle.rt_flight.specs.Flights.{FlightFacts, IsAloft}
-use Rattle.sound_laws.proofs.SerialLemmas.{IsNumbered}
 use Rattle.stop_plan.specs.Ending.{HasFlags}
 use Rattle.cm_desk.specs.Bay.{HasLines, IsAtHome, IsSupplied}
 use Rattle.cm_desk.specs.Roster.{AreAt, serials_of}

@@ -7,6 +7,7 @@ use Rattle.cm_model.specs.Console.{moves_out}
 use Rattle.cm_model.specs.Machine.{LegalFrom, state_after, reply_of, effect, step}
 pub use Rattle.cm_model.specs.Ports.{CanBeCalled}
 use Rattle.cm_model.specs.Scheduled.{with_entry}
+use Rattle.cm_model.specs.Serials.{IsNumbered}
 use Rattle.cm_model.specs.Sound.{Moment, moments, aloft_after, AreSound}
 use Rattle.cm_model.specs.State.{State, boot}
 use Rattle.cm_model.specs.Steady.{IsSteady}
@@ -17,7 +18,6 @@ use Rattle.cm_model.specs.declared.reply.Reply.{Reply}
 use Rattle.cm_model.specs.declared.reply.Reply.TheVariants as reply
 use Rattle.cm_hardware.specs.Wiring.{one_if}
 use Rattle.rt_flight.specs.Flights.{FlightFacts, StaysAloft, StaysComputed}
-use Rattle.sound_laws.proofs.SerialLemmas.{IsNumbered}
 
 -- ---- A history
 

@@ -3,6 +3,7 @@ use Rattle.std.specs.Prelude.{◌≡◌, ℕ, ◌≤◌, true, false, List, [], 
 use Rattle.std.specs.List.{All, AllByRecursion}
 use Rattle.cm_document.specs.Valid.{IsValid}
 use Rattle.cm_model.specs.Cycle.{cycle, landed, after_cycle, failed_in}
+use Rattle.cm_model.specs.Serials.{IsNumbered}
 use Rattle.cm_model.specs.State.{State, Loaded}
 use Rattle.cm_model.specs.Steady.{IsSteady}
 use Rattle.cm_hardware.specs.Holding.{IsHardwareOf, IsMoved}
@@ -14,7 +15,6 @@ use Rattle.ctl_slots.specs.Slots.{Slotted}
 use Rattle.rt_flight.specs.Flights.{FlightFacts, IsComputed}
 use Rattle.rt_flight.specs.Stations.{IsFitted}
 use Rattle.rt_flight.specs.declared.craft.Craft.{Craft}
-use Rattle.sound_laws.proofs.SerialLemmas.{IsNumbered}
 use Rattle.stop_plan.specs.Ending.{HasFlags, IsEndingOf, told_in, erred_in}
 use Rattle.cm_desk.specs.Bay.{HasLines, IsAtHome}
 use Rattle.cm_desk.specs.Roster.{Listed, IsListedOf}

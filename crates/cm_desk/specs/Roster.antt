@@ -1,10 +1,10 @@
 -- Who is active, as it is looked up: by place in the description, and in the order of updates.
 use Rattle.std.specs.Prelude.{◌≡◌, ℕ, ◌<◌, ◌==◌, ◌&&◌, Bool, true, if◌then◌else◌, List, [], ◌∷◌, length, map, filter, find, slice_get, slice_index_or, slice_set, is_none, Option, None, Some, option_map}
 pub use Rattle.cm_model.specs.Components.{is_listed}
+pub use Rattle.cm_model.specs.Serials.{serials_of}
 use Rattle.cm_model.specs.State.{State, Loaded, is_active}
 use Rattle.cm_model.specs.declared.member.Member.{Member}
 use Rattle.stop_plan.specs.Ending.{member_of, members_in_order}
-pub use Rattle.sound_laws.proofs.SerialLemmas.{serials_of}
 
 -- the serial of the controller that is active at a place of the description among these; none where none is
 abbrev pub serial_in : List Loaded → ℕ → Option ℕ

@@ -3,12 +3,12 @@
 ghost use Rattle.std.specs.Prelude.{◌≡◌, ◌<◌, ◌≤◌, ◌&&◌, [], true, false, length, map, slice_get, vec_capacity, Some, List, IfOk, OnOk, OnErr};
 ghost use Rattle.cm_model.specs.Boundary.{waiting, concluded, with_outcome, boundary};
 ghost use Rattle.cm_model.specs.Commit.{seen};
+ghost use Rattle.cm_model.specs.Serials.{IsNumbered};
 ghost use Rattle.cm_model.specs.State.{State, Loaded, is_active, is_chained};
 ghost use Rattle.cm_model.specs.Steady.{IsSteady};
 ghost use Rattle.cm_model.specs.declared.request.Request.{Request};
 ghost use Rattle.request_plan.specs.Acts.{IsSwitchOf, IsMoveOf};
 ghost use Rattle.request_plan.specs.Plans.{IsPlanOf, AreConclusionsOf};
-ghost use Rattle.sound_laws.proofs.SerialLemmas.{IsNumbered};
 ghost use Rattle.cm_desk.specs.Begin.{IsNext, CanAct, CanBegin, HasBegun, CanTakeOff, HasTakenOff, none_waits};
 
 use crate::bay::Bay;

@@ -3,6 +3,7 @@ use Rattle.std.proofs.Common.{◌≡◌, ℕ, zero, suc, ℤ, Bool, true, false,
 use Rattle.std.specs.Prelude.{◌==◌, ◌&&◌, ◌||◌, not, if◌then◌else◌, length, is_some, IfSome}
 use Rattle.std.specs.List.{list_any, AllByRecursion}
 use Rattle.std.proofs.Math.Path.{fun_ext}
+use Rattle.std.proofs.lemmas.Bool.{or_from, or_parts}
 use Rattle.std.proofs.lemmas.Option.{IfSome_then}
 use Rattle.cm_document.proofs.DistinctLemmas.{all_so, all_map}
 use Rattle.fixed_num.specs.declared.value.Value.TheVariants.{Unset}
@@ -20,10 +21,10 @@ use Rattle.cm_model.proofs.LoadedLemmas.{and_false, and_swapped, has_loaded-own,
 use Rattle.cm_model.specs.Claims.{states_for}
 use Rattle.cm_model.specs.Commit.{described_of, seen, scene_of, coming, leaving, committed, is_exported_by, is_freed, freed_of, commit}
 use Rattle.cm_model.specs.Controllers.{started, runs_chained}
+use Rattle.cm_model.specs.Loans.{CanRunTogether, IsEmptyUnless, IsUnsetUnlessClaimed, IsMarked}
 use Rattle.cm_model.specs.Order.{Places, controller_at, precedes_at, some_below}
 use Rattle.cm_model.specs.Scene as scenes
-use Rattle.cm_model.specs.Scene.{is_running, is_claimed_by, is_chained_in}
-use Rattle.cm_model.specs.Sound.{CanRunTogether, IsEmptyUnless, IsMarked}
+use Rattle.cm_model.specs.Scene.{is_running, claims_at, is_claimed_by, is_chained_in}
 use Rattle.cm_model.specs.State.{State, Loaded, is_active, active, available_in, life_of}
 use Rattle.cm_model.specs.Steady.{IsOwn, HoldsNumber, HasBody, AreLoaded, AreConfigured, IsInOrder, IsSteady}
 use Rattle.cm_model.specs.Switches.{differ, restarts, is_stopped, is_started}
@@ -62,7 +63,7 @@ chosen P false true again come leave stay comes leaves stays out = leaves refl
 chosen P false false again come leave stay comes leaves stays out = out refl refl
 
 -- a controller that is activated, by its parameters
-abbrev activated_by : CtlData → Option Params → List ℤ → Bool → CtlData
+abbrev pub activated_by : CtlData → Option Params → List ℤ → Bool → CtlData
 activated_by ctl params states chained = elim params [ None ↦ ctl | Some given ↦ record ctl { run = Some (started given states chained) } ]
 
 -- what is activated runs, where it has parameters
@@ -229,6 +230,48 @@ pub places_stay : (change : Loaded → Loaded) → ((l : Loaded) → (change l).
 places_stay change stays [] = refl
 places_stay change stays (l ∷ ls) = rw (stays l, places_stay change stays ls) refl
 
+-- ---- What nobody claims
+
+-- what is claimed by no member and by none that ceased was claimed by nobody before, of whom each is a member or ceased
+unclaimed_at : (before set ceased claims : Bool) → (before ≡ true → set ≡ false → ceased ≡ true) → (set && claims) ≡ false → (ceased && claims) ≡ false
+    → (before && claims) ≡ false
+unclaimed_at false set ceased claims from none others = refl
+unclaimed_at true true ceased claims from none others = none
+unclaimed_at true false true claims from none others = others
+unclaimed_at true false false claims from none others = absurd (true≢false (sym (from refl refl)))
+
+unclaimed_before : (before set ceased claims : Places) → ((p : ℕ) → before p ≡ true → set p ≡ false → ceased p ≡ true) → (n : ℕ)
+    → some_below (λ q. set q && claims q) n ≡ false → some_below (λ q. ceased q && claims q) n ≡ false → some_below (λ q. before q && claims q) n ≡ false
+unclaimed_before before set ceased claims from zero none others = refl
+unclaimed_before before set ceased claims from (suc n) none others =
+    let of_set = or_parts (some_below (λ q. set q && claims q) n) (set n && claims n) none in
+    let of_ceased = or_parts (some_below (λ q. ceased q && claims q) n) (ceased n && claims n) others in
+    or_from (some_below (λ q. before q && claims q) n) (before n && claims n)
+    (unclaimed_before before set ceased claims from n of_set.0 of_ceased.0) (unclaimed_at (before n) (set n) (ceased n) (claims n) (from n) of_set.1 of_ceased.1)
+
+-- So a command that no member claims is freed, or was claimed by nobody before.
+freed_unclaimed : (controllers : List CtlDesc) (before set ceased : Places) (v : InterfaceValue) (exported : Bool)
+    → ((p : ℕ) → before p ≡ true → set p ≡ false → ceased p ≡ true) → IsUnsetUnlessClaimed controllers before v
+    → IsUnsetUnlessClaimed controllers set (if v.interface.called.is_command && (is_claimed_by controllers ceased v.interface.called.name || exported) then unset v.interface else v)
+freed_unclaimed controllers before set ceased v exported from unclaimed = by_claim v.interface.called.is_command (is_claimed_by controllers ceased v.interface.called.name) refl refl
+  where
+    not_freed : (b : Bool) → is_claimed_by controllers ceased v.interface.called.name ≡ false → IsUnsetUnlessClaimed controllers set (if b then unset v.interface else v)
+    not_freed true others = λ command none. refl
+    not_freed false others = λ command none.
+        unclaimed command (unclaimed_before before set ceased (λ q. claims_at controllers q v.interface.called.name) from (length controllers) none others)
+
+    by_claim : (command claimed : Bool) → v.interface.called.is_command ≡ command → is_claimed_by controllers ceased v.interface.called.name ≡ claimed
+        → IsUnsetUnlessClaimed controllers set (if command && (claimed || exported) then unset v.interface else v)
+    by_claim false claimed is at = λ command none. absurd (true≢false (sym command ∙ is))
+    by_claim true true is at = λ command none. refl
+    by_claim true false is at = not_freed exported at
+
+-- who was active and is no member is stopped
+leaver_stops : (was member again : Bool) → was ≡ true → member ≡ false → (was && (not member || again)) ≡ true
+leaver_stops false member again is out = absurd (true≢false (sym is))
+leaver_stops true true again is out = absurd (true≢false out)
+leaver_stops true false again is out = refl
+
 -- ---- The law on commit
 
 module _ (s : State) (set again : Places) (kept : IsInOrder s) (loaded : AreLoaded s.loaded set) (configured : AreConfigured s.loaded set) where
@@ -274,6 +317,17 @@ module _ (s : State) (set again : Places) (kept : IsInOrder s) (loaded : AreLoad
       (is_claimed_by s.description.controllers (is_stopped (scene_of s) set again) v.interface.called.name) command gone freed)))
       s.values commands before)
 
+  -- and neither does a command interface or a reference that no member claims
+  unclaimed_after : AllByRecursion (IsUnsetUnlessClaimed s.description.controllers set) (map (freeing s set again) s.values)
+  unclaimed_after =
+      let stopped = is_stopped (scene_of s) set again in
+      let before : AllByRecursion (IsUnsetUnlessClaimed s.description.controllers (scenes.active (scene_of s))) s.values =
+      subst (λ f. AllByRecursion (IsUnsetUnlessClaimed s.description.controllers f) s.values) (sym (scene_active s kept.own)) kept.unclaimed in
+      all_map (IsUnsetUnlessClaimed s.description.controllers set) (freeing s set again) s.values
+      (all_so (IsUnsetUnlessClaimed s.description.controllers (scenes.active (scene_of s))) (λ v. IsUnsetUnlessClaimed s.description.controllers set (freeing s set again v))
+      (λ v unclaimed. freed_unclaimed s.description.controllers (scenes.active (scene_of s)) set stopped v (is_exported_by stopped v.interface.whose)
+      (λ p was out. leaver_stops (scenes.active (scene_of s) p) (set p) (restarts (scene_of s) set again p) was out) unclaimed) s.values before)
+
   -- What is kept whichever controllers are active is kept.
   pub commit_in_order : IsInOrder (commit s set again)
   unfolding commit
@@ -287,6 +341,7 @@ module _ (s : State) (set again : Places) (kept : IsInOrder s) (loaded : AreLoad
         (λ v has. subst (λ interface. HasBody (length s.bodies) interface.whose) (sym (freed_interface v (is_freed s (is_stopped (scene_of s) set again) v.interface))) has) s.values kept.embodied);
     numbers = all_map _ (freeing s set again) s.values (all_so _ _ (λ v holds. freed_holds (running s.lives) v v.interface.called.is_command _ refl holds) s.values kept.numbers);
     empty = rw commit_active empty_after;
+    unclaimed = rw commit_active unclaimed_after;
   }
 
   -- A commit of controllers that can run together leaves a steady state.

@@ -26,6 +26,7 @@ mod BoundaryRows
 mod ScheduleRows
 mod StepRows
 mod SoundRows
+mod MomentRows
 mod ConsoleRows
 pub mod RangedLemmas
 pub mod LinkedLemmas

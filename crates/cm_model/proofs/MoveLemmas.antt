@@ -8,12 +8,14 @@ use Rattle.fixed_num.specs.declared.value.Value.TheVariants.{Unset, Num}
 use Rattle.iface_names.specs.declared.kind.Kind.{Kind}
 use Rattle.cm_document.proofs.DistinctLemmas.{all_so, all_map}
 use Rattle.cm_document.specs.Places.{Whose, of_joint, of_controller}
+use Rattle.cm_document.specs.declared.description.CtlDesc.{CtlDesc}
 use Rattle.cm_document.specs.declared.life.Life.{Life}
 use Rattle.cm_model.proofs.CommitLemmas.{freed_interface, interfaces_stay}
 use Rattle.cm_model.proofs.LoadedLemmas.{and_false, all_from}
 use Rattle.cm_model.specs.Components.{measured, measured_at}
 use Rattle.cm_model.specs.Cycle.{moved}
-use Rattle.cm_model.specs.Sound.{is_number, CanRunTogether, IsEmptyUnless}
+use Rattle.cm_model.specs.Loans.{is_number, CanRunTogether, IsEmptyUnless, IsUnsetUnlessClaimed}
+use Rattle.cm_model.specs.Order.{Places}
 use Rattle.cm_model.specs.State.{State, active, available_in}
 use Rattle.cm_model.specs.Steady.{HoldsNumber, HasBody, IsInOrder, IsSteady}
 use Rattle.cm_model.specs.Values.{InterfaceValue, unset, running, belongs_to, is_state_of, kind_in, shown, read_of, cleared_of, cleared}
@@ -26,7 +28,7 @@ measured_number None kind some = absurd (true≢false (sym some))
 measured_number (Some body) kind some = refl
 
 -- the interface itself stays
-cleared_interface : (gone : ℕ → Bool) (v : InterfaceValue) → (cleared_of gone v).interface ≡ v.interface
+pub cleared_interface : (gone : ℕ → Bool) (v : InterfaceValue) → (cleared_of gone v).interface ≡ v.interface
 cleared_interface gone v = freed_interface v (belongs_to gone v.interface.whose)
 
 read_interface : (read : Bool) (v : InterfaceValue) (seen : Value) → (if read then record v { value = seen } else v).interface ≡ v.interface
@@ -122,6 +124,27 @@ moved_empty before after controllers bodies v empty = λ gone.
     (not_read before after controllers v.interface.called.is_command v.interface.whose out)
     (λ kept. empty (not_cleared before after controllers v.interface.whose out kept)))
 
+-- ---- What nobody claims
+
+-- A command interface or a reference that nobody claims holds nothing after its component lost what it held,
+cleared_unclaimed : (controllers : List CtlDesc) (set : Places) (gone : ℕ → Bool) (v : InterfaceValue) → IsUnsetUnlessClaimed controllers set v
+    → IsUnsetUnlessClaimed controllers set (cleared_of gone v)
+cleared_unclaimed controllers set gone v unclaimed = either (belongs_to gone v.interface.whose)
+  where
+    either : (b : Bool) → IsUnsetUnlessClaimed controllers set (if b then unset v.interface else v)
+    either true = λ command none. refl
+    either false = unclaimed
+
+-- nor after a read, which is of states.
+pub read_unclaimed : (controllers : List CtlDesc) (set : Places) (read : ℕ → Bool) (bodies : List BodyState) (v : InterfaceValue) → IsUnsetUnlessClaimed controllers set v
+    → IsUnsetUnlessClaimed controllers set (read_of read bodies v)
+read_unclaimed controllers set read bodies v unclaimed = either (is_state_of read v.interface) refl
+  where
+    either : (b : Bool) → is_state_of read v.interface ≡ b
+        → IsUnsetUnlessClaimed controllers set (if b then record v { value = shown bodies v.interface.called.name v.interface.whose } else v)
+    either true is = λ command none. absurd (no_command read v command is)
+    either false is = unclaimed
+
 -- ---- All
 
 module _ (s : State) (lives : List Life) (kept : IsInOrder s) where
@@ -145,6 +168,10 @@ module _ (s : State) (lives : List Life) (kept : IsInOrder s) where
         s.values kept.embodied kept.numbers));
     empty = all_map _ _ (cleared (λ component. not (running lives component)) s.values) (all_map _ _ s.values
         (all_so _ _ (λ v empty. moved_empty s.lives lives (active s) s.bodies v empty) s.values kept.empty));
+    unclaimed = all_map _ _ (cleared (λ component. not (running lives component)) s.values) (all_map _ _ s.values
+        (all_so _ _ (λ v unclaimed. read_unclaimed s.description.controllers (active s) (λ component. running lives component && not (running s.lives component)) s.bodies
+        (cleared_of (λ component. not (running lives component)) v)
+        (cleared_unclaimed s.description.controllers (active s) (λ component. not (running lives component)) v unclaimed)) s.values kept.unclaimed));
   }
 
   -- A steady state stays steady where the components of the active controllers stay available.

@@ -1,20 +1,18 @@
 -- Worked rows of soundness: for each of its parts a small history that meets it, and what it refuses.
-use Rattle.std.proofs.Common.{◌≡◌, ℕ, Bool, true, false, [], ◌∷◌, ◌++◌, length, Option, Some, refl, sym, ap, true≢false, arith, pos}
+use Rattle.std.proofs.Common.{◌≡◌, ℕ, ◌<◌, Bool, true, false, [], ◌∷◌, ◌++◌, length, Option, Some, refl, sym, ap, true≢false, arith, pos}
 use Rattle.std.specs.Prelude.{codes, ◌==◌, ◌||◌}
 use Rattle.std.specs.List.{list_any, IsDistinct}
 use Rattle.fixed_num.specs.declared.value.Value.TheVariants.{Unset, Num}
-use Rattle.cm_document.specs.Places.{a_command, of_controller}
+use Rattle.cm_document.specs.Places.{a_command, of_joint, of_controller}
 use Rattle.cm_document.specs.declared.call.Call.TheVariants.{Load, Unload, Hardware, Told, ListControllers, Begin, End}
-use Rattle.cm_document.specs.declared.call.SwitchRequest.{SwitchRequest}
 use Rattle.cm_document.specs.declared.life.Life.TheVariants.{Unconfigured, Active}
 use Rattle.cm_model.proofs.LoadedLemmas.{and_true}
 use Rattle.cm_model.proofs.Worked.{j1_position, j1_velocity, pid_reference, robot, stock, made, moments_of, runs, rests, with_running}
 use Rattle.cm_model.specs.Boundary.{all_concluded}
 use Rattle.cm_model.specs.Cycle.{cycle}
 use Rattle.cm_model.specs.Order.{rank_within}
-use Rattle.cm_model.specs.Sound.{Moment, LoansHold, EachRunsOnce, OneConfigurationEach, TicketsFrom, WholeOrNothing, UnloadsLeaveNothing}
+use Rattle.cm_model.specs.Sound.{Moment, LoansHold, EachRunsOnce, OneConfigurationEach, TicketsFrom, UnloadsLeaveNothing}
 use Rattle.cm_model.specs.State.{State, boot, is_active, controller_lines}
-use Rattle.cm_model.specs.declared.cause.Cause.TheVariants as cause
 use Rattle.cm_model.specs.declared.cause.Outcome.TheVariants as outcome
 use Rattle.cm_model.specs.declared.reply.Reply.{Reply}
 use Rattle.cm_model.specs.declared.reply.Reply.TheVariants as reply
@@ -29,9 +27,12 @@ never wrong = absurd (true≢false (sym wrong))
 available : {A : Type 0} → true ≡ false → A
 available gone = absurd (true≢false gone)
 
--- at boot no controller is active, and the two references hold nothing
+-- at boot no controller is loaded, and neither a command nor a reference holds anything
 at_boot : LoansHold (with_running [])
+unfolding IsDistinct
 at_boot = record {
+  once = tt;
+  rising = tt;
   together = record {
     exclusive = λ p q interface member other claims claimed. never member;
     one_mode = λ p q interface beside member other claims claimed. never member;
@@ -40,8 +41,22 @@ at_boot = record {
   };
   present = λ p interface member reads. never member;
   empty = (available, (available, (available, (available, (λ gone. refl, (λ gone. refl, tt))))));
+  unclaimed = (λ state. never state, (λ state. never state, (λ command none. refl, (λ command none. refl, (λ command none. refl, (λ command none. refl, tt))))));
   marked = tt;
 }
+
+-- one controller is loaded twice
+two_loads : LoansHold (with_running (rests 0 0 ∷ rests 1 0 ∷ [])) → ⊥
+unfolding IsDistinct
+two_loads holds = true≢false holds.once.0.0
+
+-- a later load has an earlier serial
+falling_serials : LoansHold (with_running (rests 1 0 ∷ rests 0 3 ∷ [])) → ⊥
+falling_serials holds = let later : 1 < 0 = holds.rising.0.0 in omega (arith, later)
+
+-- a controller left, and its command keeps its value
+command_left : LoansHold (record (with_running (rests 0 0 ∷ [])) { values = record { interface = record { called = a_command j1_position; whose = of_joint 0 0 }; value = Num (pos 5) } ∷ [] }) → ⊥
+command_left holds = let nothing : Num (pos 5) ≡ Unset = holds.unclaimed.0 refl refl in cc
 
 -- two claim one interface
 two_owners : LoansHold (with_running (runs 0 0 false ∷ runs 1 3 false ∷ [])) → ⊥
@@ -169,24 +184,6 @@ another_answer = record { before = decided_state; call = Told 0; reply = reply.O
 told_otherwise : TicketsFrom [] (moments_of asked (Begin 0 ∷ []) ++ another_answer ∷ []) → ⊥
 unfolding all_concluded
 told_otherwise holds = never (ap says_ended holds.1.0.told)
-
--- ---- Strict switches
-
--- the forward is to be active
-abbrev forward_on : SwitchRequest
-forward_on = record { on = codes "fwd" ∷ []; off = []; strict = true }
-
--- the switch is told as done, and nothing changed
-half_a_switch : WholeOrNothing at_rest forward_on at_rest (outcome.Done []) → ⊥
-half_a_switch holds = never (holds.1 0)
-
--- it is told as refused, and the controller runs
-change_of_a_refused_one : WholeOrNothing at_rest forward_on at_work (outcome.Refused (codes "fwd") cause.NotReady) → ⊥
-change_of_a_refused_one holds = true≢false (ap (λ ls. list_any is_active ls) holds.0.loaded)
-
--- it is refused for a cause that is not true
-untrue_cause : WholeOrNothing at_rest forward_on at_rest (outcome.Refused (codes "fwd") cause.NoSuchMove) → ⊥
-untrue_cause holds = holds.1
 
 -- ---- Unloads
 

@@ -87,6 +87,7 @@ slot_steady s i l new at keeps steady =
         embodied = kept.embodied;
         numbers = kept.numbers;
         empty = rw alike kept.empty;
+        unclaimed = rw alike kept.unclaimed;
       };
       together = rw alike steady.together;
     }
@@ -238,6 +239,7 @@ removed_steady s i l at idle steady =
         embodied = kept.embodied;
         numbers = kept.numbers;
         empty = rw alike kept.empty;
+        unclaimed = rw alike kept.unclaimed;
       };
       together = rw alike steady.together;
     }
@@ -283,6 +285,7 @@ pushed_steady s blanks place c new steady =
         embodied = kept.embodied;
         numbers = kept.numbers;
         empty = rw alike kept.empty;
+        unclaimed = rw alike kept.unclaimed;
       };
       together = rw alike steady.together;
     }
@@ -331,6 +334,7 @@ map_keeps s change keeps aloft mails steady =
         embodied = kept.embodied;
         numbers = kept.numbers;
         empty = rw alike kept.empty;
+        unclaimed = rw alike kept.unclaimed;
       };
       together = rw alike steady.together;
     }

@@ -22,6 +22,9 @@ pub mod Cycle
 pub mod Boundary
 pub mod Machine
 pub mod CauseIsTrue
+pub mod Serials
+pub mod Loans
+pub mod Deciding
 pub mod Sound
 pub mod Steady
 pub mod Scheduled

@@ -1,46 +1,31 @@
 -- What is promised of every legal history, in five parts: loans are exclusive and present; each due controller runs once,
 -- predecessors first; one configuration holds from a begin to its end; each request is decided once, and a strict switch whole or not
 -- at all, with a cause that is true; an unload leaves nothing behind.
-use Rattle.std.specs.Prelude.{◌≡◌, ℕ, ◌==◌, Bool, true, false, not, ◌&&◌, ◌||◌, List, [], ◌∷◌, ◌++◌, map, find, slice_index_or, Option, Some, None, option_map, IfSome}
+use Rattle.std.specs.Prelude.{◌≡◌, ℕ, ◌==◌, Bool, true, false, not, ◌&&◌, ◌||◌, List, [], ◌∷◌, ◌++◌, map, find, Option, Some, None, option_map, IfSome}
 use Rattle.std.specs.List.{list_any, AllByRecursion, IsDistinct}
 use Rattle.std.specs.Option.{option_map_or}
 use Rattle.fixed_num.specs.declared.value.BodyState.{BodyState}
-use Rattle.fixed_num.specs.declared.value.Value.{Value}
-use Rattle.fixed_num.specs.declared.value.Value.TheVariants.{Unset, Num}
-use Rattle.iface_names.specs.declared.interface.IfaceName.{IfaceName}
-use Rattle.cm_document.specs.Links.{is_among}
-use Rattle.cm_document.specs.Places.{Whose}
 use Rattle.cm_document.specs.declared.call.Call.{Call}
 use Rattle.cm_document.specs.declared.call.Call.TheVariants as call
-use Rattle.cm_document.specs.declared.call.SwitchRequest.{SwitchRequest}
-use Rattle.cm_document.specs.declared.description.CtlDesc.{CtlDesc}
 use Rattle.cm_document.specs.declared.description.Description.{Description}
 use Rattle.cm_document.specs.declared.life.Life.{Life}
-use Rattle.cm_document.specs.declared.life.Life.TheVariants.{Unconfigured}
-use Rattle.cm_model.specs.Boundary.{waiting, concluded, with_outcome, decisions_from, component_place, life_at}
-use Rattle.cm_model.specs.CauseIsTrue.{IsTrueOf, is_true_of_move, strict_set}
-use Rattle.cm_model.specs.Claims.{is_state_named, value_where}
-use Rattle.cm_model.specs.Commit.{scene_of}
-use Rattle.cm_model.specs.Components.{is_available, is_listed}
+use Rattle.cm_model.specs.Boundary.{waiting, decisions_from}
+use Rattle.cm_model.specs.Components.{is_listed}
 use Rattle.cm_model.specs.Console.{controller_of}
-use Rattle.cm_model.specs.Controllers.{runs_chained}
 use Rattle.cm_model.specs.Cycle.{active_order, is_due_now, is_held_off, cycle}
-use Rattle.cm_model.specs.Faults.{component_with, is_missing, is_beside}
+use Rattle.cm_model.specs.Deciding.{AreDecided}
+pub use Rattle.cm_model.specs.Loans.{names_at, reads_at, is_there, CanRunTogether, is_number, IsEmptyUnless, IsUnsetUnlessClaimed, IsMarked, LoansHold}
 use Rattle.cm_model.specs.Machine.{step}
-use Rattle.cm_model.specs.Order.{Places, controller_at, precedes_at}
-use Rattle.cm_model.specs.Scene.{claims_at, is_chained_in}
-use Rattle.cm_model.specs.State.{State, Loaded, MailAloft, boot, is_active, active, available_in}
+use Rattle.cm_model.specs.Order.{precedes_at}
+use Rattle.cm_model.specs.State.{State, Loaded, MailAloft, boot, is_active}
 use Rattle.cm_model.specs.Values.{InterfaceValue}
 use Rattle.cm_model.specs.declared.blanks.Blanks.{Blanks}
 use Rattle.cm_model.specs.declared.cause.Decision.{Decision}
 use Rattle.cm_model.specs.declared.cause.Outcome.{Outcome}
-use Rattle.cm_model.specs.declared.cause.Outcome.TheVariants as outcome
 use Rattle.cm_model.specs.declared.data.CtlData.{CtlData}
 use Rattle.cm_model.specs.declared.entry.Entry.{Entry}
 use Rattle.cm_model.specs.declared.reply.Reply.{Reply}
 use Rattle.cm_model.specs.declared.reply.Reply.TheVariants as reply
-use Rattle.cm_model.specs.declared.request.Request.{Request}
-use Rattle.cm_model.specs.declared.request.Request.TheVariants as request
 
 -- ---- Histories, moment by moment
 
@@ -60,53 +45,6 @@ moments s (e ∷ es) = elim (step s e.who e.call) [
 ]
 
 -- ---- First: loans are exclusive and present
-
--- the controller at this place claims the interface or reads it
-abbrev pub names_at : List CtlDesc → ℕ → IfaceName → Bool
-names_at controllers p interface = is_among interface ((controller_at controllers p).claims ++ (controller_at controllers p).reads)
-
--- the controller at this place reads the interface
-abbrev pub reads_at : List CtlDesc → ℕ → IfaceName → Bool
-reads_at controllers p interface = is_among interface (controller_at controllers p).reads
-
--- it holds a number
-abbrev pub is_number : Value → Bool
-is_number Unset = false
-is_number (Num n) = true
-
--- the interface is a reference, or one of a component that is inactive or active
-abbrev pub is_there : Description → List Life → IfaceName → Bool
-is_there d lives interface = option_map_or (λ place. is_available (slice_index_or lives place Unconfigured)) (component_with d.components interface) true
-
--- where it is not there, the interface holds nothing
-abbrev pub IsEmptyUnless : (Whose → Bool) → InterfaceValue → Type 0
-IsEmptyUnless there v = there v.interface.whose ≡ false → v.value ≡ Unset
-
--- where it runs, it says chained exactly where a member of the set claims one of its references
-abbrev pub IsMarked : List CtlDesc → Places → Loaded → Type 0
-IsMarked controllers set l = IfSome l.ctl.run (λ part. runs_chained part ≡ is_chained_in controllers set l.place)
-
--- Of a set of controllers, while the components are in these lifecycle states:
-pub record CanRunTogether (d : Description) (lives : List Life) (set : Places) : Type 0 where
-  -- no two members claim one interface;
-  pub exclusive : (p q : ℕ) (interface : IfaceName) → set p ≡ true → set q ≡ true
-      → claims_at d.controllers p interface ≡ true → claims_at d.controllers q interface ≡ true → p ≡ q
-  -- no two command interfaces of one joint are claimed by members;
-  pub one_mode : (p q : ℕ) (interface other : IfaceName) → set p ≡ true → set q ≡ true
-      → claims_at d.controllers p interface ≡ true → claims_at d.controllers q other ≡ true → is_beside interface other ≡ false
-  -- what a member claims or reads of a component is available;
-  pub available : (p : ℕ) (interface : IfaceName) → set p ≡ true → names_at d.controllers p interface ≡ true → is_there d lives interface ≡ true
-  -- and the controller is a member that exports a reference which a member claims.
-  pub followed : (p : ℕ) (interface : IfaceName) → set p ≡ true → claims_at d.controllers p interface ≡ true → is_missing d.controllers set interface ≡ false
-
--- In a state the active controllers can run together; each interface that one of them reads holds a number, and each that is not
--- available holds nothing; and each running part says rightly whether its controller is chained.
-pub record LoansHold (s : State) : Type 0 where
-  pub together : CanRunTogether s.description s.lives (active s)
-  pub present : (p : ℕ) (interface : IfaceName) → active s p ≡ true → reads_at s.description.controllers p interface ≡ true
-      → is_number (value_where (is_state_named interface) s.values) ≡ true
-  pub empty : AllByRecursion (IsEmptyUnless (available_in s.lives (active s))) s.values
-  pub marked : AllByRecursion (IsMarked s.description.controllers (active s)) s.loaded
 
 -- Loans are exclusive and present after each call.
 abbrev pub LoansAlwaysHold : List Moment → Type 0
@@ -222,47 +160,15 @@ abbrev pub TicketsFrom : List Decision → List Moment → Type 0
 TicketsFrom so_far [] = Unit {0}
 TicketsFrom so_far (moment ∷ moments) = TicketsAreRight so_far moment × TicketsFrom (so_far ++ decisions_in moment.reply) moments
 
--- no controller, component, mail or value changes
-pub record NothingChanges (before after : State) : Type 0 where
-  pub loaded : after.loaded ≡ before.loaded
-  pub lives : after.lives ≡ before.lives
-  pub values : after.values ≡ before.values
+-- A begin decides those that waited, one after the other, with the outcomes that it tells, and so comes to the state after it.
+abbrev pub DecidesRightly : Moment → Call → Type 0
+DecidesRightly moment (call.Begin _) = AreDecided moment.before (waiting moment.before) (map (λ decision. decision.outcome) (decisions_in moment.reply)) moment.after
+DecidesRightly moment _ = Unit {0}
 
--- A strict switch was done whole: the active controllers are those from before without those to deactivate, and with those to
--- activate. Or it was refused: then nothing changes, and the cause is true of the name. The loop's end decides none.
-abbrev pub WholeOrNothing : State → SwitchRequest → State → Outcome → Type 0
-WholeOrNothing before switch after (outcome.Done dropped) = (dropped ≡ []) × ((p : ℕ) → active after p ≡ strict_set (scene_of before) switch.off switch.on p)
-WholeOrNothing before switch after (outcome.Refused name reason) = NothingChanges before after × IsTrueOf (scene_of before) switch.off switch.on name reason
-WholeOrNothing before switch after outcome.LoopEnded = ⊥
-
--- A hardware request was done: the component is in the asked state, and no controller changes. Or it was refused: then nothing
--- changes, and the cause is true.
-abbrev pub MovedOrNothing : State → List ℕ → Life → State → Outcome → Type 0
-MovedOrNothing before name target after (outcome.Done dropped) =
-    (option_map (life_at after) (component_place before.description name) ≡ Some target) × (after.loaded ≡ before.loaded)
-MovedOrNothing before name target after (outcome.Refused named reason) = NothingChanges before after × (is_true_of_move before name target reason ≡ true)
-MovedOrNothing before name target after outcome.LoopEnded = ⊥
-
--- a request that a begin decided; of a switch of best effort nothing is said here
-abbrev pub IsDecidedRightly : State → Request → State → Outcome → Type 0
-IsDecidedRightly before (request.Switch switch) after became = switch.strict ≡ true → WholeOrNothing before switch after became
-IsDecidedRightly before (request.Hardware component target) after became = MovedOrNothing before component target after became
-
--- these requests, decided one after the other from this state on
-abbrev pub AreDecidedRightly : State → List Request → Type 0
-AreDecidedRightly s [] = Unit {0}
-AreDecidedRightly s (asked ∷ later) =
-    IsDecidedRightly s asked (concluded s asked).state (concluded s asked).outcome × AreDecidedRightly (with_outcome (concluded s asked)) later
-
--- those that waited, where the call is a begin
-abbrev pub DecidesRightly : State → Call → Type 0
-DecidesRightly s (call.Begin _) = AreDecidedRightly s (waiting s)
-DecidesRightly s _ = Unit {0}
-
--- Each ticket is decided once, and told so; and each begin does a strict switch whole, or not at all and with a cause that is true.
+-- Each ticket is decided once, and told so; and each begin decides rightly.
 pub record RequestsAreDecidedOnce (moments : List Moment) : Type 0 where
   pub tickets : TicketsFrom [] moments
-  pub whole : AllByRecursion (λ moment. DecidesRightly moment.before moment.call) moments
+  pub whole : AllByRecursion (λ moment. DecidesRightly moment moment.call) moments
 
 -- ---- Fifth: an unload leaves nothing behind
 

@@ -5,8 +5,8 @@ use Rattle.cm_document.specs.Places.{Whose, of_joint, of_controller, interfaces_
 use Rattle.cm_document.specs.declared.description.CtlDesc.{CtlDesc}
 use Rattle.cm_document.specs.declared.description.Description.{Description}
 use Rattle.cm_document.specs.declared.life.Life.{Life}
+use Rattle.cm_model.specs.Loans.{is_number, CanRunTogether, IsEmptyUnless, IsUnsetUnlessClaimed, IsMarked}
 use Rattle.cm_model.specs.Order.{Places, controller_at}
-use Rattle.cm_model.specs.Sound.{is_number, CanRunTogether, IsEmptyUnless, IsMarked}
 use Rattle.cm_model.specs.State.{State, Loaded, is_active, active, available_in}
 use Rattle.cm_model.specs.Values.{InterfaceValue, running, is_state_of}
 
@@ -42,8 +42,8 @@ HasBody bodies (of_controller place) = Unit {0}
 
 -- What switches, moves and cycles keep, whichever controllers are active: each described controller is loaded once at most, with its
 -- own parameters; the active ones say rightly whether they are chained; each component has its lifecycle state; the interfaces are the
--- described ones, each of a joint with a body; each state interface that is available holds a number, and each interface that is not
--- available holds nothing.
+-- described ones, each of a joint with a body; each state interface that is available holds a number; each interface that is not
+-- available holds nothing, and neither does a command interface or a reference that no active controller claims.
 pub record AreInOrder (d : Description) (loaded : List Loaded) (lives : List Life) (bodies : ℕ) (values : List InterfaceValue) : Type 0 where
   pub once : IsDistinct (λ p q. p == q) (map (λ l. l.place) loaded)
   pub own : AllByRecursion (IsOwn d.controllers) loaded
@@ -53,6 +53,7 @@ pub record AreInOrder (d : Description) (loaded : List Loaded) (lives : List Lif
   pub embodied : AllByRecursion (λ v. HasBody bodies v.interface.whose) values
   pub numbers : AllByRecursion (HoldsNumber (running lives)) values
   pub empty : AllByRecursion (IsEmptyUnless (available_in lives (has_loaded is_active loaded))) values
+  pub unclaimed : AllByRecursion (IsUnsetUnlessClaimed d.controllers (has_loaded is_active loaded)) values
 
 abbrev pub IsInOrder : State → Type 0
 IsInOrder s = AreInOrder s.description s.loaded s.lives (length s.bodies) s.values

@@ -26,6 +26,7 @@ use Rattle.cm_model.specs.Cycle.{period, component_is, is_due_now, mail_off, wit
 use Rattle.cm_model.specs.Kinds.{takes}
 use Rattle.cm_model.specs.Order.{Places, divisor}
 use Rattle.cm_model.specs.Scene.{is_chained_in}
+use Rattle.cm_model.specs.Serials.{IsNumbered}
 use Rattle.cm_model.specs.State.{State, Loaded, MailAloft, is_active, active}
 use Rattle.cm_model.specs.Steady.{IsSteady}
 use Rattle.cm_model.specs.Switches.{is_stopped, is_started}
@@ -38,7 +39,6 @@ use Rattle.switch_plan.proofs.ElementLemmas.{here, later}
 use Rattle.cm_model.proofs.InterfaceLemmas.{all_map_back}
 use Rattle.sound_laws.proofs.ParamsLemmas.{all_at, all_each}
 use Rattle.sound_laws.proofs.RunLemmas.{one_of_serial}
-use Rattle.sound_laws.proofs.SerialLemmas.{IsNumbered}
 use Rattle.sound_laws.proofs.UpdatedLemmas.{updates_all}
 use Rattle.ctl_slots.specs.Fit.{IsTimedIn, IsWaiting, IsFor, AreFit}
 use Rattle.ctl_slots.specs.Updates.{HasTime, IsInTime}

@@ -11,13 +11,13 @@ ghost use Rattle.cm_model.specs.Cycle.{begun, cycle, landed};
 ghost use Rattle.cm_model.specs.Kinds.{takes};
 ghost use Rattle.cm_model.specs.Order.{Places};
 ghost use Rattle.cm_model.specs.Scene.{is_chained_in};
+ghost use Rattle.cm_model.specs.Serials.{IsNumbered};
 ghost use Rattle.cm_model.specs.State.{State, Loaded, is_active, active};
 ghost use Rattle.cm_model.specs.Steady.{IsOwn, IsSteady};
 ghost use Rattle.ctl_places.specs.Placed.{placed_of};
 ghost use Rattle.ctl_trait.specs.Taking.{CanTake};
 ghost use Rattle.ctl_slots.specs.Fit.{AreFit};
 ghost use Rattle.ctl_slots.specs.Seats.{widest, IsSeated, HasRoom};
-ghost use Rattle.sound_laws.proofs.SerialLemmas.{IsNumbered};
 
 /// A loaded controller of a valid description, with its own parameters, stands on the board of that description, and there is room for
 /// what it has.

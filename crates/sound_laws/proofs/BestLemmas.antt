@@ -1,9 +1,9 @@
 -- The set that a best effort leads to can run together: what does not leave can, and each that joins has no fault beside those that did.
-use Rattle.std.proofs.Common.{◌≡◌, ◌⊎◌, ℕ, suc, true, false, List, [], ◌∷◌, ◌++◌, length, get_or, Option, Some, None, inl, inr, refl, sym, ◌∙◌, subst, ap, true≢false}
-use Rattle.std.specs.Prelude.{◌==◌, ◌&&◌, not}
-use Rattle.std.specs.List.{All, list_any}
+use Rattle.std.proofs.Common.{◌≡◌, ◌⊎◌, ℕ, suc, Bool, true, false, List, [], ◌∷◌, ◌++◌, length, get_or, Option, Some, None, inl, inr, refl, sym, ◌∙◌, subst, ap, true≢false}
+use Rattle.std.specs.Prelude.{◌==◌, ◌&&◌, not, option_map}
+use Rattle.std.specs.List.{All, list_any, cons_option}
 use Rattle.std.specs.Option.{option_map_or}
-use Rattle.std.proofs.lemmas.Bool.{and_parts, and_from, or_cases, or_right, not-true, not-false, eqb-true, eq-eqb, cases_Bool}
+use Rattle.std.proofs.lemmas.Bool.{and_parts, and_from, or_cases, or_left, or_right, not-true, not-false, eqb-true, eq-eqb, cases_Bool}
 use Rattle.std.proofs.lemmas.List.Elements.{All-head, All-tail}
 use Rattle.std.proofs.lemmas.List.Folds.{list_any_at}
 use Rattle.std.proofs.lemmas.List.Quantifiers.{position-Some}
@@ -11,17 +11,18 @@ use Rattle.iface_names.specs.declared.interface.IfaceName.{IfaceName}
 use Rattle.cm_document.specs.Links.{is_among, refs_of, exporter}
 use Rattle.cm_document.specs.declared.description.CtlDesc.{CtlDesc}
 use Rattle.cm_model.proofs.CommitLemmas.{scene_active}
+use Rattle.cm_model.proofs.LoadedLemmas.{and_false}
 use Rattle.cm_model.specs.BestEffort.{Joined, joined_with, join, join_all, by_height, faultless, reduced, best, joining}
 use Rattle.cm_model.specs.Boundary.{with_switch}
 use Rattle.cm_model.specs.Commit.{scene_of, commit}
 use Rattle.cm_model.specs.Faults.{first_of, is_missing, fault_of_kind, fault}
 use Rattle.cm_model.specs.Order.{Places, nobody, controller_at, precedes_at, with_one, places_of, height}
 use Rattle.cm_model.specs.Scene as scenes
-use Rattle.cm_model.specs.Scene.{Scene, controllers_in, described, claims_at, loaded_of, loaded_all}
+use Rattle.cm_model.specs.Scene.{Scene, controllers_in, described, claims_at, loaded_of, loaded_all, member, named}
 use Rattle.cm_model.specs.Sound.{CanRunTogether}
 use Rattle.cm_model.specs.State.{State, active}
 use Rattle.cm_model.specs.Steady.{has_loaded, IsSteady}
-use Rattle.cm_model.specs.Switches.{on_fault, Decided, refused, done}
+use Rattle.cm_model.specs.Switches.{off_fault, on_fault, Decided, refused, done}
 use Rattle.cm_model.specs.declared.cause.Cause.{Cause}
 use Rattle.cm_model.specs.declared.cause.Dropped.{Dropped}
 use Rattle.cm_model.specs.declared.fault_kind.FaultKind.TheVariants as fault_kind
@@ -29,9 +30,10 @@ use Rattle.cm_model.specs.declared.member.Member.{Member}
 use Rattle.cm_model.specs.declared.seen.Seen.{Seen}
 use Rattle.chain_order.proofs.RunLemmas.{by_rank-all}
 use Rattle.switch_plan.specs.Laws.{CanLeave, asked_off, tried_on}
-use Rattle.switch_plan.proofs.CauseLemmas.{claims_from, named_one}
-use Rattle.switch_plan.proofs.ElementLemmas.{or_none, any_from}
+use Rattle.switch_plan.proofs.CauseLemmas.{claims_from, named_one, named_more}
+use Rattle.switch_plan.proofs.ElementLemmas.{or_none, any_from, some_of}
 use Rattle.switch_plan.proofs.LeavingLemmas.{reduced_CanLeave, asked_active}
+use Rattle.switch_plan.proofs.MaximalLemmas.{join_all-more}
 use Rattle.sound_laws.proofs.FitLemmas.{IsClearOf, none_missing, extended_together}
 use Rattle.sound_laws.proofs.ParamsLemmas.{has_params, HaveParams, params_loaded, active_params, commit_of, faultless_params}
 use Rattle.sound_laws.proofs.StrictLemmas.{seen_loaded}
@@ -167,9 +169,59 @@ module _ (s : State) (leaving : Places) where
       ]
 
 -- each of these is at its place
-own_places : (ms : List Member) (P : ℕ → Type 0) → ((p : ℕ) → places_of ms p ≡ true → P p) → All (λ m. P m.place) ms
+pub own_places : (ms : List Member) (P : ℕ → Type 0) → ((p : ℕ) → places_of ms p ≡ true → P p) → All (λ m. P m.place) ms
 own_places ms P holds k d below =
     holds (get_or ms k d).place (list_any_at (λ m. m.place == (get_or ms k d).place) ms k d below (eq-eqb (get_or ms k d).place (get_or ms k d).place refl))
+
+-- ---- Who is named
+
+-- of the names without a fault each is one of the names
+module _ (scene : Scene) (fault : List (List ℕ) → List ℕ → Option Cause) where
+  first_named : (o : Option Seen) (few many : List Member) (p : ℕ) → (places_of few p ≡ true → places_of many p ≡ true)
+      → places_of (cons_option (option_map member o) few) p ≡ true → places_of (cons_option (option_map member o) many) p ≡ true
+  first_named None few many p rest any = rest any
+  first_named (Some l) few many p rest any =
+      elim (or_cases (l.place == p) (places_of few p) any) [
+        | inl here ↦ or_left (l.place == p) (places_of many p) here
+        | inr later ↦ or_right (l.place == p) (places_of many p) (rest later)
+      ]
+
+  faultless_named : (before names : List (List ℕ)) (p : ℕ) → places_of (loaded_all scene (faultless fault before names)) p ≡ true → named scene names p ≡ true
+  faultless_named before [] p any = any
+  faultless_named before (name ∷ names) p any = by_fault (fault before name) (faultless_named (before ++ name ∷ []) names p) any
+    where
+      by_fault : (o : Option Cause) → (places_of (loaded_all scene (faultless fault (before ++ name ∷ []) names)) p ≡ true → named scene names p ≡ true)
+          → places_of (loaded_all scene (elim o [ Some c ↦ faultless fault (before ++ name ∷ []) names | None ↦ name ∷ faultless fault (before ++ name ∷ []) names ])) p ≡ true
+          → named scene (name ∷ names) p ≡ true
+      by_fault (Some c) rest any = named_more scene (loaded_of scene name) (loaded_all scene names) p (rest any)
+      by_fault None rest any =
+          first_named (loaded_of scene name) (loaded_all scene (faultless fault (before ++ name ∷ []) names)) (loaded_all scene names) p rest any
+
+-- each that has joined was there before, or is one of those that were tried
+module _ (scene : Scene) (on : Places) where
+  joined_from : (q : ℕ) (name : List ℕ) (j : Joined) (o : Option Cause) (p : ℕ) → (joined_with q name j o).set p ≡ true → (j.set p ≡ true) ⊎ ((q == p) ≡ true)
+  joined_from q name j None p inside = elim (or_cases (q == p) (j.set p) inside) [ inl new ↦ inr new | inr old ↦ inl old ]
+  joined_from q name j (Some c) p inside = inl inside
+
+  all_joined_from : (j : Joined) (ms : List Member) (p : ℕ) → (join_all scene on j ms).set p ≡ true → (j.set p ≡ true) ⊎ (places_of ms p ≡ true)
+  all_joined_from j [] p inside = inl inside
+  all_joined_from j (m ∷ ms) p inside =
+      elim (all_joined_from (join scene on j m) ms p inside) [
+        | inr later ↦ inr (or_right (m.place == p) (places_of ms p) later)
+        | inl before ↦
+            elim (joined_from m.place (described scene m.place).name j (fault scene (with_one m.place j.set) on m.place) p before) [
+              | inl old ↦ inl old
+              | inr new ↦ inr (or_left (m.place == p) (places_of ms p) new)
+            ]
+      ]
+
+-- by height they are the same ones
+by_height_places : (scene : Scene) (ms : List Member) (p : ℕ) → places_of (by_height scene ms) p ≡ true → places_of ms p ≡ true
+by_height_places scene ms p any =
+    let m = some_of (λ (m : Member). m.place == p) (by_height scene ms) any in
+    let each = by_rank-all (λ m. places_of ms m.place ≡ true) (λ m. height (controllers_in scene) m.place) (suc (length (controllers_in scene))) ms
+    (own_places ms (λ q. places_of ms q ≡ true) (λ q inside. inside)) in
+    subst (λ q. places_of ms q ≡ true) (eqb-true m.0.place p m.2) (subst (λ (m : Member). places_of ms m.place ≡ true) m.1.2 (each m.1.0 m.0 m.1.1))
 
 -- ---- The effort
 
@@ -179,7 +231,7 @@ set_in (refused d) other = other
 set_in (done dropped set again) other = set
 
 module _ (s : State) (steady : IsSteady s) (off on : List (List ℕ)) where
-  abbrev leaving : Places
+  abbrev pub leaving : Places
   leaving = reduced (scene_of s) (asked_off (scene_of s) off)
 
   abbrev staying : Places
@@ -237,3 +289,43 @@ module _ (s : State) (steady : IsSteady s) (off on : List (List ℕ)) where
   -- What becomes of a best effort is steady.
   pub best_steady : IsSteady (with_switch s (best (scene_of s) off on)).state
   best_steady = commit_effort _
+
+  -- ---- Who comes and who leaves
+
+  abbrev pub effort : List Dropped → Places
+  effort dropped = (joining (scene_of s) leaving dropped tried).set
+
+  pub effort_together : (dropped : List Dropped) → CanRunTogether s.description s.lives (effort dropped)
+  effort_together dropped = (effort_fit dropped).together
+
+  pub effort_params : (dropped : List Dropped) → HaveParams s.loaded (effort dropped)
+  effort_params dropped = (effort_fit dropped).params
+
+  -- who is of the set and did not stay was to be activated,
+  pub best_came : (dropped : List Dropped) (p : ℕ) → effort dropped p ≡ true → staying p ≡ false → named (scene_of s) on p ≡ true
+  best_came dropped p inside out =
+      elim (all_joined_from (scene_of s) (places_of tried) (record { set = staying; dropped = dropped }) (by_height (scene_of s) tried) p inside) [
+        | inl old ↦ absurd (true≢false (sym old ∙ out))
+        | inr new ↦ faultless_named (scene_of s) (on_fault (scene_of s) leaving) [] on p (by_height_places (scene_of s) tried p new)
+      ]
+
+  -- who leaves was to be deactivated,
+  pub best_asked_off : (p : ℕ) → leaving p ≡ true → named (scene_of s) off p ≡ true
+  best_asked_off p leaves = faultless_named (scene_of s) (off_fault (scene_of s)) [] off p (can_leave.within p leaves)
+
+  -- and who was active and is not of the set leaves.
+  pub best_left : (dropped : List Dropped) (p : ℕ) → active s p ≡ true → effort dropped p ≡ false → leaving p ≡ true
+  best_left dropped p was out =
+      elim (cases_Bool (leaving p)) [
+        | inl leaves ↦ leaves
+        | inr stays ↦
+            absurd (true≢false (sym (join_all-more (scene_of s) (places_of tried) (record { set = staying; dropped = dropped }) (by_height (scene_of s) tried) p
+            (and_from (scenes.active (scene_of s) p) (not (leaving p)) (runs p ∙ was) (ap not stays))) ∙ out))
+      ]
+
+  -- one that leaves does not stay, and neither does one that was not active
+  pub not_staying : (p : ℕ) → leaving p ≡ true → staying p ≡ false
+  not_staying p leaves = ap (λ b. scenes.active (scene_of s) p && not b) leaves ∙ and_false (scenes.active (scene_of s) p)
+
+  pub idle_not_staying : (p : ℕ) → active s p ≡ false → staying p ≡ false
+  idle_not_staying p idle = ap (λ b. b && not (leaving p)) (runs p ∙ idle)

@@ -15,12 +15,12 @@ use Rattle.cm_document.specs.declared.description.Description.{Description}
 use Rattle.cm_document.specs.declared.description.JointDesc.{JointDesc}
 use Rattle.cm_model.proofs.InterfaceLemmas.{controllers_all}
 use Rattle.cm_model.specs.Components.{body_at_start, bodies_at_start}
-use Rattle.cm_model.specs.Sound.{IsEmptyUnless}
+use Rattle.cm_model.specs.Loans.{IsEmptyUnless, IsUnsetUnlessClaimed}
 use Rattle.cm_model.specs.State.{available_in, boot, lives_at_start, all_bodies_at_start}
 use Rattle.cm_model.specs.Steady.{HoldsNumber, HasBody, IsSteady}
 use Rattle.cm_model.specs.Values.{unset, running, is_state_of}
 use Rattle.cm_model.specs.declared.blanks.Blanks.{Blanks}
-use Rattle.sound_laws.proofs.ReadLemmas.{read_same, reads_same, reads_hold, reads_empty}
+use Rattle.sound_laws.proofs.ReadLemmas.{read_same, reads_same, reads_hold, reads_empty, reads_unclaimed}
 
 -- ---- Joints of interfaces
 
@@ -92,6 +92,8 @@ module _ (d : Description) (blanks : Blanks) (sessions : ℕ) where
           (all_of _ (λ x not_read state. absurd (true≢false (sym state ∙ not_read))) (interfaces_of d)));
       empty = reads_empty up (lives_at_start d) (λ p. false) bodies (λ c runs. runs) (map unset (interfaces_of d))
           (all_map (IsEmptyUnless (available_in (lives_at_start d) (λ p. false))) unset (interfaces_of d) (all_of _ (λ x gone. refl) (interfaces_of d)));
+      unclaimed = reads_unclaimed up d.controllers (λ p. false) bodies (map unset (interfaces_of d))
+          (all_map (IsUnsetUnlessClaimed d.controllers (λ p. false)) unset (interfaces_of d) (all_of _ (λ x command none. refl) (interfaces_of d)));
     };
     together = record {
       exclusive = λ p q i inside. absurd (true≢false (sym inside));

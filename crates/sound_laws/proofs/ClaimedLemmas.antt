@@ -1,9 +1,9 @@
 -- What active controllers of a steady state claim is available, wherever it is listed.
 use Rattle.std.proofs.Common.{◌≡◌, ℕ, ◌+◌, true, false, List, [], ◌∷◌, ◌++◌, Option, Some, None, inl, inr, refl, sym, ◌∙◌, ap, true≢false, arith}
-use Rattle.std.specs.Prelude.{◌==◌, ◌&&◌, not, position, slice_index_or}
+use Rattle.std.specs.Prelude.{not, position, slice_index_or}
 use Rattle.std.specs.List.{AllByRecursion}
 use Rattle.std.specs.Option.{option_map_or}
-use Rattle.std.proofs.lemmas.Bool.{and_from, not-false, eq-eqb, cases_Bool}
+use Rattle.std.proofs.lemmas.Bool.{not-false, cases_Bool}
 use Rattle.std.proofs.lemmas.List.Elements.{Contains-append_left}
 use Rattle.std.proofs.lemmas.List.Quantifiers.{position-Some}
 use Rattle.sequence.proofs.ListLemmas.{any_flat_map, all_append}
@@ -22,17 +22,16 @@ use Rattle.cm_document.specs.declared.life.Life.TheVariants.{Unconfigured}
 use Rattle.cm_model.proofs.InterfaceLemmas.{components_all}
 use Rattle.cm_model.specs.Commit.{described_of, scene_of}
 use Rattle.cm_model.specs.Components.{is_available}
-use Rattle.cm_model.specs.Cycle.{active_order, is_due_now, is_held_off, updated_in}
+use Rattle.cm_model.specs.Cycle.{updated_in}
 use Rattle.cm_model.specs.Order.{controller_at, nobody}
 use Rattle.cm_model.specs.Scene.{claims_at}
 use Rattle.cm_model.specs.Sound.{names_at, CanRunTogether}
-use Rattle.cm_model.specs.State.{State, Loaded, is_active, active, available_in}
+use Rattle.cm_model.specs.State.{State, active, available_in}
 use Rattle.switch_plan.proofs.CauseLemmas.{claims_from}
-use Rattle.switch_plan.proofs.ElementLemmas.{any_from, filter_back}
-use Rattle.sound_laws.proofs.ActiveLemmas.{from_active_order}
+use Rattle.switch_plan.proofs.ElementLemmas.{any_from}
+use Rattle.sound_laws.proofs.ActiveLemmas.{updated_active}
 use Rattle.sound_laws.proofs.InterfaceLemmas.{is_named, has_named, components_none, interfaces_of_component, exports, references_none, references_of_controller}
 use Rattle.sound_laws.proofs.LoanLemmas.{none_at, running_at}
-use Rattle.sound_laws.proofs.ParamsLemmas.{all_each}
 use Rattle.sound_laws.proofs.UpdatedLemmas.{ClaimsAreThere}
 use Rattle.sound_laws.proofs.ValidLemmas.{IsChecked}
 
@@ -132,7 +131,5 @@ module _ (s : State) (checked : IsChecked s.description) (together : CanRunToget
   -- So it is of those that a cycle updates.
   pub updated_there : AllByRecursion (λ l. ClaimsAreThere (available_in s.lives (active s)) (described_of s l) (interfaces_of d)) (updated_in s)
   updated_there =
-      all_each (λ l. ClaimsAreThere (available_in s.lives (active s)) (described_of s l) (interfaces_of d)) (updated_in s) (λ l inside.
-      let loaded = from_active_order s l (filter_back (λ l. is_due_now s l && not (is_held_off s l)) (active_order s) l inside).0 in
-      claims_there l.place
-      (any_from (λ (each : Loaded). is_active each && each.place == l.place) s.loaded l loaded.0 (and_from (is_active l) (l.place == l.place) loaded.1 (eq-eqb l.place l.place refl))))
+      all_so (λ l. active s l.place ≡ true) (λ l. ClaimsAreThere (available_in s.lives (active s)) (described_of s l) (interfaces_of d)) (λ l runs. claims_there l.place runs)
+      (updated_in s) (updated_active s)

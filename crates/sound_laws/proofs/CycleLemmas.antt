@@ -19,17 +19,18 @@ use Rattle.cm_model.proofs.UpdateLemmas.{updates_keep, updates_leave_active, upd
 use Rattle.cm_model.specs.Commit.{commit}
 use Rattle.cm_model.specs.Components.{is_available, is_listed, read_succeeds, life_after}
 use Rattle.cm_model.specs.Cycle.{component_is, updated_in, Updates, updates, components_stepped, CycleResult, cycle_with, cycle, stays_active, lives_after, landed, after_cycle}
+use Rattle.cm_model.specs.Loans.{IsEmptyUnless, IsUnsetUnlessClaimed, IsMarked}
 use Rattle.cm_model.specs.Ran.{Ran}
-use Rattle.cm_model.specs.Sound.{IsEmptyUnless, IsMarked}
 use Rattle.cm_model.specs.State.{State, Loaded, is_active, available_in}
 use Rattle.cm_model.specs.Steady.{has_loaded, HoldsNumber, HasBody, IsInOrder, IsSteady}
 use Rattle.cm_model.specs.Values.{InterfaceValue, running, after_reads}
+use Rattle.sound_laws.proofs.ActiveLemmas.{updated_active}
 use Rattle.sound_laws.proofs.BootLemmas.{interfaces_below}
 use Rattle.sound_laws.proofs.ClaimedLemmas.{updated_there}
 use Rattle.sound_laws.proofs.ParamsLemmas.{active_params, commit_of}
-use Rattle.sound_laws.proofs.ReadLemmas.{reads_same, reads_hold, reads_empty}
+use Rattle.sound_laws.proofs.ReadLemmas.{reads_same, reads_hold, reads_empty, reads_unclaimed}
 use Rattle.sound_laws.proofs.StopLemmas.{stays_parts, stays_together}
-use Rattle.sound_laws.proofs.UpdatedLemmas.{updates_own, updates_marked, updates_hold, updates_empty, stepped_below}
+use Rattle.sound_laws.proofs.UpdatedLemmas.{updates_own, updates_marked, updates_hold, updates_empty, updates_unclaimed, stepped_below}
 use Rattle.sound_laws.proofs.ValidLemmas.{IsChecked, valid-IsChecked}
 
 -- ---- What the cycle leaves
@@ -105,6 +106,11 @@ module _ (s : State) (checked : IsChecked s.description) (steady : IsSteady s) w
       (reads_same (component_is read_succeeds s) s.bodies s.values ∙ kept.described) (updated_there s checked steady.together)
       (reads_empty (component_is read_succeeds s) s.lives (has_loaded is_active s.loaded) s.bodies (reads_run s.ended s.description.components s.lives) s.values kept.empty)
 
+  unclaimed_stay : AllByRecursion (IsUnsetUnlessClaimed s.description.controllers (has_loaded is_active s.loaded)) made.values
+  unclaimed_stay =
+      updates_unclaimed s (has_loaded is_active s.loaded) begun (updated_in s) (updated_active s)
+      (reads_unclaimed (component_is read_succeeds s) s.description.controllers (has_loaded is_active s.loaded) s.bodies s.values kept.unclaimed)
+
   updated_in_order : IsInOrder updated
   updated_in_order = record {
     once = subst (IsDistinct (λ p q. p == q)) (sym (updates_keep s (λ (l : Loaded). l.place) (λ vs serial l. step_keeps_place s vs serial l) begun (updated_in s))) kept.once;
@@ -116,6 +122,7 @@ module _ (s : State) (checked : IsChecked s.description) (steady : IsSteady s) w
     embodied = bodies_stay;
     numbers = numbers_stay;
     empty = subst (λ set. AllByRecursion (IsEmptyUnless (available_in s.lives set)) made.values) (sym same_active) empty_stay;
+    unclaimed = subst (λ set. AllByRecursion (IsUnsetUnlessClaimed s.description.controllers set) made.values) (sym same_active) unclaimed_stay;
   }
 
   pub landed_in_order : IsInOrder (landed s (cycle_with s made))

@@ -1,9 +1,9 @@
 -- A request is decided rightly: done whole, or refused with a cause that is true and no change.
-use Rattle.std.proofs.Common.{◌≡◌, ℕ, ◌<◌, Bool, true, false, List, [], ◌∷◌, length, Option, Some, None, inl, inr, refl, sym, ◌∙◌, subst, ap, arith}
-use Rattle.std.specs.Prelude.{◌==◌, ◌&&◌, not, if◌then◌else◌, find, position, is_some, option_map, slice_index_or, slice_set}
+use Rattle.std.proofs.Common.{◌≡◌, ℕ, ◌<◌, Bool, true, false, List, [], ◌∷◌, ◌++◌, length, map, Option, Some, None, inl, inr, refl, sym, ◌∙◌, subst, ap, arith}
+use Rattle.std.specs.Prelude.{◌==◌, ◌&&◌, not, if◌then◌else◌, find, position, is_some, option_map, slice_set}
 use Rattle.std.specs.Option.{option_map_or}
-use Rattle.std.proofs.lemmas.Bool.{and_from}
-use Rattle.std.proofs.lemmas.List.{get_or-set_same}
+use Rattle.std.proofs.Math.Path.{fun_ext}
+use Rattle.std.proofs.lemmas.Bool.{and_from, and_parts}
 use Rattle.std.proofs.lemmas.List.Quantifiers.{position-Some}
 use Rattle.std.proofs.lemmas.Slice.Eq.{bytes_eq-Decides}
 use Rattle.std.proofs.lemmas.Option.{same_Some}
@@ -13,43 +13,63 @@ use Rattle.cm_document.specs.declared.call.Call.TheVariants.{Begin}
 use Rattle.cm_document.specs.declared.call.SwitchRequest.{SwitchRequest}
 use Rattle.cm_document.specs.declared.description.CompDesc.{CompDesc}
 use Rattle.cm_document.specs.declared.life.Life.{Life}
-use Rattle.cm_document.specs.declared.life.Life.TheVariants.{Unconfigured}
-use Rattle.cm_model.proofs.CommitLemmas.{commit_active}
+use Rattle.cm_model.proofs.StayLemmas.{IsStep}
 use Rattle.cm_model.specs.BestEffort.{best, decided}
-use Rattle.cm_model.specs.Boundary.{waiting, with_switch, component_place, user_of, life_at, move_fault, with_move_unless, with_move, concluded, with_outcome}
+use Rattle.cm_model.specs.Boundary.{waiting, with_switch, component_place, user_of, life_at, move_fault, with_move_unless, with_move, Concluded, concluded, with_outcome, all_concluded, begin_effect, begin_reply}
 use Rattle.cm_model.specs.CauseIsTrue.{is_used_by, is_true_of_move, strict_set}
 use Rattle.cm_model.specs.Claims.{uses}
-use Rattle.cm_model.specs.Commit.{described_of, scene_of}
+use Rattle.cm_model.specs.Commit.{described_of, scene_of, commit}
 use Rattle.cm_model.specs.Components.{is_available, has_move}
-use Rattle.cm_model.specs.Cycle.{active_order}
+use Rattle.cm_model.specs.Cycle.{active_order, is_due_now, without_mail_off, moved, begun}
+use Rattle.cm_model.specs.Deciding.{lasting, NothingChanges, HasSwitched, WholeOrNothing, IsDoneInPart, AsMuchAsCanBe, IsSwitchDecided, HasMoved, MovedOrNothing, IsDecidedRightly, IsDecision, without_mail, apart_from_mail, AreDecided}
 use Rattle.cm_model.specs.Faults.{cause_if}
+use Rattle.cm_model.specs.Loans.{CanRunTogether}
 use Rattle.cm_model.specs.Order.{Places}
 use Rattle.cm_model.specs.Scene.{named}
-use Rattle.cm_model.specs.Sound.{NothingChanges, WholeOrNothing, MovedOrNothing, IsDecidedRightly, AreDecidedRightly, DecidesRightly}
-use Rattle.cm_model.specs.State.{State, Loaded, is_active}
-use Rattle.cm_model.specs.Steady.{IsSteady}
-use Rattle.cm_model.specs.Switches.{Decided, strict}
+use Rattle.cm_model.specs.Sound.{decisions_in, DecidesRightly}
+use Rattle.cm_model.specs.State.{State, Loaded, is_active, active}
+use Rattle.cm_model.specs.Steady.{IsInOrder, IsSteady}
+use Rattle.cm_model.specs.Switches.{Decided, refused, done, strict}
 use Rattle.cm_model.specs.declared.cause.Cause.{Cause}
 use Rattle.cm_model.specs.declared.cause.Cause.TheVariants as cause
+use Rattle.cm_model.specs.declared.cause.Dropped.{Dropped}
+use Rattle.cm_model.specs.declared.cause.Outcome.{Outcome}
+use Rattle.cm_model.specs.declared.cause.Outcome.TheVariants as outcome
+use Rattle.cm_model.specs.declared.reply.Reply.{Reply}
 use Rattle.cm_model.specs.declared.request.Request.{Request}
 use Rattle.cm_model.specs.declared.request.Request.TheVariants as request
 use Rattle.switch_plan.proofs.CauseLemmas.{counts_true}
 use Rattle.switch_plan.proofs.DecisionLemmas.{strict_done, strict_refused}
 use Rattle.switch_plan.proofs.ElementLemmas.{or_some, map_some, any_from, found}
 use Rattle.sound_laws.proofs.ActiveLemmas.{from_active_order}
+use Rattle.sound_laws.proofs.BestLemmas.{leaving, effort, effort_together, effort_params, best_came, best_asked_off, best_left, not_staying, idle_not_staying}
 use Rattle.sound_laws.proofs.BoundaryLemmas.{concluded_steady, outcome_steady}
-use Rattle.sound_laws.proofs.ParamsLemmas.{params_loaded, params_configured}
+use Rattle.sound_laws.proofs.MomentLemmas.{moment_of}
+use Rattle.sound_laws.proofs.MovedLemmas.{move_lasts, component_moved}
+use Rattle.sound_laws.proofs.ParamsLemmas.{HaveParams, params_loaded, params_configured}
 use Rattle.sound_laws.proofs.StrictLemmas.{params, strict_either}
+use Rattle.sound_laws.proofs.SwitchedLemmas.{map_leaves, commit_lasts, commit_switched}
+use Rattle.sound_laws.proofs.TicketLemmas.{concluded_keeps, outcomes_from, begin_outcomes}
 
-same_state : (s : State) → NothingChanges s s
-same_state s = record { loaded = refl; lives = refl; values = refl }
+-- what has an outcome more is as it was
+unchanged : (s : State) (became : Outcome) → NothingChanges s (with_outcome (record { state = s; outcome = became }))
+unchanged s became = record { loaded = refl; lives = refl; values = refl }
 
--- ---- Strict switches
+-- ---- Switches
+
+-- the outcome stands in the state that was switched, too
+told_switched : (s : State) (set again : Places) (c : Concluded) → HasSwitched s set again c.state → HasSwitched s set again (with_outcome c)
+told_switched s set again c switched = record { set_is = switched.set_is; controllers = switched.controllers; values = switched.values; lives = switched.lives }
 
 module _ (s : State) (steady : IsSteady s) (r : SwitchRequest) where
+  -- a set of which each has parameters comes to be active
+  set_switched : (set again : Places) → HaveParams s.loaded set → HasSwitched s set again (commit s set again)
+  set_switched set again have =
+      commit_switched s set again steady.in_order (params_loaded s.loaded set have) (params_configured s set steady.in_order have)
+
   -- that the decision is whole or nothing
   abbrev IsRight : Decided → Type 0
-  IsRight d = WholeOrNothing s r (with_switch s d).state (with_switch s d).outcome
+  IsRight d = WholeOrNothing s r (with_outcome (with_switch s d)) (with_switch s d).outcome
 
   strict_right : IsRight (strict (scene_of s) r.off r.on)
   strict_right =
@@ -57,15 +77,54 @@ module _ (s : State) (steady : IsSteady s) (r : SwitchRequest) where
         | inl whole ↦
             let can = (strict_done (scene_of s) r.off r.on).0 whole in
             let set = strict_set (scene_of s) r.off r.on in
-            let have = params s steady r.off r.on can in
             let again : Places = λ p. named (scene_of s) r.off p && named (scene_of s) r.on p in
             subst IsRight (sym whole)
-            (refl, λ (p : ℕ). ap (λ (f : Places). f p) (commit_active s set again steady.in_order (params_loaded s.loaded set have) (params_configured s set steady.in_order have)))
-        | inr (d, refuses) ↦ subst IsRight (sym refuses) (same_state s, counts_true (scene_of s) r.off r.on d (strict_refused (scene_of s) r.off r.on d refuses))
+            (refl, told_switched s set again (with_switch s (done [] set again)) (set_switched set again (params s steady r.off r.on can)))
+        | inr (d, refuses) ↦
+            subst IsRight (sym refuses)
+            (unchanged s (outcome.Refused d.name d.cause), counts_true (scene_of s) r.off r.on d (strict_refused (scene_of s) r.off r.on d refuses))
       ]
 
-  switch_right : r.strict ≡ true → IsRight (decided (scene_of s) r)
-  switch_right is = subst IsRight (sym (ap (λ (b : Bool). if b then strict (scene_of s) r.off r.on else best (scene_of s) r.off r.on) is)) strict_right
+  -- of a best effort, which leads to this set, once these were dropped of its lists
+  module _ (before dropped : List Dropped) where
+    abbrev set : Places
+    set = effort s steady r.off r.on before
+
+    abbrev again : Places
+    again p = leaving s steady r.off r.on p && set p
+
+    abbrev reached : State
+    reached = with_outcome (with_switch s (done dropped set again))
+
+    effort_switched : HasSwitched s set again reached
+    effort_switched = told_switched s set again (with_switch s (done dropped set again)) (set_switched set again (effort_params s steady r.off r.on before))
+
+    active_is : active reached ≡ set
+    active_is = fun_ext effort_switched.set_is
+
+    in_part : IsDoneInPart s r reached
+    in_part = record {
+      again = again;
+      named_again = λ p both.
+          let parts = and_parts (leaving s steady r.off r.on p) (set p) both in
+          and_from (named (scene_of s) r.off p) (named (scene_of s) r.on p) (best_asked_off s steady r.off r.on p parts.0)
+          (best_came s steady r.off r.on before p parts.1 (not_staying s steady r.off r.on p parts.0));
+      switched = subst (λ f. HasSwitched s f again reached) (sym active_is) effort_switched;
+      together = subst (CanRunTogether s.description s.lives) (sym active_is) (effort_together s steady r.off r.on before);
+      came = λ p idle runs. best_came s steady r.off r.on before p (sym (effort_switched.set_is p) ∙ runs) (idle_not_staying s steady r.off r.on p idle);
+      left = λ p ran gone. best_asked_off s steady r.off r.on p (best_left s steady r.off r.on before p ran (sym (effort_switched.set_is p) ∙ gone));
+    }
+
+  best_right : AsMuchAsCanBe s r (with_outcome (with_switch s (best (scene_of s) r.off r.on))) (with_switch s (best (scene_of s) r.off r.on)).outcome
+  best_right = in_part _ _
+
+  switch_right : IsSwitchDecided r.strict s r (with_outcome (with_switch s (decided (scene_of s) r))) (with_switch s (decided (scene_of s) r)).outcome
+  switch_right = either r.strict
+    where
+      either : (b : Bool) → IsSwitchDecided b s r (with_outcome (with_switch s (if b then strict (scene_of s) r.off r.on else best (scene_of s) r.off r.on)))
+          (with_switch s (if b then strict (scene_of s) r.off r.on else best (scene_of s) r.off r.on)).outcome
+      either true = strict_right
+      either false = best_right
 
 -- ---- Hardware requests
 
@@ -112,35 +171,81 @@ module _ (s : State) (name : List ℕ) (target : Life) (component : ℕ) (at : c
       ]
 
   -- the component comes to its target
-  comes : length s.lives ≡ length s.description.components
-      → option_map (λ k. slice_index_or (slice_set s.lives component target) k Unconfigured) (component_place s.description name) ≡ Some target
-  comes counted =
+  comes : IsInOrder s → HasMoved s component target (moved s (slice_set s.lives component target))
+  comes kept =
       let there : component < length s.description.components = position_within (λ (c : CompDesc). same_name c.name name) s.description.components component at in
-      ap (option_map (λ k. slice_index_or (slice_set s.lives component target) k Unconfigured)) at
-      ∙ ap (λ life. Some life) (get_or-set_same s.lives component target Unconfigured (omega (arith, counted, there)))
+      let as_many : length s.lives ≡ length s.description.components = kept.counted in
+      component_moved s component target (omega (arith, as_many, there)) kept
 
-  moved_right : length s.lives ≡ length s.description.components → (o : Option Cause) → move_fault s component target ≡ o
-      → MovedOrNothing s name target (with_move_unless s name component target o).state (with_move_unless s name component target o).outcome
-  moved_right counted None none = (comes counted, refl)
-  moved_right counted (Some c) is = (same_state s, fault_true c is)
+  -- and so does one that has an outcome more
+  told_moved : (c : Concluded) → HasMoved s component target c.state → HasMoved s component target (with_outcome c)
+  told_moved c moves = record { loaded = moves.loaded; as_many = moves.as_many; moved = moves.moved; others = moves.others; values = moves.values }
 
-move_right : (s : State) → IsSteady s → (name : List ℕ) (target : Life) (o : Option ℕ) → component_place s.description name ≡ o
-    → MovedOrNothing s name target (with_move s name target o).state (with_move s name target o).outcome
-move_right s steady name target None at = (same_state s, ap (λ o. not (is_some o)) at)
-move_right s steady name target (Some component) at = moved_right s name target component at steady.in_order.counted (move_fault s component target) refl
+  moved_right : IsInOrder s → (o : Option Cause) → move_fault s component target ≡ o
+      → MovedOrNothing s name target (with_outcome (with_move_unless s name component target o)) (with_move_unless s name component target o).outcome
+  moved_right kept None none = (refl, (component, at, told_moved (with_move_unless s name component target None) (comes kept)))
+  moved_right kept (Some c) is = (unchanged s (outcome.Refused name c), fault_true c is)
+
+move_right : (s : State) → IsInOrder s → (name : List ℕ) (target : Life) (o : Option ℕ) → component_place s.description name ≡ o
+    → MovedOrNothing s name target (with_outcome (with_move s name target o)) (with_move s name target o).outcome
+move_right s kept name target None at = (unchanged s (outcome.Refused name cause.Unknown), ap (λ o. not (is_some o)) at)
+move_right s kept name target (Some component) at = moved_right s name target component at kept (move_fault s component target) refl
+
+-- ---- What stays
+
+switch_lasts : (s : State) (d : Decided) → lasting (with_switch s d).state ≡ lasting s
+switch_lasts s (refused because) = refl
+switch_lasts s (done dropped set again) = commit_lasts s set again
+
+move_unless_lasts : (s : State) (name : List ℕ) (component : ℕ) (target : Life) (o : Option Cause) → lasting (with_move_unless s name component target o).state ≡ lasting s
+move_unless_lasts s name component target None = move_lasts s (slice_set s.lives component target)
+move_unless_lasts s name component target (Some c) = refl
+
+place_lasts : (s : State) (name : List ℕ) (target : Life) (o : Option ℕ) → lasting (with_move s name target o).state ≡ lasting s
+place_lasts s name target None = refl
+place_lasts s name target (Some component) = move_unless_lasts s name component target (move_fault s component target)
+
+concluded_lasts : (s : State) (r : Request) → lasting (concluded s r).state ≡ lasting s
+concluded_lasts s (request.Switch r) = switch_lasts s (decided (scene_of s) r)
+concluded_lasts s (request.Hardware component target) = place_lasts s component target (component_place s.description component)
 
 -- ---- All that wait
 
-decided_right : (s : State) (r : Request) → IsSteady s → IsDecidedRightly s r (concluded s r).state (concluded s r).outcome
-decided_right s (request.Switch r) steady = λ is. switch_right s steady r is
-decided_right s (request.Hardware component target) steady = move_right s steady component target (component_place s.description component) refl
+decided_right : (s : State) (r : Request) → IsSteady s → IsDecidedRightly s r (with_outcome (concluded s r)) (concluded s r).outcome
+decided_right s (request.Switch r) steady = switch_right s steady r
+decided_right s (request.Hardware component target) steady = move_right s steady.in_order component target (component_place s.description component) refl
 
-all_right : (s : State) (rs : List Request) → IsSteady s → AreDecidedRightly s rs
-all_right s [] steady = tt
-all_right s (r ∷ rs) steady =
-    (decided_right s r steady, all_right (with_outcome (concluded s r)) rs (outcome_steady (concluded s r) (concluded_steady s r steady)))
+decision : (s : State) (r : Request) → IsSteady s → IsDecision s r (concluded s r).outcome (with_outcome (concluded s r))
+decision s r steady = record {
+  outcomes = ap (λ (os : List Outcome). os ++ (concluded s r).outcome ∷ []) (concluded_keeps s r);
+  same = concluded_lasts s r;
+  rightly = decided_right s r steady;
+}
 
--- Each begin decides all that waited rightly.
-pub decides_rightly : (s : State) (call : Call) → IsSteady s → DecidesRightly s call
-decides_rightly s (Begin _) steady = all_right s (waiting s) steady
-decides_rightly s _ steady = tt
+-- a begin changes no more than mail after that
+begun_apart : (s : State) → apart_from_mail (begun s) ≡ apart_from_mail s
+begun_apart s =
+    ap (λ (ls : List Loaded). record s { loaded = ls; aloft = false; mails = [] })
+    (map_leaves without_mail (without_mail_off s) (λ l. either l (is_active l && is_due_now s l)) s.loaded)
+  where
+    either : (l : Loaded) (b : Bool) → without_mail (if b then record l { mail = None } else l) ≡ without_mail l
+    either l true = refl
+    either l false = refl
+
+all_decided : (s : State) (rs : List Request) → IsSteady s → AreDecided s rs (outcomes_from s rs) (begun (all_concluded s rs))
+unfolding all_concluded
+all_decided s [] steady = begun_apart s
+all_decided s (r ∷ rs) steady =
+    (with_outcome (concluded s r), decision s r steady, all_decided (with_outcome (concluded s r)) rs (outcome_steady (concluded s r) (concluded_steady s r steady)))
+
+-- Each begin decides all that waited rightly, and tells so.
+pub begin_decides : (s : State) → IsSteady s → AreDecided s (waiting s) (map (λ decision. decision.outcome) (decisions_in (begin_reply s))) (begin_effect s)
+begin_decides s steady = subst (λ os. AreDecided s (waiting s) os (begin_effect s)) (sym (begin_outcomes s)) (all_decided s (waiting s) steady)
+
+-- So does each that is made.
+pub decides_rightly : (s : State) (call : Call) (made : State × Reply) → IsSteady s → IsStep s call made → DecidesRightly (moment_of s call made) call
+decides_rightly s (Begin number) made steady is =
+    subst (λ t. AreDecided s (waiting s) (map (λ decision. decision.outcome) (decisions_in made.1)) t) (sym is.next)
+    (subst (λ answer. AreDecided s (waiting s) (map (λ decision. decision.outcome) (decisions_in answer)) (begin_effect s)) (same_Some (begin_reply s) made.1 is.replied)
+    (begin_decides s steady))
+decides_rightly s _ made steady is = tt

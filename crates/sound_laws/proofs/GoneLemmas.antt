@@ -18,6 +18,7 @@ use Rattle.cm_model.specs.Console.{slot_of, controller_in, controller_of, unload
 use Rattle.cm_model.specs.Cycle.{active_order, is_due_now, is_held_off, updated_in, must_stop, stops, cycle}
 use Rattle.cm_model.specs.Machine.{LegalFrom, reply_of, effect}
 use Rattle.cm_model.specs.Ran.{Ran}
+use Rattle.cm_model.specs.Serials.{serials_of, IsNumbered}
 use Rattle.cm_model.specs.Sound.{moments, mentions, IsGone, is_done, IfUnload, UnloadsLeaveNothing}
 use Rattle.cm_model.specs.State.{State, Loaded, is_active, owner, claims_name, controller_line, interface_lines_from}
 use Rattle.cm_model.specs.Values.{InterfaceValue}
@@ -31,7 +32,7 @@ use Rattle.switch_plan.proofs.ElementLemmas.{map_some, some_of, any_from, found,
 use Rattle.sound_laws.proofs.ActiveLemmas.{from_active_order}
 use Rattle.sound_laws.proofs.MomentLemmas.{moment_of, legal_step, along}
 use Rattle.sound_laws.proofs.ReplyLemmas.{of_reply}
-use Rattle.sound_laws.proofs.SerialLemmas.{serials_of, serials_remove, IsNumbered, AreRenumbered, renumbered_numbered, effect_renumbered}
+use Rattle.sound_laws.proofs.SerialLemmas.{serials_remove, AreRenumbered, renumbered_numbered, effect_renumbered}
 
 -- ---- A serial that is gone
 

@@ -11,6 +11,7 @@ use Rattle.cm_model.proofs.StayLemmas.{IsStep, step-IsStep, effect-Stands}
 use Rattle.cm_model.proofs.SteadyLemmas.{load_steady, configure_steady, cleanup_steady, unload_steady, rate_steady, send_steady, request_steady, close_steady}
 use Rattle.cm_model.specs.Console.{unless_refused, place_of, configure_reply, configure_effect, cleanup_reply, cleanup_effect, unload_reply, unload_effect}
 use Rattle.cm_model.specs.Machine.{load_refusals, load_effect, reply_of, effect, step, IsLegal}
+use Rattle.cm_model.specs.Serials.{IsNumbered}
 use Rattle.cm_model.specs.Sound.{LoansHold, moments, LoansAlwaysHold, RecordIsRight, EachDueOneRunsOnce, OneConfigurationEach, DecidesRightly, RequestsAreDecidedOnce, UnloadsLeaveNothing, IsSound}
 use Rattle.cm_model.specs.State.{State, boot}
 use Rattle.cm_model.specs.Steady.{IsSteady}
@@ -30,7 +31,7 @@ use Rattle.sound_laws.proofs.DecidedLemmas.{decides_rightly}
 use Rattle.sound_laws.proofs.ReplyLemmas.{of_reply}
 use Rattle.sound_laws.proofs.ToldLemmas.{tickets_from}
 use Rattle.sound_laws.proofs.RunLemmas.{runs_once}
-use Rattle.sound_laws.proofs.SerialLemmas.{IsNumbered, renumbered_numbered, effect_renumbered}
+use Rattle.sound_laws.proofs.SerialLemmas.{renumbered_numbered, effect_renumbered}
 use Rattle.sound_laws.proofs.ValidLemmas.{valid-IsChecked}
 
 -- what each call leaves that was answered so
@@ -54,7 +55,7 @@ effect_steady s _ r valid steady replied = steady
 
 -- ---- What each step keeps
 
--- The description is valid, the state steady, and its serials differ.
+-- The description is valid, the state steady, and its serials rise.
 record IsKept (s : State) : Type 0 where
   valid : IsValid s.description
   steady : IsSteady s
@@ -78,7 +79,7 @@ keeps s call made kept is = record {
 
 boot_numbered : (d : Description) (blanks : Blanks) (sessions : ℕ) → IsNumbered (boot d blanks sessions)
 unfolding IsDistinct
-boot_numbered d blanks sessions = record { once = tt; below = tt }
+boot_numbered d blanks sessions = record { rising = tt; once = tt; below = tt }
 
 module _ (d : Description) (blanks : Blanks) (sessions : ℕ) (history : List Entry) (valid : IsValid d) (legal : IsLegal d blanks sessions history) where
   begins : IsKept (boot d blanks sessions)
@@ -87,7 +88,7 @@ module _ (d : Description) (blanks : Blanks) (sessions : ℕ) (history : List En
   -- Loans are exclusive and present after each call.
   pub loans_at_all_times : LoansAlwaysHold (moments (boot d blanks sessions) history)
   loans_at_all_times =
-      along IsKept (λ moment. LoansHold moment.after) keeps (λ s call made kept is. let after = keeps s call made kept is in loans_hold made.0 after.valid after.steady)
+      along IsKept (λ moment. LoansHold moment.after) keeps (λ s call made kept is. let after = keeps s call made kept is in loans_hold made.0 after.valid after.steady after.numbered)
       (boot d blanks sessions) history begins legal
 
   -- In each cycle each due controller runs once, predecessors first.
@@ -109,9 +110,9 @@ module _ (d : Description) (blanks : Blanks) (sessions : ℕ) (history : List En
       (boot d blanks sessions) history begins legal
 
   -- Each begin decides rightly.
-  begins_right : AllByRecursion (λ moment. DecidesRightly moment.before moment.call) (moments (boot d blanks sessions) history)
+  begins_right : AllByRecursion (λ moment. DecidesRightly moment moment.call) (moments (boot d blanks sessions) history)
   begins_right =
-      along IsKept (λ moment. DecidesRightly moment.before moment.call) keeps (λ s call made kept is. decides_rightly s call kept.steady) (boot d blanks sessions) history begins legal
+      along IsKept (λ moment. DecidesRightly moment moment.call) keeps (λ s call made kept is. decides_rightly s call made kept.steady is) (boot d blanks sessions) history begins legal
 
   -- Each request is decided once, a strict switch whole or not at all.
   pub requests_decided_once : RequestsAreDecidedOnce (moments (boot d blanks sessions) history)

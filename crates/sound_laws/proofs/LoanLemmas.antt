@@ -30,8 +30,9 @@ use Rattle.cm_model.proofs.InterfaceLemmas.{all_map_back, components_all, contro
 use Rattle.cm_model.proofs.LoadedLemmas.{all_from}
 use Rattle.cm_model.specs.Claims.{is_state_named, value_where}
 use Rattle.cm_model.specs.Components.{is_available}
+use Rattle.cm_model.specs.Loans.{names_at, reads_at, is_number, is_there, LoansHold}
 use Rattle.cm_model.specs.Order.{controller_at}
-use Rattle.cm_model.specs.Sound.{names_at, reads_at, is_number, is_there, LoansHold}
+use Rattle.cm_model.specs.Serials.{IsNumbered}
 use Rattle.cm_model.specs.State.{State, active}
 use Rattle.cm_model.specs.Steady.{HoldsNumber, IsSteady}
 use Rattle.cm_model.specs.Values.{InterfaceValue, running, belongs_to, is_state_of}
@@ -173,11 +174,14 @@ module _ (s : State) (checked : IsChecked s.description) (steady : IsSteady s) w
       (number_of at.joint.name at.kind at.component (subst (λ x. is_among x (states_of d.components) ≡ true) at.same among)
       (subst (λ x. is_there d s.lives x ≡ true) at.same there) has (position (has_named at.joint.name) d.components) refl)
 
--- The loans of a steady state hold.
-pub loans_hold : (s : State) → IsValid s.description → IsSteady s → LoansHold s
-loans_hold s valid steady = record {
+-- The loans of a steady state hold, where serials rise.
+pub loans_hold : (s : State) → IsValid s.description → IsSteady s → IsNumbered s → LoansHold s
+loans_hold s valid steady numbered = record {
+  once = steady.in_order.once;
+  rising = numbered.rising;
   together = steady.together;
   present = read_number s (valid-IsChecked s.description valid) steady;
   empty = steady.in_order.empty;
+  unclaimed = steady.in_order.unclaimed;
   marked = steady.in_order.marked;
 }

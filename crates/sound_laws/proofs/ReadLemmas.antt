@@ -8,11 +8,13 @@ use Rattle.fixed_num.specs.declared.value.Value.{Value}
 use Rattle.iface_names.specs.declared.interface.IfaceName.{IfaceName}
 use Rattle.cm_document.proofs.DistinctLemmas.{all_so, all_map}
 use Rattle.cm_document.specs.Places.{Whose, of_joint, of_controller}
+use Rattle.cm_document.specs.declared.description.CtlDesc.{CtlDesc}
 use Rattle.cm_document.specs.declared.life.Life.{Life}
 use Rattle.cm_model.proofs.CommitLemmas.{interfaces_stay}
 use Rattle.cm_model.proofs.LoadedLemmas.{all_from}
-use Rattle.cm_model.proofs.MoveLemmas.{measured_number, some_at}
-use Rattle.cm_model.specs.Sound.{is_number, IsEmptyUnless}
+use Rattle.cm_model.proofs.MoveLemmas.{measured_number, some_at, read_unclaimed}
+use Rattle.cm_model.specs.Loans.{is_number, IsEmptyUnless, IsUnsetUnlessClaimed}
+use Rattle.cm_model.specs.Order.{Places}
 use Rattle.cm_model.specs.State.{available_in}
 use Rattle.cm_model.specs.Steady.{HoldsNumber, HasBody}
 use Rattle.cm_model.specs.Values.{InterfaceValue, running, belongs_to, is_state_of, kind_in, shown, read_of, after_reads}
@@ -69,6 +71,12 @@ pub reads_empty : (read : ℕ → Bool) (lives : List Life) (controllers : ℕ �
 reads_empty read lives controllers bodies runs vs empty =
     all_map (IsEmptyUnless (available_in lives controllers)) (read_of read bodies) vs
     (all_so (IsEmptyUnless (available_in lives controllers)) _ (read_empty read lives controllers bodies runs) vs empty)
+
+pub reads_unclaimed : (read : ℕ → Bool) (controllers : List CtlDesc) (set : Places) (bodies : List BodyState) (vs : List InterfaceValue)
+    → AllByRecursion (IsUnsetUnlessClaimed controllers set) vs → AllByRecursion (IsUnsetUnlessClaimed controllers set) (after_reads read bodies vs)
+reads_unclaimed read controllers set bodies vs unclaimed =
+    all_map (IsUnsetUnlessClaimed controllers set) (read_of read bodies) vs
+    (all_so (IsUnsetUnlessClaimed controllers set) _ (read_unclaimed controllers set read bodies) vs unclaimed)
 
 pub reads_same : (read : ℕ → Bool) (bodies : List BodyState) (vs : List InterfaceValue) → map (λ v. v.interface) (after_reads read bodies vs) ≡ map (λ v. v.interface) vs
 reads_same read bodies vs = interfaces_stay (read_of read bodies) (read_same read bodies) vs

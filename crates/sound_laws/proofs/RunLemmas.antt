@@ -15,6 +15,7 @@ use Rattle.cm_model.specs.Components.{is_listed}
 use Rattle.cm_model.specs.Cycle.{active_order, is_due_now, is_held_off, updated_in, cycle}
 use Rattle.cm_model.specs.Order.{precedes_at, depth}
 use Rattle.cm_model.specs.Ran.{Ran}
+use Rattle.cm_model.specs.Serials.{serials_of}
 use Rattle.cm_model.specs.Sound.{is_to_run, serial_precedes, NoneLater, EachRunsOnce}
 use Rattle.cm_model.specs.State.{State, Loaded, is_active, active}
 use Rattle.chain_order.proofs.DepthLemmas.{depth-rises}
@@ -22,7 +23,6 @@ use Rattle.chain_order.proofs.OrderLemmas.{pairs-head, pairs-tail, ByRank, by_ra
 use Rattle.switch_plan.proofs.ElementLemmas.{none_inside, first_or_later, some_of, any_from, filter_back, filter_from}
 use Rattle.sound_laws.proofs.ActiveLemmas.{in_active_order, from_active_order}
 use Rattle.sound_laws.proofs.ParamsLemmas.{all_at}
-use Rattle.sound_laws.proofs.SerialLemmas.{serials_of}
 
 -- ---- Lists
 

@@ -21,6 +21,7 @@ use Rattle.cm_model.specs.Components.{read_succeeds}
 use Rattle.cm_model.specs.Cycle.{component_is, is_due_now, without_mail_off, step_of, stepped_at, updated_in, stays_active, cycle, landed, after_cycle}
 use Rattle.cm_model.specs.Machine.{with_controller, with_loaded, load_effect, effect}
 use Rattle.cm_model.specs.Order.{Places}
+use Rattle.cm_model.specs.Serials.{serials_of, AreRising, AreNumbered, IsNumbered}
 use Rattle.cm_model.specs.State.{State, Loaded, is_active, newly_loaded}
 use Rattle.cm_model.specs.Switches.{Decided, refused, done, is_stopped, is_started}
 use Rattle.cm_model.specs.Values.{InterfaceValue, after_reads}
@@ -29,18 +30,6 @@ use Rattle.cm_model.specs.declared.reply.Reply.TheVariants as reply
 use Rattle.cm_model.specs.declared.cause.Cause.{Cause}
 use Rattle.cm_model.specs.declared.request.Request.{Request}
 use Rattle.cm_model.specs.declared.request.Request.TheVariants as request
-
--- Serials differ, and each is below the number of loads.
-pub record AreNumbered (loads : ℕ) (serials : List ℕ) : Type 0 where
-  pub once : IsDistinct (λ m n. m == n) serials
-  pub below : AllByRecursion (λ n. n < loads) serials
-
--- the serials of loaded controllers
-abbrev pub serials_of : List Loaded → List ℕ
-serials_of loaded = map (λ l. l.serial) loaded
-
-abbrev pub IsNumbered : State → Type 0
-IsNumbered s = AreNumbered s.loads (serials_of s.loaded)
 
 -- ---- Lists of serials
 
@@ -51,8 +40,19 @@ distinct_push (m ∷ ms) n once below =
     let less : m < n = below.0 in
     (all_push (λ k. (m == k) ≡ false) ms n once.0 (ne_eqb m n (λ (e : m ≡ n). omega (arith, less, e))), distinct_push ms n once.1 below.1)
 
+rising_push : (ns : List ℕ) (n : ℕ) → AreRising ns → AllByRecursion (λ m. m < n) ns → AreRising (ns ++ n ∷ [])
+rising_push [] n rising below = (tt, tt)
+rising_push (m ∷ ms) n rising below = (all_push (λ later. m < later) ms n rising.0 below.0, rising_push ms n rising.1 below.1)
+
+rising_remove : (ns : List ℕ) (i : ℕ) → AreRising ns → AreRising (remove ns i)
+rising_remove [] zero rising = tt
+rising_remove [] (suc i) rising = tt
+rising_remove (n ∷ ns) zero rising = rising.1
+rising_remove (n ∷ ns) (suc i) rising = (all_remove (λ later. n < later) ns i rising.0, rising_remove ns i rising.1)
+
 numbered_push : (loads : ℕ) (ns : List ℕ) → AreNumbered loads ns → AreNumbered (loads + 1) (ns ++ loads ∷ [])
 numbered_push loads ns numbered = record {
+  rising = rising_push ns loads numbered.rising numbered.below;
   once = distinct_push ns loads numbered.once numbered.below;
   below = all_push (λ n. n < loads + 1) ns loads (all_so (λ n. n < loads) (λ n. n < loads + 1) (λ n less. omega (arith, less)) ns numbered.below) (omega arith);
 }
@@ -84,12 +84,16 @@ AreRenumbered s t =
 same_serials : (s t : State) → t.loads ≡ s.loads → serials_of t.loaded ≡ serials_of s.loaded → AreRenumbered s t
 same_serials s t loads serials = inl (loads, serials)
 
--- so they go on to differ
+-- so they go on to rise
 pub renumbered_numbered : (s t : State) → AreRenumbered s t → IsNumbered s → IsNumbered t
 renumbered_numbered s t (inl (loads, serials)) numbered = rw (loads, serials) numbered
 renumbered_numbered s t (inr (inl (loads, serials))) numbered = rw (loads, serials) (numbered_push s.loads (serials_of s.loaded) numbered)
 renumbered_numbered s t (inr (inr (i, loads, serials))) numbered =
-    rw (loads, serials) (record { once = distinct_remove (serials_of s.loaded) i numbered.once; below = all_remove (λ n. n < s.loads) (serials_of s.loaded) i numbered.below })
+    rw (loads, serials) (record {
+      rising = rising_remove (serials_of s.loaded) i numbered.rising;
+      once = distinct_remove (serials_of s.loaded) i numbered.once;
+      below = all_remove (λ n. n < s.loads) (serials_of s.loaded) i numbered.below;
+    })
 
 -- ---- The console's calls
 

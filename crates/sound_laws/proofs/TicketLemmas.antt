@@ -37,23 +37,19 @@ pub concluded_keeps : (s : State) (r : Request) → (concluded s r).state.outcom
 concluded_keeps s (request.Switch r) = switch_keeps s (decided (scene_of s) r)
 concluded_keeps s (request.Hardware component target) = place_keeps s component target (component_place s.description component)
 
--- Requests that are decided add one outcome each.
-pub record AddsOutcomes (before after : List Outcome) (count : ℕ) : Type 0 where
-  pub told : List Outcome
-  pub behind : after ≡ before ++ told
-  pub each : length told ≡ count
+-- what becomes of requests that are decided one after the other
+abbrev pub outcomes_from : State → List Request → List Outcome
+outcomes_from s [] = []
+outcomes_from s (r ∷ rs) = (concluded s r).outcome ∷ outcomes_from (with_outcome (concluded s r)) rs
 
-all_add : (s : State) (rs : List Request) → AddsOutcomes s.outcomes (all_concluded s rs).outcomes (length rs)
+-- stands behind what became of those before
+all_add : (s : State) (rs : List Request) → (all_concluded s rs).outcomes ≡ s.outcomes ++ outcomes_from s rs
 unfolding all_concluded
-all_add s [] = record { told = []; behind = sym (append-nil s.outcomes); each = refl }
+all_add s [] = sym (append-nil s.outcomes)
 all_add s (r ∷ rs) =
     let made : Concluded = concluded s r in
-    let rest = all_add (with_outcome made) rs in
-    record {
-      told = made.outcome ∷ rest.told;
-      behind = rest.behind ∙ ap (λ (os : List Outcome). (os ++ made.outcome ∷ []) ++ rest.told) (concluded_keeps s r) ∙ append_assoc s.outcomes (made.outcome ∷ []) rest.told;
-      each = ap suc rest.each;
-    }
+    all_add (with_outcome made) rs ∙ ap (λ (os : List Outcome). (os ++ made.outcome ∷ []) ++ outcomes_from (with_outcome made) rs) (concluded_keeps s r)
+    ∙ append_assoc s.outcomes (made.outcome ∷ []) (outcomes_from (with_outcome made) rs)
 
 -- ---- By ticket
 
@@ -80,10 +76,22 @@ told_between before after told is =
 
 -- A begin tells of each ticket that it decides, and so does the close.
 pub begin_tells : (s : State) → decisions_from 0 s.outcomes ++ decisions_in (begin_reply s) ≡ decisions_from 0 (begin_effect s).outcomes
-begin_tells s = let added = all_add s (waiting s) in told_between s (boundary s) added.told added.behind
+begin_tells s = told_between s (boundary s) (outcomes_from s (waiting s)) (all_add s (waiting s))
 
 pub close_tells : (s : State) → decisions_from 0 s.outcomes ++ decisions_in (close_reply s) ≡ decisions_from 0 (close_effect s).outcomes
 close_tells s = told_between s (close_effect s) (map (λ r. outcome.LoopEnded) (waiting s)) refl
+
+-- the outcomes that are told by ticket
+told_outcomes : (n : ℕ) (os : List Outcome) → map (λ (d : Decision). d.outcome) (decisions_from n os) ≡ os
+told_outcomes n [] = refl
+told_outcomes n (o ∷ os) = ap (λ (rest : List Outcome). o ∷ rest) (told_outcomes (n + 1) os)
+
+-- A begin tells what became of those that waited, in order.
+pub begin_outcomes : (s : State) → map (λ (d : Decision). d.outcome) (decisions_in (begin_reply s)) ≡ outcomes_from s (waiting s)
+begin_outcomes s =
+    ap (λ (os : List Outcome). map (λ (d : Decision). d.outcome) (decisions_from (length s.outcomes) (drop (length s.outcomes) os))) (all_add s (waiting s))
+    ∙ ap (λ (os : List Outcome). map (λ (d : Decision). d.outcome) (decisions_from (length s.outcomes) os)) (drop_before s.outcomes (outcomes_from s (waiting s)))
+    ∙ told_outcomes (length s.outcomes) (outcomes_from s (waiting s))
 
 -- ---- Who asks
 

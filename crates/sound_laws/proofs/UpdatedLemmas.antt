@@ -1,8 +1,8 @@
 -- What the updates of a cycle keep of each controller and of each interface, and that each body steps to one.
-use Rattle.std.proofs.Common.{◌≡◌, ℕ, suc, ◌+◌, ◌-◌, ◌<◌, ◌≤◌, ℤ, Bool, true, false, List, [], ◌∷◌, ◌++◌, length, map, take, drop, Option, Some, None, inl, inr, refl, sym, ◌∙◌, subst, ap, true≢false, arith}
-use Rattle.std.specs.Prelude.{◌==◌, ◌||◌, if◌then◌else◌, option_map, is_some, IfSome, unwrap_or, min}
+use Rattle.std.proofs.Common.{◌≡◌, ℕ, zero, suc, ◌+◌, ◌-◌, ◌<◌, ◌≤◌, ℤ, Bool, true, false, List, [], ◌∷◌, ◌++◌, length, map, take, drop, Option, Some, None, inl, inr, refl, sym, ◌∙◌, subst, ap, true≢false, arith}
+use Rattle.std.specs.Prelude.{◌==◌, ◌&&◌, ◌||◌, if◌then◌else◌, option_map, is_some, IfSome, unwrap_or, min}
 use Rattle.std.specs.List.{AllByRecursion, list_any}
-use Rattle.std.proofs.lemmas.Bool.{cases_lt}
+use Rattle.std.proofs.lemmas.Bool.{and_from, cases_lt}
 use Rattle.std.proofs.lemmas.List.{length-append, length-map, length-take, length-drop}
 use Rattle.std.proofs.lemmas.List.FromFn.{length-map-range_with_len}
 use Rattle.std.proofs.lemmas.Option.{same_Some}
@@ -27,8 +27,9 @@ use Rattle.cm_model.specs.Commit.{described_of}
 use Rattle.cm_model.specs.Components.{is_written, command_interfaces, claim_on, claimed_by, driven_bodies, bodies_after_step}
 use Rattle.cm_model.specs.Controllers.{runs_chained, Stepped, mailed, ctl_step}
 use Rattle.cm_model.specs.Cycle.{period, component_is, tick_of, mail_for, step_of, stepped_at, Updates, with_step, with_updates, claims_in, commands_at, component_stepped, components_stepped}
-use Rattle.cm_model.specs.Order.{Places}
-use Rattle.cm_model.specs.Sound.{IsEmptyUnless, IsMarked}
+use Rattle.cm_model.specs.Loans.{IsEmptyUnless, IsUnsetUnlessClaimed, IsMarked}
+use Rattle.cm_model.specs.Order.{Places, controller_at}
+use Rattle.cm_model.specs.Scene.{claims_at, is_claimed_by}
 use Rattle.cm_model.specs.State.{State, Loaded, is_active}
 use Rattle.cm_model.specs.Steady.{IsOwn, HoldsNumber}
 use Rattle.cm_model.specs.Values.{InterfaceValue}
@@ -38,6 +39,7 @@ use Rattle.cm_model.specs.declared.data.RunData.{RunData}
 use Rattle.cm_model.specs.declared.ran.Done.{Done}
 use Rattle.cm_model.specs.declared.ran.Done.TheVariants as done
 use Rattle.cm_model.specs.declared.tick.Tick.{Tick}
+use Rattle.switch_plan.proofs.TestLemmas.{some_below-from}
 
 -- ---- Controllers
 
@@ -149,6 +151,44 @@ given_by_empty there c step values claimed empty = by_end step.done
         (λ (v : InterfaceValue). v.interface) values claimed) empty)
     by_end done.Error = empty
 
+-- ---- What nobody claims
+
+-- what is past the last controller claims nothing
+claims_below : (controllers : List CtlDesc) (p : ℕ) (interface : IfaceName) → claims_at controllers p interface ≡ true → p < length controllers
+claims_below [] zero interface claims = absurd (true≢false (sym claims))
+claims_below [] (suc p) interface claims = absurd (true≢false (sym claims))
+claims_below (c ∷ cs) zero interface claims = omega arith
+claims_below (c ∷ cs) (suc p) interface claims = let below : p < length cs = claims_below cs p interface claims in omega (arith, below)
+
+module _ (controllers : List CtlDesc) (set : Places) (p : ℕ) (member : set p ≡ true) where
+  -- what a member of the set gives out stands in what it claims
+  given_unclaimed : (outs : List Value) (v : InterfaceValue) → IsUnsetUnlessClaimed controllers set v
+      → IsUnsetUnlessClaimed controllers set (given_of (controller_at controllers p).claims outs v)
+  given_unclaimed outs v unclaimed = either v.interface.called.is_command (output_for (controller_at controllers p).claims outs v.interface.called.name) refl refl
+    where
+      claimed : (value : Value) → output_for (controller_at controllers p).claims outs v.interface.called.name ≡ Some value
+          → is_claimed_by controllers set v.interface.called.name ≡ true
+      claimed value at =
+          let claims : claims_at controllers p v.interface.called.name ≡ true = output_claimed (controller_at controllers p).claims outs v.interface.called.name value at in
+          some_below-from (λ q. set q && claims_at controllers q v.interface.called.name) (length controllers) p (claims_below controllers p v.interface.called.name claims)
+          (and_from (set p) (claims_at controllers p v.interface.called.name) member claims)
+
+      either : (b : Bool) (o : Option Value) → v.interface.called.is_command ≡ b → output_for (controller_at controllers p).claims outs v.interface.called.name ≡ o
+          → IsUnsetUnlessClaimed controllers set (if b then record v { value = unwrap_or o v.value } else v)
+      either true None is at = unclaimed
+      either true (Some value) is at = λ command none. absurd (true≢false (sym (claimed value at) ∙ none))
+      either false o is at = unclaimed
+
+  given_by_unclaimed : (step : Stepped) (values : List InterfaceValue) → AllByRecursion (IsUnsetUnlessClaimed controllers set) values
+      → AllByRecursion (IsUnsetUnlessClaimed controllers set) (given_by (controller_at controllers p).claims step values)
+  given_by_unclaimed step values unclaimed = by_end step.done
+    where
+      by_end : (end : Done) → AllByRecursion (IsUnsetUnlessClaimed controllers set)
+          (elim end [ done.Ok ↦ given (controller_at controllers p).claims step.outs values | done.Error ↦ values ])
+      by_end done.Ok = all_map (IsUnsetUnlessClaimed controllers set) (given_of (controller_at controllers p).claims step.outs) values
+          (all_so (IsUnsetUnlessClaimed controllers set) _ (given_unclaimed step.outs) values unclaimed)
+      by_end done.Error = unclaimed
+
 -- ---- All updates
 
 -- what each step keeps of each controller, the updates keep
@@ -182,6 +222,14 @@ updates_empty s there interfaces u [] same claimed empty = empty
 updates_empty s there interfaces u (l ∷ ls) same claimed empty =
     updates_empty s there interfaces (with_step s l (step_of s u.values l) u) ls (given_by_keeps (described_of s l).claims (step_of s u.values l) u.values ∙ same) claimed.1
     (given_by_empty there (described_of s l) (step_of s u.values l) u.values (subst (ClaimsAreThere there (described_of s l)) (sym same) claimed.0) empty)
+
+-- nor does what no member of a set claims, of which each of these is
+pub updates_unclaimed : (s : State) (set : Places) (u : Updates) (ls : List Loaded) → AllByRecursion (λ l. set l.place ≡ true) ls
+    → AllByRecursion (IsUnsetUnlessClaimed s.description.controllers set) u.values → AllByRecursion (IsUnsetUnlessClaimed s.description.controllers set) (with_updates s u ls).values
+updates_unclaimed s set u [] members unclaimed = unclaimed
+updates_unclaimed s set u (l ∷ ls) members unclaimed =
+    updates_unclaimed s set (with_step s l (step_of s u.values l) u) ls members.1
+    (given_by_unclaimed s.description.controllers set l.place members.0 (step_of s u.values l) u.values unclaimed)
 
 -- ---- Bodies
 

@@ -1,17 +1,19 @@
 //! What becomes of requests: each is decided rightly, and told once.
 
-ghost use Rattle.std.specs.Prelude.{◌≡◌, ◌++◌, ℕ, option_map};
-ghost use Rattle.cm_document.specs.declared.call.Call.{Call};
-ghost use Rattle.cm_model.specs.Boundary.{decisions_from, begin_reply, begin_effect, close_reply, close_effect, told_reply};
-ghost use Rattle.cm_model.specs.Sound.{DecidesRightly, decisions_in, outcome_of};
+ghost use Rattle.std.specs.Prelude.{◌≡◌, ◌++◌, ℕ, map, option_map};
+ghost use Rattle.cm_model.specs.Boundary.{waiting, decisions_from, begin_reply, begin_effect, close_reply, close_effect, told_reply};
+ghost use Rattle.cm_model.specs.Deciding.{AreDecided};
+ghost use Rattle.cm_model.specs.Sound.{decisions_in, outcome_of};
 ghost use Rattle.cm_model.specs.State.{State};
 ghost use Rattle.cm_model.specs.Steady.{IsSteady};
 ghost use Rattle.cm_model.specs.declared.reply.Reply.TheVariants as reply;
 
-/// In a steady state a begin decides each request that waited rightly: a strict switch is done whole, and else refused with a cause
-/// that is true, and a move of a component likewise; what is refused changes nothing.
+/// In a steady state a begin decides each request that waited rightly, and tells so: with the outcomes that it tells there is a chain of
+/// states, one step a request, from the state before it to the one after it. In each step a strict switch is done whole, and else
+/// refused with a cause that is true, and a move of a component likewise; what is refused changes nothing.
 pub fn begins_decide_rightly()
-    ensures { (s : State) (call : Call) → IsSteady s → DecidesRightly s call }
+    ensures { (s : State) → IsSteady s
+        → AreDecided s (waiting s) (map (λ decision. decision.outcome) (decisions_in (begin_reply s))) (begin_effect s) }
 {}
 
 /// Where all outcomes were told by ticket, they still are after a begin with what it tells, and after the close with what that tells;

@@ -139,7 +139,7 @@ module _ (scene : Scene) where
       ]
 
   -- and each name that is loaded is named
-  named_more : (o : Option Seen) (ms : List Member) (p : ℕ) → list_any (λ m. m.place == p) ms ≡ true → list_any (λ m. m.place == p) (cons_option (option_map member o) ms) ≡ true
+  pub named_more : (o : Option Seen) (ms : List Member) (p : ℕ) → list_any (λ m. m.place == p) ms ≡ true → list_any (λ m. m.place == p) (cons_option (option_map member o) ms) ≡ true
   named_more None ms p any = any
   named_more (Some l) ms p any = or_right (l.place == p) (list_any (λ m. m.place == p) ms) any
 

@@ -121,7 +121,7 @@ module _ (scene : Scene) (on : Places) where
   joined_with-more p name j None q is = or_right (p == q) (j.set q) is
   joined_with-more p name j (Some c) q is = is
 
-  join_all-more : (j : Joined) (ms : List Member) (q : ℕ) → j.set q ≡ true → (join_all scene on j ms).set q ≡ true
+  pub join_all-more : (j : Joined) (ms : List Member) (q : ℕ) → j.set q ≡ true → (join_all scene on j ms).set q ≡ true
   join_all-more j [] q is = is
   join_all-more j (m ∷ ms) q is =
       join_all-more (join scene on j m) ms q (joined_with-more m.place (described scene m.place).name j (fault scene (with_one m.place j.set) on m.place) q is)
