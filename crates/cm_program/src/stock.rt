@@ -4,6 +4,7 @@ ghost use Rattle.std.specs.Prelude.{◌≡◌, IfOk, OnOk, OnErr};
 ghost use Rattle.cm_model.specs.State.{fresh};
 ghost use Rattle.cm_model.specs.declared.blanks.Blanks.{Blanks};
 ghost use Rattle.ctl_rack.specs.Stocks.{with_one_more};
+ghost use Rattle.cm_top.specs.Calls.Run.{source_facts, sink_facts, MindsFaults};
 ghost use Rattle.cm_top.specs.Status.{ComesBeforeWriting};
 ghost use Rattle.cm_program.specs.Stock.{AreBlanks, blanks_of_each};
 
@@ -35,6 +36,11 @@ where
     K: Sink,
     ensures refused { IfOk result (λ status. status ≡ Status.BadWords → source.new ≡ source.old) }
     ensures untouched { IfOk result (λ status. ComesBeforeWriting status → sink.new ≡ sink.old) }
+    ensures outside { IfOk result (MindsFaults
+        (source_facts S.left S.faults source.old) (source_facts S.left S.faults source.new)
+        (sink_facts K.taken K.flushed K.faults sink.old) (sink_facts K.taken K.flushed K.faults sink.new)) }
+    // Where blanks can't be had, nothing was read and nothing written.
+    ensures kept { OnErr result ((source.new ≡ source.old) × (sink.new ≡ sink.old)) }
 {
     let alloc = rt.alloc();
     let mut blanks: Vec<Box<dyn Controller + Send>> = Vec::new(alloc);
@@ -81,6 +87,9 @@ where
     requires { AreBlanks C.meaning blanks.items (blanks_of_each BLANKS) }
     ensures refused { result ≡ Status.BadWords → source.new ≡ source.old }
     ensures untouched { ComesBeforeWriting result → sink.new ≡ sink.old }
+    ensures outside { MindsFaults
+        (source_facts S.left S.faults source.old) (source_facts S.left S.faults source.new)
+        (sink_facts K.taken K.flushed K.faults sink.old) (sink_facts K.taken K.flushed K.faults sink.new) result }
 {
     let stock = Stock::make(blanks);
     let alloc = rt.alloc();

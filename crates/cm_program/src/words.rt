@@ -1,6 +1,7 @@
 //! The words that the program was started with.
 
 ghost use Rattle.std.specs.Prelude.{◌≡◌, ◌⊎◌, IfErr};
+ghost use Rattle.cm_top.specs.Calls.Run.{source_facts, sink_facts, MindsFaults};
 ghost use Rattle.cm_top.specs.Status.{ComesBeforeWriting};
 
 use crate::stock::run_stocked;
@@ -23,6 +24,10 @@ where
     ensures refused { result ≡ Status.BadWords → source.new ≡ source.old }
     // Statuses 2 to 6 leave the sink as it was.
     ensures untouched { ComesBeforeWriting result → sink.new ≡ sink.old }
+    // Faults of reading and writing are told, and nothing else as one.
+    ensures outside { MindsFaults
+        (source_facts S.left S.faults source.old) (source_facts S.left S.faults source.new)
+        (sink_facts K.taken K.flushed K.faults sink.old) (sink_facts K.taken K.flushed K.faults sink.new) result }
 {
     let words = match words(words_of) {
         Ok(words) => words,

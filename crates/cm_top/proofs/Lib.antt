@@ -1,3 +1,4 @@
+pub mod NumberLemmas
 pub mod PortLemmas
 pub mod PartsLemmas
 pub mod SettleLemmas

@@ -1,6 +1,6 @@
 -- From the parts of a run to what it promises.
 use Rattle.std.proofs.Common.{◌≡◌, ℕ, ◌+◌, ◌<◌, ◌≤◌, ◌^◌, List, [], ◌∷◌, length, map, Option, Some, None, Ok, true, false, refl, sym, ap, ◌∙◌, inl, inr, ◌⊎◌, arith}
-use Rattle.std.specs.Prelude.{IfSome, IsSome, IfOk, Result, Err, nat_lt, sum_by}
+use Rattle.std.specs.Prelude.{◌≢◌, IfSome, IsSome, IfOk, Result, Err, nat_lt, sum_by}
 use Rattle.std.specs.List.{All, AllByRecursion}
 use Rattle.std.proofs.lemmas.Bool.Decides.{nat_tests}
 use Rattle.std.proofs.lemmas.List.Elements.{All-from_recursion}
@@ -8,7 +8,7 @@ use Rattle.std.proofs.lemmas.List.Sums.{sum_by-cons}
 use Rattle.std.specs.Io.KnownBytes.{Keeps, Appends, IsAtEnd}
 use Rattle.std.proofs.KnownBytes.{Appends-kept, Consumes-nil, Keeps-refl}
 use Rattle.outside_io.specs.Bytes.{AllFlushed, GivesAll}
-use Rattle.outside_io.specs.Faults.{Rose}
+use Rattle.outside_io.specs.Faults.{IsToldAs, Rose}
 use Rattle.outside_io.proofs.Prefixes.{AppendsPrefix-all}
 use Rattle.cm_document.specs.declared.limits.TheConstants.{LONGEST_DOCUMENT, MOST_CALLS}
 use Rattle.cm_document.specs.Grammars.{whole_grammar}
@@ -41,9 +41,9 @@ use Rattle.cm_words.specs.declared.job.JobKind.{JobKind}
 use Rattle.cm_words.specs.declared.job.JobKind.TheVariants as kind
 use Rattle.cm_words.specs.declared.job.WordsFault.{WordsFault}
 use Rattle.cm_top.specs.Jobs.{JobFacts, progress_of}
-use Rattle.cm_top.specs.Book.{BookFacts, Task, IsBookOf, IsBook, HandsOut, finished, made_by, task_of}
-use Rattle.cm_top.specs.Calls.Run.{SourceFacts, SinkFacts, Runs, RunsBytes, RunsMade, RunsFrom, RunsJob}
-use Rattle.cm_top.specs.Status.{Written, EndedWith, Wrote, RanDocument, IsPlain, ComesOfBytes, status_of, status_of_document}
+use Rattle.cm_top.specs.Book.{BookFacts, Task, IsBookOf, finished, made_by, task_of}
+use Rattle.cm_top.specs.Calls.Run.{SourceFacts, SinkFacts, MindsFaults, Runs, RunsBytes, RunsMade, RunsFrom, RunsJob}
+use Rattle.cm_top.specs.Status.{Written, EndedWith, HandsOut, Wrote, RanDocument, IsPlain, ComesOfBytes, status_of, status_of_document}
 use Rattle.cm_model.proofs.HistoryLemmas.{whole-closed}
 use Rattle.cm_top.specs.declared.status.Status.{Status}
 use Rattle.cm_top.specs.declared.status.Status.TheVariants as status
@@ -149,16 +149,16 @@ RanDocument-EndedWith task bytes d blanks w status.WriteFault (Some book) short 
     record { document_is = d; short = short; accepted = accepted; book_is = ran.0; taken = ran.1 }
 RanDocument-EndedWith task bytes d blanks w _ (Some book) short accepted ran = absurd ran.1
 
--- its book is that of a run of an accepted document
+-- and hands out its book, of these bytes
 RanDocument-HandsOut : (task : Task) (bytes : List ℕ) (d : Document) (blanks : Blanks) (w : Written) (ended : Status) (book : Option BookFacts)
-    → length bytes ≤ LONGEST_DOCUMENT → document whole_grammar bytes ≡ Ok d → RanDocument task d blanks w ended book → HandsOut (IsBook task.history blanks) ended book
-RanDocument-HandsOut task bytes d blanks w ended None short accepted ran = rw ran.0 tt
+    → length bytes ≤ LONGEST_DOCUMENT → document whole_grammar bytes ≡ Ok d → RanDocument task d blanks w ended book → HandsOut task blanks w ended book
+RanDocument-HandsOut task bytes d blanks w ended None short accepted ran = rw ran.0 ran.1
 RanDocument-HandsOut task bytes d blanks w status.Ok (Some book) short accepted ran =
-    record { bytes = bytes; document_is = d; short = short; accepted = accepted; book_is = ran.0 }
+    (bytes, RanDocument-EndedWith task bytes d blanks w status.Ok (Some book) short accepted ran)
 RanDocument-HandsOut task bytes d blanks w status.Memory (Some book) short accepted ran =
-    record { bytes = bytes; document_is = d; short = short; accepted = accepted; book_is = ran.0 }
+    (bytes, RanDocument-EndedWith task bytes d blanks w status.Memory (Some book) short accepted ran)
 RanDocument-HandsOut task bytes d blanks w status.WriteFault (Some book) short accepted ran =
-    record { bytes = bytes; document_is = d; short = short; accepted = accepted; book_is = ran.0 }
+    (bytes, RanDocument-EndedWith task bytes d blanks w status.WriteFault (Some book) short accepted ran)
 RanDocument-HandsOut task bytes d blanks w _ (Some book) short accepted ran = absurd ran.1
 
 -- what was written comes of the bytes
@@ -177,18 +177,20 @@ RanDocument-OfBytes task d blanks w ended (Some book) ran = Wrote-OfBytes (task.
 -- so its run is one of its bytes
 pub RanDocument-RunsBytes : (task : Task) (blanks : Blanks) (bytes : List ℕ) (d : Document) (sink sink' : SinkFacts) (ended : Status) (book : Option BookFacts)
     → length bytes ≤ LONGEST_DOCUMENT → document whole_grammar bytes ≡ Ok d → RanDocument task d blanks (record { old = sink.taken; new = sink'.taken; flushed = sink'.flushed }) ended book
-    → (ended ≡ status.WriteFault → Rose sink.faults sink'.faults) → sink.faults ≤ sink'.faults → RunsBytes task blanks bytes sink sink' ended book
-RanDocument-RunsBytes task blanks bytes d sink sink' ended book short accepted ran rose later =
+    → RunsBytes task blanks bytes sink sink' ended book
+RanDocument-RunsBytes task blanks bytes d sink sink' ended book short accepted ran =
     let w : Written = record { old = sink.taken; new = sink'.taken; flushed = sink'.flushed } in
     let comes = RanDocument-OfBytes task d blanks w ended book ran in
     record {
       ran = RanDocument-EndedWith task bytes d blanks w ended book short accepted ran;
-      book_is = RanDocument-HandsOut task bytes d blanks w ended book short accepted ran;
+      handed_out = RanDocument-HandsOut task bytes d blanks w ended book short accepted ran;
       of_bytes = comes.0;
       plain = comes.1;
-      write_fault = rose;
-      later = later;
     }
+
+-- a fault that is told was counted
+pub told-Rose : (fault ended : Status) (before now : ℕ) → IsToldAs fault ended before now → ended ≡ fault → Rose before now
+told-Rose fault ended before now told is = let counted = told.counted is in rw counted (omega arith)
 
 -- a document that is short has the status that its reading gives
 short-status : (bytes : List ℕ) → length bytes ≤ LONGEST_DOCUMENT → status_of bytes ≡ status_of_document (document whole_grammar bytes)
@@ -228,6 +230,15 @@ read-end (Some told) left' bytes whole is_told = rw whole.1 refl
 
 -- ---- Before the document
 
+-- where nothing was read and nothing written, no fault is told
+pub untouched-MindsFaults : (source : SourceFacts) (sink : SinkFacts) (ended : Status) → ended ≢ status.ReadFault → ended ≢ status.WriteFault → MindsFaults source source sink sink ended
+untouched-MindsFaults source sink ended no_read no_write = record {
+  read_fault = record { later = omega arith; counted = λ failed. absurd (no_read failed); uncounted = λ other. refl };
+  write_fault = record { later = omega arith; counted = λ failed. absurd (no_write failed); uncounted = λ other. refl };
+  read_at_most = ([], omega arith, Consumes-nil source.left);
+  unflushed = λ other. refl;
+}
+
 all_known : (known : Option (List ℕ)) (P : List ℕ → Type 0) → ((bytes : List ℕ) → P bytes) → IfSome known P
 all_known None P all = tt
 all_known (Some bytes) P all = all bytes
@@ -236,14 +247,9 @@ all_known (Some bytes) P all = all bytes
 pub nothing-Runs : (task : Task) (blanks : Blanks) (source : SourceFacts) (sink : SinkFacts) → Runs task blanks source source sink sink status.Memory None
 nothing-Runs task blanks source sink = record {
   ran = all_known source.left _ (λ bytes. Keeps-refl sink.taken);
-  book_is = tt;
+  handed_out = Keeps-refl sink.taken;
   never_words = λ words. cc;
   read_whole = λ well told. cc;
-  read_at_most = ([], omega arith, Consumes-nil source.left);
-  read_fault = λ failed. cc;
-  write_fault = λ failed. cc;
-  read_later = omega arith;
-  write_later = omega arith;
   plain = tt;
   exact = all_known source.left _ (λ bytes still kept. inr refl);
 }
@@ -267,11 +273,9 @@ pub nothing-RunsMade : (task : Task) (blanks : Blanks) (rounds : ℕ) (sink : Si
 nothing-RunsMade task blanks rounds sink = record {
   ran = record {
     ran = Keeps-refl sink.taken;
-    book_is = tt;
+    handed_out = Keeps-refl sink.taken;
     of_bytes = tt;
     plain = tt;
-    write_fault = λ failed. cc;
-    later = omega arith;
   };
   exact = λ kept. inr refl;
 }

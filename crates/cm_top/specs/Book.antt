@@ -1,9 +1,7 @@
 -- What a run hands out besides its status: a book.
-use Rattle.std.specs.Prelude.{◌≡◌, ℕ, ◌≤◌, List, length, map, Option, None, Some, Ok, IfSome, IsSomeAnd}
+use Rattle.std.specs.Prelude.{◌≡◌, ℕ, ◌≤◌, List, length, map, Option, None, Some}
 use Rattle.cm_document.specs.declared.document.Document.{Document}
 use Rattle.cm_document.specs.declared.limits.TheConstants.{LONGEST_DOCUMENT}
-use Rattle.cm_document.specs.Document.{document}
-use Rattle.cm_document.specs.Grammars.{whole_grammar}
 use Rattle.cm_model.specs.Machine.{IsLegal, state_after}
 use Rattle.cm_model.specs.Scheduled.{Progress, start, cycles, turns, landed, cycles_left, finish, scheduled, scheduled_in_steps}
 use Rattle.cm_model.specs.Sessions.{IsWhole}
@@ -18,8 +16,6 @@ use Rattle.summary_text.specs.Summary.{summary}
 use Rattle.cm_words.specs.declared.job.Job.{Job}
 use Rattle.cm_words.specs.declared.job.JobKind.{JobKind}
 use Rattle.cm_words.specs.declared.job.JobKind.TheVariants as kind
-use Rattle.cm_top.specs.declared.status.Status.{Status}
-use Rattle.cm_top.specs.declared.status.Status.TheVariants as status
 
 -- What a book holds: its history, and the data of its boxes.
 pub record BookFacts : Type 0 where
@@ -71,18 +67,3 @@ pub record IsBookOf (made : Histories) (blanks : Blanks) (d : Document) (book : 
   pub sound : IsSound d.description blanks (length d.script.sessions) book.history
   pub whole : IsWhole d book.history
   pub boxes : book.boxes ≡ map (λ l. l.ctl) (state_after (boot d.description blanks (length d.script.sessions)) book.history).loaded
-
--- The book of a run of some accepted document.
-pub record IsBook (made : Histories) (blanks : Blanks) (book : BookFacts) : Type 0 where
-  pub bytes : List ℕ
-  pub document_is : Document
-  pub short : IsShort bytes
-  pub accepted : document whole_grammar bytes ≡ Ok document_is
-  pub book_is : IsBookOf made blanks document_is book
-
--- Which statuses come with a book: Ok and a write fault always, want of memory may, and no other status.
-abbrev pub HandsOut : (BookFacts → Type 0) → Status → Option BookFacts → Type 0
-HandsOut Is status.Ok book = IsSomeAnd book Is
-HandsOut Is status.WriteFault book = IsSomeAnd book Is
-HandsOut Is status.Memory book = IfSome book Is
-HandsOut Is _ book = book ≡ None

@@ -68,6 +68,16 @@ EndedWith task bytes blanks w status.TooLong book = LONGEST_DOCUMENT < length by
 EndedWith task bytes blanks w status.Memory book = WantsMemory task bytes blanks w book
 EndedWith task bytes blanks w status.WriteFault book = IsSomeAnd book (Cut task bytes blanks w)
 
+-- What a run handed out and wrote by its status, whatever its source tells. Ok and a write fault come with a book, want of memory may, and
+-- no other status does. A book is that of a run of an accepted document, and the sink has grown by all of the text of its history where the
+-- run went well, else by a front of it. Where memory ran out and no book came, nothing was written.
+abbrev pub HandsOut : Task → Blanks → Written → Status → Option BookFacts → Type 0
+HandsOut task blanks w status.Ok book = IsSomeAnd book (λ b. (bytes : List ℕ) × Printed task bytes blanks w b)
+HandsOut task blanks w status.WriteFault book = IsSomeAnd book (λ b. (bytes : List ℕ) × Cut task bytes blanks w b)
+HandsOut task blanks w status.Memory None = Keeps w.old w.new
+HandsOut task blanks w status.Memory (Some book) = (bytes : List ℕ) × Cut task bytes blanks w book
+HandsOut task blanks w _ book = book ≡ None
+
 -- The status that a document asks for, where it can be read and written: its first fault, or all of its trace.
 abbrev pub status_of_document : Result Document DocumentFault → Status
 status_of_document (Ok d) = status.Ok

@@ -1,14 +1,13 @@
 //! The run of an accepted document: its job is made, its trace or summary written, and its book handed out.
 
-ghost use Rattle.std.specs.Prelude.{◌≡◌, ◌<◌, ◌≤◌, ◌^◌, ◌⊎◌, length, option_map, IfOk, OnErr, OnOk};
+ghost use Rattle.std.specs.Prelude.{◌≡◌, ◌≢◌, ◌<◌, ◌^◌, ◌⊎◌, length, option_map, Err, IfOk, OnErr, OnOk};
 ghost use Rattle.std.specs.List.{All};
 ghost use Rattle.std.specs.Io.KnownBytes.{Appends, Keeps};
 ghost use Rattle.outside_io.specs.Bytes.{AllFlushed, AppendsPrefix};
-ghost use Rattle.outside_io.specs.Faults.{Rose};
+ghost use Rattle.outside_io.specs.Faults.{IsToldAs};
 ghost use Rattle.cm_document.specs.ScriptLaws.{MeetsRules};
 ghost use Rattle.console_session.specs.Sessions.{AreLines};
 ghost use Rattle.cm_model.specs.State.{boot};
-ghost use Rattle.trace_text.specs.Faults.{HasFault};
 ghost use Rattle.cm_top.specs.Jobs.{progress_of};
 ghost use Rattle.cm_top.specs.Book.{book_facts, finished, task_of, text_by};
 ghost use Rattle.cm_top.specs.Status.{Wrote, RanDocument};
@@ -36,8 +35,8 @@ pub fn run_document<K: Sink, C: Controller>(
     ensures ran { RanDocument (task_of asked stock) document stock
         (record { old = K.taken sink.old; new = K.taken sink.new; flushed = K.flushed sink.new })
         result.0 (option_map (book_facts C.meaning) result.1) }
-    ensures write_fault { result.0 ≡ Status.WriteFault → Rose (K.faults sink.old) (K.faults sink.new) }
-    ensures later { K.faults sink.old ≤ K.faults sink.new }
+    ensures write_fault { IsToldAs Status.WriteFault result.0 (K.faults sink.old) (K.faults sink.new) }
+    ensures unflushed { result.0 ≢ Status.Ok → K.flushed sink.new ≡ K.flushed sink.old }
 {
     let Document {
         description,
@@ -82,8 +81,8 @@ fn write<K: Sink, C: Controller>(
     ensures wrote { Wrote (text_by make
         (record { description = job.now.desk.opening.description; script = script.now }) job.now.desk.made)
         (record { old = K.taken sink.old; new = K.taken sink.new; flushed = K.flushed sink.new }) result }
-    ensures write_fault { result ≡ Status.WriteFault → Rose (K.faults sink.old) (K.faults sink.new) }
-    ensures later { K.faults sink.old ≤ K.faults sink.new }
+    ensures write_fault { IsToldAs Status.WriteFault result (K.faults sink.old) (K.faults sink.new) }
+    ensures unflushed { result ≢ Status.Ok → K.flushed sink.new ≡ K.flushed sink.old }
 {
     match write_text(alloc, sink, make, job, script) {
         Ok(()) => flush(sink),
@@ -106,7 +105,8 @@ fn write_text<K: Sink, C: Controller>(
     ensures err { OnErr result
         (AppendsPrefix (K.taken sink.old) (K.taken sink.new) (text_by make
         (record { description = job.now.desk.opening.description; script = script.now }) job.now.desk.made)) }
-    ensures fault { HasFault (K.faults sink.old) (K.faults sink.new) result }
+    ensures fault { IsToldAs (Err OutFault.Failed) result (K.faults sink.old) (K.faults sink.new) }
+    ensures flushed { K.flushed sink.new ≡ K.flushed sink.old }
 {
     match make {
         Some(_) => write_summary(alloc, sink, job.checked(), job.history()),
@@ -118,8 +118,8 @@ fn write_text<K: Sink, C: Controller>(
 fn flush<K: Sink>(sink: &mut K) -> Status
     ensures kept { Keeps (K.taken sink.old) (K.taken sink.new) }
     ensures flushed { (result ≡ Status.Ok) × AllFlushed (K.taken sink.new) (K.flushed sink.new)
-        ⊎ (result ≡ Status.WriteFault) × Rose (K.faults sink.old) (K.faults sink.new) }
-    ensures later { K.faults sink.old ≤ K.faults sink.new }
+        ⊎ (result ≡ Status.WriteFault) × (K.flushed sink.new ≡ K.flushed sink.old) }
+    ensures fault { IsToldAs Status.WriteFault result (K.faults sink.old) (K.faults sink.new) }
 {
     match sink.flush() {
         Ok(()) => Status::Ok,

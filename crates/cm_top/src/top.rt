@@ -1,12 +1,13 @@
 //! The top call: words and a document in, the run's trace or summary and its book out.
 
-ghost use Rattle.std.specs.Prelude.{◌≡◌, ◌≤◌, length, map, option_map, string_bytes, IfOk, IfSome};
+ghost use Rattle.std.specs.Prelude.{◌≡◌, ◌≢◌, ◌≤◌, length, map, option_map, string_bytes, IfOk, IfSome};
+ghost use Rattle.outside_io.specs.Faults.{IsToldAs};
 ghost use Rattle.cm_document.specs.declared.limits.TheConstants.{LONGEST_DOCUMENT};
 ghost use Rattle.cm_words.specs.declared.job.TheConstants.{MOST_ROUNDS};
 ghost use Rattle.cm_words.specs.Words.{asked};
 ghost use Rattle.cm_top.specs.Book.{book_facts, task_of};
 ghost use Rattle.cm_top.specs.Status.{ComesBeforeWriting};
-ghost use Rattle.cm_top.specs.Calls.Run.{source_facts, sink_facts, RefusesWords, Spares, Runs, RunsBytes, RunsJob, RunsMade};
+ghost use Rattle.cm_top.specs.Calls.Run.{source_facts, sink_facts, RefusesWords, Spares, MindsFaults, Runs, RunsBytes, RunsJob, RunsMade};
 
 use crate::accepted::run_document;
 use crate::document::read_document;
@@ -52,6 +53,9 @@ where
         result.0 (option_map (book_facts C.meaning) result.1)) }
     ensures spared { Spares (map string_bytes words.now) result.0 source.old source.new sink.old sink.new
         pace.old pace.new }
+    ensures outside { MindsFaults
+        (source_facts S.left S.faults source.old) (source_facts S.left S.faults source.new)
+        (sink_facts K.taken K.flushed K.faults sink.old) (sink_facts K.taken K.flushed K.faults sink.new) result.0 }
 {
     match asked(alloc, words) {
         Ok(job) => run_alone(alloc, &job, source, sink, stock),
@@ -73,6 +77,9 @@ pub fn run_alone<S: Source, K: Sink, C: Controller>(
         (source_facts S.left S.faults source.old) (source_facts S.left S.faults source.new)
         (sink_facts K.taken K.flushed K.faults sink.old) (sink_facts K.taken K.flushed K.faults sink.new)
         result.0 (option_map (book_facts C.meaning) result.1) }
+    ensures outside { MindsFaults
+        (source_facts S.left S.faults source.old) (source_facts S.left S.faults source.new)
+        (sink_facts K.taken K.flushed K.faults sink.old) (sink_facts K.taken K.flushed K.faults sink.new) result.0 }
     // A made document is not read.
     ensures unread { IfSome job.now.make (λ _. source.new ≡ source.old) }
     // Statuses 3 to 6 leave the sink as it was.
@@ -96,6 +103,9 @@ fn run_read<S: Source, K: Sink, C: Controller>(
         (source_facts S.left S.faults source.old) (source_facts S.left S.faults source.new)
         (sink_facts K.taken K.flushed K.faults sink.old) (sink_facts K.taken K.flushed K.faults sink.new)
         result.0 (option_map (book_facts C.meaning) result.1) }
+    ensures outside { MindsFaults
+        (source_facts S.left S.faults source.old) (source_facts S.left S.faults source.new)
+        (sink_facts K.taken K.flushed K.faults sink.old) (sink_facts K.taken K.flushed K.faults sink.new) result.0 }
     ensures untouched { ComesBeforeWriting result.0 → sink.new ≡ sink.old }
 {
     match read_whole(alloc, source, LONGEST_DOCUMENT) {
@@ -118,6 +128,8 @@ fn run_made<K: Sink, C: Controller>(
     ensures runs { RunsMade (task_of job stock) stock rounds
         (sink_facts K.taken K.flushed K.faults sink.old) (sink_facts K.taken K.flushed K.faults sink.new)
         result.0 (option_map (book_facts C.meaning) result.1) }
+    ensures write_fault { IsToldAs Status.WriteFault result.0 (K.faults sink.old) (K.faults sink.new) }
+    ensures unflushed { result.0 ≢ Status.Ok → K.flushed sink.new ≡ K.flushed sink.old }
     ensures untouched { ComesBeforeWriting result.0 → sink.new ≡ sink.old }
 {
     match make_document(alloc, rounds) {
@@ -138,6 +150,8 @@ fn run_bytes<K: Sink, C: Controller>(
     ensures runs { RunsBytes (task_of job stock) stock bytes.now
         (sink_facts K.taken K.flushed K.faults sink.old) (sink_facts K.taken K.flushed K.faults sink.new)
         result.0 (option_map (book_facts C.meaning) result.1) }
+    ensures write_fault { IsToldAs Status.WriteFault result.0 (K.faults sink.old) (K.faults sink.new) }
+    ensures unflushed { result.0 ≢ Status.Ok → K.flushed sink.new ≡ K.flushed sink.old }
     ensures untouched { ComesBeforeWriting result.0 → sink.new ≡ sink.old }
 {
     match read_document(alloc, bytes) {

@@ -1,5 +1,6 @@
 //! The edge to the world: sources and sinks in memory and over std, call after call.
 
+mod answers;
 mod gathered;
 mod std_edge;
 
@@ -158,10 +159,13 @@ const WRITES: &str = "\
 0 | 10 |  | x/all x/all /flush => failed, failed, all, flushed:\x20
 100 | 10 | 3 | all hello, world/all  and good morning => all, failed: hello, world and good\x20";
 
-/// Limits met and passed, and reads that fail.
+/// Limits met and passed, and reads that fail, the one behind the end among them: no read follows that one.
 const WHOLE_READS: &str = "\
 5 | 2 |  | abcde => abcde
 5 | 8192 | 9 | abcde => abcde
+5 | 8192 | 2 | abcde => abcde
+9 | 5 | 2 | abcde => abcde
+5 | 1 | 6 | abcde => abcde
 4 | 2 |  | abcde => there are too many bytes
 0 | 2 |  | abcde => there are too many bytes
 5 | 2 | 1 | abcde => a read failed

@@ -1,13 +1,20 @@
 //! Words of the command line, each list with the job that it asks for.
 
 use case_pages::pages::{Teller, hold_lines};
-use cm_words::{Job, JobKind, asked};
+use cm_words::{Job, JobKind, WordsFault, asked};
 use std::alloc::Global;
 use std::test::Fail;
 
 #[test]
 fn words_ask_for_a_job_or_are_refused(rt: HostRuntime) -> Result<(), Fail> {
     hold_lines(rt.alloc(), &Asks, "", WORDS)
+}
+
+#[test]
+fn want_of_memory_prints_as_its_line(rt: HostRuntime) -> Result<(), Fail> {
+    let printed = format!(in rt.alloc(); "{}", WordsFault::Memory)?;
+    assert!(rt; printed.as_str() == "out of memory");
+    Ok(())
 }
 
 /// Tells the job that words ask for, between which bars stand, and how many rounds are made; or why they are refused.

@@ -2,6 +2,8 @@
 #![tactic(auto)]
 
 #[cfg(test)]
+mod faults;
+#[cfg(test)]
 mod gathered;
 #[cfg(test)]
 mod outside;

@@ -1,9 +1,9 @@
 //! The summary of a history, a line a piece.
 
-ghost use Rattle.std.specs.Prelude.{◌≡◌, flat_map, OnOk, OnErr, string_bytes};
+ghost use Rattle.std.specs.Prelude.{◌≡◌, flat_map, Err, OnOk, OnErr, string_bytes};
 ghost use Rattle.std.specs.Io.KnownBytes.{Appends};
 ghost use Rattle.outside_io.specs.Bytes.{AppendsPrefix};
-ghost use Rattle.trace_text.specs.Faults.{HasFault};
+ghost use Rattle.outside_io.specs.Faults.{IsToldAs};
 ghost use Rattle.summary_text.specs.Summary.{summary};
 
 use crate::lines::summary_lines;
@@ -18,7 +18,7 @@ fn write_line<K: Sink>(sink: &mut K, line: &String) -> Result<(), OutFault>
     ensures ok { OnOk result (Appends (K.taken sink.old) (K.taken sink.new) (string_bytes line.now)) }
     ensures err { OnErr result (AppendsPrefix (K.taken sink.old) (K.taken sink.new) (string_bytes line.now)) }
     ensures flushed { K.flushed sink.new ≡ K.flushed sink.old }
-    ensures fault { HasFault (K.faults sink.old) (K.faults sink.new) result }
+    ensures fault { IsToldAs (Err OutFault.Failed) result (K.faults sink.old) (K.faults sink.new) }
 {
     write_whole(sink, line.as_bytes())?;
     Ok(())
@@ -29,7 +29,7 @@ fn write_lines<K: Sink>(sink: &mut K, lines: &[String]) -> Result<(), OutFault>
     ensures err { OnErr result
         (AppendsPrefix (K.taken sink.old) (K.taken sink.new) (flat_map string_bytes lines.now)) }
     ensures flushed { K.flushed sink.new ≡ K.flushed sink.old }
-    ensures fault { HasFault (K.faults sink.old) (K.faults sink.new) result }
+    ensures fault { IsToldAs (Err OutFault.Failed) result (K.faults sink.old) (K.faults sink.new) }
 {
     for line in lines {
         write_line(sink, line)?;
@@ -51,7 +51,7 @@ pub fn write_summary<K: Sink>(
     ensures err { OnErr result
         (AppendsPrefix (K.taken sink.old) (K.taken sink.new) (summary checked.now history.now)) }
     ensures flushed { K.flushed sink.new ≡ K.flushed sink.old }
-    ensures fault { HasFault (K.faults sink.old) (K.faults sink.new) result }
+    ensures fault { IsToldAs (Err OutFault.Failed) result (K.faults sink.old) (K.faults sink.new) }
 {
     let tally = Tally::of(history);
     let lines = summary_lines(alloc, checked.description(), &tally)?;

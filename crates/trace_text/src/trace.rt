@@ -1,14 +1,13 @@
 //! The trace of a history, a line a piece.
 
-ghost use Rattle.std.specs.Prelude.{◌≡◌, ◌++◌, true, codes, flat_map, IfOk, IfSome, OnOk, OnErr};
+ghost use Rattle.std.specs.Prelude.{◌≡◌, ◌++◌, true, codes, flat_map, Err, IfOk, IfSome, OnOk, OnErr};
 ghost use Rattle.std.specs.Io.KnownBytes.{Appends};
 ghost use Rattle.outside_io.specs.Bytes.{AppendsPrefix};
-ghost use Rattle.outside_io.specs.Faults.{HasCause};
+ghost use Rattle.outside_io.specs.Faults.{HasCause, IsToldAs};
 ghost use Rattle.cm_document.specs.CallText.{call_text};
 ghost use Rattle.cm_model.specs.Items.{Names as Told};
 ghost use Rattle.cm_model.specs.Kept.{call_of};
 ghost use Rattle.cm_model.specs.Trace.{caller_text, line_text, reply_text, trace};
-ghost use Rattle.trace_text.specs.Faults.{HasFault};
 ghost use Rattle.trace_text.specs.Quiet.{quiet_text};
 ghost use Rattle.trace_text.specs.Replies.{head_text, rest_text};
 
@@ -244,7 +243,7 @@ fn write_line<K: Sink>(
     ensures err { OnErr result
         (AppendsPrefix (K.taken sink.old) (K.taken sink.new) (line_text sessions.now names.now entry.now)) }
     ensures flushed { K.flushed sink.new ≡ K.flushed sink.old }
-    ensures fault { HasFault (K.faults sink.old) (K.faults sink.new) result }
+    ensures fault { IsToldAs (Err OutFault.Failed) result (K.faults sink.old) (K.faults sink.new) }
 {
     let line = line_in(room, sessions, names, entry)?;
     write_piece(sink, line)?;
@@ -265,7 +264,7 @@ fn write_lines<K: Sink>(
         (AppendsPrefix (K.taken sink.old) (K.taken sink.new)
         (flat_map (line_text sessions.now names.now) history.now)) }
     ensures flushed { K.flushed sink.new ≡ K.flushed sink.old }
-    ensures fault { HasFault (K.faults sink.old) (K.faults sink.new) result }
+    ensures fault { IsToldAs (Err OutFault.Failed) result (K.faults sink.old) (K.faults sink.new) }
 {
     let mut room = Room::none(alloc);
     for entry in history {
@@ -288,7 +287,7 @@ pub fn write_trace<K: Sink>(
         (AppendsPrefix (K.taken sink.old) (K.taken sink.new)
         (trace checked.now script.now.sessions history.now)) }
     ensures flushed { K.flushed sink.new ≡ K.flushed sink.old }
-    ensures fault { HasFault (K.faults sink.old) (K.faults sink.new) result }
+    ensures fault { IsToldAs (Err OutFault.Failed) result (K.faults sink.old) (K.faults sink.new) }
 {
     let names = Names::of(alloc, checked.description(), history)?;
     write_lines(alloc, sink, script.sessions.as_slice(), &names, history)

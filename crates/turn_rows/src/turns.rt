@@ -1,17 +1,23 @@
-//! A book of lines that passes write in turns: eight at once, one alone, and as many as a lock has.
+//! A book of lines that passes write in turns: eight at once, one alone, and as many as a lock has; and passes that sleep. No clause
+//! promises that a turn comes, so each case has a limit of time.
 
 ghost use Rattle.std.specs.Prelude.{◌≡◌, ◌+◌, ◌<◌, ◌≤◌, ◌^◌, ℕ, true, false, length, All, IfOk};
 ghost use Rattle.turn_lock.specs.Passes.{view, IsReady, IsSamePass, EachStays};
 ghost use Rattle.turn_lock.specs.Calls.Finish.{AreAll};
 ghost use Rattle.turn_lock.specs.declared.TheConstants.{MOST_SEATS};
+ghost use Rattle.turn_rows.specs.declared.turns.TheConstants.{MOST_TURNS};
 ghost use Rattle.turn_rows.specs.Calls.Turns.{IsAtWork};
 
 use fixed_num::Memory;
 use std::alloc::Global;
+use std::process::Abort;
 use std::sync::Wait;
+use std::sync::atomic::AtomicBool;
+use std::sync::atomic::Ordering::SeqCst;
 use std::test::Fail;
-use std::thread;
 use std::thread::Threads;
+use std::time::{Clock, Duration};
+use std::{hint, thread};
 use turn_lock::{Kept, MOST_SEATS, Shown, TurnLock, TurnPass};
 
 /// A line: the number of the pass that wrote it, and at which of its turns.
@@ -28,7 +34,10 @@ struct Book {
 }
 
 /// So many lines a book has at most.
-const MOST_LINES: usize = 1000;
+const MOST_LINES: usize = 20_000;
+
+/// So many turns a pass takes at most.
+const MOST_TURNS: u32 = 10_000;
 
 /// What is the same of all books of one lock: nothing.
 #[derive(Clone, Copy)]
@@ -56,14 +65,61 @@ impl Kept for Book {
         subst (λ n. length xs ≤ n) (sym (length-append xs ys)) (le-add_right (length xs) (length ys)) };
 }
 
+/// How long a pass holds the turn.
+#[derive(Clone, Copy, PartialEq, Eq)]
+enum Hold {
+    /// As long as its line takes.
+    Short,
+    /// Until those who wait have gone to sleep.
+    Long,
+    /// About as long as those who wait look before they sleep: a little longer at each turn, and then from the start.
+    Varied,
+}
+
+/// In so many milliseconds those who wait have gone to sleep.
+const LONG: u64 = 20;
+
+/// More pauses of the processor than those who wait make before they sleep.
+const MOST_PAUSES: u32 = 128;
+
+/// What each pass does: so many turns, held so long.
+#[derive(Clone, Copy)]
+struct Work {
+    turns: u32,
+    hold: Hold,
+}
+
+/// Holds the turn of this number.
+fn hold_on<R: Clock>(rt: &R, hold: Hold, turn: u32) {
+    match hold {
+        Hold::Short => {}
+        Hold::Long => thread::sleep(rt, Duration::from_millis(LONG)),
+        Hold::Varied => pause(turn % MOST_PAUSES),
+    }
+}
+
+/// So many pauses of the processor.
+fn pause(count: u32) {
+    for _ in 0..count {
+        hint::spin_loop();
+    }
+}
+
 /// One line at a turn of its own.
-fn write_line<R: Wait>(rt: &R, lock: &TurnLock<Book>, pass: &mut TurnPass<Book>, turn: u32)
+fn write_line<R: Wait + Clock>(
+    rt: &R,
+    lock: &TurnLock<Book>,
+    pass: &mut TurnPass<Book>,
+    hold: Hold,
+    turn: u32,
+)
     requires ready { IsReady lock.now pass.old }
     ensures ready { IsReady lock.now pass.new }
     ensures number { pass.new.number ≡ pass.old.number }
 {
     let mut book = lock.take(rt, pass);
     append(lock, pass, &mut book, turn);
+    hold_on(rt, hold, turn);
     lock.put(pass, book);
 }
 
@@ -88,35 +144,35 @@ fn append(lock: &TurnLock<Book>, pass: &mut TurnPass<Book>, book: &mut Book, tur
     }
 }
 
-/// So many turns.
-fn write_lines<R: Wait>(
+/// All turns of a pass.
+fn write_lines<R: Wait + Clock>(
     rt: &R,
     lock: &TurnLock<Book>,
     mut pass: TurnPass<Book>,
-    turns: u32,
+    work: Work,
 ) -> TurnPass<Book>
     requires ready { IsReady lock.now pass }
     ensures ready { IsReady lock.now result }
     ensures number { result.number ≡ pass.number }
 {
-    for turn in 0..turns {
-        write_line(rt, lock, &mut pass, turn);
+    for turn in 0..work.turns {
+        write_line(rt, lock, &mut pass, work.hold, turn);
     }
     pass
 }
 
 /// As many threads as passes write at once.
-fn write_all<R: Threads + Wait + Sync>(
+fn write_all<R: Threads + Wait + Clock + Sync>(
     rt: &R,
     lock: &TurnLock<Book>,
     passes: Vec<TurnPass<Book>>,
-    turns: u32,
+    work: Work,
 ) -> Result<Vec<TurnPass<Book>>, Memory>
     requires ready { All (IsReady lock.now) passes.items }
     ensures len { IfOk result (λ v. length v.items ≡ length passes.items) }
     ensures each { IfOk result (λ v. EachStays lock.now passes.items v.items) }
 {
-    Ok(thread::map_vec(rt, passes, &|pass| write_lines(rt, lock, pass, turns))?)
+    Ok(thread::map_vec(rt, passes, &|pass| write_lines(rt, lock, pass, work))?)
 }
 
 /// Takes the lock apart; the last pass is handed in first.
@@ -127,19 +183,19 @@ fn hand_in(lock: TurnLock<Book>, mut passes: Vec<TurnPass<Book>>) -> Option<Book
     Some(lock.finish(last, passes))
 }
 
-/// What so many passes wrote, each at so many turns.
-fn written<R: Threads + Wait + Sync>(
+/// What so many passes wrote.
+fn written<R: Threads + Wait + Clock + Sync>(
     rt: &R,
     alloc: Global,
     seats: u32,
-    turns: u32,
+    work: Work,
 ) -> Result<Option<Book>, Memory>
     requires seats { (1 ≤ seats) × (seats ≤ MOST_SEATS) }
-    requires turns { turns ≤ 100 }
+    requires turns { work.turns ≤ MOST_TURNS }
 {
-    let lines = Vec::with_capacity(alloc, (seats * turns) as usize)?;
+    let lines = Vec::with_capacity(alloc, (seats * work.turns) as usize)?;
     let (lock, passes) = TurnLock::make(alloc, Book { lines }, seats)?;
-    let passes = write_all(rt, &lock, passes, turns)?;
+    let passes = write_all(rt, &lock, passes, work)?;
     Ok(hand_in(lock, passes))
 }
 
@@ -158,36 +214,105 @@ fn in_order(book: &Book, who: u32) -> Option<u32> {
 }
 
 /// The book has as many lines, of each pass as many, each pass's in order of its turns.
-fn shows_all<R: Threads + Wait + Sync>(
+fn shows_all<R: Threads + Wait + Clock + Sync>(
     rt: &R,
     alloc: Global,
     seats: u32,
-    turns: u32,
+    work: Work,
 ) -> Result<bool, Memory>
     requires seats { (1 ≤ seats) × (seats ≤ MOST_SEATS) }
-    requires turns { turns ≤ 100 }
+    requires turns { work.turns ≤ MOST_TURNS }
 {
-    let Some(book) = written(rt, alloc, seats, turns)? else {
+    let Some(book) = written(rt, alloc, seats, work)? else {
         return Ok(false);
     };
-    let each = (0..seats).all(|who| in_order(&book, who) == Some(turns));
-    Ok(each && book.lines.len() == (seats * turns) as usize)
+    let each = (0..seats).all(|who| in_order(&book, who) == Some(work.turns));
+    Ok(each && book.lines.len() == (seats * work.turns) as usize)
+}
+
+/// So many turns, each as long as its line takes.
+fn short(turns: u32) -> Work
+    ensures { result.turns ≡ turns }
+{
+    Work {
+        turns,
+        hold: Hold::Short,
+    }
+}
+
+/// So many milliseconds pass between two looks at a case, and so many looks are taken at most: twenty seconds, where a case takes one.
+const BETWEEN_LOOKS: u64 = 10;
+
+const MOST_LOOKS: u32 = 2_000;
+
+/// Ends the test where a case is not done within the limit.
+fn watch<R: Clock + Abort>(rt: &R, is_done: &AtomicBool) {
+    for _ in 0..MOST_LOOKS {
+        if is_done.load(SeqCst) {
+            return;
+        }
+        thread::sleep(rt, Duration::from_millis(BETWEEN_LOOKS));
+    }
+    panic!(rt; "a pass sleeps and is not woken");
+}
+
+/// Whether the book shows all turns of a case, which is watched.
+fn shows_all_in_time<R: Threads + Wait + Clock + Abort + Sync>(
+    rt: &R,
+    alloc: Global,
+    seats: u32,
+    work: Work,
+) -> Result<bool, Memory>
+    requires seats { (1 ≤ seats) × (seats ≤ MOST_SEATS) }
+    requires turns { work.turns ≤ MOST_TURNS }
+{
+    let is_done = AtomicBool::new(false);
+    let watched = || watch(rt, &is_done);
+    let (_, shown) = thread::join(rt, watched, || {
+        let shown = shows_all(rt, alloc, seats, work);
+        is_done.store(true, SeqCst);
+        shown
+    });
+    shown
 }
 
 #[test]
 fn eight_threads_write_a_hundred_lines_each(rt: HostRuntime) -> Result<(), Fail> {
-    assert!(rt; shows_all(&rt, rt.alloc(), 8, 100)?);
+    assert!(rt; shows_all_in_time(&rt, rt.alloc(), 8, short(100))?);
     Ok(())
 }
 
 #[test]
 fn one_seat_alone(rt: HostRuntime) -> Result<(), Fail> {
-    assert!(rt; shows_all(&rt, rt.alloc(), 1, 3)?);
+    assert!(rt; shows_all_in_time(&rt, rt.alloc(), 1, short(3))?);
     Ok(())
 }
 
 #[test]
 fn as_many_seats_as_a_lock_has(rt: HostRuntime) -> Result<(), Fail> {
-    assert!(rt; shows_all(&rt, rt.alloc(), MOST_SEATS, 5)?);
+    assert!(rt; shows_all_in_time(&rt, rt.alloc(), MOST_SEATS, short(5))?);
+    Ok(())
+}
+
+/// Of two passes one sleeps while the other has the turn, of eight seven do.
+#[test]
+fn each_pass_that_sleeps_is_woken(rt: HostRuntime) -> Result<(), Fail> {
+    let work = Work {
+        turns: 3,
+        hold: Hold::Long,
+    };
+    assert!(rt; shows_all_in_time(&rt, rt.alloc(), 2, work)?);
+    assert!(rt; shows_all_in_time(&rt, rt.alloc(), 8, work)?);
+    Ok(())
+}
+
+/// Turns come just when those who wait go to sleep.
+#[test]
+fn no_pass_sleeps_through_its_turn(rt: HostRuntime) -> Result<(), Fail> {
+    let work = Work {
+        turns: MOST_TURNS,
+        hold: Hold::Varied,
+    };
+    assert!(rt; shows_all_in_time(&rt, rt.alloc(), 2, work)?);
     Ok(())
 }

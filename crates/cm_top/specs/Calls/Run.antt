@@ -1,16 +1,16 @@
 -- What a call of `run_alone` promises, and `run` where its words are accepted.
-use Rattle.std.specs.Prelude.{◌≡◌, ℕ, ◌+◌, ◌≤◌, List, Option, None, Some, Err, IfOk, IfSome, IsSome, ◌⊎◌}
+use Rattle.std.specs.Prelude.{◌≡◌, ◌≢◌, ℕ, ◌+◌, List, Option, None, Some, Err, IfOk, IfSome, IsSome, ◌⊎◌}
 use Rattle.std.specs.Io.KnownBytes.{IsAtEnd}
 use Rattle.cm_document.specs.declared.limits.TheConstants.{LONGEST_DOCUMENT}
 use Rattle.outside_io.specs.Bytes.{TakesAtMost}
-use Rattle.outside_io.specs.Faults.{Rose}
+use Rattle.outside_io.specs.Faults.{IsToldAs, Rose}
 use Rattle.cm_model.specs.declared.blanks.Blanks.{Blanks}
 use Rattle.cm_words.specs.Words.{asked}
 use Rattle.cm_words.specs.declared.job.WordsFault.TheVariants.{Usage}
 use Rattle.make_document.specs.Made.{made}
 use Rattle.cm_words.specs.declared.job.Job.{Job}
-use Rattle.cm_top.specs.Book.{BookFacts, Task, IsBook, HandsOut, task_of}
-use Rattle.cm_top.specs.Status.{Written, EndedWith, IsPlain, ComesOfBytes, ComesBeforeWriting, status_of}
+use Rattle.cm_top.specs.Book.{BookFacts, Task, task_of}
+use Rattle.cm_top.specs.Status.{Written, EndedWith, HandsOut, IsPlain, ComesOfBytes, ComesBeforeWriting, status_of}
 use Rattle.cm_top.specs.declared.status.Status.{Status}
 use Rattle.cm_top.specs.declared.status.Status.TheVariants as status
 
@@ -54,34 +54,34 @@ pub record Spares {S K P : Type 0} (words : List (List ℕ)) (ended : Status) (s
   -- nothing is paced
   pub unpaced : pace' ≡ pace
 
+-- How a run ends by the faults of its source and its sink, before and after it, whatever its words and its document are.
+pub record MindsFaults (source source' : SourceFacts) (sink sink' : SinkFacts) (ended : Status) : Type 0 where
+  -- it ends as a fault of reading exactly where a read failed, and as one of writing exactly where a write or a flush did
+  pub read_fault : IsToldAs status.ReadFault ended source.faults source'.faults
+  pub write_fault : IsToldAs status.WriteFault ended sink.faults sink'.faults
+  -- never more than one byte past the longest document is taken from the source
+  pub read_at_most : TakesAtMost source.left source'.left (LONGEST_DOCUMENT + 1)
+  -- what was taken is flushed where the run went well, and nowhere else
+  pub unflushed : ended ≢ status.Ok → sink'.flushed ≡ sink.flushed
+
 -- A run of these bytes into this sink, before and after, with its status and its book.
 pub record RunsBytes (task : Task) (blanks : Blanks) (bytes : List ℕ) (sink sink' : SinkFacts) (ended : Status) (book : Option BookFacts) : Type 0 where
   pub ran : EndedWith task bytes blanks (written sink sink') ended book
-  pub book_is : HandsOut (IsBook task.history blanks) ended book
+  pub handed_out : HandsOut task blanks (written sink sink') ended book
   pub of_bytes : ComesOfBytes ended
   pub plain : IsPlain ended
-  pub write_fault : ended ≡ status.WriteFault → Rose sink.faults sink'.faults
-  pub later : sink.faults ≤ sink'.faults
 
 -- A run from this source, before and after, into this sink, before and after, with its status and its book. This was the
 -- task.
 pub record Runs (task : Task) (blanks : Blanks) (source source' : SourceFacts) (sink sink' : SinkFacts) (ended : Status) (book : Option BookFacts) : Type 0 where
   -- by the bytes of the source, where they are known
   pub ran : IfSome source.left (λ bytes. EndedWith task bytes blanks (written sink sink') ended book)
-  -- whatever source and sink tell, a book comes with these statuses alone, and it is that of a run of an accepted document
-  pub book_is : HandsOut (IsBook task.history blanks) ended book
+  -- whatever the source tells, by the book
+  pub handed_out : HandsOut task blanks (written sink sink') ended book
   -- the words are none of its business
   pub never_words : ended ≡ status.BadWords → ⊥
   -- a run that went well has read its source to the end
   pub read_whole : ended ≡ status.Ok → IsSome source.left → IsAtEnd source'.left
-  -- never more than one byte past the longest document is taken from the source
-  pub read_at_most : TakesAtMost source.left source'.left (LONGEST_DOCUMENT + 1)
-  -- a fault of reading comes only where the source's faults rose, one of writing where the sink's did
-  pub read_fault : ended ≡ status.ReadFault → Rose source.faults source'.faults
-  pub write_fault : ended ≡ status.WriteFault → Rose sink.faults sink'.faults
-  -- the counts of faults never fall
-  pub read_later : source.faults ≤ source'.faults
-  pub write_later : sink.faults ≤ sink'.faults
   -- no refusal carries a want of memory
   pub plain : IsPlain ended
   -- Where neither source nor sink had a fault, the bytes alone decide the status, unless memory runs out: a document that is

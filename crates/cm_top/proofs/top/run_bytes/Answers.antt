@@ -6,4 +6,4 @@ run_document-requires g c = record { rules = (document-Rules _ _ c.in-Ok.ensures
 
 pub returns-in-Ok-clause-runs : goal.returns-in-Ok-clause-runs
 returns-in-Ok-clause-runs g c =
-    RanDocument-RunsBytes _ _ _ _ _ _ _ _ c.requires c.in-Ok.ensures.reads c.run_document.ensures.ran c.run_document.ensures.write_fault c.run_document.ensures.later
+    RanDocument-RunsBytes _ _ _ _ _ _ _ _ c.requires c.in-Ok.ensures.reads c.run_document.ensures.ran

@@ -1,4 +1,4 @@
-use Rattle.std.proofs.Common.{◌∙◌, arith, string_bytes}
+use Rattle.std.proofs.Common.{◌∙◌, string_bytes}
 use Rattle.std.proofs.lemmas.Result.{err_from_is_err_and}
 use Rattle.trace_text.proofs.LineLemmas.{texts_taken, texts_cut}
 use Rattle.summary_text.proofs.summary.write_lines.Goals as goal
@@ -10,7 +10,7 @@ loop-line-preserved g c =
       so_far = texts_taken string_bytes c.args.lines.now c.loop-line.line-index c.line-item.result _ _ _ c.loop-line-test.true before.so_far
           (rw (← c.line-item.is) c.in_ok-write_line.ensures.ok);
       flushed = c.in_ok-write_line.ensures.flushed ∙ before.flushed;
-      later = omega (arith, before.later, c.in_ok-write_line.ensures.fault.later);
+      uncounted = c.in_ok-write_line.ensures.fault.uncounted (λ failed. cc) ∙ before.uncounted;
     }
 
 pub returns-in_err-write_line-clause-err : goal.returns-in_err-write_line-clause-err

@@ -1,4 +1,4 @@
-use Rattle.std.proofs.Common.{◌∙◌, arith}
+use Rattle.std.proofs.Common.{◌∙◌}
 use Rattle.std.proofs.lemmas.Result.{err_from_is_err_and}
 use Rattle.cm_model.specs.Trace.{line_text}
 use Rattle.trace_text.proofs.LineLemmas.{texts_taken, texts_cut}
@@ -12,7 +12,7 @@ loop-entry-preserved g c =
       so_far = texts_taken line c.args.history.now c.loop-entry.entry-index c.entry-item.result _ _ _ c.loop-entry-test.true before.so_far
           (rw (← c.entry-item.is) c.in_ok-write_line.ensures.ok);
       flushed = c.in_ok-write_line.ensures.flushed ∙ before.flushed;
-      later = omega (arith, before.later, c.in_ok-write_line.ensures.fault.later);
+      uncounted = c.in_ok-write_line.ensures.fault.uncounted (λ failed. cc) ∙ before.uncounted;
     }
 
 pub returns-in_err-write_line-clause-err : goal.returns-in_err-write_line-clause-err

@@ -3,7 +3,7 @@ use mir.Syntax.{Sym}
 use denote.Exit as exit
 use denote.RattleType.{RattleType}
 use denote.Ref.{ShrRef, NamedLft}
-use denote.Struct.Field.{u32-field, row_field}
+use denote.Struct.Field.{row_field}
 use denote.Struct.Tuple.{TupleAt, type_at}
 use denote.Param.Send.{IsSend, IsSync, sendable, shr_sync, param_sync, arg_sync}
 use denote.Param.SendFields.{as_row_sync, declared_sync}
@@ -13,6 +13,7 @@ use Rattle.turn_rows.specs.contracts.turns.Any as Any
 use Rattle.turn_rows.specs.contracts.turns.Book as Book
 use Rattle.turn_rows.specs.contracts.turns.BookKept.TheImpl.{ghosts}
 use Rattle.turn_rows.specs.contracts.turns.Line as Line
+use Rattle.turn_rows.specs.contracts.turns.Work as Work
 use Rattle.turn_lock.proofs.Crossing.{pass_send, lock_sync}
 use Rattle.turn_rows.proofs.turns.write_all.Goals as goal
 
@@ -22,15 +23,15 @@ book_send = search (sendable, crosses) depth 40
 shared : IsSync (Lock.the_row Book.the_row Line.the_row Any.the_row ghosts)
 shared = lock_sync Book.the_row Line.the_row Any.the_row ghosts book_send
 
--- what a closure captures of its thread's calls: the runtime, the lock and a number
+-- what a closure captures of its thread's calls: the runtime, the lock and the work
 captured : (R : RattleType) → IsSync R → (ν : Sym) (a b c : NamedLft)
-    → IsSync (TupleAt ν (ShrRef a.mir a.lft R ∷ ShrRef b.mir b.lft (Lock.the_row Book.the_row Line.the_row Any.the_row ghosts) ∷ ShrRef c.mir c.lft (u32-field).row ∷ []))
+    → IsSync (TupleAt ν (ShrRef a.mir a.lft R ∷ ShrRef b.mir b.lft (Lock.the_row Book.the_row Line.the_row Any.the_row ghosts) ∷ ShrRef c.mir c.lft Work.the_row ∷ []))
 captured R s ν a b c =
     let lock = Lock.the_row Book.the_row Line.the_row Any.the_row ghosts in
-    let types : List RattleType = ShrRef a.mir a.lft R ∷ ShrRef b.mir b.lft lock ∷ ShrRef c.mir c.lft (u32-field).row ∷ [] in
+    let types : List RattleType = ShrRef a.mir a.lft R ∷ ShrRef b.mir b.lft lock ∷ ShrRef c.mir c.lft Work.the_row ∷ [] in
     declared_sync (type_at ν types) (
       as_row_sync (row_field (ShrRef a.mir a.lft R)) (shr_sync a.mir a.lft R s),
-      (as_row_sync (row_field (ShrRef b.mir b.lft lock)) (shr_sync b.mir b.lft lock shared), (as_row_sync (row_field (ShrRef c.mir c.lft (u32-field).row)) (search sendable), tt)),
+      (as_row_sync (row_field (ShrRef b.mir b.lft lock)) (shr_sync b.mir b.lft lock shared), (as_row_sync (row_field (ShrRef c.mir c.lft Work.the_row)) (search sendable), tt)),
     )
 
 pub map_vec-requires-send-J : goal.map_vec-requires-send-J
