@@ -12,7 +12,8 @@ use Rattle.cm_model.specs.Boundary.{all_concluded}
 use Rattle.cm_model.specs.Commit.{commit}
 use Rattle.cm_model.specs.Cycle.{reaches, cycle, after_cycle}
 use Rattle.cm_model.specs.Order.{rank_within}
-use Rattle.cm_model.proofs.Worked.{strictly, at_best, once_ready}
+use Rattle.cm_model.proofs.Worked.{once_ready}
+use Rattle.cm_model.proofs.WorkedCalls.{strictly, at_best}
 
 -- a forward comes, and moves nothing before mail is sent
 first_switch : once_ready (codes "fwd" ∷ []) (strictly [] (codes "fwd" ∷ []) ∷ Begin 0 ∷ Told 0 ∷ ListControllers ∷ Send (codes "fwd") (Values (pos 500000 ∷ [])) ∷ ListInterfaces ∷ [])

@@ -13,6 +13,7 @@ pub mod QuietLemmas
 pub mod UpdateLemmas
 mod KindRows
 mod ComponentRows
+mod WorkedSwitches
 mod SwitchRows
 mod CycleRows
 mod UpdateRows
@@ -21,7 +22,11 @@ pub mod InterfaceLemmas
 pub mod CommitLemmas
 pub mod MoveLemmas
 pub mod SteadyLemmas
+mod WorkedCalls
 mod Worked
+mod WorkedLift
+mod LiftSwitchRows
+mod LiftRows
 mod BoundaryRows
 mod ScheduleRows
 mod StepRows

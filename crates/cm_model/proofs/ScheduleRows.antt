@@ -25,7 +25,8 @@ use Rattle.cm_model.specs.Machine.{step}
 use Rattle.cm_model.specs.Order.{rank_within}
 use Rattle.cm_model.specs.Scheduled.{advance, settle, settle_all, looped, with_cycle, finish, start, scheduled}
 use Rattle.cm_model.specs.Trace.{output}
-use Rattle.cm_model.proofs.Worked.{j1_position, robot, stock, strictly, at_best}
+use Rattle.cm_model.proofs.Worked.{j1_position, robot, stock}
+use Rattle.cm_model.proofs.WorkedCalls.{strictly, at_best}
 
 -- what is printed of the run of these sessions, each with its name and its lines
 abbrev printed : Description → List (List ℕ × List Call) → List ℕ

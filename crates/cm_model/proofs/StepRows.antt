@@ -20,7 +20,8 @@ use Rattle.cm_document.specs.declared.call.Call.TheVariants.{Load, Configure, Un
 use Rattle.cm_document.specs.declared.script.Turn.{Turn}
 use Rattle.cm_document.specs.declared.script.Turn.TheVariants as turn
 use Rattle.cm_model.specs.Scheduled.{advance, settle, settle_all, looped, with_cycle, finish, start, scheduled_in_steps}
-use Rattle.cm_model.proofs.Worked.{robot, stock, strictly}
+use Rattle.cm_model.proofs.Worked.{robot, stock}
+use Rattle.cm_model.proofs.WorkedCalls.{strictly}
 
 -- what is printed of the run of these sessions by these turns
 abbrev printed_in_steps : Description → List (List ℕ × List Call) → List Turn → List ℕ

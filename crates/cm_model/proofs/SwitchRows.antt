@@ -1,56 +1,18 @@
 -- Order and switches on a description of seven controllers over one joint, written down by hand: computed from the definitions.
-use Rattle.std.proofs.Common.{◌≡◌, ℕ, true, false, List, [], ◌∷◌, ◌++◌, map, pos, refl}
-use Rattle.std.specs.Prelude.{codes, decimal, flat_map}
+use Rattle.std.proofs.Common.{◌≡◌, ℕ, true, false, List, [], ◌∷◌, map, refl}
+use Rattle.std.specs.Prelude.{codes}
 use Rattle.std.specs.Fmt.{digits}
-use Rattle.iface_names.specs.declared.interface.IfaceName.{IfaceName}
-use Rattle.iface_names.specs.declared.interface.IfaceName.TheVariants.{Joint, Reference}
-use Rattle.iface_names.specs.declared.kind.Kind.TheVariants.{Position, Velocity}
-use Rattle.cm_document.specs.Described.{a_controller, a_description, a_joint, a_component}
 use Rattle.cm_document.specs.declared.call.SwitchRequest.{SwitchRequest}
-use Rattle.cm_document.specs.declared.description.CompDesc.{CompDesc}
-use Rattle.cm_document.specs.declared.description.CompKind.TheVariants.{System}
-use Rattle.cm_document.specs.declared.description.CtlDesc.{CtlDesc}
-use Rattle.cm_document.specs.declared.description.Description.{Description}
-use Rattle.cm_document.specs.declared.description.Params.TheVariants.{Forward, Passthrough, Pid, Trajectory, Broadcaster, Mock}
-use Rattle.cm_document.specs.declared.life.Life.TheVariants.{Unconfigured, Inactive, Active}
-use Rattle.cm_model.specs.declared.planned.Planned.{Planned}
-use Rattle.cm_model.specs.declared.seen.Seen.{Seen}
-use Rattle.cm_model.specs.Causes.{outcome_text}
+use Rattle.cm_document.specs.declared.life.Life.TheVariants.{Unconfigured, Active}
+use Rattle.cm_model.proofs.Worked.{controllers, robot}
+use Rattle.cm_model.proofs.WorkedSwitches.{inactive, running, chained, fresh, unready, strictly, at_best, plan_text}
+use Rattle.cm_model.specs.BestEffort.{stays_within, plan_of}
 use Rattle.cm_model.specs.Order.{height, divisor, is_due, rank_within}
 use Rattle.cm_model.specs.Scene.{Scene, active, order}
-use Rattle.cm_model.specs.BestEffort.{stays_within, plan_of}
+use Rattle.cm_model.specs.declared.seen.Seen.{Seen}
 
--- ---- The description
+-- ---- The controllers by place
 
-abbrev j1_position : IfaceName
-j1_position = Joint (codes "j1") Position
-
-abbrev j1_velocity : IfaceName
-j1_velocity = Joint (codes "j1") Velocity
-
-abbrev pid_reference : IfaceName
-pid_reference = Reference (codes "pid") (codes "j1") Position
-
-abbrev arm : CompDesc
-arm = a_component (codes "arm") System Active Unconfigured [] []
-    (a_joint (codes "j1") (pos 1000000) (pos 1000000) (pos 0) (pos 0) (pos 0) (Position ∷ Velocity ∷ []) (Position ∷ Velocity ∷ []) ∷ [])
-
--- a forward, a pid, a trajectory above it, another trajectory, a broadcaster, a mock, and a passthrough above the pid
-abbrev controllers : List CtlDesc
-controllers =
-    a_controller (codes "fwd") 0 (j1_position ∷ []) [] (Forward 1)
-    ∷ a_controller (codes "pid") 0 (j1_velocity ∷ []) (j1_position ∷ []) (Pid (pos 2000000) (pos 0) (pos 0) (pos 0) (pos 10000000))
-    ∷ a_controller (codes "traj") 0 (pid_reference ∷ []) (j1_position ∷ []) (Trajectory 1)
-    ∷ a_controller (codes "traj2") 0 (j1_position ∷ []) (j1_position ∷ []) (Trajectory 1)
-    ∷ a_controller (codes "jsb") 0 [] (j1_position ∷ j1_velocity ∷ []) (Broadcaster 2)
-    ∷ a_controller (codes "mk") 0 [] [] (Mock 0 false (2 ∷ []) (5 ∷ []))
-    ∷ a_controller (codes "pt") 0 (pid_reference ∷ []) [] (Passthrough 1)
-    ∷ []
-
-abbrev robot : Description
-robot = a_description 1 100 6 (arm ∷ []) controllers
-
--- the controllers by place
 abbrev fwd : ℕ
 fwd = 0
 
@@ -72,37 +34,11 @@ mk = 5
 abbrev pt : ℕ
 pt = 6
 
--- a loaded controller that is inactive, one that is active, one that is unconfigured, and one that is not ready
-abbrev inactive : ℕ → ℕ → Seen
-inactive serial place = record { serial = serial; place = place; life = Inactive; chained = false; ready = true }
-
-abbrev running : ℕ → ℕ → Seen
-running serial place = record { serial = serial; place = place; life = Active; chained = false; ready = true }
-
-abbrev chained : ℕ → ℕ → Seen
-chained serial place = record { serial = serial; place = place; life = Active; chained = true; ready = true }
-
-abbrev fresh : ℕ → ℕ → Seen
-fresh serial place = record { serial = serial; place = place; life = Unconfigured; chained = false; ready = true }
-
-abbrev unready : ℕ → ℕ → Seen
-unready serial place = record { serial = serial; place = place; life = Inactive; chained = false; ready = false }
-
 -- these controllers over an active arm
 abbrev over_arm : List Seen → Scene
 over_arm loaded = record { description = robot; loaded = loaded; components = Active ∷ [] }
 
--- a strict switch, and one of best effort
-abbrev strictly : List (List ℕ) → List (List ℕ) → SwitchRequest
-strictly off on = record { on = on; off = off; strict = true }
-
-abbrev at_best : List (List ℕ) → List (List ℕ) → SwitchRequest
-at_best off on = record { on = on; off = off; strict = false }
-
--- a plan as text: the outcome, the serials to deactivate, and those to activate
-abbrev plan_text : Planned → List ℕ
-plan_text plan = outcome_text plan.outcome ++ codes ";" ++ flat_map (λ n. codes " -" ++ decimal n) plan.off ++ codes ";" ++ flat_map (λ n. codes " +" ++ decimal n) plan.on
-
+-- the plan of a request, as text
 abbrev planned_text : List Seen → SwitchRequest → List ℕ
 planned_text loaded request = plan_text (plan_of (over_arm loaded) request)
 

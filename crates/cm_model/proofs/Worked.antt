@@ -1,28 +1,26 @@
 -- A robot for worked rows, one joint and seven controllers, and what its calls come to by the definitions alone.
 use Rattle.std.proofs.Common.{ℕ, Bool, true, false, List, [], ◌∷◌, pos}
-use Rattle.std.specs.Prelude.{codes, flat_map, Some, None, unwrap_or}
+use Rattle.std.specs.Prelude.{codes, Some, None}
 use Rattle.iface_names.specs.declared.interface.IfaceName.{IfaceName}
 use Rattle.iface_names.specs.declared.interface.IfaceName.TheVariants.{Joint, Reference}
 use Rattle.iface_names.specs.declared.kind.Kind.TheVariants.{Position, Velocity}
 use Rattle.cm_document.specs.Described.{a_controller, a_description, a_joint, a_component}
 use Rattle.cm_document.specs.Params.{kind_of}
 use Rattle.cm_document.specs.declared.call.Call.{Call}
-use Rattle.cm_document.specs.declared.call.Call.TheVariants.{Load, Configure, Switch}
 use Rattle.cm_document.specs.declared.description.CompDesc.{CompDesc}
 use Rattle.cm_document.specs.declared.description.CompKind.TheVariants.{System}
 use Rattle.cm_document.specs.declared.description.CtlDesc.{CtlDesc}
 use Rattle.cm_document.specs.declared.description.Description.{Description}
 use Rattle.cm_document.specs.declared.description.Params.TheVariants.{Forward, Passthrough, Pid, Trajectory, Broadcaster, Mock}
 use Rattle.cm_document.specs.declared.life.Life.TheVariants.{Unconfigured, Active}
+pub use Rattle.cm_model.proofs.WorkedCalls.{made}
+use Rattle.cm_model.proofs.WorkedCalls.{replies, after, ready}
 use Rattle.cm_model.specs.Controllers.{started}
-use Rattle.cm_model.specs.Machine.{reply_of, answered}
 use Rattle.cm_model.specs.Order.{controller_at}
 use Rattle.cm_model.specs.Sound.{Moment}
 use Rattle.cm_model.specs.State.{State, Loaded, boot}
-use Rattle.cm_model.specs.Trace.{reply_text, names_in}
+use Rattle.cm_model.specs.Trace.{names_in}
 use Rattle.cm_model.specs.declared.blanks.Blanks.{Blanks}
-use Rattle.cm_model.specs.declared.reply.Reply.{Reply}
-use Rattle.cm_model.specs.declared.reply.Reply.TheVariants as reply
 
 -- ---- The description
 
@@ -57,40 +55,11 @@ robot = a_description 1 100 6 (arm ∷ []) controllers
 abbrev pub stock : Blanks
 stock = record { forward = 2; passthrough = 2; pid = 2; trajectory = 2; broadcaster = 2; mock = 2 }
 
--- ---- Calls
-
--- the state after a call, with the reply
-abbrev pub done_so : (Reply → State) → Reply → State × Reply
-done_so effect r = (effect r, r)
-
--- the state after a call that is enabled, with the reply
-abbrev pub made : State → Call → State × Reply
-made s call = answered s call (unwrap_or (reply_of s call) reply.Done)
-
--- the replies to calls, one after the other, as they print with these names of controllers by serial
-abbrev pub replies : List (List ℕ) → State → List Call → List (List ℕ)
-replies names s [] = []
-replies names s (call ∷ calls) = reply_text (record (names_in robot []) { controllers = names }) (made s call).1 ∷ replies names (made s call).0 calls
-
--- the state after calls, one after the other
-abbrev pub after : State → List Call → State
-after s [] = s
-after s (call ∷ calls) = after (made s call).0 calls
-
--- a strict switch, and one of best effort
-abbrev pub strictly : List (List ℕ) → List (List ℕ) → Call
-strictly off on = Switch (record { on = on; off = off; strict = true })
-
-abbrev pub at_best : List (List ℕ) → List (List ℕ) → Call
-at_best off on = Switch (record { on = on; off = off; strict = false })
-
--- a controller is loaded and configured
-abbrev pub ready : List (List ℕ) → List Call
-ready names = flat_map (λ name. Load name ∷ Configure name ∷ []) names
+-- ---- States and moments
 
 -- the replies from boot on, once these are ready
 abbrev pub once_ready : List (List ℕ) → List Call → List (List ℕ)
-once_ready names calls = replies names (after (boot robot stock 1) (ready names)) calls
+once_ready names calls = replies (record (names_in robot []) { controllers = names }) (after (boot robot stock 1) (ready names)) calls
 
 -- calls as the moments of a history
 abbrev pub moments_of : State → List Call → List Moment
