@@ -1,0 +1,273 @@
+"""What a YAML says of its controllers: each becomes one of our kinds, or a mock that claims nothing."""
+
+from dataclasses import dataclass, field
+
+from .gains import tuning
+from .listing import Place, Refused, plain, quoted
+from .names import Names
+from .yaml_files import nodes_of, yaml_file
+
+MANAGER = "controller_manager"
+USUAL_RATE = 100  # hertz, of a manager that is told none
+HIGHEST_RATE = 10_000
+INITIAL = "hardware_components_initial_state"
+# Keys of a controller in the manager's list that are read, and have no counterpart. To build one takes it out of here.
+WITHOUT_COUNTERPART = ("fallback_controllers", "params_file")
+
+
+@dataclass(eq=False)
+class Controller:
+    """A controller of ours, with what it claims and reads as the YAML writes it: a place and a path each."""
+
+    place: Place
+    given: str
+    name: str
+    kind: str = "mock"
+    rate: int = 0
+    claims: list = field(default_factory=list)
+    reads: list = field(default_factory=list)  # of a broadcaster `None` for all
+    numbers: dict = field(default_factory=dict)
+    exports: list = field(default_factory=list)  # the references that others may claim, by their paths in the YAML
+    also: list = field(default_factory=list)  # what it names besides and has to be there: `command` or `state`, place and path
+
+
+@dataclass
+class Manager:
+    place: Place
+    rate: int
+    controllers: list
+    initial: dict  # lifecycle states of components at start, by the names in the URDF, each with its place
+    left_out: set  # references that are there and have no counterpart
+
+
+def manager_of(path, listing):
+    """Returns what the file says of its manager and of the controllers that this one lists."""
+    nodes, found = nodes_of(yaml_file(path)), {}
+    for node in nodes:
+        name = node.node.rpartition("/")[2]
+        if name in found:
+            raise Refused(node.place, f"there are parameters of {quoted(name)} twice")
+        found[name] = node
+    if MANAGER not in found:
+        raise Refused(Place(path, 1), f"there is no {MANAGER}")
+    manager = found.pop(MANAGER)
+    reading = Reading(listing, found)
+    rate = manager.values.get("update_rate")
+    rate = rate.whole("update_rate", 1, HIGHEST_RATE) if rate else USUAL_RATE
+    controllers = [it for name, kind in listed(manager, found, listing) for it in reading.controllers(name, kind)]
+    for name, node in found.items():
+        if name not in reading.listed:
+            listing.left_out(node.place, f"{quoted(name)}, which {MANAGER} does not list")
+    if not controllers:
+        raise Refused(manager.place, f"{MANAGER} lists no controller")
+    return Manager(manager.place, rate, controllers, initial_states(manager, listing), reading.left_out)
+
+
+def listed(manager, nodes, listing):
+    """Returns the names of the controllers in the manager's list, each with the node of its type."""
+    found = []
+    for key, node in manager.values.items():
+        name, dot, word = key.partition(".")
+        if dot and word == "type":
+            found.append((name, node))
+        elif name == INITIAL and word in ("unconfigured", "inactive"):
+            continue
+        elif key != "update_rate":
+            if (name in nodes or word in WITHOUT_COUNTERPART) and f"{name}.type" not in manager.values:
+                raise Refused(node.place, f"controller {quoted(name)} has no type")
+            listing.left_out(node.place, f"the parameter {quoted(key)} of {MANAGER}")
+    return found
+
+
+def initial_states(manager, listing):
+    found = {}
+    for state in ("unconfigured", "inactive"):
+        node = manager.values.get(f"{INITIAL}.{state}")
+        for place, name in node.texts(f"{INITIAL}.{state}") if node else ():
+            if name in found:
+                raise Refused(place, f"component {quoted(name)} stands twice")
+            found[name] = (place, state)
+    return found
+
+
+class Reading:
+    """Reads controllers, one after the other."""
+
+    def __init__(self, listing, nodes):
+        self.listing, self.nodes = listing, nodes
+        self.names = Names("controller", listing)
+        self.listed, self.left_out = set(), set()
+
+    def controllers(self, given, type_node):
+        """Returns what the controller of this name becomes: one of ours, or several."""
+        kind = type_node.text(f"the type of {quoted(given)}")
+        self.listed.add(given)
+        name = self.names.add(given, type_node.place)
+        whole = Controller(type_node.place, given, name)
+        if kind not in TYPES:
+            self.listing.changed(type_node.place, f"controller {quoted(given)} of the type {plain(kind)} is a mock that claims nothing")
+            return [whole]
+        make, *more = TYPES[kind]
+        if given not in self.nodes:
+            if make is not Reading.broadcaster:
+                raise Refused(type_node.place, f"controller {quoted(given)} has no parameters: there is no node of this name")
+            return self.broadcaster(whole, Used(given, type_node.place, {}))
+        node = self.nodes[given]
+        used = Used(given, node.place, node.values)
+        rate = used.value("update_rate")
+        whole.rate = rate.whole(f"update_rate of {quoted(given)}", 0, HIGHEST_RATE) if rate else 0
+        made = make(self, whole, used, *more)
+        for name, value in used.unused().items():
+            self.listing.left_out(value.place, f"the parameter {quoted(name)} of {quoted(given)}")
+        return made
+
+    def broadcaster(self, it, used):
+        joints, kinds = used.value("joints"), used.value("interfaces")
+        joints = joints.texts(f"joints of {quoted(it.given)}") if joints else []
+        kinds = kinds.texts(f"interfaces of {quoted(it.given)}") if kinds else []
+        it.kind, it.reads = "broadcaster", None
+        if joints and kinds:
+            it.reads = [(place, f"{joint}/{kind}") for place, joint in joints for _, kind in kinds]
+        return [it]
+
+    def forward(self, it, used, kind=None):
+        it.kind = "forward"
+        kind = kind or used.required("interface_name").text(f"interface_name of {quoted(it.given)}")
+        it.claims = [(place, f"{joint}/{kind}") for place, joint in used.list("joints")]
+        return [it]
+
+    def several(self, it, used):
+        """A forward of several interfaces of one joint keeps the first, because a joint has one command at a time."""
+        it.kind = "forward"
+        joint = used.required("joint").text(f"joint of {quoted(it.given)}")
+        (place, kind), *others = used.list("interface_names")
+        self.leave_out_kinds(it, [joint], others)
+        it.claims = [(place, f"{joint}/{kind}")]
+        return [it]
+
+    def passthrough(self, it, used):
+        it.kind, it.claims = "passthrough", used.list("interfaces")
+        it.exports = [f"{it.given}/{path}" for _, path in it.claims]
+        return [it]
+
+    def trajectory(self, it, used):
+        joints, kinds = used.list("joints"), used.list("command_interfaces")
+        commanded = used.list("command_joints") if used.value("command_joints") else joints
+        if len(commanded) != len(joints):
+            raise Refused(commanded[0][0], f"command_joints of {quoted(it.given)} are not as many as its joints")
+        states = used.list("state_interfaces")
+        if "position" not in (kind for _, kind in states):
+            raise Refused(states[0][0], f"state_interfaces of {quoted(it.given)} lack position")
+        it.kind = "trajectory"
+        it.reads = [(place, f"{joint}/position") for place, joint in joints]
+        chosen = next((pair for pair in kinds if pair[1] == "position"), kinds[0])
+        self.leave_out_kinds(it, [name for _, name in commanded], [pair for pair in kinds if pair is not chosen])
+        it.also += [("state", place, f"{joint}/{kind}") for place, kind in states for _, joint in joints]
+        it.claims = [(place, f"{name}/{chosen[1]}") for place, name in commanded]
+        return [*self.inner_pids(it, used, chosen), it] if chosen[1] in ("velocity", "effort") else [it]
+
+    def inner_pids(self, it, used, chosen):
+        """Returns a pid for each claim of a trajectory that closes its loop itself; it then claims their references."""
+        place, kind = chosen
+        pids = []
+        for claim, (at, read) in zip(it.claims, it.reads):
+            joint = read.rpartition("/")[0]
+            name = self.names.make(f"{it.name}_{joint}")
+            pid = Controller(it.place, f"{it.given}/{joint}", name, "pid", it.rate, [claim], [(at, read)])
+            pid.numbers = tuning(f"joint {quoted(joint)} of {quoted(it.given)}", used.gains(joint), self.listing)
+            pid.exports = [f"{pid.given}/position"]
+            pids.append(pid)
+        it.claims = [(at, pid.exports[0]) for pid, (at, _) in zip(pids, it.reads)]
+        self.check_gains(it, used, [read.rpartition("/")[0] for _, read in it.reads])
+        self.listing.changed(place, f"{quoted(it.given)} commands {kind}, so it leads a pid for each joint: "
+                                    f"{', '.join(pid.name for pid in pids)}")
+        return pids
+
+    def pid(self, it, used):
+        dofs, states = used.list("dof_names"), used.list("reference_and_state_interfaces")
+        if used.value("reference_and_state_dof_names"):
+            measured = used.list("reference_and_state_dof_names")
+        else:
+            measured = dofs
+        if len(measured) != len(dofs):
+            raise Refused(measured[0][0], f"reference_and_state_dof_names of {quoted(it.given)} are not as many as its dof_names")
+        kind = used.required("command_interface").text(f"command_interface of {quoted(it.given)}")
+        for place, other in states[1:]:
+            self.listing.left_out(place, f"state interface {quoted(other)} of {quoted(it.given)}, because a pid reads one")
+        made = []
+        for (place, dof), (at, read) in zip(dofs, measured):
+            one = it
+            if len(dofs) > 1:
+                one = Controller(it.place, f"{it.given}/{read}", self.names.make(f"{it.name}_{read}"), rate=it.rate)
+            one.kind, one.claims, one.reads = "pid", [(place, f"{dof}/{kind}")], [(at, f"{read}/{states[0][1]}")]
+            one.numbers = tuning(f"{quoted(dof)} of {quoted(it.given)}", used.gains(dof), self.listing)
+            one.exports = [f"{it.given}/{read}/{states[0][1]}"]
+            one.also = [("state", place, f"{read}/{other}") for place, other in states[1:]]
+            self.left_out |= {f"{it.given}/{read}/{other}" for _, other in states[1:]}
+            made.append(one)
+        self.check_gains(it, used, [dof for _, dof in dofs])
+        if len(made) > 1:
+            self.listing.changed(it.place, f"controller {quoted(it.given)} is a pid for each joint: {', '.join(one.name for one in made)}")
+        return made
+
+    def check_gains(self, it, used, known):
+        for name, node in used.unused().items():
+            if name.startswith("gains."):
+                raise Refused(node.place, f"{quoted(name)} of {quoted(it.given)} is of none of {quoted(', '.join(known))}")
+
+    def leave_out_kinds(self, it, joints, others):
+        for place, kind in others:
+            it.also += [("command", place, f"{joint}/{kind}") for joint in joints]
+            self.listing.left_out(place, f"command interface {quoted(kind)} of {quoted(it.given)}, "
+                                         "because a joint has one command at a time")
+
+
+class Used:
+    """The parameters of a controller, which notes those that are looked at."""
+
+    def __init__(self, given, place, values):
+        self.given, self.place, self.values, self.looked_at = given, place, values, set()
+
+    def value(self, name):
+        self.looked_at.add(name)
+        return self.values.get(name)
+
+    def required(self, name):
+        node = self.value(name)
+        if node is None:
+            raise Refused(self.place, f"{quoted(self.given)} lacks the parameter {name}")
+        return node
+
+    def list(self, name):
+        """Returns the texts of a list that has at least one, each once, with their places."""
+        node, what = self.required(name), f"{name} of {quoted(self.given)}"
+        texts = node.texts(what)
+        if not texts:
+            raise Refused(node.place, f"{what} has no item")
+        for index, (place, text) in enumerate(texts):
+            if text in (it for _, it in texts[:index]):
+                raise Refused(place, f"{what} has {quoted(text)} twice")
+        return texts
+
+    def gains(self, joint):
+        """Returns the gains of one joint: all that stands below `gains.JOINT`."""
+        prefix = f"gains.{joint}."
+        names = [name for name in self.values if name.startswith(prefix)]
+        return {name[len(prefix):]: self.value(name) for name in names}
+
+    def unused(self):
+        return {name: node for name, node in self.values.items() if name not in self.looked_at}
+
+
+# The types that become one of our kinds, each with what reads it.
+TYPES = {
+    "joint_state_broadcaster/JointStateBroadcaster": (Reading.broadcaster,),
+    "joint_trajectory_controller/JointTrajectoryController": (Reading.trajectory,),
+    "forward_command_controller/ForwardCommandController": (Reading.forward,),
+    "forward_command_controller/MultiInterfaceForwardCommandController": (Reading.several,),
+    "position_controllers/JointGroupPositionController": (Reading.forward, "position"),
+    "velocity_controllers/JointGroupVelocityController": (Reading.forward, "velocity"),
+    "effort_controllers/JointGroupEffortController": (Reading.forward, "effort"),
+    "pid_controller/PidController": (Reading.pid,),
+    "passthrough_controller/PassthroughController": (Reading.passthrough,),
+}

@@ -1,0 +1,208 @@
+"""Which interfaces of ours the controllers claim and read, and which controllers can run together."""
+
+from dataclasses import dataclass, field
+
+from .listing import Place, Refused, plain, quoted
+from .robots import KINDS
+
+MOST_CONTROLLERS = 64
+MOST_OF_A_KIND = 32  # that can be loaded: the program's stock has so many blanks of each
+MOST_REFERENCES = 96
+MOST_CLAIMS_OF_ONE = 32
+MOST_CLAIMS = 192
+MOST_READS = 256
+
+
+@dataclass
+class Claim:
+    """A claim of ours: the joint and the kind that it commands, and whose reference it is, if it is one."""
+
+    place: Place
+    joint: object
+    kind: str
+    exporter: object = None
+
+    def text(self):
+        inner = f"{self.joint.name}/{self.kind}"
+        return f"{self.exporter.name}/{inner}" if self.exporter else inner
+
+
+@dataclass
+class Linked:
+    """The controllers with their claims and reads, of ours, by the names of the controllers."""
+
+    robot: object
+    listing: object
+    controllers: list
+    claims: dict = field(default_factory=dict)
+    reads: dict = field(default_factory=dict)
+    references: dict = field(default_factory=dict)  # by their paths in the YAML: the exporter, a joint, a kind
+
+    def link(self):
+        """Looks up all that is claimed and read. A controller of which one thing has no counterpart becomes a mock."""
+        for it in self.controllers:
+            self.export(it)
+        waiting = True
+        while waiting:
+            waiting = False
+            for it in self.controllers:
+                if it.kind != "mock" and not self.looked_up(it):
+                    waiting = True
+        for it in self.controllers:
+            if it.kind == "mock":
+                self.claims[it.name], self.reads[it.name] = [], []
+        self.refuse_too_many()
+        self.refuse_loops()
+
+    def export(self, it):
+        """Lists the references of a controller, each with the joint that it ends with."""
+        for path in it.exports:
+            joint, kind = self.ending(path)
+            if joint and kind in KINDS:
+                self.references[path] = (it, joint, kind)
+
+    def ending(self, path):
+        """Returns the joint that stands before the kind at the end of a path, and the kind."""
+        front, _, kind = path.rpartition("/")
+        while front:
+            if joint := self.robot.joint(front):
+                return joint, kind
+            front = front.partition("/")[2]
+        return None, kind
+
+    def looked_up(self, it):
+        """Looks up the claims and reads of a controller, or makes it a mock and answers that others have to be looked at again."""
+        for which, place, path in it.also:
+            self.claim(it, place, path) if which == "command" else self.read(it, place, path)
+        claims = [self.claim(it, *pair) for pair in it.claims]
+        reads = [self.read(it, *pair) for pair in it.reads] if it.reads is not None else None
+        if None in claims or reads and None in reads:
+            it.kind = "mock"
+            self.listing.changed(it.place, f"controller {quoted(it.given)} is a mock that claims nothing, "
+                                           "because what it claims or reads was left out")
+            return False
+        self.claims[it.name], self.reads[it.name] = claims, reads
+        for pairs, items in ((it.claims, claims), (it.reads or [], reads or [])):
+            texts = [item.text() for item in items]
+            for index, (place, path) in enumerate(pairs):
+                if texts[index] in texts[:index]:
+                    raise Refused(place, f"{quoted(it.given)} has {quoted(path)} twice")
+        return True
+
+    def claim(self, it, place, path):
+        """Returns the claim of ours, or nothing if it has no counterpart."""
+        if path in self.references:
+            exporter, joint, kind = self.references[path]
+            return Claim(place, joint, kind, exporter) if exporter.kind != "mock" else None
+        return self.of_joint(it, place, path, "command")
+
+    def read(self, it, place, path):
+        return self.of_joint(it, place, path, "state")
+
+    def of_joint(self, it, place, path, which):
+        front, _, kind = path.rpartition("/")
+        joint = self.robot.joint(front)
+        if path in self.robot.left_out:
+            return None
+        if joint:
+            if kind not in getattr(joint, which):
+                raise Refused(place, f"{quoted(it.given)} names the {which} interface {quoted(path)}, "
+                                     f"and the joint has none of that kind ({joint.place})")
+            return Claim(place, joint, kind)
+        first = front.partition("/")[0]
+        exporters = [other for other in self.controllers if other.given == first or other.given.startswith(f"{first}/")]
+        if exporters and first != front:
+            if all(other.kind == "mock" for other in exporters):
+                return None
+            raise Refused(place, f"{quoted(it.given)} names {quoted(path)}, which {quoted(first)} does not export")
+        raise Refused(place, f"{quoted(it.given)} names the joint {quoted(front)}, "
+                             f"which no ros2_control tag of {plain(self.robot.file)} has")
+
+    def followers(self, it):
+        """Returns whom a controller commands, each with the place where it says so."""
+        return [(claim.place, claim.exporter) for claim in self.claims[it.name] if claim.exporter]
+
+    def refuse_loops(self):
+        """Follows each controller to those that it leads, and refuses one that is reached from itself."""
+        done = set()
+
+        def follow(it, way):
+            for place, follower in self.followers(it):
+                if follower.name in way:
+                    raise Refused(place, f"{quoted(it.given)} leads {quoted(follower.given)}, which leads back to it")
+                if follower.name not in done:
+                    follow(follower, way | {follower.name})
+            done.add(it.name)
+
+        for it in self.controllers:
+            follow(it, {it.name})
+
+    def refuse_too_many(self):
+        states = sum(len(joint.state) for joint in self.robot.joints())
+        counts = dict.fromkeys(("controllers", "references", "claims", "reads"), 0)
+        most = {"controllers": MOST_CONTROLLERS, "references": MOST_REFERENCES, "claims": MOST_CLAIMS, "reads": MOST_READS}
+        kinds = {}
+        for it in self.controllers:
+            claims, reads = self.claims[it.name], self.reads[it.name]
+            kinds[it.kind] = kinds.get(it.kind, 0) + 1
+            if len(claims) > MOST_CLAIMS_OF_ONE:
+                raise Refused(it.place, f"{quoted(it.given)} claims more than {MOST_CLAIMS_OF_ONE} interfaces")
+            if kinds[it.kind] > MOST_OF_A_KIND:
+                raise Refused(it.place, f"{quoted(it.given)} is the {kinds[it.kind]}th {it.kind}, of at most {MOST_OF_A_KIND}")
+            counts["controllers"] += 1
+            counts["references"] += len(claims) if it.kind in ("passthrough", "pid") else 0
+            counts["claims"] += len(claims)
+            counts["reads"] += states if reads is None else len(reads)
+            for what, count in counts.items():
+                if count > most[what]:
+                    raise Refused(it.place, f"with {quoted(it.given)} there are more than {most[what]} {what}")
+
+
+@dataclass
+class Together:
+    """Which controllers are switched on, in one request, and why each other is not."""
+
+    linked: Linked
+    active: list = field(default_factory=list)
+    resting: dict = field(default_factory=dict)  # by the names of the controllers: the joint, and who has it
+    users: dict = field(default_factory=dict)  # who has a joint or a reference, and of which kind its claim is
+
+    def join(self, it):
+        """Switches a controller on with all that it leads, if each interface is free for them."""
+        coming, users = self.with_followers(it), dict(self.users)
+        for member in coming:
+            for claim in self.linked.claims[member.name]:
+                # A joint has one command at a time, of whatever kind.
+                key = (claim.exporter.name, claim.joint.name, claim.kind) if claim.exporter else claim.joint.name
+                use = (member.name, claim.kind)
+                if users.setdefault(key, use) != use:
+                    self.resting[it.name] = (claim.joint.name, users[key][0])
+                    return
+        self.users = users
+        self.active += [member for member in coming if member not in self.active]
+
+    def with_followers(self, it):
+        """Returns the controller behind those that it leads, at any distance."""
+        found = []
+
+        def visit(member):
+            for _, follower in self.linked.followers(member):
+                if follower not in found:
+                    visit(follower)
+            if member not in found:
+                found.append(member)
+
+        visit(it)
+        return found
+
+    def is_led(self, it):
+        return any(follower is it for other in self.active for _, follower in self.linked.followers(other))
+
+
+def together(linked):
+    """Returns who is switched on: each controller as the YAML lists it, if those before it leave it what it claims."""
+    found = Together(linked)
+    for it in linked.controllers:
+        if it not in found.active:
+            found.join(it)
+    return found

@@ -1,0 +1,229 @@
+"""What a URDF says of its hardware: components with joints, and which interfaces these have."""
+
+from dataclasses import dataclass, field
+from decimal import Decimal
+
+from .listing import Place, Refused, plain, quoted
+from .names import Names
+from .quantities import MOST_UNITS, hint, number, rounded
+from .xml_files import Element, xml_file
+
+KINDS = ("position", "velocity", "effort")
+COMPONENT_KINDS = ("system", "actuator", "sensor")
+JOINT_TYPES = ("revolute", "continuous", "prismatic", "fixed", "floating", "planar")
+WITH_LIMITS = ("revolute", "prismatic")
+MOST_COMPONENTS = 16
+MOST_JOINTS = 32
+# What stands in a ros2_control tag, is read, and has no counterpart. To build one takes it out of here.
+WITHOUT_COUNTERPART = ("gpio", "sensor", "transmission")
+
+
+@dataclass
+class Limits:
+    """What a joint of the URDF may do: its greatest velocity, and where and with which effort, if that is said."""
+
+    place: Place
+    velocity: Decimal
+    lower: Decimal = None
+    upper: Decimal = None
+    effort: Decimal = None
+    mimic: Place = None  # where it says that it follows another joint
+
+
+@dataclass
+class Joint:
+    place: Place
+    given: str
+    name: str
+    limits: Limits
+    command: dict = field(default_factory=dict)  # each kind with its place
+    state: dict = field(default_factory=dict)
+    seen: set = field(default_factory=set)  # the interfaces so far, those that were left out too
+    position: Decimal = Decimal(0)
+    velocity: Decimal = Decimal(0)
+
+
+@dataclass
+class Component:
+    place: Place
+    given: str
+    name: str
+    kind: str
+    joints: list = field(default_factory=list)
+    initial: str = "active"
+
+
+@dataclass
+class Robot:
+    file: str
+    components: list
+    left_out: set  # interfaces that are there and have no counterpart, as "io/digital_output"; and components without a joint
+
+    def joints(self):
+        return [joint for component in self.components for joint in component.joints]
+
+    def joint(self, given):
+        return next((joint for joint in self.joints() if joint.given == given), None)
+
+
+def robot_of(path, listing):
+    """Returns the robot that the file describes."""
+    root = xml_file(path)
+    if root.tag != "robot":
+        raise Refused(root.place, f"<robot> is wanted, and not <{plain(root.tag)}>")
+    for element in root.children:
+        if element.tag.startswith("xacro:"):
+            listing.left_out(element.place, f"<{plain(element.tag)}>: xacro is not expanded")
+        elif element.tag == "transmission":
+            listing.left_out(element.place, f"transmission {quoted(element.attributes.get('name', ''))}")
+    reading = Reading(path, listing, limits_of(root))
+    components = [it for tag in root.all("ros2_control") if (it := reading.component(tag))]
+    if not root.all("ros2_control"):
+        raise Refused(root.place, "there is no ros2_control tag directly in <robot>")
+    return Robot(path, components, reading.left_out)
+
+
+def limits_of(root):
+    """Returns, of each joint of the URDF by its name, what it may do."""
+    found = {}
+    for element in root.all("joint"):
+        name, kind = element.get("name"), element.get("type")
+        if name in found:
+            raise Refused(element.place, f"there are two joints named {quoted(name)}")
+        if kind not in JOINT_TYPES:
+            raise Refused(element.place, f"joint {quoted(name)} is of the type {quoted(kind)}{hint(kind)}")
+        found[name] = (element, kind)
+    return {name: limits(name, element, kind) for name, (element, kind) in found.items()}
+
+
+def limits(name, joint, kind):
+    found = limits_alone(name, joint, kind)
+    mimic = joint.first("mimic")
+    found.mimic = mimic.place if mimic else None
+    return found
+
+
+def limits_alone(name, joint, kind):
+    """Returns what this joint may do. One that turns without end may have no limit, and a fixed one does not move."""
+    limit = joint.first("limit")
+    if limit is None:
+        if kind in WITH_LIMITS:
+            raise Refused(joint.place, f"joint {quoted(name)} is {kind} and lacks its <limit>")
+        return Limits(joint.place, None if kind == "continuous" else Decimal(0))
+    found = {key: number(limit.attributes[key], limit.place, f"{key} of joint {quoted(name)}")
+             for key in ("velocity", "lower", "upper", "effort") if key in limit.attributes}
+    if "velocity" not in found:
+        limit.get("velocity")
+    if found["velocity"] < 0:
+        raise Refused(limit.place, f"the velocity of joint {quoted(name)} is negative")
+    if kind in WITH_LIMITS:
+        lower, upper = found.get("lower", Decimal(0)), found.get("upper", Decimal(0))
+        if lower > upper:
+            raise Refused(limit.place, f"joint {quoted(name)} has its lower limit above its upper one")
+        return Limits(limit.place, found["velocity"], lower, upper, found.get("effort"))
+    return Limits(limit.place, found["velocity"], effort=found.get("effort"))
+
+
+class Reading:
+    """Reads ros2_control tags, one after the other."""
+
+    def __init__(self, file, listing, limits):
+        self.file, self.listing, self.limits = file, listing, limits
+        self.component_names, self.joint_names = Names("component", listing), Names("joint", listing)
+        self.left_out = set()
+
+    def component(self, tag: Element):
+        """Returns the component, or nothing if it has no joint."""
+        given, kind = tag.get("name"), tag.get("type")
+        if kind not in COMPONENT_KINDS:
+            raise Refused(tag.place, f"component {quoted(given)} is of the type {quoted(kind)}, "
+                                     f"and not system, actuator or sensor{hint(kind)}")
+        component = Component(tag.place, given, self.component_names.add(given, tag.place), kind)
+        self.list_attributes(tag, f"component {quoted(given)}", ("name", "type"))
+        for child in tag.children:
+            self.child(component, child)
+        if kind == "actuator" and len(component.joints) > 1:
+            self.listing.changed(tag.place, f"component {quoted(given)} is a system, because an actuator has one joint")
+            component.kind = "system"
+        if not component.joints:
+            self.listing.left_out(tag.place, f"component {quoted(given)}, which has no joint")
+            self.left_out.add(given)
+            return None
+        return component
+
+    def child(self, component, child):
+        of_it = f"of component {quoted(component.given)}"
+        if child.tag == "joint":
+            component.joints.append(self.joint(component, child))
+        elif child.tag == "hardware":
+            for inner in child.children:
+                word = inner.attributes.get("name", inner.text.strip())
+                self.listing.left_out(inner.place, f"{plain(inner.tag)} {quoted(word)} {of_it}, which is simulated")
+        elif child.tag in WITHOUT_COUNTERPART:
+            name = child.attributes.get("name", "")
+            self.listing.left_out(child.place, f"{child.tag} {quoted(name)} {of_it}")
+            self.left_out |= {f"{name}/{it.attributes.get('name', '')}" for it in child.children}
+        elif child.tag.startswith("xacro:"):
+            self.listing.left_out(child.place, f"<{plain(child.tag)}>: xacro is not expanded")
+        else:
+            raise Refused(child.place, f"<{plain(child.tag)}> in component {quoted(component.given)} is not known")
+
+    def joint(self, component, tag):
+        given = tag.get("name")
+        if given not in self.limits:
+            raise Refused(tag.place, f"joint {quoted(given)} of component {quoted(component.given)} "
+                                     f"is no <joint> of this URDF{hint(given)}")
+        name = self.joint_names.add(given, tag.place)
+        if mimic := self.limits[given].mimic:
+            self.listing.left_out(mimic, f"mimic of joint {quoted(given)}, which stands still if nobody commands it")
+        joint = Joint(tag.place, given, name, self.vmax(given, self.limits[given]))
+        self.list_attributes(tag, f"joint {quoted(given)}", ("name",))
+        for child in tag.children:
+            if child.tag in ("command_interface", "state_interface"):
+                self.interface(component, joint, child)
+            elif child.tag == "param":
+                text = child.text.strip()
+                self.listing.left_out(child.place, f"param {quoted(child.get('name'))} = {quoted(text)} of joint {quoted(given)}")
+            else:
+                raise Refused(child.place, f"<{plain(child.tag)}> in joint {quoted(given)} is not known")
+        return joint
+
+    def vmax(self, given, limits):
+        what = f"the velocity limit of joint {quoted(given)}"
+        if limits.velocity is None:
+            self.listing.made_up(limits.place, f"{what} is {MOST_UNITS}, because the URDF has none")
+            return Limits(limits.place, None, effort=limits.effort)
+        if limits.velocity == 0:
+            self.listing.changed(limits.place, f"joint {quoted(given)} never moves, because its velocity limit is 0")
+        velocity = rounded(limits.velocity, limits.place, what, self.listing)
+        return Limits(limits.place, velocity, limits.lower, limits.upper, limits.effort)
+
+    def interface(self, component, joint, tag):
+        is_command, kind = tag.tag == "command_interface", tag.get("name")
+        what = f"{tag.tag} {quoted(kind)} of joint {quoted(joint.given)}"
+        self.list_attributes(tag, what, ("name",))
+        if (tag.tag, kind) in joint.seen:
+            raise Refused(tag.place, f"{what} stands twice")
+        joint.seen.add((tag.tag, kind))
+        if kind not in KINDS or is_command and component.kind == "sensor":
+            self.listing.left_out(tag.place, what if kind not in KINDS else f"{what}, because a sensor takes no commands")
+            self.left_out.add(f"{joint.given}/{kind}")
+            return
+        (joint.command if is_command else joint.state)[kind] = tag.place
+        for child in tag.children:
+            if child.tag != "param":
+                raise Refused(child.place, f"<{plain(child.tag)}> in {what} is not known")
+            self.param(joint, kind, is_command, child, what)
+
+    def param(self, joint, kind, is_command, tag, what):
+        name, text = tag.get("name"), tag.content(f"a param of {what}")
+        if is_command or name != "initial_value" or kind == "effort":
+            self.listing.left_out(tag.place, f"param {quoted(name)} = {quoted(text)} of {what}")
+            return
+        value = rounded(number(text, tag.place, f"initial_value of {what}"), tag.place, f"initial_value of {what}", self.listing)
+        setattr(joint, kind, value)
+
+    def list_attributes(self, tag, what, known):
+        for name in tag.attributes:
+            if name not in known:
+                self.listing.left_out(tag.place, f"attribute {quoted(name)} of {what}")
