@@ -1,23 +1,37 @@
 """What a YAML says of its controllers: each becomes one of our kinds, or a mock that claims nothing."""
 
+import re
 from dataclasses import dataclass, field
 
 from .gains import tuning
 from .listing import Place, Refused, plain, quoted
 from .names import Names
-from .yaml_files import nodes_of, yaml_file
+from .yaml_files import nodes_of, value_of, yaml_file
 
 MANAGER = "controller_manager"
 USUAL_RATE = 100  # hertz, of a manager that is told none
 HIGHEST_RATE = 10_000
 INITIAL = "hardware_components_initial_state"
+TYPE = re.compile(r"[a-z]\w*/[A-Z]\w*", re.ASCII)
 # Keys of a controller in the manager's list that are read, and have no counterpart. To build one takes it out of here.
 WITHOUT_COUNTERPART = ("fallback_controllers", "params_file")
 
 
+@dataclass(frozen=True)
+class Named:
+    """An interface as the YAML names it, with the places at which its joint and its kind stand."""
+
+    path: str
+    joint_place: Place
+    kind_place: Place
+
+    def joint(self):
+        return self.path.rpartition("/")[0]
+
+
 @dataclass(eq=False)
 class Controller:
-    """A controller of ours, with what it claims and reads as the YAML writes it: a place and a path each."""
+    """A controller of ours, with what it claims and reads as the YAML names it. Several may be of one that is given there."""
 
     place: Place
     given: str
@@ -25,10 +39,11 @@ class Controller:
     kind: str = "mock"
     rate: int = 0
     claims: list = field(default_factory=list)
-    reads: list = field(default_factory=list)  # of a broadcaster `None` for all
+    reads: list = field(default_factory=list)  # nothing in place of a list for all states
     numbers: dict = field(default_factory=dict)
     exports: list = field(default_factory=list)  # the references that others may claim, by their paths in the YAML
-    also: list = field(default_factory=list)  # what it names besides and has to be there: `command` or `state`, place and path
+    also: list = field(default_factory=list)  # what it names besides and has to be there: `command` or `state`, and the name
+    fault: Refused = None  # that counts if all of these are there
 
 
 @dataclass
@@ -52,7 +67,7 @@ def manager_of(path, listing):
         raise Refused(Place(path, 1), f"there is no {MANAGER}")
     manager = found.pop(MANAGER)
     reading = Reading(listing, found)
-    rate = manager.values.get("update_rate")
+    rate = value_of(manager.values, "update_rate")
     rate = rate.whole("update_rate", 1, HIGHEST_RATE) if rate else USUAL_RATE
     controllers = [it for name, kind in listed(manager, found, listing) for it in reading.controllers(name, kind)]
     for name, node in found.items():
@@ -73,7 +88,8 @@ def listed(manager, nodes, listing):
         elif name == INITIAL and word in ("unconfigured", "inactive"):
             continue
         elif key != "update_rate":
-            if (name in nodes or word in WITHOUT_COUNTERPART) and f"{name}.type" not in manager.values:
+            is_controller = name in nodes or word in WITHOUT_COUNTERPART or TYPE.fullmatch(node.shown())
+            if is_controller and f"{name}.type" not in manager.values:
                 raise Refused(node.place, f"controller {quoted(name)} has no type")
             listing.left_out(node.place, f"the parameter {quoted(key)} of {MANAGER}")
     return found
@@ -127,27 +143,28 @@ class Reading:
         kinds = kinds.texts(f"interfaces of {quoted(it.given)}") if kinds else []
         it.kind, it.reads = "broadcaster", None
         if joints and kinds:
-            it.reads = [(place, f"{joint}/{kind}") for place, joint in joints for _, kind in kinds]
+            it.reads = named(joints, kinds)
+        elif joints or kinds:
+            self.listing.changed((joints or kinds)[0][0], f"{quoted(it.given)} reads all, because joints and interfaces count together alone")
         return [it]
 
     def forward(self, it, used, kind=None):
         it.kind = "forward"
-        kind = kind or used.required("interface_name").text(f"interface_name of {quoted(it.given)}")
-        it.claims = [(place, f"{joint}/{kind}") for place, joint in used.list("joints")]
+        kinds = [(it.place, kind)] if kind else [used.one("interface_name")]
+        it.claims = named(used.list("joints"), kinds)
         return [it]
 
     def several(self, it, used):
         """A forward of several interfaces of one joint keeps the first, because a joint has one command at a time."""
         it.kind = "forward"
-        joint = used.required("joint").text(f"joint of {quoted(it.given)}")
-        (place, kind), *others = used.list("interface_names")
+        joint, (kind, *others) = used.one("joint"), used.list("interface_names")
         self.leave_out_kinds(it, [joint], others)
-        it.claims = [(place, f"{joint}/{kind}")]
+        it.claims = named([joint], [kind])
         return [it]
 
     def passthrough(self, it, used):
-        it.kind, it.claims = "passthrough", used.list("interfaces")
-        it.exports = [f"{it.given}/{path}" for _, path in it.claims]
+        it.kind, it.claims = "passthrough", [Named(path, place, place) for place, path in used.list("interfaces")]
+        it.exports = [f"{it.given}/{claim.path}" for claim in it.claims]
         return [it]
 
     def trajectory(self, it, used):
@@ -156,56 +173,54 @@ class Reading:
         if len(commanded) != len(joints):
             raise Refused(commanded[0][0], f"command_joints of {quoted(it.given)} are not as many as its joints")
         states = used.list("state_interfaces")
-        if "position" not in (kind for _, kind in states):
-            raise Refused(states[0][0], f"state_interfaces of {quoted(it.given)} lack position")
-        it.kind = "trajectory"
-        it.reads = [(place, f"{joint}/position") for place, joint in joints]
+        position = next((pair for pair in states if pair[1] == "position"), None)
+        if position is None:
+            what = f"state_interfaces of {quoted(it.given)} are {quoted(', '.join(kind for _, kind in states))}"
+            raise Refused(states[0][0], f"{what}, and position is not among them")
+        it.kind, it.reads = "trajectory", named(joints, [position])
         chosen = next((pair for pair in kinds if pair[1] == "position"), kinds[0])
-        self.leave_out_kinds(it, [name for _, name in commanded], [pair for pair in kinds if pair is not chosen])
-        it.also += [("state", place, f"{joint}/{kind}") for place, kind in states for _, joint in joints]
-        it.claims = [(place, f"{name}/{chosen[1]}") for place, name in commanded]
+        self.leave_out_kinds(it, commanded, [pair for pair in kinds if pair is not chosen])
+        it.also += [("state", name) for name in named(joints, states)]
+        it.claims = named(commanded, [chosen])
         return [*self.inner_pids(it, used, chosen), it] if chosen[1] in ("velocity", "effort") else [it]
 
     def inner_pids(self, it, used, chosen):
         """Returns a pid for each claim of a trajectory that closes its loop itself; it then claims their references."""
-        place, kind = chosen
         pids = []
-        for claim, (at, read) in zip(it.claims, it.reads):
-            joint = read.rpartition("/")[0]
+        for claim, read in zip(it.claims, it.reads):
+            joint = read.joint()
             name = self.names.make(f"{it.name}_{joint}")
-            pid = Controller(it.place, f"{it.given}/{joint}", name, "pid", it.rate, [claim], [(at, read)])
+            pid = Controller(it.place, it.given, name, "pid", it.rate, [claim], [read])
             pid.numbers = tuning(f"joint {quoted(joint)} of {quoted(it.given)}", used.gains(joint), self.listing)
-            pid.exports = [f"{pid.given}/position"]
+            pid.exports = [f"{name}/{joint}/position"]
             pids.append(pid)
-        it.claims = [(at, pid.exports[0]) for pid, (at, _) in zip(pids, it.reads)]
-        self.check_gains(it, used, [read.rpartition("/")[0] for _, read in it.reads])
-        self.listing.changed(place, f"{quoted(it.given)} commands {kind}, so it leads a pid for each joint: "
-                                    f"{', '.join(pid.name for pid in pids)}")
+        it.claims = [Named(pid.exports[0], claim.joint_place, claim.kind_place) for pid, claim in zip(pids, it.claims)]
+        self.check_gains(it, used, [read.joint() for read in it.reads])
+        self.listing.changed(chosen[0], f"{quoted(it.given)} commands {chosen[1]}, so it leads a pid for each joint: "
+                                        f"{', '.join(pid.name for pid in pids)}")
         return pids
 
     def pid(self, it, used):
         dofs, states = used.list("dof_names"), used.list("reference_and_state_interfaces")
-        if used.value("reference_and_state_dof_names"):
-            measured = used.list("reference_and_state_dof_names")
-        else:
-            measured = dofs
+        is_elsewhere = used.value("reference_and_state_dof_names")
+        measured = used.list("reference_and_state_dof_names") if is_elsewhere else dofs
         if len(measured) != len(dofs):
             raise Refused(measured[0][0], f"reference_and_state_dof_names of {quoted(it.given)} are not as many as its dof_names")
-        kind = used.required("command_interface").text(f"command_interface of {quoted(it.given)}")
+        kind = used.one("command_interface")
         for place, other in states[1:]:
             self.listing.left_out(place, f"state interface {quoted(other)} of {quoted(it.given)}, because a pid reads one")
         made = []
-        for (place, dof), (at, read) in zip(dofs, measured):
-            one = it
+        for dof, read in zip(dofs, measured):
+            one, joint = it, read[1]
             if len(dofs) > 1:
-                one = Controller(it.place, f"{it.given}/{read}", self.names.make(f"{it.name}_{read}"), rate=it.rate)
-            one.kind, one.claims, one.reads = "pid", [(place, f"{dof}/{kind}")], [(at, f"{read}/{states[0][1]}")]
-            one.numbers = tuning(f"{quoted(dof)} of {quoted(it.given)}", used.gains(dof), self.listing)
-            one.exports = [f"{it.given}/{read}/{states[0][1]}"]
-            one.also = [("state", place, f"{read}/{other}") for place, other in states[1:]]
-            self.left_out |= {f"{it.given}/{read}/{other}" for _, other in states[1:]}
+                one = Controller(it.place, it.given, self.names.make(f"{it.name}_{joint}"), rate=it.rate)
+            one.kind, one.claims, one.reads = "pid", named([dof], [kind]), named([read], states[:1])
+            one.numbers = tuning(f"{quoted(dof[1])} of {quoted(it.given)}", used.gains(dof[1]), self.listing)
+            one.exports = [f"{it.given}/{one.reads[0].path}"]
+            one.also = [("state", name) for name in named([read], states[1:])]
+            self.left_out |= {f"{it.given}/{joint}/{other}" for _, other in states[1:]}
             made.append(one)
-        self.check_gains(it, used, [dof for _, dof in dofs])
+        self.check_gains(made[0], used, [dof for _, dof in dofs])
         if len(made) > 1:
             self.listing.changed(it.place, f"controller {quoted(it.given)} is a pid for each joint: {', '.join(one.name for one in made)}")
         return made
@@ -213,13 +228,18 @@ class Reading:
     def check_gains(self, it, used, known):
         for name, node in used.unused().items():
             if name.startswith("gains."):
-                raise Refused(node.place, f"{quoted(name)} of {quoted(it.given)} is of none of {quoted(', '.join(known))}")
+                it.fault = it.fault or Refused(node.place, f"{quoted(name)} of {quoted(used.given)} is of none of {quoted(', '.join(known))}")
 
     def leave_out_kinds(self, it, joints, others):
+        it.also += [("command", name) for name in named(joints, others)]
         for place, kind in others:
-            it.also += [("command", place, f"{joint}/{kind}") for joint in joints]
             self.listing.left_out(place, f"command interface {quoted(kind)} of {quoted(it.given)}, "
                                          "because a joint has one command at a time")
+
+
+def named(joints, kinds):
+    """Returns the interfaces of these joints and kinds, of which each has its place."""
+    return [Named(f"{joint}/{kind}", at_joint, at_kind) for at_joint, joint in joints for at_kind, kind in kinds]
 
 
 class Used:
@@ -230,13 +250,18 @@ class Used:
 
     def value(self, name):
         self.looked_at.add(name)
-        return self.values.get(name)
+        return value_of(self.values, name)
 
     def required(self, name):
         node = self.value(name)
         if node is None:
             raise Refused(self.place, f"{quoted(self.given)} lacks the parameter {name}")
         return node
+
+    def one(self, name):
+        """Returns a text with its place."""
+        node = self.required(name)
+        return node.place, node.text(f"{name} of {quoted(self.given)}")
 
     def list(self, name):
         """Returns the texts of a list that has at least one, each once, with their places."""

@@ -23,7 +23,7 @@ def converted(urdf, yaml, cycles, rate=None):
     for it in linked.controllers:
         if it.name in found.resting:
             joint_name, user = found.resting[it.name]
-            listing.changed(it.place, f"controller {quoted(it.given)} stays inactive, because {user} has {joint_name}")
+            listing.changed(it.place, f"{it.name} stays inactive, because {user} has {joint_name}")
     names = (os.path.basename(urdf), os.path.basename(yaml))
     return document(robot, linked, found, rate or manager.rate, cycles, names), listing
 

@@ -3,7 +3,7 @@
 from decimal import Decimal
 
 from .listing import quoted
-from .quantities import MOST_UNITS, quotient, rounded
+from .quantities import MOST_UNITS, plain_number, quotient, rounded
 
 ENDLESS = (".inf", "+.inf", ".Inf", "+.Inf", "-.inf", "-.Inf")
 
@@ -49,5 +49,5 @@ class Numbers:
         place, largest = max(found, key=lambda pair: abs(pair[1]))
         uneven = len(found) < len(both) or {abs(value) for _, value in found} != {abs(largest)}
         if uneven or len(both) == 1 and name not in both:
-            self.listing.changed(place, f"{name} for {self.whose} is {abs(largest):f} on both sides")
+            self.listing.changed(place, f"{name} for {self.whose} is {plain_number(abs(largest))} on both sides")
         return place, abs(largest)

@@ -39,18 +39,20 @@ class Linked:
     references: dict = field(default_factory=dict)  # by their paths in the YAML: the exporter, a joint, a kind
 
     def link(self):
-        """Looks up all that is claimed and read. A controller of which one thing has no counterpart becomes a mock."""
+        """Looks up all that is read and claimed. A controller of which one thing has no counterpart becomes a mock."""
         for it in self.controllers:
             self.export(it)
-        waiting = True
-        while waiting:
-            waiting = False
-            for it in self.controllers:
-                if it.kind != "mock" and not self.looked_up(it):
-                    waiting = True
+            self.reads[it.name] = [self.of_joint(it, name, "state") for name in it.reads] if it.reads is not None else None
+            self.check_twice(it.reads or [], self.reads[it.name] or [], it)
+        self.mock_if(lambda it: None in (self.reads[it.name] or []))
         for it in self.controllers:
-            if it.kind == "mock":
-                self.claims[it.name], self.reads[it.name] = [], []
+            self.check_besides(it)
+        while self.mock_if(lambda it: None in self.claimed(it)):
+            pass
+        for it in self.controllers:
+            self.claims[it.name] = self.claimed(it) if it.kind != "mock" else []
+            self.reads[it.name] = self.reads[it.name] if it.kind != "mock" else []
+            self.check_twice(it.claims, self.claims[it.name], it)
         self.refuse_too_many()
         self.refuse_loops()
 
@@ -70,53 +72,62 @@ class Linked:
             front = front.partition("/")[2]
         return None, kind
 
-    def looked_up(self, it):
-        """Looks up the claims and reads of a controller, or makes it a mock and answers that others have to be looked at again."""
-        for which, place, path in it.also:
-            self.claim(it, place, path) if which == "command" else self.read(it, place, path)
-        claims = [self.claim(it, *pair) for pair in it.claims]
-        reads = [self.read(it, *pair) for pair in it.reads] if it.reads is not None else None
-        if None in claims or reads and None in reads:
+    def mock_if(self, lacks):
+        """Makes a mock of each controller that lacks something, and answers whether there was one."""
+        found = [it for it in self.controllers if it.kind != "mock" and lacks(it)]
+        for it in found:
             it.kind = "mock"
             self.listing.changed(it.place, f"controller {quoted(it.given)} is a mock that claims nothing, "
                                            "because what it claims or reads was left out")
-            return False
-        self.claims[it.name], self.reads[it.name] = claims, reads
-        for pairs, items in ((it.claims, claims), (it.reads or [], reads or [])):
-            texts = [item.text() for item in items]
-            for index, (place, path) in enumerate(pairs):
-                if texts[index] in texts[:index]:
-                    raise Refused(place, f"{quoted(it.given)} has {quoted(path)} twice")
-        return True
+        return bool(found)
 
-    def claim(self, it, place, path):
+    def check_besides(self, it):
+        for which, name in it.also:
+            self.claim(it, name) if which == "command" else self.of_joint(it, name, which)
+        self.claimed(it)
+        if it.fault:
+            raise it.fault
+
+    def claimed(self, it):
+        return [self.claim(it, name) for name in it.claims]
+
+    def check_twice(self, names, found, it):
+        texts = [one.text() if one else None for one in found]
+        for index, name in enumerate(names[:len(found)]):
+            if texts[index] and texts[index] in texts[:index]:
+                raise Refused(name.joint_place, f"{quoted(it.given)} has {quoted(name.path)} twice")
+
+    def claim(self, it, name):
         """Returns the claim of ours, or nothing if it has no counterpart."""
-        if path in self.references:
-            exporter, joint, kind = self.references[path]
-            return Claim(place, joint, kind, exporter) if exporter.kind != "mock" else None
-        return self.of_joint(it, place, path, "command")
+        if name.path in self.references:
+            exporter, joint, kind = self.references[name.path]
+            return Claim(name.joint_place, joint, kind, exporter) if exporter.kind != "mock" else None
+        return self.of_joint(it, name, "command")
 
-    def read(self, it, place, path):
-        return self.of_joint(it, place, path, "state")
-
-    def of_joint(self, it, place, path, which):
-        front, _, kind = path.rpartition("/")
-        joint = self.robot.joint(front)
-        if path in self.robot.left_out:
+    def of_joint(self, it, name, which):
+        joint, kind = self.robot.joint(name.joint()), name.path.rpartition("/")[2]
+        if name.path in self.robot.left_out:
             return None
         if joint:
             if kind not in getattr(joint, which):
-                raise Refused(place, f"{quoted(it.given)} names the {which} interface {quoted(path)}, "
-                                     f"and the joint has none of that kind ({joint.place})")
-            return Claim(place, joint, kind)
-        first = front.partition("/")[0]
-        exporters = [other for other in self.controllers if other.given == first or other.given.startswith(f"{first}/")]
-        if exporters and first != front:
-            if all(other.kind == "mock" for other in exporters):
-                return None
-            raise Refused(place, f"{quoted(it.given)} names {quoted(path)}, which {quoted(first)} does not export")
-        raise Refused(place, f"{quoted(it.given)} names the joint {quoted(front)}, "
-                             f"which no ros2_control tag of {plain(self.robot.file)} has")
+                raise Refused(name.kind_place, f"{quoted(it.given)} names the {which} interface {quoted(name.path)}, "
+                                               f"and the joint has none of that kind ({joint.place})")
+            return Claim(name.joint_place, joint, kind)
+        if self.is_of_a_mock(name):
+            return None
+        raise Refused(name.joint_place, f"{quoted(it.given)} names the joint {quoted(name.joint())}, "
+                                        f"which no ros2_control tag of {plain(self.robot.file)} has")
+
+    def is_of_a_mock(self, name):
+        """Answers whether the path begins with a mock's name. With another controller's it is refused, since that exports no such
+        reference."""
+        first, slash, _ = name.joint().partition("/")
+        exporters = [other for other in self.controllers if slash and other.given == first]
+        if any(other.kind != "mock" for other in exporters):
+            is_other_kind = any(path.startswith(f"{name.joint()}/") for path in self.references)
+            raise Refused(name.kind_place if is_other_kind else name.joint_place,
+                          f"{quoted(first)} exports no reference {quoted(name.path)}")
+        return bool(exporters)
 
     def followers(self, it):
         """Returns whom a controller commands, each with the place where it says so."""
@@ -148,7 +159,7 @@ class Linked:
             if len(claims) > MOST_CLAIMS_OF_ONE:
                 raise Refused(it.place, f"{quoted(it.given)} claims more than {MOST_CLAIMS_OF_ONE} interfaces")
             if kinds[it.kind] > MOST_OF_A_KIND:
-                raise Refused(it.place, f"{quoted(it.given)} is the {kinds[it.kind]}th {it.kind}, of at most {MOST_OF_A_KIND}")
+                raise Refused(it.place, f"with {quoted(it.given)} there are more than {MOST_OF_A_KIND} of the kind {it.kind}")
             counts["controllers"] += 1
             counts["references"] += len(claims) if it.kind in ("passthrough", "pid") else 0
             counts["claims"] += len(claims)

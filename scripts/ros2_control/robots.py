@@ -106,6 +106,8 @@ def limits(name, joint, kind):
 def limits_alone(name, joint, kind):
     """Returns what this joint may do. One that turns without end may have no limit, and a fixed one does not move."""
     limit = joint.first("limit")
+    if kind == "fixed":
+        return Limits(joint.place, Decimal(0))
     if limit is None:
         if kind in WITH_LIMITS:
             raise Refused(joint.place, f"joint {quoted(name)} is {kind} and lacks its <limit>")
@@ -162,11 +164,18 @@ class Reading:
         elif child.tag in WITHOUT_COUNTERPART:
             name = child.attributes.get("name", "")
             self.listing.left_out(child.place, f"{child.tag} {quoted(name)} {of_it}")
-            self.left_out |= {f"{name}/{it.attributes.get('name', '')}" for it in child.children}
+            if child.tag != "transmission":
+                self.leave_out_interfaces(child)
         elif child.tag.startswith("xacro:"):
             self.listing.left_out(child.place, f"<{plain(child.tag)}>: xacro is not expanded")
         else:
             raise Refused(child.place, f"<{plain(child.tag)}> in component {quoted(component.given)} is not known")
+
+    def leave_out_interfaces(self, tag):
+        for child in tag.children:
+            if child.tag not in ("command_interface", "state_interface", "param"):
+                raise Refused(child.place, f"<{plain(child.tag)}> in <{tag.tag}> is not known")
+            self.left_out.add(f"{tag.get('name')}/{child.get('name')}")
 
     def joint(self, component, tag):
         given = tag.get("name")
@@ -194,7 +203,7 @@ class Reading:
             self.listing.made_up(limits.place, f"{what} is {MOST_UNITS}, because the URDF has none")
             return Limits(limits.place, None, effort=limits.effort)
         if limits.velocity == 0:
-            self.listing.changed(limits.place, f"joint {quoted(given)} never moves, because its velocity limit is 0")
+            self.listing.changed(limits.place, f"joint {quoted(given)} never moves: it is fixed, or its velocity limit is 0")
         velocity = rounded(limits.velocity, limits.place, what, self.listing)
         return Limits(limits.place, velocity, limits.lower, limits.upper, limits.effort)
 

@@ -8,12 +8,13 @@ from dataclasses import dataclass, field
 import yaml
 
 from .listing import Place, Refused, plain, quoted, read_bytes
-from .quantities import hint, number, whole
+from .quantities import FORM, number, whole
 
 MOST_BYTES = 1_048_576
 DEEPEST = 32  # mappings and lists in one another
 PARAMETERS = "ros__parameters"
-NO_TEXT = re.compile(r"[-+.]?\d.*|[-+]?\.(inf|nan)|true|false|null|~|", re.IGNORECASE | re.ASCII)
+# What YAML reads as a number, a boolean or nothing, unless it stands in quotes.
+NO_TEXT = re.compile(rf"{FORM.pattern}|0[xo][0-9a-f]+|[-+]?\.inf|\.nan|true|false|yes|no|y|n|on|off|null|~|", re.IGNORECASE | re.ASCII)
 BOOLEANS = {"true": True, "false": False}
 
 
@@ -137,14 +138,13 @@ class Parameters:
     place: Place
     values: dict
 
-    def below(self, prefix):
-        """Returns those whose names begin so, without that beginning."""
-        return {name[len(prefix) + 1:]: node for name, node in self.values.items() if name.startswith(f"{prefix}.")}
 
-    def required(self, name):
-        if name not in self.values:
-            raise Refused(self.place, f"{quoted(self.node)} lacks the parameter {name}")
-        return self.values[name]
+def value_of(values, name):
+    """Returns the value of this name, if there is one. Parameters below the name are refused: it is to have a value."""
+    below = next((other for other in values if other.startswith(f"{name}.")), None)
+    if below:
+        raise Refused(values[below].place, f"{quoted(name)} is a mapping, and not a value")
+    return values.get(name)
 
 
 def nodes_of(root, before=""):
