@@ -6,6 +6,7 @@ pub mod HistoryLemmas
 pub mod WaitingLemmas
 pub mod WholeLemmas
 pub mod EnabledLemmas
+pub mod CountLemmas
 mod Rows
 pub mod ControllerLemmas
 pub mod StillLemmas
@@ -32,6 +33,7 @@ mod ScheduleRows
 mod StepRows
 mod SoundRows
 mod MomentRows
+mod CountRows
 mod ConsoleRows
 pub mod RangedLemmas
 pub mod LinkedLemmas

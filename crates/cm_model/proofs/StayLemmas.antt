@@ -10,6 +10,7 @@ use Rattle.cm_model.specs.BestEffort.{decided}
 use Rattle.cm_model.specs.Commit.{scene_of, commit}
 use Rattle.cm_model.specs.Console.{place_of, slot_of, where_done, with_slot, with_changed, without_slot, after_configure, after_cleanup, after_rate, after_send}
 use Rattle.cm_model.specs.Cycle.{after_cycle}
+use Rattle.cm_model.specs.Histories.{SameLoop}
 use Rattle.cm_model.specs.Machine.{is_enabled, reply_of, with_controller, with_loaded, load_effect, effect, answered, step}
 use Rattle.cm_model.specs.Sessions.{IsConsole}
 use Rattle.cm_model.specs.State.{State, Loaded}
@@ -23,14 +24,6 @@ use Rattle.cm_model.specs.declared.reply.Reply.{Reply}
 use Rattle.cm_model.specs.declared.reply.Reply.TheVariants as reply
 
 -- ---- Console calls
-
--- the loop's part of the two states is the same
-pub record SameLoop (s after : State) : Type 0 where
-  pub sessions : after.sessions ≡ s.sessions
-  pub description : after.description ≡ s.description
-  pub ended : after.ended ≡ s.ended
-  pub aloft : after.aloft ≡ s.aloft
-  pub closed : after.closed ≡ s.closed
 
 pub same : (s : State) → SameLoop s s
 same s = record { sessions = refl; description = refl; ended = refl; aloft = refl; closed = refl }

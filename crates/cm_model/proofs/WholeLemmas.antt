@@ -36,13 +36,13 @@ use Rattle.cm_model.proofs.WaitingLemmas.{Asks, asks, IsMade, closed_made, told_
 -- ---- One entry more
 
 -- one more of this caller
-own_entry : (who : ℕ) (made : List Entry) (call : Call) (r : Reply) → entries_by who (with_entry made who call r) ≡ with_entry (entries_by who made) who call r
+pub own_entry : (who : ℕ) (made : List Entry) (call : Call) (r : Reply) → entries_by who (with_entry made who call r) ≡ with_entry (entries_by who made) who call r
 own_entry who made call r =
     let yes : (who == who) ≡ true = grind (arith, nat_tests) in
     filter-append (λ (e : Entry). e.who == who) made (record { who = who; call = call; reply = r } ∷ []) ∙ rw yes refl
 
 -- one more of another caller
-other_entry : (k who : ℕ) (made : List Entry) (call : Call) (r : Reply) → (who == k) ≡ false → entries_by k (with_entry made who call r) ≡ entries_by k made
+pub other_entry : (k who : ℕ) (made : List Entry) (call : Call) (r : Reply) → (who == k) ≡ false → entries_by k (with_entry made who call r) ≡ entries_by k made
 other_entry k who made call r differs =
     filter-append (λ (e : Entry). e.who == k) made (record { who = who; call = call; reply = r } ∷ []) ∙ rw differs (append-nil (entries_by k made))
 

@@ -29,6 +29,7 @@ pub mod Sound
 pub mod Steady
 pub mod Scheduled
 pub mod Sessions
+pub mod Histories
 pub mod Ports
 pub mod Causes
 -- the trace

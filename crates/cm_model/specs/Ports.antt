@@ -1,7 +1,8 @@
 -- What the console of a session and that of the loop tell of themselves, and what each of their calls makes of it.
-use Rattle.std.specs.Prelude.{◌≡◌, ℕ, ◌+◌, ◌-◌, ◌^◌, ◌≤◌, min, Bool, true, false, List, filter, length, Option, Some, None, IfSome}
+use Rattle.std.specs.Prelude.{◌≡◌, ℕ, ◌+◌, ◌-◌, ◌^◌, ◌≤◌, min, Bool, true, false, List, Option, Some, None, IfSome}
 use Rattle.cm_document.specs.declared.call.Call.{Call}
 use Rattle.cm_document.specs.declared.call.Call.TheVariants.{Told, Await, Begin, End, Close}
+pub use Rattle.cm_model.specs.Histories.{ends_in}
 use Rattle.cm_model.specs.Machine.{state_after, step}
 use Rattle.cm_model.specs.Scheduled.{with_entry}
 use Rattle.cm_model.specs.State.{State}
@@ -97,15 +98,6 @@ pub record LoopConsole : Type 0 where
   pub left : ℕ
   pub out : Bool
   pub closed : Bool
-
--- it is the end of a cycle
-abbrev pub is_end : Call → Bool
-is_end (End _) = true
-is_end _ = false
-
--- how many cycles have ended in these entries
-abbrev pub ends_in : List Entry → ℕ
-ends_in entries = length (filter (λ e. is_end e.call) entries)
 
 -- A cycle can begin: no flight is out, the loop is open, and cycles are left.
 pub record CanBegin (c : LoopConsole) : Type 0 where

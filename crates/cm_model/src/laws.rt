@@ -1,7 +1,8 @@
 //! Laws of the definitions of histories: each is the contract of a function that does nothing.
 
-ghost use Rattle.std.specs.Prelude.{◌≡◌, ◌<◌, ℕ, ℤ, true, List, length, map, Option, None};
+ghost use Rattle.std.specs.Prelude.{◌≡◌, ◌<◌, ◌≤◌, ℕ, ◌+◌, ℤ, true, List, [], ◌++◌, length, map, Option, None};
 ghost use Rattle.cm_document.specs.declared.call.Call.{Call};
+ghost use Rattle.cm_document.specs.declared.description.Description.{Description};
 ghost use Rattle.cm_document.specs.declared.document.Document.{Document};
 ghost use Rattle.cm_document.specs.ScriptLaws.{MeetsRules};
 ghost use Rattle.cm_model.specs.declared.blanks.Blanks.{Blanks};
@@ -13,10 +14,11 @@ ghost use Rattle.cm_model.specs.declared.tick.Tick.{Tick};
 ghost use Rattle.cm_model.specs.Controllers.{ctl_step, KeepsChained};
 ghost use Rattle.cm_model.specs.Cycle.{IsIdle, cycle, updated_in, updates};
 ghost use Rattle.cm_model.specs.Machine.{IsLegal, LegalFrom, state_after, is_enabled};
-ghost use Rattle.cm_model.specs.State.{State, IsStill, active};
+ghost use Rattle.cm_model.specs.State.{State, IsStill, active, boot};
 ghost use Rattle.cm_model.specs.Values.{InterfaceValue};
 ghost use Rattle.cm_model.specs.Scheduled.{Advanced, advance, settle, scheduled, scheduled_in_steps};
-ghost use Rattle.cm_model.specs.Sessions.{IsConsole, IsWhole};
+ghost use Rattle.cm_model.specs.Histories.{ends_in, decided_in};
+ghost use Rattle.cm_model.specs.Sessions.{IsConsole, IsWhole, entries_by};
 
 /// Each scheduled history is legal: from boot each of its entries is a step of the written manager.
 pub fn scheduled_histories_are_legal()
@@ -48,6 +50,29 @@ pub fn stepped_histories_are_whole()
 pub fn whole_histories_leave_the_loop_closed()
     ensures { (document : Document) (history : List Entry) (s : State)
         → LegalFrom s history → IsWhole document history → (state_after s history).closed ≡ true }
+{}
+
+/// What is counted in a history adds up, and so never falls as the history grows: the cycles that have ended, and the decisions that were
+/// told. Of no entries both are 0.
+pub fn counts_add_up_and_never_fall()
+    ensures none { (ends_in [] ≡ 0) × (decided_in [] ≡ 0) }
+    ensures ends { (made more : List Entry) → ends_in (made ++ more) ≡ ends_in made + ends_in more }
+    ensures decided { (made more : List Entry) → decided_in (made ++ more) ≡ decided_in made + decided_in more }
+    ensures never_fall { (made more : List Entry)
+        → (ends_in made ≤ ends_in (made ++ more)) × (decided_in made ≤ decided_in (made ++ more)) }
+{}
+
+/// After a legal history from boot as many cycles have ended as the history has ends.
+pub fn as_many_cycles_have_ended_as_a_history_has_ends()
+    ensures { (d : Description) (blanks : Blanks) (sessions : ℕ) (history : List Entry)
+        → IsLegal d blanks sessions history
+        → (state_after (boot d blanks sessions) history).ended ≡ ends_in history }
+{}
+
+/// In a legal history each end is the loop's.
+pub fn each_end_is_the_loops()
+    ensures { (s : State) (history : List Entry)
+        → LegalFrom s history → ends_in (entries_by s.sessions history) ≡ ends_in history }
 {}
 
 /// A session that settled cannot advance: it has nothing left to do, or its next call is not enabled.

@@ -1,6 +1,6 @@
 //! The consoles of a manager: that of one session, and that of the loop.
 
-ghost use Rattle.std.specs.Prelude.{◌≡◌, true, Bool, IfOk, OnErr, MatchOption};
+ghost use Rattle.std.specs.Prelude.{◌≡◌, IfOk, OnErr, MatchOption};
 ghost use Rattle.cm_document.specs.declared.call.Call.TheVariants as call;
 ghost use Rattle.cm_model.specs.Ports.{Console, LoopConsole, CanBeCalled, Makes, MakesNone, MakesOpen, MakesWhere, IsNotYet, CanBegin, CanClose, Begins, Lands, Closes};
 
@@ -55,33 +55,33 @@ pub trait LoopPort {
     // What it tells of itself.
     ghost tells: { Self → LoopConsole };
 
-    // It is the flight that is out.
-    ghost is_out: { Self → Self.Flight → Bool };
+    // It is the flight that is out: a fact of what the console has made so far, which may speak of all states that look alike to it.
+    ghost is_out: { Self → Self.Flight → Type 0 };
 
     // A flight may be computed, and is computed.
-    ghost may_be_computed: { Self.Flight → Bool };
+    ghost may_be_computed: { Self.Flight → Type 0 };
 
-    ghost is_computed: { Self.Flight → Bool };
+    ghost is_computed: { Self.Flight → Type 0 };
 
     /// Begins the next cycle. Want of memory changes nothing.
     fn begin(&mut self) -> Result<Self::Flight, Memory>
         requires { CanBegin (tells self.old) }
         ensures begun { IfOk result (λ flight. Begins (tells self.old) (tells self.new)
-            × (is_out self.new flight ≡ true) × (may_be_computed flight ≡ true)) }
+            × is_out self.new flight × may_be_computed flight) }
         ensures kept { OnErr result (tells self.new ≡ tells self.old) }
         ensures still { footing self.new ≡ footing self.old };
 
     /// Computes the cycle. Nothing is told of it before it lands.
     fn compute(&mut self, flight: &mut Self::Flight)
-        requires { (is_out self.old flight.old ≡ true) × (may_be_computed flight.old ≡ true) }
-        ensures computed { (is_out self.new flight.new ≡ true) × (is_computed flight.new ≡ true) }
+        requires { is_out self.old flight.old × may_be_computed flight.old }
+        ensures computed { is_out self.new flight.new × is_computed flight.new }
         ensures kept { tells self.new ≡ tells self.old }
         ensures still { footing self.new ≡ footing self.old };
 
     /// Ends the cycle that was computed. It takes no memory.
     fn land(&mut self, flight: Self::Flight)
-        requires out { is_out self.old flight ≡ true }
-        requires computed { is_computed flight ≡ true }
+        requires out { is_out self.old flight }
+        requires computed { is_computed flight }
         ensures landed { Lands (tells self.old) (tells self.new) }
         ensures still { footing self.new ≡ footing self.old };
 
