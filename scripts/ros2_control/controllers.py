@@ -31,7 +31,7 @@ class Named:
 
 @dataclass(eq=False)
 class Controller:
-    """A controller of ours, with what it claims and reads as the YAML names it. Several may be of one that is given there."""
+    """A controller of ours, with what it claims and reads as the YAML names it. Several may be of one that it gives."""
 
     place: Place
     given: str
@@ -42,7 +42,7 @@ class Controller:
     reads: list = field(default_factory=list)  # nothing in place of a list for all states
     numbers: dict = field(default_factory=dict)
     exports: list = field(default_factory=list)  # the references that others may claim, by their paths in the YAML
-    also: list = field(default_factory=list)  # what it names besides and has to be there: `command` or `state`, and the name
+    also: list = field(default_factory=list)  # what it names besides and has to be there, each as a command or a state
     fault: Refused = None  # that counts if all of these are there
 
 
@@ -121,12 +121,14 @@ class Reading:
         name = self.names.add(given, type_node.place)
         whole = Controller(type_node.place, given, name)
         if kind not in TYPES:
-            self.listing.changed(type_node.place, f"controller {quoted(given)} of the type {plain(kind)} is a mock that claims nothing")
+            what = f"controller {quoted(given)} of the type {plain(kind)}"
+            self.listing.changed(type_node.place, f"{what} is a mock that claims nothing")
             return [whole]
         make, *more = TYPES[kind]
         if given not in self.nodes:
             if make is not Reading.broadcaster:
-                raise Refused(type_node.place, f"controller {quoted(given)} has no parameters: there is no node of this name")
+                what = f"controller {quoted(given)} has no parameters"
+                raise Refused(type_node.place, f"{what}: there is no node of this name")
             return self.broadcaster(whole, Used(given, type_node.place, {}))
         node = self.nodes[given]
         used = Used(given, node.place, node.values)
@@ -145,7 +147,8 @@ class Reading:
         if joints and kinds:
             it.reads = named(joints, kinds)
         elif joints or kinds:
-            self.listing.changed((joints or kinds)[0][0], f"{quoted(it.given)} reads all, because joints and interfaces count together alone")
+            why = "because joints and interfaces count together alone"
+            self.listing.changed((joints or kinds)[0][0], f"{quoted(it.given)} reads all, {why}")
         return [it]
 
     def forward(self, it, used, kind=None):
@@ -205,10 +208,12 @@ class Reading:
         is_elsewhere = used.value("reference_and_state_dof_names")
         measured = used.list("reference_and_state_dof_names") if is_elsewhere else dofs
         if len(measured) != len(dofs):
-            raise Refused(measured[0][0], f"reference_and_state_dof_names of {quoted(it.given)} are not as many as its dof_names")
+            what = f"reference_and_state_dof_names of {quoted(it.given)}"
+            raise Refused(measured[0][0], f"{what} are not as many as its dof_names")
         kind = used.one("command_interface")
         for place, other in states[1:]:
-            self.listing.left_out(place, f"state interface {quoted(other)} of {quoted(it.given)}, because a pid reads one")
+            what = f"state interface {quoted(other)} of {quoted(it.given)}"
+            self.listing.left_out(place, f"{what}, because a pid reads one")
         made = []
         for dof, read in zip(dofs, measured):
             one, joint = it, read[1]
@@ -222,13 +227,15 @@ class Reading:
             made.append(one)
         self.check_gains(made[0], used, [dof for _, dof in dofs])
         if len(made) > 1:
-            self.listing.changed(it.place, f"controller {quoted(it.given)} is a pid for each joint: {', '.join(one.name for one in made)}")
+            names = ", ".join(one.name for one in made)
+            self.listing.changed(it.place, f"controller {quoted(it.given)} is a pid for each joint: {names}")
         return made
 
     def check_gains(self, it, used, known):
         for name, node in used.unused().items():
             if name.startswith("gains."):
-                it.fault = it.fault or Refused(node.place, f"{quoted(name)} of {quoted(used.given)} is of none of {quoted(', '.join(known))}")
+                why = f"{quoted(name)} of {quoted(used.given)} is of none of {quoted(', '.join(known))}"
+                it.fault = it.fault or Refused(node.place, why)
 
     def leave_out_kinds(self, it, joints, others):
         it.also += [("command", name) for name in named(joints, others)]

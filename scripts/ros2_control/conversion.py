@@ -29,7 +29,8 @@ def converted(urdf, yaml, cycles, rate=None):
 
 
 def refuse_too_many(robot):
-    for found, most, what in ((robot.components, MOST_COMPONENTS, "components"), (robot.joints(), MOST_JOINTS, "joints")):
+    counted = ((robot.components, MOST_COMPONENTS, "components"), (robot.joints(), MOST_JOINTS, "joints"))
+    for found, most, what in counted:
         if len(found) > most:
             raise Refused(found[most].place, f"there are more than {most} {what}")
 

@@ -12,12 +12,12 @@ SESSION = "operator"
 
 def document(robot, linked, found, rate, cycles, names):
     """Returns the text of the document. `found` says who is switched on, and `names` are those of both files."""
-    parts = [comment(f"Made by scripts/from_ros2_control of {plain(names[0])} and {plain(names[1])}. What these files say, and "
-                     "this document does not, stood on standard error.")]
-    parts.append(f"version = 1\nupdate_rate = {rate}\ncycles = {cycles}")
+    head = comment(f"Made by scripts/from_ros2_control of {plain(names[0])} and {plain(names[1])}. What these files "
+                   "say, and this document does not, stood on standard error.")
+    parts = [f"{head}\nversion = 1\nupdate_rate = {rate}\ncycles = {cycles}"]
     parts += [component(it) for it in robot.components]
     parts += [controller(it, linked) for it in linked.controllers]
-    return "\n\n".join(parts).replace("\n\n", "\n", 1) + "\n--- script ---\n" + script(robot, linked, found, rate, cycles, names)
+    return "\n\n".join(parts) + "\n--- script ---\n" + script(robot, linked, found, rate, cycles, names)
 
 
 def comment(text):
@@ -34,7 +34,8 @@ def component(it):
 def joint(it):
     vmax = MOST_UNITS if it.limits.velocity is None else toml_text(it.limits.velocity)
     lines = ["[[component.joint]]", f'name = "{it.name}"', f"vmax = {vmax}"]
-    lines += [f"{key} = {toml_text(value)}" for key, value in (("position", it.position), ("velocity", it.velocity)) if value]
+    begins = (("position", it.position), ("velocity", it.velocity))
+    lines += [f"{key} = {toml_text(value)}" for key, value in begins if value]
     lines += [listed(key, kinds) for key, kinds in (("command", it.command), ("state", it.state)) if kinds]
     return "\n".join(lines)
 
@@ -58,8 +59,10 @@ def listed(key, items):
     line = f"{key} = [{', '.join(items)}]"
     if len(line) <= WIDEST:
         return line
-    return f"{key} = [\n" + "\n".join(wrap(", ".join(items) + ",", WIDEST, initial_indent="    ", subsequent_indent="    ",
-                                           break_long_words=False, break_on_hyphens=False)) + "\n]"
+    indent = "    "
+    lines = wrap(", ".join(items) + ",", WIDEST, initial_indent=indent, subsequent_indent=indent,
+                 break_long_words=False, break_on_hyphens=False)
+    return "\n".join([f"{key} = [", *lines, "]"])
 
 
 def script(robot, linked, found, rate, cycles, names):
@@ -72,7 +75,8 @@ def script(robot, linked, found, rate, cycles, names):
         lines += [f"hw {it.name} active" for it in woken]
     lines += resting(linked, found)
     if found.active:
-        lines.append(comment("One request for all: it is done whole or not at all, and those that are led come on before those that lead."))
+        lines.append(comment("One request for all: it is done whole or not at all, and those that are led come on "
+                             "before those that lead."))
         lines.append("switch strict " + " ".join(f"+{it.name}" for it in found.active))
     begun = len(woken) + 2
     lines += [f"await {begun}", "list controllers", "list interfaces"]
@@ -94,10 +98,11 @@ def moves(linked, found, rate, cycles, begun, names):
     motion = Motion(cycles - begun, MICROSECONDS // rate)
     leaders = [it for it in found.active if linked.claims[it.name] and not found.is_led(it)]
     if not leaders or not motion.is_long_enough():
-        return [comment("Nothing moves: " + ("there are too few cycles." if leaders else "no controller is active that commands a joint."))]
-    lines = [comment(f"Made up from the limits in {plain(names[0])}: each joint goes out and back. A position is half the way to the "
-                     "joint's farther limit, or as far as half its velocity takes it; a velocity is half of what it may have; an "
-                     "effort is 1 at most.")]
+        why = "there are too few cycles" if leaders else "no controller is active that commands a joint"
+        return [comment(f"Nothing moves: {why}.")]
+    lines = [comment(f"Made up from the limits in {plain(names[0])}: each joint goes out and back. A position is half "
+                     "the way to the joint's farther limit, or as far as half its velocity takes it; a velocity is half "
+                     "of what it may have; an effort is 1 at most.")]
     later = []
     for it in leaders:
         claims = linked.claims[it.name]

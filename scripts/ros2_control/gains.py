@@ -40,10 +40,11 @@ class Numbers:
         return rounded(node.number(what), node.place, what, self.listing) if node else None
 
     def bound(self, name):
-        """Returns the bound on both sides with its place, or nothing if there is none: the larger of both, or the one for both."""
+        """Returns the bound on both sides with its place, or nothing: the larger of both, or the one for both."""
         both = {key: self.gains[key] for key in (name, f"{name}_max", f"{name}_min") if key in self.gains}
         self.known |= both.keys()
-        found = [(node.place, node.number(f"{key} for {self.whose}")) for key, node in both.items() if node.value not in ENDLESS]
+        bounded = {key: node for key, node in both.items() if node.value not in ENDLESS}
+        found = [(node.place, node.number(f"{key} for {self.whose}")) for key, node in bounded.items()]
         if not found:
             return None
         place, largest = max(found, key=lambda pair: abs(pair[1]))

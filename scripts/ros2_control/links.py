@@ -5,12 +5,10 @@ from dataclasses import dataclass, field
 from .listing import Place, Refused, plain, quoted
 from .robots import KINDS
 
-MOST_CONTROLLERS = 64
+# What one document has at most.
+MOST = {"controllers": 64, "references": 96, "claims": 192, "reads": 256}
 MOST_OF_A_KIND = 32  # that can be loaded: the program's stock has so many blanks of each
-MOST_REFERENCES = 96
 MOST_CLAIMS_OF_ONE = 32
-MOST_CLAIMS = 192
-MOST_READS = 256
 
 
 @dataclass
@@ -42,7 +40,8 @@ class Linked:
         """Looks up all that is read and claimed. A controller of which one thing has no counterpart becomes a mock."""
         for it in self.controllers:
             self.export(it)
-            self.reads[it.name] = [self.of_joint(it, name, "state") for name in it.reads] if it.reads is not None else None
+            is_all = it.reads is None
+            self.reads[it.name] = None if is_all else [self.of_joint(it, name, "state") for name in it.reads]
             self.check_twice(it.reads or [], self.reads[it.name] or [], it)
         self.mock_if(lambda it: None in (self.reads[it.name] or []))
         for it in self.controllers:
@@ -119,7 +118,7 @@ class Linked:
                                         f"which no ros2_control tag of {plain(self.robot.file)} has")
 
     def is_of_a_mock(self, name):
-        """Answers whether the path begins with a mock's name. With another controller's it is refused, since that exports no such
+        """Answers whether the path begins with a mock's name. Of another controller it is refused: that exports no such
         reference."""
         first, slash, _ = name.joint().partition("/")
         exporters = [other for other in self.controllers if slash and other.given == first]
@@ -150,23 +149,22 @@ class Linked:
 
     def refuse_too_many(self):
         states = sum(len(joint.state) for joint in self.robot.joints())
-        counts = dict.fromkeys(("controllers", "references", "claims", "reads"), 0)
-        most = {"controllers": MOST_CONTROLLERS, "references": MOST_REFERENCES, "claims": MOST_CLAIMS, "reads": MOST_READS}
-        kinds = {}
+        counts, kinds = dict.fromkeys(MOST, 0), {}
         for it in self.controllers:
             claims, reads = self.claims[it.name], self.reads[it.name]
             kinds[it.kind] = kinds.get(it.kind, 0) + 1
             if len(claims) > MOST_CLAIMS_OF_ONE:
                 raise Refused(it.place, f"{quoted(it.given)} claims more than {MOST_CLAIMS_OF_ONE} interfaces")
             if kinds[it.kind] > MOST_OF_A_KIND:
-                raise Refused(it.place, f"with {quoted(it.given)} there are more than {MOST_OF_A_KIND} of the kind {it.kind}")
+                why = f"with {quoted(it.given)} there are more than {MOST_OF_A_KIND} of the kind {it.kind}"
+                raise Refused(it.place, why)
             counts["controllers"] += 1
             counts["references"] += len(claims) if it.kind in ("passthrough", "pid") else 0
             counts["claims"] += len(claims)
             counts["reads"] += states if reads is None else len(reads)
             for what, count in counts.items():
-                if count > most[what]:
-                    raise Refused(it.place, f"with {quoted(it.given)} there are more than {most[what]} {what}")
+                if count > MOST[what]:
+                    raise Refused(it.place, f"with {quoted(it.given)} there are more than {MOST[what]} {what}")
 
 
 @dataclass

@@ -41,6 +41,6 @@ class Names:
 
 
 def nearest(given):
-    """Returns a name of ours that is like the given one: `left/arm-1.x` becomes `left_arm_1_x`, and `2nd` becomes `n2nd`."""
+    """Returns a name of ours that is like the given: `left/arm-1` becomes `left_arm_1`, and `2nd` becomes `n2nd`."""
     name = re.sub(r"[^A-Za-z0-9_]", "_", given).lstrip("_")
     return (name if name[:1].isalpha() else f"n{name}")[:LONGEST_NAME]

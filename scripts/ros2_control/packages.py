@@ -15,7 +15,8 @@ def missing():
 
 
 def go_on_with_packages():
-    """Returns the packages that this interpreter lacks. If it lacks one and Debian's has both, Debian's runs the script instead."""
+    """Returns the packages that this interpreter lacks. If Debian's has both and this one has not, that one runs the
+    script."""
     lacking = missing()
     if lacking and os.path.realpath(sys.executable) != os.path.realpath(DEBIAN) and os.path.exists(DEBIAN):
         has_both = subprocess.run([DEBIAN, "-c", f"import {', '.join(MODULES)}"], stderr=subprocess.DEVNULL)
@@ -25,7 +26,7 @@ def go_on_with_packages():
 
 
 def advice(lacking):
-    """Returns what to do, as lines: which packages lack, what installs them, and what runs the script if they are there."""
+    """Returns what to do, as lines: which packages lack, what installs them, and what runs the script then."""
     return [
         f"{sys.executable} lacks {' and '.join(lacking)}, and so does {DEBIAN}",
         f"    {COMMAND}",

@@ -49,7 +49,7 @@ def quotient(value, divisor):
 
 
 def plain_number(value):
-    """Returns the number as a line shows it: with the zeros that it was written with, but not with all of many digits."""
+    """Returns the number as a line shows it: as it was written, but not with all of many digits."""
     text = f"{value:f}"
     return text if len(text) <= MOST_SHOWN else f"{text[:MOST_SHOWN]}.."
 

@@ -14,8 +14,9 @@ JOINT_TYPES = ("revolute", "continuous", "prismatic", "fixed", "floating", "plan
 WITH_LIMITS = ("revolute", "prismatic")
 MOST_COMPONENTS = 16
 MOST_JOINTS = 32
-# What stands in a ros2_control tag, is read, and has no counterpart. To build one takes it out of here.
-WITHOUT_COUNTERPART = ("gpio", "sensor", "transmission")
+# Tags in a component, a joint or an interface that have no counterpart. To build one takes it out of here.
+WITH_INTERFACES = ("gpio", "sensor")
+WITHOUT_COUNTERPART = (*WITH_INTERFACES, "transmission", "properties", "limits")
 
 
 @dataclass
@@ -57,7 +58,7 @@ class Component:
 class Robot:
     file: str
     components: list
-    left_out: set  # interfaces that are there and have no counterpart, as "io/digital_output"; and components without a joint
+    left_out: set  # what is there and has no counterpart: interfaces, as "io/output", and components without a joint
 
     def joints(self):
         return [joint for component in self.components for joint in component.joints]
@@ -159,23 +160,34 @@ class Reading:
             component.joints.append(self.joint(component, child))
         elif child.tag == "hardware":
             for inner in child.children:
-                word = inner.attributes.get("name", inner.text.strip())
+                word = inner.attributes.get("name", inner.text)
                 self.listing.left_out(inner.place, f"{plain(inner.tag)} {quoted(word)} {of_it}, which is simulated")
         elif child.tag in WITHOUT_COUNTERPART:
-            name = child.attributes.get("name", "")
-            self.listing.left_out(child.place, f"{child.tag} {quoted(name)} {of_it}")
-            if child.tag != "transmission":
+            self.leave_out(child, of_it)
+            if child.tag in WITH_INTERFACES:
                 self.leave_out_interfaces(child)
-        elif child.tag.startswith("xacro:"):
-            self.listing.left_out(child.place, f"<{plain(child.tag)}>: xacro is not expanded")
         else:
-            raise Refused(child.place, f"<{plain(child.tag)}> in component {quoted(component.given)} is not known")
+            self.leave_out_or_refuse(child, f"component {quoted(component.given)}")
+
+    def leave_out(self, tag, of_it):
+        name = tag.attributes.get("name")
+        self.listing.left_out(tag.place, f"{tag.tag} {quoted(name) + ' ' if name else ''}{of_it}")
+
+    def leave_out_or_refuse(self, tag, holder):
+        """Lists a tag that has no counterpart, and refuses one that is not known, because it may be misspelled."""
+        if tag.tag.startswith("xacro:"):
+            self.listing.left_out(tag.place, f"<{plain(tag.tag)}>: xacro is not expanded")
+        elif tag.tag in WITHOUT_COUNTERPART:
+            self.leave_out(tag, f"of {holder}")
+        else:
+            raise Refused(tag.place, f"<{plain(tag.tag)}> in {holder} is not known")
 
     def leave_out_interfaces(self, tag):
         for child in tag.children:
-            if child.tag not in ("command_interface", "state_interface", "param"):
-                raise Refused(child.place, f"<{plain(child.tag)}> in <{tag.tag}> is not known")
-            self.left_out.add(f"{tag.get('name')}/{child.get('name')}")
+            if child.tag in ("command_interface", "state_interface", "param"):
+                self.left_out.add(f"{tag.get('name')}/{child.get('name')}")
+            else:
+                self.leave_out_or_refuse(child, f"{tag.tag} {quoted(tag.get('name'))}")
 
     def joint(self, component, tag):
         given = tag.get("name")
@@ -191,10 +203,10 @@ class Reading:
             if child.tag in ("command_interface", "state_interface"):
                 self.interface(component, joint, child)
             elif child.tag == "param":
-                text = child.text.strip()
-                self.listing.left_out(child.place, f"param {quoted(child.get('name'))} = {quoted(text)} of joint {quoted(given)}")
+                what = f"param {quoted(child.get('name'))} = {quoted(child.text)}"
+                self.listing.left_out(child.place, f"{what} of joint {quoted(given)}")
             else:
-                raise Refused(child.place, f"<{plain(child.tag)}> in joint {quoted(given)} is not known")
+                self.leave_out_or_refuse(child, f"joint {quoted(given)}")
         return joint
 
     def vmax(self, given, limits):
@@ -203,7 +215,8 @@ class Reading:
             self.listing.made_up(limits.place, f"{what} is {MOST_UNITS}, because the URDF has none")
             return Limits(limits.place, None, effort=limits.effort)
         if limits.velocity == 0:
-            self.listing.changed(limits.place, f"joint {quoted(given)} never moves: it is fixed, or its velocity limit is 0")
+            why = "it is fixed, or its velocity limit is 0"
+            self.listing.changed(limits.place, f"joint {quoted(given)} never moves: {why}")
         velocity = rounded(limits.velocity, limits.place, what, self.listing)
         return Limits(limits.place, velocity, limits.lower, limits.upper, limits.effort)
 
@@ -215,22 +228,24 @@ class Reading:
             raise Refused(tag.place, f"{what} stands twice")
         joint.seen.add((tag.tag, kind))
         if kind not in KINDS or is_command and component.kind == "sensor":
-            self.listing.left_out(tag.place, what if kind not in KINDS else f"{what}, because a sensor takes no commands")
+            why = ", because a sensor takes no commands" if kind in KINDS else ""
+            self.listing.left_out(tag.place, f"{what}{why}")
             self.left_out.add(f"{joint.given}/{kind}")
             return
         (joint.command if is_command else joint.state)[kind] = tag.place
         for child in tag.children:
-            if child.tag != "param":
-                raise Refused(child.place, f"<{plain(child.tag)}> in {what} is not known")
-            self.param(joint, kind, is_command, child, what)
+            if child.tag == "param":
+                self.param(joint, kind, is_command, child, what)
+            else:
+                self.leave_out_or_refuse(child, what)
 
     def param(self, joint, kind, is_command, tag, what):
         name, text = tag.get("name"), tag.content(f"a param of {what}")
         if is_command or name != "initial_value" or kind == "effort":
             self.listing.left_out(tag.place, f"param {quoted(name)} = {quoted(text)} of {what}")
             return
-        value = rounded(number(text, tag.place, f"initial_value of {what}"), tag.place, f"initial_value of {what}", self.listing)
-        setattr(joint, kind, value)
+        what = f"initial_value of {what}"
+        setattr(joint, kind, rounded(number(text, tag.place, what), tag.place, what, self.listing))
 
     def list_attributes(self, tag, what, known):
         for name in tag.attributes:

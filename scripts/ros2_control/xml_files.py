@@ -14,6 +14,7 @@ from .quantities import hint
 
 MOST_BYTES = 8 * 1_048_576
 DEEPEST = 64  # elements in one another
+MOST_ELEMENTS = 200_000
 
 
 @dataclass
@@ -22,7 +23,12 @@ class Element:
     tag: str
     attributes: dict
     children: list = field(default_factory=list)
-    text: str = ""
+    pieces: list = field(default_factory=list)
+
+    @property
+    def text(self):
+        """The text between the tags, children apart, without blanks around it."""
+        return "".join(self.pieces).strip()
 
     def all(self, tag):
         return [child for child in self.children if child.tag == tag]
@@ -38,7 +44,7 @@ class Element:
 
     def content(self, what):
         """Returns the text between the tags, which is required."""
-        text = self.text.strip()
+        text = self.text
         if not text or self.children:
             raise Refused(self.place, f"{what} is {quoted(text)}, and not a text{hint(text)}")
         return text
@@ -49,7 +55,7 @@ class Builder(ContentHandler):
 
     def __init__(self, file):
         super().__init__()
-        self.file, self.root, self.open = file, None, []
+        self.file, self.root, self.open, self.count = file, None, [], 0
 
     def place(self):
         return Place(self.file, self.locator.getLineNumber())
@@ -63,6 +69,9 @@ class Builder(ContentHandler):
             raise Refused(place, f"<{plain(tag)}>: what is included elsewhere is not read")
         if len(self.open) == DEEPEST:
             raise Refused(place, f"there are more than {DEEPEST} elements in one another")
+        self.count += 1
+        if self.count > MOST_ELEMENTS:
+            raise Refused(place, f"there are more than {MOST_ELEMENTS} elements")
         element = Element(place, tag, dict(attributes.items()))
         if self.open:
             self.open[-1].children.append(element)
@@ -74,7 +83,7 @@ class Builder(ContentHandler):
         self.open.pop()
 
     def characters(self, content):
-        self.open[-1].text += content
+        self.open[-1].pieces.append(content)
 
 
 def xml_file(path):
@@ -86,7 +95,8 @@ def xml_file(path):
     try:
         parser.parse(source)
     except SAXParseException as error:
-        raise Refused(Place(path, max(error.getLineNumber() or 1, 1)), f"this is no XML: {error.getMessage()}") from None
+        place = Place(path, max(error.getLineNumber() or 1, 1))
+        raise Refused(place, f"this is no XML: {error.getMessage()}") from None
     except DefusedXmlException:
         raise Refused(builder.place(), "a document type, in which entities are declared, is not read") from None
     except (LookupError, ValueError):

@@ -14,7 +14,8 @@ MOST_BYTES = 1_048_576
 DEEPEST = 32  # mappings and lists in one another
 PARAMETERS = "ros__parameters"
 # What YAML reads as a number, a boolean or nothing, unless it stands in quotes.
-NO_TEXT = re.compile(rf"{FORM.pattern}|0[xo][0-9a-f]+|[-+]?\.inf|\.nan|true|false|yes|no|y|n|on|off|null|~|", re.IGNORECASE | re.ASCII)
+NO_TEXT = re.compile(rf"{FORM.pattern}|0[xo][0-9a-f]+|[-+]?\.inf|\.nan|true|false|yes|no|y|n|on|off|null|~|",
+                     re.IGNORECASE | re.ASCII)
 BOOLEANS = {"true": True, "false": False}
 
 
@@ -58,8 +59,9 @@ class Node:
         return self.value
 
     def shown(self):
-        kinds = {dict: "a mapping", list: "a list"}
-        return kinds.get(type(self.value)) or (plain(self.value) if self.is_plain and self.value else quoted(self.value))
+        if not isinstance(self.value, str):
+            return "a mapping" if self.is_mapping() else "a list"
+        return plain(self.value) if self.is_plain and self.value else quoted(self.value)
 
 
 class Tree:
@@ -121,7 +123,8 @@ def yaml_file(path):
             tree.take(event)
     except yaml.MarkedYAMLError as error:
         mark = error.problem_mark or error.context_mark
-        raise Refused(Place(path, mark.line + 1 if mark else 1), f"this is no YAML: {plain(error.problem or 'broken')}") from None
+        place = Place(path, mark.line + 1 if mark else 1)
+        raise Refused(place, f"this is no YAML: {plain(error.problem or 'broken')}") from None
     except yaml.reader.ReaderError as error:
         line = text[: error.position].count("\n") + 1
         raise Refused(Place(path, line), "this is no YAML: a character that it may not have") from None
@@ -172,8 +175,8 @@ def flat(mapping, before=""):
     found = {}
     for key, node in mapping.value.items():
         name = before + key
-        inner = flat(node, f"{name}.") if node.is_mapping() else {name: Node(mapping.keys[key], node.value, node.is_plain)}
-        for other, value in inner.items():
+        leaf = {name: Node(mapping.keys[key], node.value, node.is_plain)}
+        for other, value in (flat(node, f"{name}.") if node.is_mapping() else leaf).items():
             if other in found:
                 raise Refused(value.place, f"the parameter {quoted(other)} stands twice")
             found[other] = value
