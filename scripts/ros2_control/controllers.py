@@ -223,7 +223,7 @@ class Reading:
             one.numbers = tuning(f"{quoted(dof[1])} of {quoted(it.given)}", used.gains(dof[1]), self.listing)
             one.exports = [f"{it.given}/{one.reads[0].path}"]
             one.also = [("state", name) for name in named([read], states[1:])]
-            self.left_out |= {f"{it.given}/{joint}/{other}" for _, other in states[1:]}
+            self.left_out |= {("command", f"{it.given}/{joint}/{other}") for _, other in states[1:]}
             made.append(one)
         self.check_gains(made[0], used, [dof for _, dof in dofs])
         if len(made) > 1:

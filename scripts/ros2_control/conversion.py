@@ -41,5 +41,5 @@ def begin_as_told(robot, manager):
         component = next((it for it in robot.components if it.given == name), None)
         if component:
             component.initial = state
-        elif name not in robot.left_out:
+        elif name not in robot.without_joints:
             raise Refused(place, f"there is no component {quoted(name)} in {plain(robot.file)}")

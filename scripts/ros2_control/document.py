@@ -101,8 +101,8 @@ def moves(linked, found, rate, cycles, begun, names):
         why = "there are too few cycles" if leaders else "no controller is active that commands a joint"
         return [comment(f"Nothing moves: {why}.")]
     lines = [comment(f"Made up from the limits in {plain(names[0])}: each joint goes out and back. A position is half "
-                     "the way to the joint's farther limit, or as far as half its velocity takes it; a velocity is half "
-                     "of what it may have; an effort is 1 at most.")]
+                     "the way to the joint's farther limit, or as far as half its velocity takes it; a velocity is "
+                     "half of what it may have; an effort is 1 at most.")]
     later = []
     for it in leaders:
         claims = linked.claims[it.name]

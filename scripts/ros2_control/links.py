@@ -3,6 +3,7 @@
 from dataclasses import dataclass, field
 
 from .listing import Place, Refused, plain, quoted
+from .quantities import hint
 from .robots import KINDS
 
 # What one document has at most.
@@ -105,7 +106,7 @@ class Linked:
 
     def of_joint(self, it, name, which):
         joint, kind = self.robot.joint(name.joint()), name.path.rpartition("/")[2]
-        if name.path in self.robot.left_out:
+        if (which, name.path) in self.robot.left_out:
             return None
         if joint:
             if kind not in getattr(joint, which):
@@ -115,7 +116,7 @@ class Linked:
         if self.is_of_a_mock(name):
             return None
         raise Refused(name.joint_place, f"{quoted(it.given)} names the joint {quoted(name.joint())}, "
-                                        f"which no ros2_control tag of {plain(self.robot.file)} has")
+                                        f"which no ros2_control tag of {plain(self.robot.file)} has{hint(name.path)}")
 
     def is_of_a_mock(self, name):
         """Answers whether the path begins with a mock's name. Of another controller it is refused: that exports no such

@@ -68,5 +68,5 @@ def toml_text(value):
 
 
 def hint(text):
-    """Returns what to do about a text that is xacro."""
-    return "; xacro is not expanded here: run xacro first" if "${" in text or "$(" in text else ""
+    """Returns what to do about a text that xacro or a launch file is to replace."""
+    return "; $ is not expanded here: run xacro or launch first" if "${" in text or "$(" in text else ""

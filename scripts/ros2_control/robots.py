@@ -14,6 +14,7 @@ JOINT_TYPES = ("revolute", "continuous", "prismatic", "fixed", "floating", "plan
 WITH_LIMITS = ("revolute", "prismatic")
 MOST_COMPONENTS = 16
 MOST_JOINTS = 32
+INTERFACES = {"command_interface": "command", "state_interface": "state"}
 # Tags in a component, a joint or an interface that have no counterpart. To build one takes it out of here.
 WITH_INTERFACES = ("gpio", "sensor")
 WITHOUT_COUNTERPART = (*WITH_INTERFACES, "transmission", "properties", "limits")
@@ -58,7 +59,8 @@ class Component:
 class Robot:
     file: str
     components: list
-    left_out: set  # what is there and has no counterpart: interfaces, as "io/output", and components without a joint
+    left_out: set  # interfaces that are there and have no counterpart, as `command` or `state` with "io/output"
+    without_joints: set  # the components that were left out
 
     def joints(self):
         return [joint for component in self.components for joint in component.joints]
@@ -81,7 +83,7 @@ def robot_of(path, listing):
     components = [it for tag in root.all("ros2_control") if (it := reading.component(tag))]
     if not root.all("ros2_control"):
         raise Refused(root.place, "there is no ros2_control tag directly in <robot>")
-    return Robot(path, components, reading.left_out)
+    return Robot(path, components, reading.left_out, reading.without_joints)
 
 
 def limits_of(root):
@@ -133,7 +135,7 @@ class Reading:
     def __init__(self, file, listing, limits):
         self.file, self.listing, self.limits = file, listing, limits
         self.component_names, self.joint_names = Names("component", listing), Names("joint", listing)
-        self.left_out = set()
+        self.left_out, self.without_joints, self.joints = set(), set(), {}
 
     def component(self, tag: Element):
         """Returns the component, or nothing if it has no joint."""
@@ -149,15 +151,15 @@ class Reading:
             self.listing.changed(tag.place, f"component {quoted(given)} is a system, because an actuator has one joint")
             component.kind = "system"
         if not component.joints:
-            self.listing.left_out(tag.place, f"component {quoted(given)}, which has no joint")
-            self.left_out.add(given)
+            self.listing.left_out(tag.place, f"component {quoted(given)}, which has no joint of its own")
+            self.without_joints.add(given)
             return None
         return component
 
     def child(self, component, child):
         of_it = f"of component {quoted(component.given)}"
         if child.tag == "joint":
-            component.joints.append(self.joint(component, child))
+            self.joint(component, child)
         elif child.tag == "hardware":
             for inner in child.children:
                 word = inner.attributes.get("name", inner.text)
@@ -184,9 +186,9 @@ class Reading:
 
     def leave_out_interfaces(self, tag):
         for child in tag.children:
-            if child.tag in ("command_interface", "state_interface", "param"):
-                self.left_out.add(f"{tag.get('name')}/{child.get('name')}")
-            else:
+            if child.tag in INTERFACES:
+                self.left_out.add((INTERFACES[child.tag], f"{tag.get('name')}/{child.get('name')}"))
+            elif child.tag != "param":
                 self.leave_out_or_refuse(child, f"{tag.tag} {quoted(tag.get('name'))}")
 
     def joint(self, component, tag):
@@ -194,20 +196,35 @@ class Reading:
         if given not in self.limits:
             raise Refused(tag.place, f"joint {quoted(given)} of component {quoted(component.given)} "
                                      f"is no <joint> of this URDF{hint(given)}")
+        self.list_attributes(tag, f"joint {quoted(given)}", ("name",))
+        holder, joint = self.joints.get(given, (None, None))
+        if holder is component:
+            raise Refused(tag.place, f"joint {quoted(given)} stands twice in component {quoted(component.given)}")
+        if joint:
+            what = f"what component {quoted(component.given)} has of joint {quoted(given)}"
+            why = "because a joint has one component"
+            self.listing.changed(tag.place, f"{what} is of component {quoted(holder.given)}, {why}")
+        else:
+            joint = self.new_joint(given, tag)
+            component.joints.append(joint)
+            self.joints[given] = (component, joint)
+        self.contents(component, joint, tag)
+
+    def new_joint(self, given, tag):
         name = self.joint_names.add(given, tag.place)
         if mimic := self.limits[given].mimic:
             self.listing.left_out(mimic, f"mimic of joint {quoted(given)}, which stands still if nobody commands it")
-        joint = Joint(tag.place, given, name, self.vmax(given, self.limits[given]))
-        self.list_attributes(tag, f"joint {quoted(given)}", ("name",))
+        return Joint(tag.place, given, name, self.vmax(given, self.limits[given]))
+
+    def contents(self, component, joint, tag):
         for child in tag.children:
-            if child.tag in ("command_interface", "state_interface"):
+            if child.tag in INTERFACES:
                 self.interface(component, joint, child)
             elif child.tag == "param":
                 what = f"param {quoted(child.get('name'))} = {quoted(child.text)}"
-                self.listing.left_out(child.place, f"{what} of joint {quoted(given)}")
+                self.listing.left_out(child.place, f"{what} of joint {quoted(joint.given)}")
             else:
-                self.leave_out_or_refuse(child, f"joint {quoted(given)}")
-        return joint
+                self.leave_out_or_refuse(child, f"joint {quoted(joint.given)}")
 
     def vmax(self, given, limits):
         what = f"the velocity limit of joint {quoted(given)}"
@@ -230,7 +247,7 @@ class Reading:
         if kind not in KINDS or is_command and component.kind == "sensor":
             why = ", because a sensor takes no commands" if kind in KINDS else ""
             self.listing.left_out(tag.place, f"{what}{why}")
-            self.left_out.add(f"{joint.given}/{kind}")
+            self.left_out.add((INTERFACES[tag.tag], f"{joint.given}/{kind}"))
             return
         (joint.command if is_command else joint.state)[kind] = tag.place
         for child in tag.children:
