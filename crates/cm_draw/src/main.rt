@@ -31,8 +31,8 @@ mod unkept;
 fn main(rt: HostRuntime) -> ExitCode {
     let mut source = StdSource::make(rt.reader());
     let mut sink = StdSink::make(io::writer(&rt));
-    let status = match job_of(&rt) {
-        Ok(kind) => draw_stocked(rt.alloc(), kind, &mut source, &mut sink).unwrap_or(
+    let status = match asked_of(&rt) {
+        Ok(asked) => draw_stocked(rt.alloc(), &asked, &mut source, &mut sink).unwrap_or(
             Status::Memory,
         ),
         Err(status) => status,
@@ -40,10 +40,19 @@ fn main(rt: HostRuntime) -> ExitCode {
     ExitCode::from(report(&rt, &status))
 }
 
+/// What is drawn.
+#[derive(Drop)]
+struct Asked {
+    /// The job whose run it is.
+    kind: JobKind,
+    /// The document's name in the title; empty where none is given.
+    name: String,
+}
+
 /// Draws over the program's stock, which is that of `cm`.
 fn draw_stocked<S: Source, K: Sink>(
     alloc: Global,
-    kind: JobKind,
+    asked: &Asked,
     source: &mut S,
     sink: &mut K,
 ) -> Result<Status, Memory> {
@@ -72,24 +81,24 @@ fn draw_stocked<S: Source, K: Sink>(
         )?;
         add(&mut blanks, CtlKind::Mock, Box::new(alloc, Mock::blank())?)?;
     }
-    Ok(draw_over(alloc, kind, source, sink, blanks))
+    Ok(draw_over(alloc, asked, source, sink, blanks))
 }
 
 /// Draws over a stock of these blanks.
 fn draw_over<S: Source, K: Sink, C: Controller>(
     alloc: Global,
-    kind: JobKind,
+    asked: &Asked,
     source: &mut S,
     sink: &mut K,
     blanks: Vec<C>,
 ) -> Status
     requires { AreBlanks C.meaning blanks.items (blanks_of_each BLANKS) }
 {
-    draw(alloc, kind, source, sink, Stock::make(blanks))
+    draw(alloc, asked, source, sink, Stock::make(blanks))
 }
 
-/// The job that the words after the program's name ask for: none or `run`, or `steps`.
-fn job_of<E: Env + AllocGlobal>(rt: &E) -> Result<JobKind, Status> {
+/// What the words after the program's name ask for: the job, `run` where none is named, and behind `--name` the document's name.
+fn asked_of<E: Env + AllocGlobal>(rt: &E) -> Result<Asked, Status> {
     let Ok(args) = env::args(rt) else {
         return Err(Status::BadWords);
     };
@@ -97,31 +106,44 @@ fn job_of<E: Env + AllocGlobal>(rt: &E) -> Result<JobKind, Status> {
         Ok(words) => words,
         Err(_) => return Err(Status::Memory),
     };
-    job_kind(words.as_slice())
+    asked_by(rt.alloc(), words.as_slice())
 }
 
-/// The job of these words.
-fn job_kind(words: &[String]) -> Result<JobKind, Status> {
-    let Some((word, others)) = words.split_first() else {
-        return Ok(JobKind::Run);
+/// What these words ask for.
+fn asked_by(alloc: Global, words: &[String]) -> Result<Asked, Status> {
+    match words.split_first() {
+        Some((word, others)) if word.as_str() == "run" => asked_named(alloc, JobKind::Run, others),
+        Some((word, others)) if word.as_str() == "steps" => {
+            asked_named(alloc, JobKind::Steps, others)
+        }
+        _ => asked_named(alloc, JobKind::Run, words),
+    }
+}
+
+/// What a job and these words behind it ask for.
+fn asked_named(alloc: Global, kind: JobKind, words: &[String]) -> Result<Asked, Status> {
+    let given = match words {
+        [] => "",
+        [key, name] if key.as_str() == "--name" => name.as_str(),
+        _ => return Err(Status::BadWords),
     };
-    match word.as_str() {
-        "run" if others.is_empty() => Ok(JobKind::Run),
-        "steps" if others.is_empty() => Ok(JobKind::Steps),
-        _ => Err(Status::BadWords),
+    let mut name = String::new(alloc);
+    match name.push_str(given) {
+        Ok(()) => Ok(Asked { kind, name }),
+        Err(_) => Err(Status::Memory),
     }
 }
 
 /// Reads a document, runs it by this job, and writes its page. A document that is refused writes nothing.
 fn draw<S: Source, K: Sink, C: Controller>(
     alloc: Global,
-    kind: JobKind,
+    asked: &Asked,
     source: &mut S,
     sink: &mut K,
     stock: Stock<C>,
 ) -> Status {
     match read_whole(alloc, source, LONGEST_DOCUMENT) {
-        Ok(bytes) => draw_bytes(alloc, kind, bytes.as_slice(), sink, stock),
+        Ok(bytes) => draw_bytes(alloc, asked, bytes.as_slice(), sink, stock),
         Err(ReadFault::Failed) => Status::ReadFault,
         Err(ReadFault::TooLong) => Status::TooLong,
         Err(ReadFault::Memory) => Status::Memory,
@@ -131,7 +153,7 @@ fn draw<S: Source, K: Sink, C: Controller>(
 /// Draws the document that these bytes are.
 fn draw_bytes<K: Sink, C: Controller>(
     alloc: Global,
-    kind: JobKind,
+    asked: &Asked,
     bytes: &[u8],
     sink: &mut K,
     stock: Stock<C>,
@@ -139,7 +161,7 @@ fn draw_bytes<K: Sink, C: Controller>(
     requires { length bytes.now ≤ LONGEST_DOCUMENT }
 {
     match read_document(alloc, bytes) {
-        Ok(document) => draw_document(alloc, kind, document, sink, stock),
+        Ok(document) => draw_document(alloc, asked, document, sink, stock),
         Err(DocumentFault::Description(problem)) => Status::BadDescription(problem),
         Err(DocumentFault::Script(fault)) => Status::BadScript(fault),
         Err(DocumentFault::Memory) => Status::Memory,
@@ -163,7 +185,7 @@ fn own_parts(document: &Document) -> Result<Described, Memory> {
 /// Runs an accepted document over the program's stock, and draws its book.
 fn draw_document<K: Sink, C: Controller>(
     alloc: Global,
-    kind: JobKind,
+    asked: &Asked,
     document: Document,
     sink: &mut K,
     stock: Stock<C>,
@@ -173,9 +195,14 @@ fn draw_document<K: Sink, C: Controller>(
     let Ok(described) = own_parts(&document) else {
         return Status::Memory;
     };
-    let job = Job { kind, make: None };
+    let job = Job {
+        kind: asked.kind,
+        make: None,
+    };
     match run_document(alloc, job, document, &mut Unkept, stock) {
-        (Status::Ok, Some(book)) => write_page(alloc, sink, &described, book.history.as_slice()),
+        (Status::Ok, Some(book)) => {
+            write_page(alloc, asked, sink, &described, book.history.as_slice())
+        }
         (status, _) => status,
     }
 }
@@ -183,11 +210,20 @@ fn draw_document<K: Sink, C: Controller>(
 /// Draws a history, and writes the page.
 fn write_page<K: Sink>(
     alloc: Global,
+    asked: &Asked,
     sink: &mut K,
     described: &Described,
     history: &[Entry],
 ) -> Status {
-    let Ok(text) = page_of(alloc, &described.description, &described.script, history) else {
+    let name = asked.name.as_str();
+    let page = page_of(
+        alloc,
+        name,
+        &described.description,
+        &described.script,
+        history,
+    );
+    let Ok(text) = page else {
         return Status::Memory;
     };
     if write_whole(sink, text.as_bytes()).is_err() || sink.flush().is_err() {
@@ -201,7 +237,7 @@ fn report<R: Eprint>(rt: &R, status: &Status) -> u8 {
     match status {
         Status::Ok => {}
         Status::BadWords => {
-            let _ = eprintln!(rt; "cm: usage: draw [run|steps]");
+            let _ = eprintln!(rt; "cm: usage: draw [run|steps] [--name NAME]");
         }
         fault => {
             let _ = eprintln!(rt; "cm: {fault}");

@@ -65,20 +65,55 @@ impl Scale {
     }
 }
 
+/// What curves are drawn from.
+#[derive(Clone, Copy)]
+pub struct Curves<'a> {
+    /// The columns.
+    pub strip: &'a Strip,
+    /// The joints.
+    pub joints: &'a [(usize, &'a JointDesc)],
+    /// Their courses.
+    pub courses: &'a [Course],
+    /// The letters of the longest number at the end of a range.
+    pub values: usize,
+}
+
+/// The letters of the longest number at the end of a joint's range.
+pub fn longest_value(alloc: Global, courses: &[Course]) -> Result<usize, Memory> {
+    let mut longest = 1usize;
+    for course in courses {
+        let scale = Scale::of(course, Px::of(0));
+        let least = short(alloc, scale.least)?;
+        let most = short(alloc, scale.most)?;
+        longest = longest.max(least.len()).max(most.len());
+    }
+    Ok(longest)
+}
+
 /// Draws the curves of all joints from this height on, and gives where they end.
 pub fn draw_curves(
     alloc: Global,
     svg: &mut Svg,
     top: Px,
-    strip: &Strip,
-    joints: &[(usize, &JointDesc)],
-    courses: &[Course],
+    curves: Curves<'_>,
 ) -> Result<Px, Memory> {
+    let Curves {
+        strip,
+        joints,
+        courses,
+        values,
+    } = curves;
     let bottom = bottom_of(top, courses);
     draw_axis(alloc, svg, strip, top, bottom)?;
+    let room = strip
+        .left()
+        .minus(Px::of(MARGIN))
+        .minus(Px::letters(values.saturating_add(2)))
+        .room();
     let mut y = top;
     for ((_, joint), course) in joints.iter().zip(courses) {
         let scale = Scale::of(course, y);
+        draw_name(alloc, svg, joint.name.as_str(), room, scale)?;
         draw_joint(alloc, svg, strip, joint.name.as_str(), course, scale)?;
         y = scale.end();
     }
@@ -102,7 +137,7 @@ fn draw_joint(
     course: &Course,
     scale: Scale,
 ) -> Result<(), Memory> {
-    draw_names(alloc, svg, strip, name, scale)?;
+    draw_ends(alloc, svg, strip, scale)?;
     let command = command_steps(alloc, strip, course, scale)?;
     if !command.is_empty() {
         svg.path("command-line", command.as_str(), "")?;
@@ -112,26 +147,24 @@ fn draw_joint(
     draw_samples(alloc, svg, strip, name, course, scale)
 }
 
-/// The joint's name, the numbers at both ends of its range, and a line at each.
-fn draw_names(
+/// The joint's name, in this room.
+fn draw_name(
     alloc: Global,
     svg: &mut Svg,
-    strip: &Strip,
     name: &str,
+    room: usize,
     scale: Scale,
 ) -> Result<(), Memory> {
-    let middle = scale.top.plus(scale.height.half()).plus(Px::of(4));
     let at = Point {
         x: Px::of(MARGIN),
-        y: middle,
+        y: scale.top.plus(scale.height.half()).plus(Px::of(4)),
     };
-    let room = strip
-        .left()
-        .minus(Px::of(MARGIN))
-        .minus(Px::letters(11))
-        .room();
     let text = shortened(alloc, name, room)?;
-    svg.words("row", at, text.as_str(), name)?;
+    svg.words("row", at, text.as_str(), name)
+}
+
+/// The numbers at both ends of a range, and a line at each.
+fn draw_ends(alloc: Global, svg: &mut Svg, strip: &Strip, scale: Scale) -> Result<(), Memory> {
     draw_end(alloc, svg, strip, scale, scale.most)?;
     if scale.least != scale.most {
         draw_end(alloc, svg, strip, scale, scale.least)?;

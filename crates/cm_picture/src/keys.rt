@@ -18,8 +18,13 @@ pub fn draw_link_keys(svg: &mut Svg, top: Px) -> Result<Px, Memory> {
     draw_line_key(svg, beside(at, 468), "reads", "reads a state")?;
     let square = beside(at, 616);
     svg.rect("command", mark(square), "")?;
-    svg.words("key", square.beside(Px::of(10), Px::of(4)), "command", "")?;
-    let circle = beside(at, 706);
+    svg.words(
+        "key",
+        square.beside(Px::of(10), Px::of(4)),
+        "command or reference",
+        "",
+    )?;
+    let circle = beside(at, 792);
     svg.circle("state", circle, 4, "")?;
     svg.words("key", circle.beside(Px::of(10), Px::of(4)), "state", "")?;
     Ok(top.plus(Px::of(34)))
@@ -36,32 +41,20 @@ pub fn draw_run_keys(alloc: Global, svg: &mut Svg, top: Px) -> Result<Px, Memory
         x: Px::of(MARGIN + 10),
         y: top.plus(Px::of(10)),
     };
-    draw_event_key(alloc, svg, at, Event::Done, "request done")?;
-    draw_event_key(alloc, svg, beside(at, 120), Event::Refused, "refused")?;
-    draw_event_key(
-        alloc,
-        svg,
-        beside(at, 214),
-        Event::ReadFailed,
-        "read failed",
-    )?;
-    draw_event_key(
-        alloc,
-        svg,
-        beside(at, 324),
-        Event::WriteFailed,
-        "write failed",
-    )?;
-    draw_event_key(
-        alloc,
-        svg,
-        beside(at, 438),
-        Event::UpdateFailed,
-        "update failed",
-    )?;
-    draw_event_key(alloc, svg, beside(at, 562), Event::Stopped, "stopped")?;
-    let words = "switch: + on, - off; strict: all of it or nothing";
-    svg.words("key", at.beside(Px::of(660), Px::of(4)), words, "")?;
+    for (right, event, words) in [
+        (0, Event::Done, "done"),
+        (72, Event::Partly, "done in part"),
+        (192, Event::Refused, "refused"),
+        (282, Event::Ended, "not decided"),
+        (396, Event::ReadFailed, "read failed"),
+        (508, Event::WriteFailed, "write failed"),
+        (622, Event::UpdateFailed, "update failed"),
+        (746, Event::Stopped, "stopped"),
+    ] {
+        draw_event_key(alloc, svg, beside(at, right), event, words)?;
+    }
+    let words = "switch: + on, - off; strict: all or nothing";
+    svg.words("key", at.beside(Px::of(840), Px::of(4)), words, "")?;
     Ok(top.plus(Px::of(34)))
 }
 

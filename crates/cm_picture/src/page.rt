@@ -1,21 +1,25 @@
 //! The page: a heading, who claims and reads what, the run, and the joints.
 
-use crate::curves::draw_curves;
+use crate::curves::{Curves, draw_curves, longest_value};
 use crate::keys::{draw_curve_keys, draw_link_keys, draw_run_keys};
 use crate::style::STYLE;
 use cm_model::{Description, Entry, JointDesc, Memory, Script};
 use cm_replay::{Columns, Counts, Linked, Replay, joints_of, links_of};
 use link_picture::draw_links;
-use run_picture::{Run, Strip, draw_run};
+use run_picture::{Run, Strip, draw_log, draw_run};
 use std::alloc::Global;
-use svg_text::{MARGIN, PAGE_WIDTH, Point, Px, Svg};
+use svg_text::{MARGIN, PAGE_WIDTH, Point, Px, Svg, shortened};
 
-/// The most letters of a name that have room beside the columns.
-const MOST_LETTERS: usize = 30;
+/// The most letters that have room beside the columns.
+const MOST_LETTERS: usize = 40;
 
-/// The page of a run: its description, its script, and the history of its book.
+/// The most letters of the document's name that are drawn.
+const MOST_OF_TITLE: usize = 40;
+
+/// The page of a run: the name of its document, empty where it has none, its description, its script, and the history of its book.
 pub fn page_of(
     alloc: Global,
+    name: &str,
     description: &Description,
     script: &Script,
     history: &[Entry],
@@ -27,39 +31,44 @@ pub fn page_of(
         joints: joints.as_slice(),
         links: links.as_slice(),
     };
-    page_of_linked(alloc, linked, script, history)
+    page_of_linked(alloc, name, linked, script, history)
 }
 
 /// The page of a run whose links are known.
 fn page_of_linked<'a>(
     alloc: Global,
+    name: &str,
     linked: Linked<'a>,
     script: &'a Script,
     history: &'a [Entry],
 ) -> Result<String, Memory> {
     let columns = Columns::of(linked.description.cycles);
     let replay = Replay::of(alloc, columns, linked, script, history)?;
-    page(alloc, linked, columns, &replay)
+    page(alloc, name, linked, columns, &replay)
 }
 
 fn page(
     alloc: Global,
+    name: &str,
     linked: Linked<'_>,
     columns: Columns,
     replay: &Replay<'_>,
 ) -> Result<String, Memory> {
+    let values = longest_value(alloc, replay.courses.as_slice())?;
+    let left = names_end(linked.description, linked.joints, values);
     let run = Run {
-        strip: Strip::of(columns, names_end(linked.description, linked.joints)),
+        strip: Strip::of(columns, left),
         description: linked.description,
         replay,
     };
     let mut svg = Svg::new(alloc);
-    let bottom = draw(alloc, &mut svg, linked, run)?;
+    let top = draw_head(alloc, &mut svg, name, linked.description, run.replay.counts)?;
+    let bottom = draw(alloc, &mut svg, top, linked, run, values)?;
     whole(alloc, &svg, bottom)
 }
 
-/// Where the names beside the columns end.
-fn names_end(description: &Description, joints: &[(usize, &JointDesc)]) -> Px {
+/// Where the names beside the columns end. The ends of a joint's range, so many letters, stand behind its name.
+fn names_end(description: &Description, joints: &[(usize, &JointDesc)], values: usize) -> Px {
     let mut longest = 14usize;
     for controller in description.controllers.as_slice() {
         longest = longest.max(controller.name.as_str().len());
@@ -68,18 +77,25 @@ fn names_end(description: &Description, joints: &[(usize, &JointDesc)]) -> Px {
         longest = longest.max(component.name.as_str().len());
     }
     for (_, joint) in joints {
-        // The ends of its range stand behind it.
-        longest = longest.max(joint.name.as_str().len().saturating_add(11));
+        let both = joint.name.as_str().len().saturating_add(values);
+        longest = longest.max(both.saturating_add(2));
     }
     Px::letters(longest.min(MOST_LETTERS)).plus(Px::of(MARGIN + 12))
 }
 
-/// Draws all of it, and gives where it ends.
-fn draw(alloc: Global, svg: &mut Svg, linked: Linked<'_>, run: Run<'_>) -> Result<Px, Memory> {
-    let top = draw_head(alloc, svg, linked.description, run.replay.counts)?;
+/// Draws all below the heading, and gives where it ends.
+fn draw(
+    alloc: Global,
+    svg: &mut Svg,
+    top: Px,
+    linked: Linked<'_>,
+    run: Run<'_>,
+    values: usize,
+) -> Result<Px, Memory> {
     let top = draw_link_part(alloc, svg, top, linked)?;
     let top = draw_run_part(alloc, svg, top.plus(Px::of(20)), run)?;
-    draw_curve_part(alloc, svg, top.plus(Px::of(20)), linked, run)
+    let top = draw_log_part(alloc, svg, top, run)?;
+    draw_curve_part(alloc, svg, top.plus(Px::of(20)), linked, run, values)
 }
 
 fn draw_link_part(alloc: Global, svg: &mut Svg, top: Px, linked: Linked<'_>) -> Result<Px, Memory> {
@@ -94,17 +110,42 @@ fn draw_run_part(alloc: Global, svg: &mut Svg, top: Px, run: Run<'_>) -> Result<
     draw_run(alloc, svg, top, run)
 }
 
+/// What was asked, where anything was.
+fn draw_log_part(alloc: Global, svg: &mut Svg, top: Px, run: Run<'_>) -> Result<Px, Memory> {
+    let answered = run.replay.answered.as_slice();
+    if answered.is_empty() {
+        return Ok(top);
+    }
+    let top = draw_section(
+        svg,
+        top.plus(Px::of(20)),
+        "Requests, and calls that were refused",
+    )?;
+    let cycles = run.description.cycles;
+    draw_log(alloc, svg, top, cycles, answered)
+}
+
+/// Where each joint was, where there are any.
 fn draw_curve_part(
     alloc: Global,
     svg: &mut Svg,
     top: Px,
     linked: Linked<'_>,
     run: Run<'_>,
+    values: usize,
 ) -> Result<Px, Memory> {
+    if linked.joints.is_empty() {
+        return Ok(top);
+    }
     let top = draw_section(svg, top, "Where each joint was")?;
     let top = draw_curve_keys(svg, top)?;
-    let courses = run.replay.courses.as_slice();
-    draw_curves(alloc, svg, top, &run.strip, linked.joints, courses)
+    let curves = Curves {
+        strip: &run.strip,
+        joints: linked.joints,
+        courses: run.replay.courses.as_slice(),
+        values,
+    };
+    draw_curves(alloc, svg, top, curves)
 }
 
 fn draw_section(svg: &mut Svg, top: Px, words: &str) -> Result<Px, Memory> {
@@ -120,12 +161,11 @@ fn draw_section(svg: &mut Svg, top: Px, words: &str) -> Result<Px, Memory> {
 fn draw_head(
     alloc: Global,
     svg: &mut Svg,
+    name: &str,
     description: &Description,
     counts: Counts,
 ) -> Result<Px, Memory> {
-    let cycles = description.cycles;
-    let hz = description.update_rate;
-    let title = format!(in alloc; "A run of {cycles} cycles at {hz} hertz")?;
+    let title = title_of(alloc, name, description)?;
     let at = Point {
         x: Px::of(MARGIN),
         y: Px::of(40),
@@ -136,12 +176,26 @@ fn draw_head(
     Ok(Px::of(78))
 }
 
+/// The title: the document's name where it has one, and how long the run was.
+fn title_of(alloc: Global, name: &str, description: &Description) -> Result<String, Memory> {
+    let cycles = description.cycles;
+    let unit = if cycles == 1 { "cycle" } else { "cycles" };
+    let hz = description.update_rate;
+    if name.is_empty() {
+        return Ok(format!(in alloc; "A run of {cycles} {unit} at {hz} hertz")?);
+    }
+    let name = shortened(alloc, name, MOST_OF_TITLE)?;
+    Ok(format!(in alloc; "{name}: a run of {cycles} {unit} at {hz} hertz")?)
+}
+
 /// How often things happened.
 fn happened(alloc: Global, counts: Counts) -> Result<String, Memory> {
     let Counts {
         done,
         refused,
         ended,
+        turned_away,
+        calls,
         failed,
         stopped,
     } = counts;
@@ -149,9 +203,15 @@ fn happened(alloc: Global, counts: Counts) -> Result<String, Memory> {
     if ended > 0 {
         write!(text, ", {ended} not decided")?;
     }
+    if turned_away > 0 {
+        write!(text, ", {turned_away} turned away")?;
+    }
+    if calls > 0 {
+        write!(text, " · other calls refused: {calls}")?;
+    }
     write!(
         text,
-        " · failures: {failed} · controllers stopped by them: {stopped}"
+        " · failures: {failed} · stops of controllers: {stopped}"
     )?;
     Ok(text)
 }

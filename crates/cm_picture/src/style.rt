@@ -10,11 +10,12 @@ text{font:12px ui-monospace,'DejaVu Sans Mono',Menlo,Consolas,monospace;fill:#1f
 .dim,.number,.value{fill:#57606f}
 .name{font-weight:700}
 .number,.on-dark,.on-light,.letter{text-anchor:middle}
-.value,.end{text-anchor:end}
+.value{text-anchor:end}
 .on-dark{fill:#ffffff}
 .on-light{fill:#3b4454}
 .letter{fill:#ffffff;font-size:10px;font-weight:700}
 .done-words{fill:#14683a}
+.partly-words{fill:#8a4b00}
 .bad-words{fill:#b3261e}
 .box,.frame{fill:#f3f5f8;stroke:#8792a2}
 .frame{fill:#fafbfc}
@@ -27,7 +28,6 @@ text{font:12px ui-monospace,'DejaVu Sans Mono',Menlo,Consolas,monospace;fill:#1f
 .leads-tip{fill:#7a3fb0}
 .reads-tip{fill:#7c8797}
 .grid,.rule{stroke:#dfe3e9}
-.drop{stroke:#9aa4b2;stroke-dasharray:2 2}
 .active{fill:#1f5fbf}
 .chained{fill:#7a3fb0}
 .link{stroke:#ffffff;stroke-width:2;stroke-dasharray:6 4}
@@ -35,6 +35,7 @@ text{font:12px ui-monospace,'DejaVu Sans Mono',Menlo,Consolas,monospace;fill:#1f
 .unconfigured{fill:none;stroke:#8792a2;stroke-dasharray:3 3}
 .finalized{fill:#3b4454;stroke:#1f2733;stroke-width:2}
 .done-disc{fill:#1d7a46}
+.partly-disc{fill:#a85b00}
 .bad-disc,.failure{fill:#c2321f;stroke:#ffffff}
 .stop{fill:#1f2733;stroke:#ffffff;stroke-width:1.5}
 .tick,.cross{fill:none;stroke:#ffffff;stroke-width:2}
@@ -49,6 +50,7 @@ text{fill:#e4e8ee}
 .on-dark{fill:#ffffff}
 .on-light{fill:#c9d1dc}
 .done-words{fill:#6fd39b}
+.partly-words{fill:#f0b268}
 .bad-words{fill:#ff9a8d}
 .box{fill:#1e2530;stroke:#66738a}
 .frame{fill:#191f28;stroke:#66738a}
@@ -60,7 +62,6 @@ text{fill:#e4e8ee}
 .claims-tip{fill:#6ea8ff}
 .leads-tip{fill:#c79bf2}
 .grid,.rule{stroke:#2b3340}
-.drop{stroke:#66738a}
 .active{fill:#2f6fd0}
 .chained{fill:#8450bd}
 .inactive{fill:#353f4d;stroke:#4a5667}

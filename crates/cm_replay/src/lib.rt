@@ -5,7 +5,7 @@ pub use columns::{Columns, MOST_COLUMNS};
 pub use course::{Course, Sample};
 pub use links::{Link, Linked, Links, joints_of, links_of};
 pub use present::Asked;
-pub use replay::{Counts, Decided, Replay, is_own};
+pub use replay::{Answered, Became, Counts, Replay, is_own};
 pub use rows::{Cell, Event, Row, Shown};
 
 mod columns;

@@ -4,7 +4,7 @@ use crate::links::{Link, Linked, Links, component_place, controller_place};
 use cm_model::{Call, Description, FailedPart, Life, Memory, Name, Reply, Script, SessionText};
 use std::alloc::Global;
 
-/// A request as a session makes it.
+/// A call as a session makes it.
 #[derive(Clone, Copy)]
 pub struct Asked<'a> {
     /// The session's name.
@@ -64,10 +64,10 @@ impl<'a> Present<'a> {
         })
     }
 
-    /// A session made its next line, with this reply.
-    pub fn called(&mut self, who: u32, reply: &Reply) -> Result<(), Memory> {
+    /// A session made its next line, with this reply. Gives that line.
+    pub fn called(&mut self, who: u32, reply: &Reply) -> Result<Option<Asked<'a>>, Memory> {
         let Some(asked) = self.next_line(who) else {
-            return Ok(());
+            return Ok(None);
         };
         match (asked.call, reply) {
             (Call::Load(name), Reply::Serial(_)) => self.load(name)?,
@@ -77,7 +77,7 @@ impl<'a> Present<'a> {
             (Call::Unload(name), Reply::Done) => self.live(name, None),
             _ => {}
         }
-        Ok(())
+        Ok(Some(asked))
     }
 
     /// The line that a session makes now.

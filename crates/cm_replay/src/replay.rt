@@ -8,21 +8,30 @@ use crate::present::{Asked, Present};
 use crate::rows::{Event, Row, Shown, blank_rows, mark_row};
 use cm_model::{
     Call, Cause, CycleRecord, Decision, Done, Dropped, Entry, FailedPart, IfaceName, Memory, Name,
-    Outcome, RanRef, Reply, Script, SwitchRequest,
+    Outcome, RanRef, Reply, Script, SwitchRequest, Why,
 };
 use std::alloc::Global;
 
-/// A request that was decided.
+/// What became of a call that asked for something.
 #[derive(Clone, Copy)]
-pub struct Decided<'a> {
-    /// The cycle at whose begin it was decided; the number of cycles where the close ended it.
+pub enum Became<'a> {
+    /// It was a request, and a begin or the close decided it.
+    Decided(&'a Outcome),
+    /// It did nothing, for this reason. A request got no ticket.
+    Not(Why),
+}
+
+/// A request that was decided, or a call that did nothing.
+#[derive(Clone, Copy)]
+pub struct Answered<'a> {
+    /// The cycle at whose begin it was decided, or before whose end the call came; the number of cycles where all had ended.
     pub cycle: u64,
-    /// Its ticket.
-    pub ticket: u32,
+    /// The ticket of a request that got one.
+    pub ticket: Option<u32>,
     /// The name of the session that asked, and what it asked, where that is known.
     pub asked: Option<Asked<'a>>,
     /// What became of it.
-    pub outcome: &'a Outcome,
+    pub became: Became<'a>,
 }
 
 /// How often things happened in a run.
@@ -34,6 +43,10 @@ pub struct Counts {
     pub refused: u64,
     /// Requests that waited when the loop closed.
     pub ended: u64,
+    /// Requests that got no ticket: the queue was full, or the loop closed.
+    pub turned_away: u64,
+    /// Other calls that did nothing.
+    pub calls: u64,
     /// Reads, writes and updates that failed.
     pub failed: u64,
     /// Controllers that were stopped, each as often as it was.
@@ -43,8 +56,8 @@ pub struct Counts {
 /// A run as it is drawn.
 #[derive(Drop)]
 pub struct Replay<'a> {
-    /// The requests that were decided, in that order.
-    pub decided: Vec<Decided<'a>>,
+    /// The requests that were decided and the calls that did nothing, in that order.
+    pub answered: Vec<Answered<'a>>,
     /// The row of the requests.
     pub requests: Row,
     /// The rows of the controllers, by place.
@@ -86,7 +99,7 @@ impl<'a> Replay<'a> {
         let controllers = linked.links.len();
         let components = description.components.as_slice().len();
         Ok(Replay {
-            decided: Vec::new(alloc),
+            answered: Vec::new(alloc),
             requests: Row::blank(alloc, columns.count())?,
             controllers: blank_rows(alloc, controllers, columns.count())?,
             components: blank_rows(alloc, components, columns.count())?,
@@ -95,6 +108,8 @@ impl<'a> Replay<'a> {
                 done: 0,
                 refused: 0,
                 ended: 0,
+                turned_away: 0,
+                calls: 0,
                 failed: 0,
                 stopped: 0,
             },
@@ -113,8 +128,42 @@ impl<'a> Replay<'a> {
             }
             // A session is told what became of its request: that is no line of its own.
             Reply::Outcome(_) => Ok(()),
-            reply => self.present.called(entry.who, reply),
+            reply => self.read_call(entry.who, reply),
         }
+    }
+
+    // ---- Calls
+
+    fn read_call(&mut self, who: u32, reply: &Reply) -> Result<(), Memory> {
+        let asked = self.present.called(who, reply)?;
+        match (asked, reply) {
+            (Some(asked), Reply::Not(why)) => self.read_refusal(asked, *why),
+            _ => Ok(()),
+        }
+    }
+
+    /// A call did nothing. A request is marked in the row of the requests, another call in the row of the controller that it names.
+    fn read_refusal(&mut self, asked: Asked<'a>, why: Why) -> Result<(), Memory> {
+        let number = self.answered.len();
+        let cycle = self.present.ended;
+        self.answered.push(Answered {
+            cycle,
+            ticket: None,
+            asked: Some(asked),
+            became: Became::Not(why),
+        })?;
+        let column = self.columns.of_cycle(cycle);
+        match controller_of(asked.call) {
+            Some(name) => {
+                self.counts.calls = self.counts.calls.saturating_add(1);
+                self.mark_controller(name, column, number);
+            }
+            None => {
+                self.counts.turned_away = self.counts.turned_away.saturating_add(1);
+                self.requests.mark(column, Event::Refused, cycle, number);
+            }
+        }
+        Ok(())
     }
 
     // ---- Decisions
@@ -128,14 +177,14 @@ impl<'a> Replay<'a> {
     }
 
     fn read_decision(&mut self, decision: &'a Decision) -> Result<(), Memory> {
-        let number = self.decided.len();
+        let number = self.answered.len();
         let asked = self.present.asked_under(decision.ticket);
         let cycle = self.present.ended;
-        self.decided.push(Decided {
+        self.answered.push(Answered {
             cycle,
-            ticket: decision.ticket,
+            ticket: Some(decision.ticket),
             asked,
-            outcome: &decision.outcome,
+            became: Became::Decided(&decision.outcome),
         })?;
         self.count(&decision.outcome);
         let column = self.columns.of_cycle(cycle);
@@ -162,13 +211,22 @@ impl<'a> Replay<'a> {
     /// A request is refused because of this controller or component.
     fn mark_refused(&mut self, name: &Name, column: usize, number: usize) {
         let description = self.present.description;
-        let cycle = self.present.ended;
-        if let Some(place) = controller_place(description.controllers.as_slice(), name) {
-            if let Some(row) = self.controllers.get_mut(place) {
+        if controller_place(description.controllers.as_slice(), name).is_some() {
+            self.mark_controller(name, column, number);
+        } else if let Some(place) = component_place(description, name) {
+            let cycle = self.present.ended;
+            if let Some(row) = self.components.get_mut(place) {
                 row.mark(column, Event::Refused, cycle, number);
             }
-        } else if let Some(place) = component_place(description, name) {
-            if let Some(row) = self.components.get_mut(place) {
+        }
+    }
+
+    /// A call is refused that names this controller.
+    fn mark_controller(&mut self, name: &Name, column: usize, number: usize) {
+        let controllers = self.present.description.controllers.as_slice();
+        let cycle = self.present.ended;
+        if let Some(place) = controller_place(controllers, name) {
+            if let Some(row) = self.controllers.get_mut(place) {
                 row.mark(column, Event::Refused, cycle, number);
             }
         }
@@ -315,6 +373,17 @@ fn show_controllers(rows: &mut Vec<Row>, present: &Present<'_>, column: usize) {
 fn show_components(rows: &mut Vec<Row>, present: &Present<'_>, column: usize) {
     for (row, life) in rows.iter_mut().zip(&present.components) {
         row.show(column, Shown::of(*life, false));
+    }
+}
+
+/// The controller that a call names which is no request.
+fn controller_of(call: &Call) -> Option<&Name> {
+    match call {
+        Call::Load(name) | Call::Configure(name) | Call::Cleanup(name) | Call::Unload(name) => {
+            Some(name)
+        }
+        Call::Rate { name, .. } | Call::Send { name, .. } => Some(name),
+        _ => None,
     }
 }
 

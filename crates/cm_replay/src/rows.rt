@@ -56,7 +56,7 @@ pub enum Event {
     Partly,
     /// A request waited when the loop closed.
     Ended,
-    /// A request was refused.
+    /// A request was refused, or a call did nothing.
     Refused,
     /// A controller was stopped at the end of a cycle.
     Stopped,
@@ -77,8 +77,8 @@ pub struct Cell {
     pub event: Event,
     /// The first cycle in which that happened.
     pub cycle: u64,
-    /// The request by which it happened, among all that were decided, where one did.
-    pub decided: usize,
+    /// The call by which it happened, among all that were answered, where one did.
+    pub answered: usize,
     /// How many things happened there, stops apart.
     pub count: u64,
     /// The first cycle at whose end it was stopped, where it was.
@@ -90,7 +90,7 @@ const BLANK: Cell = Cell {
     shown: Shown::Nothing,
     event: Event::Nothing,
     cycle: 0,
-    decided: 0,
+    answered: 0,
     count: 0,
     stopped: None,
 };
@@ -125,14 +125,14 @@ impl Row {
         }
     }
 
-    /// This happened in a cycle of the column, by a request where one did it.
-    pub fn mark(&mut self, column: usize, event: Event, cycle: u64, decided: usize) {
+    /// This happened in a cycle of the column, by a call where one did it.
+    pub fn mark(&mut self, column: usize, event: Event, cycle: u64, answered: usize) {
         if let Some(cell) = self.cells.get_mut(column) {
             cell.count = cell.count.saturating_add(1);
             if event as u8 > cell.event as u8 {
                 cell.event = event;
                 cell.cycle = cycle;
-                cell.decided = decided;
+                cell.answered = answered;
             }
         }
     }

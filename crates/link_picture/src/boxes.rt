@@ -1,7 +1,11 @@
 //! The boxes of the controllers, each with its references.
 
+ghost use Rattle.std.specs.Prelude.{◌≡◌, IfOk, string_bytes};
+ghost use Rattle.iface_names.specs.Interfaces.{interface_text};
+ghost use Rattle.cm_document.specs.Links.{reference_for};
+
 use crate::levels::levels;
-use cm_model::{CtlDesc, Description, Memory};
+use cm_model::{CtlDesc, Description, IfaceName, Memory};
 use cm_replay::Linked;
 use std::alloc::Global;
 use svg_text::{Area, MARGIN, Point, Px, Svg, shortened};
@@ -114,11 +118,19 @@ fn draw_references(
 ) -> Result<(), Memory> {
     let name = &controller.name;
     for (number, own) in controller.exported_for().iter().enumerate() {
-        let title = format!(in alloc; "{name}/{own}: a reference of {name}")?;
-        let text = format!(in alloc; "reference {own}")?;
+        let text = reference_text(alloc, controller, own)?;
+        let title = format!(in alloc; "{text}: a reference of {name}")?;
         draw_reference(alloc, svg, area, number, text.as_str(), title.as_str())?;
     }
     Ok(())
+}
+
+/// The name of the reference that a controller exports for an interface, as `list interfaces` prints it.
+fn reference_text(alloc: Global, controller: &CtlDesc, own: &IfaceName) -> Result<String, Memory>
+    ensures { IfOk result (λ text. string_bytes text ≡ interface_text (reference_for controller.now.name own.now)) }
+{
+    let reference = controller.reference_for(own)?;
+    Ok(format!(in alloc; "{reference}")?)
 }
 
 fn draw_reference(

@@ -1,12 +1,15 @@
 //! The lines from the boxes to what their controllers claim and read.
 
 use crate::boxes::reference_at;
-use crate::levels::passes_below;
+use crate::levels::Below;
 use crate::ports::{Group, Ports};
 use cm_model::{CtlDesc, CtlKind, Description, Memory};
 use cm_replay::{Link, Linked, Links};
 use std::alloc::Global;
 use svg_text::{Area, Point, Px, Svg};
+
+/// Half of the blank that a line needs to go down beside a box, in pixels.
+const AROUND: u64 = 14;
 
 /// What a line of the picture stands for.
 #[derive(Clone, Copy)]
@@ -37,12 +40,10 @@ struct Ended {
 pub struct Placed<'a> {
     /// The description, its joints and links.
     pub linked: Linked<'a>,
-    /// How long the chains are that lead on from each controller, by place.
-    pub heights: &'a [usize],
+    /// How far down what each controller reads passes below the boxes, where it does, by place.
+    pub below: &'a Below,
     /// The areas of the boxes, by place.
     pub boxes: &'a [Area],
-    /// Where the lowest box ends.
-    pub bottom: Px,
     /// The interfaces of the hardware.
     pub ports: &'a Ports,
 }
@@ -68,8 +69,14 @@ fn draw_ended(
     for (number, edge) in ended.iter().enumerate() {
         if let Some(from) = begin_of(placed.boxes, place, number.saturating_add(1), parts) {
             let title = edge_title(alloc, placed, place, *edge)?;
-            let below = passes_below(placed.heights, place, placed.bottom);
-            draw_edge(alloc, svg, from, below, *edge, title.as_str())?;
+            draw_edge(
+                alloc,
+                svg,
+                from,
+                placed.below.of_place(place),
+                *edge,
+                title.as_str(),
+            )?;
         }
     }
     Ok(())
@@ -222,13 +229,13 @@ fn across(alloc: Global, from: Point, to: Point) -> Result<String, Memory> {
     Ok(format!(in alloc; "M{x} {y}C{middle} {y} {middle} {end_y} {end_x} {end_y}")?)
 }
 
-/// A line that passes below this height.
-fn under(alloc: Global, from: Point, below: Px, to: Point) -> Result<String, Memory> {
-    let low = below.plus(below.minus(from.y).half()).plus(Px::of(16));
-    let left = from.x.plus(Px::of(90));
-    let right = to.x.minus(Px::of(90));
+/// A line that goes down right behind its begin, and passes the boxes at this height.
+fn under(alloc: Global, from: Point, low: Px, to: Point) -> Result<String, Memory> {
     let (x, y, end_x, end_y) = (from.x, from.y, to.x, to.y);
-    Ok(format!(in alloc; "M{x} {y}C{left} {low} {right} {low} {end_x} {end_y}")?)
+    let down = x.plus(Px::of(2 * AROUND));
+    let up = end_x.minus(Px::of(2 * AROUND));
+    let begin = format!(in alloc; "M{x} {y}C{down} {y} {x} {low} {down} {low}")?;
+    Ok(format!(in alloc; "{begin}H{up}C{end_x} {low} {up} {end_y} {end_x} {end_y}")?)
 }
 
 fn edge_title(

@@ -48,10 +48,53 @@ pub fn levels(heights: &[usize]) -> usize {
     levels
 }
 
-/// What a controller that leads another reads passes below the boxes.
-pub fn passes_below(heights: &[usize], place: usize, bottom: Px) -> Option<Px> {
-    match heights.get(place) {
-        Some(height) if *height > 0 => Some(bottom),
-        _ => None,
+/// How far down lines pass below the boxes: those of each controller that leads another at a height of their own.
+#[derive(Drop)]
+pub struct Below {
+    lows: Vec<Option<Px>>,
+    end: Px,
+}
+
+/// The blank between lines that pass below the boxes, in pixels.
+const BETWEEN_LINES: u64 = 7;
+
+impl Below {
+    /// Of controllers with these heights and links, below boxes that end here.
+    pub fn of(
+        alloc: Global,
+        heights: &[usize],
+        links: &[Links],
+        bottom: Px,
+    ) -> Result<Below, Memory> {
+        let mut below = Below {
+            lows: Vec::new(alloc),
+            end: bottom.plus(Px::of(BETWEEN_LINES)),
+        };
+        for (height, own) in heights.iter().zip(links) {
+            let passes = *height > 0 && !own.reads.as_slice().is_empty();
+            below.push(passes)?;
+        }
+        Ok(below)
+    }
+
+    /// One controller more, whose lines pass below or do not.
+    fn push(&mut self, passes: bool) -> Result<(), Memory> {
+        if passes {
+            self.end = self.end.plus(Px::of(BETWEEN_LINES));
+            self.lows.push(Some(self.end))?;
+        } else {
+            self.lows.push(None)?;
+        }
+        Ok(())
+    }
+
+    /// How far down the lines of the controller at this place pass, where they do.
+    pub fn of_place(&self, place: usize) -> Option<Px> {
+        *self.lows.get(place)?
+    }
+
+    /// Where the lowest of them is.
+    pub fn end(&self) -> Px {
+        self.end
     }
 }

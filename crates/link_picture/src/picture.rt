@@ -3,7 +3,7 @@
 
 use crate::boxes::{boxes_of, draw_boxes};
 use crate::edges::{Placed, draw_edges};
-use crate::levels::{heights, levels};
+use crate::levels::{Below, heights, levels};
 use crate::ports::Ports;
 use cm_model::Memory;
 use cm_replay::Linked;
@@ -38,18 +38,17 @@ fn draw_placed(
     boxes: &[Area],
     ports: &Ports,
 ) -> Result<Px, Memory> {
-    let bottom = bottom(boxes);
+    let below = Below::of(alloc, heights, linked.links, bottom(boxes))?;
     let placed = Placed {
         linked,
-        heights,
+        below: &below,
         boxes,
-        bottom,
         ports,
     };
     draw_edges(alloc, svg, placed)?;
     ports.draw(alloc, svg, linked)?;
     draw_boxes(alloc, svg, boxes, linked.description)?;
-    Ok(bottom.most(ports.bottom()).plus(Px::of(12)))
+    Ok(below.end().most(ports.bottom()).plus(Px::of(12)))
 }
 
 /// Where the lowest box ends.

@@ -42,5 +42,5 @@ fn history_of(alloc: Global, text: &str) -> Result<Vec<Entry>, Fail> {
 
 fn page(alloc: Global, document: &Document, history: &[Entry]) -> Result<String, Fail> {
     let description = document.description.description();
-    Ok(page_of(alloc, description, &document.script, history)?)
+    Ok(page_of(alloc, "rows.cm", description, &document.script, history)?)
 }

@@ -11,6 +11,19 @@ fn a_page_tells_what_was_and_what_happened(rt: HostRuntime) -> Result<(), Fail> 
 }
 
 #[test]
+fn references_are_named_as_they_are_listed(rt: HostRuntime) -> Result<(), Fail> {
+    let page = drawn(rt.alloc(), CHAINED)?;
+    hold_titles(rt.alloc(), page.as_str(), CHAINED_TITLES)
+}
+
+#[test]
+fn calls_that_did_nothing_are_told(rt: HostRuntime) -> Result<(), Fail> {
+    let page = drawn(rt.alloc(), REFUSED)?;
+    hold_titles(rt.alloc(), page.as_str(), REFUSED_TITLES)?;
+    hold_words(rt.alloc(), page.as_str(), REFUSED_WORDS)
+}
+
+#[test]
 fn a_column_of_a_long_run_is_several_cycles(rt: HostRuntime) -> Result<(), Fail> {
     let page = drawn(rt.alloc(), LONG)?;
     hold_titles(rt.alloc(), page.as_str(), LONG_TITLES)
@@ -31,6 +44,97 @@ fn hold_title(alloc: Global, page: &str, title: &str) -> Result<(), Fail> {
     }
     Err(Fail::new(format!(in alloc; "no title is {title}")?))
 }
+
+/// Fails at the first of these lines that does not stand on the page as the end of a text.
+fn hold_words(alloc: Global, page: &str, words: &str) -> Result<(), Fail> {
+    for line in words.lines() {
+        let element = format!(in alloc; ">{line}</text>")?;
+        if !page.contains(element.as_str()) {
+            return Err(Fail::new(format!(in alloc; "no text is {line}")?));
+        }
+    }
+    Ok(())
+}
+
+/// A passthrough above another one, so that what it claims is a reference.
+const CHAINED: &str = "\
+version = 1
+update_rate = 100
+cycles = 1
+
+[[component]]
+name = \"arm\"
+kind = \"actuator\"
+
+[[component.joint]]
+name = \"j0\"
+vmax = 1
+command = [\"position\"]
+state = [\"position\"]
+
+[[controller]]
+name = \"c0\"
+type = \"passthrough\"
+claims = [\"j0/position\"]
+
+[[controller]]
+name = \"c1\"
+type = \"passthrough\"
+claims = [\"c0/j0/position\"]
+
+[[controller]]
+name = \"c2\"
+type = \"forward\"
+claims = [\"c1/j0/position\"]
+--- script ---
+session a
+list interfaces
+";
+
+/// A reference has the name of its controller, and the joint and the kind of what it stands for.
+const CHAINED_TITLES: &str = "\
+c0/j0/position: a reference of c0
+c1/j0/position: a reference of c1
+c1 claims a reference of c0: it leads, and c0 follows
+c2 claims a reference of c1: it leads, and c1 follows";
+
+/// More requests than can wait, before the first cycle; a call that is refused, and a request after the close.
+const REFUSED: &str = "\
+version = 1
+update_rate = 100
+cycles = 1
+
+[[controller]]
+name = \"mk\"
+type = \"mock\"
+--- script ---
+session a
+load mk
+send mk 0.5
+switch strict
+session b
+switch strict
+session c
+switch strict
+session d
+switch strict +mk
+session e
+switch best +mk
+hw arm active
+";
+
+/// Four may wait, so the fifth has no ticket. It is told so at once, and makes its next request before the cycle too.
+const REFUSED_TITLES: &str = "\
+cycle 0, a: send mk 0.500000: refused, it is not active (not_active)
+cycle 0, d: switch strict +mk: refused, mk is not configured (refused mk not_configured)
+cycle 0, e: switch best +mk: refused, the queue is full (queue_full)
+cycle 0, e: hw arm active: refused, the queue is full (queue_full)";
+
+const REFUSED_WORDS: &str = "\
+rows.cm: a run of 1 cycle at 100 hertz
+requests: 3 done, 1 refused, 2 turned away · other calls refused: 1 · failures: 0 · stops of controllers: 0
+switch best +mk: refused, the queue is full
+send mk 0.500000: refused, it is not active";
 
 /// A chain above a joint whose component cannot be read in cycle 2, and a mock whose update fails in cycle 1.
 const FAILING: &str = "\

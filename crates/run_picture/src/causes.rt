@@ -1,33 +1,49 @@
-//! What became of requests, and why, in plain words.
+//! What became of requests and calls, and why, in plain words.
 
-use cm_model::{Cause, Dropped, Memory, Name, Outcome};
-use cm_replay::{Decided, is_own};
+use cm_model::{Cause, Dropped, Memory, Name, Outcome, Why};
+use cm_replay::{Answered, Became, is_own};
 use std::alloc::Global;
 
-/// When a request was decided, who asked, what, and what became of it; behind that the trace's own words.
-pub fn decided_title(alloc: Global, decided: &Decided<'_>) -> Result<String, Memory> {
+/// When a request was decided, or a call did nothing, who asked, what, and what became of it; behind that the trace's own words.
+pub fn answered_title(alloc: Global, answered: &Answered<'_>) -> Result<String, Memory> {
     let mut text = String::new(alloc);
-    let cycle = decided.cycle;
-    match decided.outcome {
-        Outcome::LoopEnded => text.push_str("at the close")?,
+    let cycle = answered.cycle;
+    match answered.became {
+        Became::Decided(Outcome::LoopEnded) => text.push_str("at the close")?,
         _ => write!(text, "cycle {cycle}")?,
     }
-    if let Some(asked) = decided.asked {
+    if let Some(asked) = answered.asked {
         write!(text, ", {}", asked.who)?;
     }
     text.push_str(": ")?;
-    push_decided(&mut text, decided)?;
-    write!(text, " ({})", decided.outcome)?;
+    push_answered(&mut text, answered)?;
+    match answered.became {
+        Became::Decided(outcome) => write!(text, " ({outcome})")?,
+        Became::Not(why) => write!(text, " ({why})")?,
+    }
     Ok(text)
 }
 
 /// Appends what was asked and what became of it.
-pub fn push_decided(text: &mut String, decided: &Decided<'_>) -> Result<(), Memory> {
-    match decided.asked {
-        Some(asked) => write!(text, "{}", asked.call)?,
-        None => write!(text, "request {}", decided.ticket)?,
+pub fn push_answered(text: &mut String, answered: &Answered<'_>) -> Result<(), Memory> {
+    match (answered.asked, answered.ticket) {
+        (Some(asked), _) => write!(text, "{}", asked.call)?,
+        (None, Some(ticket)) => write!(text, "request {ticket}")?,
+        (None, None) => {}
     }
-    match decided.outcome {
+    match answered.became {
+        Became::Decided(outcome) => push_outcome(text, outcome),
+        Became::Not(why) => {
+            text.push_str(": refused, ")?;
+            text.push_str(words_of(why))?;
+            Ok(())
+        }
+    }
+}
+
+/// Appends what became of a request.
+fn push_outcome(text: &mut String, outcome: &Outcome) -> Result<(), Memory> {
+    match outcome {
         Outcome::Done { dropped } => push_done(text, dropped.as_slice()),
         Outcome::Refused(name, cause) => {
             text.push_str(": refused, ")?;
@@ -37,6 +53,25 @@ pub fn push_decided(text: &mut String, decided: &Decided<'_>) -> Result<(), Memo
             text.push_str(": not decided, the loop closed")?;
             Ok(())
         }
+    }
+}
+
+/// Why a call did nothing. What it names is "it".
+fn words_of(why: Why) -> &'static str {
+    match why {
+        Why::NotDescribed => "it is not described",
+        Why::Loaded => "it is loaded already",
+        Why::StockEmpty => "none of its type is left in stock",
+        Why::NotLoaded => "it is not loaded",
+        Why::Active => "it is active",
+        Why::Refused => "it does not take its parameters",
+        Why::NotInactive => "it is not inactive",
+        Why::NotActive => "it is not active",
+        Why::Chained => "another controller commands it",
+        Why::TakesNone => "it takes no values",
+        Why::WrongCount => "the values do not fit what it claims",
+        Why::LoopEnded => "the loop is closed",
+        Why::QueueFull => "the queue is full",
     }
 }
 

@@ -2,13 +2,16 @@
 #![tactic(auto)]
 
 pub use axis::draw_axis;
+pub use log::draw_log;
 pub use marks::draw_mark;
 pub use run::{Run, draw_run};
 pub use strip::Strip;
 
 mod axis;
+mod bars;
 mod causes;
-mod lanes;
+mod log;
 mod marks;
+mod placed;
 mod run;
 mod strip;

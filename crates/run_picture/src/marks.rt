@@ -16,9 +16,13 @@ pub fn draw_mark(
     let (x, y) = (at.x, at.y);
     match event {
         Event::Nothing => Ok(()),
-        Event::Done | Event::Partly => {
+        Event::Done => {
             let steps = format!(in alloc; "M{x} {y}m-5 0l4 4l7 -9")?;
             draw_disc(svg, at, "done-disc", "tick", steps.as_str(), title)
+        }
+        Event::Partly => {
+            let steps = format!(in alloc; "M{x} {y}m-5 1q2.5 -6 5 -1t5 -1")?;
+            draw_disc(svg, at, "partly-disc", "tick", steps.as_str(), title)
         }
         Event::Refused => {
             let steps = format!(in alloc; "M{x} {y}m-4 -4l8 8m0 -8l-8 8")?;

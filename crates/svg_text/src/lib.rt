@@ -2,9 +2,11 @@
 #![tactic(auto)]
 
 pub use layout::{Area, MARGIN, PAGE_WIDTH, Point, Px};
+pub use lines::wrapped;
 pub use numbers::{push_cycles, short};
 pub use svg::{Svg, shortened};
 
 mod layout;
+mod lines;
 mod numbers;
 mod svg;

@@ -125,6 +125,8 @@ fn named(letter: char) -> Option<&'static str> {
         '<' => Some("&lt;"),
         '>' => Some("&gt;"),
         '"' => Some("&quot;"),
+        // No page of SVG may have a control character.
+        '\0'..='\u{1f}' => Some("?"),
         _ => None,
     }
 }
