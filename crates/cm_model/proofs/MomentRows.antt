@@ -1,6 +1,6 @@
 -- Worked rows of what a begin decides: moments of two states and a reply, written down by hand, that are right, and others that are not.
-use Rattle.std.proofs.Common.{◌≡◌, ℕ, zero, suc, Bool, true, false, List, [], ◌∷◌, length, map, pos, Option, Some, None, refl, sym, ap, ◌∙◌, subst, true≢false, arith}
-use Rattle.std.specs.Prelude.{codes, ◌==◌, ◌&&◌, is_some}
+use Rattle.std.proofs.Common.{◌≡◌, ℕ, Bool, true, false, List, [], ◌∷◌, map, pos, Option, Some, None, refl, sym, ap, ◌∙◌, true≢false, arith}
+use Rattle.std.specs.Prelude.{codes, ◌==◌, ◌&&◌, ◌||◌, not, is_some}
 use Rattle.std.specs.List.{list_any}
 use Rattle.std.proofs.lemmas.Option.{same_Some}
 use Rattle.sequence.proofs.ListLemmas.{any_map}
@@ -13,7 +13,7 @@ use Rattle.cm_model.proofs.Worked.{robot, stock, runs, rests, with_running}
 use Rattle.cm_model.specs.Boundary.{life_at}
 use Rattle.cm_model.specs.CauseIsTrue.{strict_set}
 use Rattle.cm_model.specs.Commit.{scene_of}
-use Rattle.cm_model.specs.Deciding.{AreRelated, is_let_go, IsLetGo, without_mail, apart_from_mail}
+use Rattle.cm_model.specs.Deciding.{AreRelated, IsSwitched, is_let_go, IsLetGo, on_both, without_mail, apart_from_mail}
 use Rattle.cm_model.specs.Order.{Places}
 use Rattle.cm_model.specs.Sound.{Moment, DecidesRightly}
 use Rattle.cm_model.specs.State.{State, Loaded, boot, is_active, active}
@@ -57,8 +57,11 @@ forward_on = request.Switch (record { on = codes "fwd" ∷ []; off = []; strict 
 abbrev forward_off : Request
 forward_off = request.Switch (record { on = []; off = codes "fwd" ∷ []; strict = true })
 
+abbrev pid_on_both : SwitchRequest
+pid_on_both = record { on = codes "pid" ∷ []; off = codes "pid" ∷ []; strict = true }
+
 abbrev pid_again : Request
-pid_again = request.Switch (record { on = codes "pid" ∷ []; off = codes "pid" ∷ []; strict = true })
+pid_again = request.Switch pid_on_both
 
 -- the arm is to be inactive
 abbrev arm_down : Request
@@ -89,12 +92,12 @@ related_one R l (new ∷ []) holds = record { new = new; alone = refl; related =
 related_one R l (new ∷ other ∷ others) holds = absurd holds.1
 
 -- what the first of these runs
-first_run : List Loaded → Option RunData
+abbrev first_run : List Loaded → Option RunData
 first_run [] = None
 first_run (l ∷ ls) = l.ctl.run
 
 -- it is a pid that has an error to go by
-has_last : Option RunData → Bool
+abbrev has_last : Option RunData → Bool
 has_last (Some (run.Pid chained set integral last)) = is_some last
 has_last _ = false
 
@@ -106,37 +109,38 @@ held s ceased v none = record { emptied = λ gone. absurd (true≢false (sym gon
 
 -- the forward comes
 forward_set : (p : ℕ) → active (told (runs 0 0 false ∷ []) forward_on (outcome.Done [])) p ≡ strict_set (scene_of (asked (rests 0 0 ∷ []) forward_on)) [] (codes "fwd" ∷ []) p
-forward_set zero = refl
-forward_set (suc p) = refl
+forward_set p = by_place (0 == p)
+  where
+    by_place : (here : Bool) → (here || false) ≡ ((((here && false) || false) && not false) || (here || false))
+    by_place true = refl
+    by_place false = refl
 
 forward_comes : IsRight (begin_of (asked (rests 0 0 ∷ []) forward_on) (outcome.Done []) (told (runs 0 0 false ∷ []) forward_on (outcome.Done [])))
 forward_comes = (
   told (runs 0 0 false ∷ []) forward_on (outcome.Done []),
-  (
-    record {
-      outcomes = refl;
-      same = refl;
-      rightly = (
-        refl,
-        record {
-          set_is = forward_set;
-          controllers = (
-            record {
-              leaves = λ ran gone. never ran;
-              comes = λ idle member. record { run = refl; emptied = refl };
-              restarts = λ ran member anew. never ran;
-              stays = λ ran member kept. never ran;
-              out = λ idle gone. absurd (true≢false gone);
-            },
-            tt,
-          );
-          values = (held _ _ _ refl, (held _ _ _ refl, (held _ _ _ refl, (held _ _ _ refl, (held _ _ _ refl, (held _ _ _ refl, tt))))));
-          lives = refl;
-        },
-      );
-    },
-    refl,
-  ),
+  record {
+    outcomes = refl;
+    same = refl;
+    rightly = (
+      refl,
+      record {
+        set_is = forward_set;
+        controllers = (
+          record {
+            leaves = λ ran gone. never ran;
+            comes = λ idle member. record { run = refl; emptied = refl };
+            restarts = λ ran member anew. never ran;
+            stays = λ ran member kept. never ran;
+            out = λ idle gone. absurd (true≢false gone);
+          },
+          tt,
+        );
+        values = (held _ _ _ refl, (held _ _ _ refl, (held _ _ _ refl, (held _ _ _ refl, (held _ _ _ refl, (held _ _ _ refl, tt))))));
+        lives = refl;
+      },
+    );
+  },
+  refl,
 )
 
 -- it is told as done, and nothing is switched
@@ -160,9 +164,14 @@ steered = record (runs 0 1 false) { ctl = record ((runs 0 1 false).ctl) { run = 
 abbrev not_restarted : State
 not_restarted = record (told (steered ∷ []) pid_again (outcome.Done [])) { aloft = true }
 
+abbrev PidSwitched : Loaded → Loaded → Type 0
+PidSwitched l new =
+    let scene = scene_of (asked (steered ∷ []) pid_again) in
+    IsSwitched (asked (steered ∷ []) pid_again) (strict_set scene pid_on_both.off pid_on_both.on) (on_both scene pid_on_both) l new
+
 restart_without_effect : IsRight (begin_of (asked (steered ∷ []) pid_again) (outcome.Done []) not_restarted) → ⊥
 restart_without_effect (next, step, last) =
-    let one = related_one _ steered next.loaded step.rightly.1.controllers in
+    let one : IsRelated PidSwitched steered next.loaded = related_one PidSwitched steered next.loaded step.rightly.1.controllers in
     let anew = one.related.restarts refl refl refl in
     let as_was : first_run (map without_mail (one.new ∷ [])) ≡ first_run (map without_mail (steered ∷ [])) =
     ap (λ (ls : List Loaded). first_run (map without_mail ls)) (sym one.alone) ∙ ap first_run (same_loaded next not_restarted last) in
@@ -203,7 +212,7 @@ untrue_cause (next, step, last) = step.rightly.1
 abbrev not_moved : State
 not_moved = record (told [] arm_down (outcome.Done [])) { aloft = true }
 
-is_up : Life → Bool
+abbrev is_up : Life → Bool
 is_up Active = true
 is_up _ = false
 

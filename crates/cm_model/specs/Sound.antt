@@ -141,6 +141,10 @@ abbrev pub decisions_in : Reply → List Decision
 decisions_in (reply.Decisions decisions) = decisions
 decisions_in _ = []
 
+-- what it tells that became of them, in order
+abbrev pub outcomes_in : Reply → List Outcome
+outcomes_in r = map (λ decision. decision.outcome) (decisions_in r)
+
 -- the outcome that was told of a ticket
 abbrev pub outcome_of : List Decision → ℕ → Option Outcome
 outcome_of decisions ticket = option_map (λ decision. decision.outcome) (find (λ decision. decision.ticket == ticket) decisions)
@@ -162,7 +166,7 @@ TicketsFrom so_far (moment ∷ moments) = TicketsAreRight so_far moment × Ticke
 
 -- A begin decides those that waited, one after the other, with the outcomes that it tells, and so comes to the state after it.
 abbrev pub DecidesRightly : Moment → Call → Type 0
-DecidesRightly moment (call.Begin _) = AreDecided moment.before (waiting moment.before) (map (λ decision. decision.outcome) (decisions_in moment.reply)) moment.after
+DecidesRightly moment (call.Begin _) = AreDecided moment.before (waiting moment.before) (outcomes_in moment.reply) moment.after
 DecidesRightly moment _ = Unit {0}
 
 -- Each ticket is decided once, and told so; and each begin decides rightly.

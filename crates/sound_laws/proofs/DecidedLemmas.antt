@@ -1,5 +1,5 @@
 -- A request is decided rightly: done whole, or refused with a cause that is true and no change.
-use Rattle.std.proofs.Common.{◌≡◌, ℕ, ◌<◌, Bool, true, false, List, [], ◌∷◌, ◌++◌, length, map, Option, Some, None, inl, inr, refl, sym, ◌∙◌, subst, ap, arith}
+use Rattle.std.proofs.Common.{◌≡◌, ℕ, ◌<◌, Bool, true, false, List, [], ◌∷◌, ◌++◌, length, Option, Some, None, inl, inr, refl, sym, ◌∙◌, subst, ap, arith}
 use Rattle.std.specs.Prelude.{◌==◌, ◌&&◌, not, if◌then◌else◌, find, position, is_some, option_map, slice_set}
 use Rattle.std.specs.Option.{option_map_or}
 use Rattle.std.proofs.Math.Path.{fun_ext}
@@ -26,7 +26,7 @@ use Rattle.cm_model.specs.Faults.{cause_if}
 use Rattle.cm_model.specs.Loans.{CanRunTogether}
 use Rattle.cm_model.specs.Order.{Places}
 use Rattle.cm_model.specs.Scene.{named}
-use Rattle.cm_model.specs.Sound.{decisions_in, DecidesRightly}
+use Rattle.cm_model.specs.Sound.{outcomes_in, DecidesRightly}
 use Rattle.cm_model.specs.State.{State, Loaded, is_active, active}
 use Rattle.cm_model.specs.Steady.{IsInOrder, IsSteady}
 use Rattle.cm_model.specs.Switches.{Decided, refused, done, strict}
@@ -239,13 +239,13 @@ all_decided s (r ∷ rs) steady =
     (with_outcome (concluded s r), decision s r steady, all_decided (with_outcome (concluded s r)) rs (outcome_steady (concluded s r) (concluded_steady s r steady)))
 
 -- Each begin decides all that waited rightly, and tells so.
-pub begin_decides : (s : State) → IsSteady s → AreDecided s (waiting s) (map (λ decision. decision.outcome) (decisions_in (begin_reply s))) (begin_effect s)
+pub begin_decides : (s : State) → IsSteady s → AreDecided s (waiting s) (outcomes_in (begin_reply s)) (begin_effect s)
 begin_decides s steady = subst (λ os. AreDecided s (waiting s) os (begin_effect s)) (sym (begin_outcomes s)) (all_decided s (waiting s) steady)
 
 -- So does each that is made.
 pub decides_rightly : (s : State) (call : Call) (made : State × Reply) → IsSteady s → IsStep s call made → DecidesRightly (moment_of s call made) call
 decides_rightly s (Begin number) made steady is =
-    subst (λ t. AreDecided s (waiting s) (map (λ decision. decision.outcome) (decisions_in made.1)) t) (sym is.next)
-    (subst (λ answer. AreDecided s (waiting s) (map (λ decision. decision.outcome) (decisions_in answer)) (begin_effect s)) (same_Some (begin_reply s) made.1 is.replied)
+    subst (λ t. AreDecided s (waiting s) (outcomes_in made.1) t) (sym is.next)
+    (subst (λ answer. AreDecided s (waiting s) (outcomes_in answer) (begin_effect s)) (same_Some (begin_reply s) made.1 is.replied)
     (begin_decides s steady))
 decides_rightly s _ made steady is = tt

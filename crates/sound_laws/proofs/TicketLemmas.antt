@@ -6,7 +6,7 @@ use Rattle.cm_model.specs.Boundary.{waiting, with_switch, component_place, move_
 use Rattle.cm_document.specs.declared.life.Life.{Life}
 use Rattle.cm_model.specs.BestEffort.{decided}
 use Rattle.cm_model.specs.Commit.{scene_of, commit}
-use Rattle.cm_model.specs.Sound.{decisions_in, outcome_of}
+use Rattle.cm_model.specs.Sound.{decisions_in, outcomes_in, outcome_of}
 use Rattle.cm_model.specs.State.{State}
 use Rattle.cm_model.specs.Switches.{Decided, refused, done}
 use Rattle.cm_model.specs.declared.cause.Cause.{Cause}
@@ -87,7 +87,7 @@ told_outcomes n [] = refl
 told_outcomes n (o ∷ os) = ap (λ (rest : List Outcome). o ∷ rest) (told_outcomes (n + 1) os)
 
 -- A begin tells what became of those that waited, in order.
-pub begin_outcomes : (s : State) → map (λ (d : Decision). d.outcome) (decisions_in (begin_reply s)) ≡ outcomes_from s (waiting s)
+pub begin_outcomes : (s : State) → outcomes_in (begin_reply s) ≡ outcomes_from s (waiting s)
 begin_outcomes s =
     ap (λ (os : List Outcome). map (λ (d : Decision). d.outcome) (decisions_from (length s.outcomes) (drop (length s.outcomes) os))) (all_add s (waiting s))
     ∙ ap (λ (os : List Outcome). map (λ (d : Decision). d.outcome) (decisions_from (length s.outcomes) os)) (drop_before s.outcomes (outcomes_from s (waiting s)))

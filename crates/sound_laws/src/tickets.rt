@@ -1,9 +1,9 @@
 //! What becomes of requests: each is decided rightly, and told once.
 
-ghost use Rattle.std.specs.Prelude.{◌≡◌, ◌++◌, ℕ, map, option_map};
+ghost use Rattle.std.specs.Prelude.{◌≡◌, ◌++◌, ℕ, option_map};
 ghost use Rattle.cm_model.specs.Boundary.{waiting, decisions_from, begin_reply, begin_effect, close_reply, close_effect, told_reply};
 ghost use Rattle.cm_model.specs.Deciding.{AreDecided};
-ghost use Rattle.cm_model.specs.Sound.{decisions_in, outcome_of};
+ghost use Rattle.cm_model.specs.Sound.{decisions_in, outcomes_in, outcome_of};
 ghost use Rattle.cm_model.specs.State.{State};
 ghost use Rattle.cm_model.specs.Steady.{IsSteady};
 ghost use Rattle.cm_model.specs.declared.reply.Reply.TheVariants as reply;
@@ -13,7 +13,7 @@ ghost use Rattle.cm_model.specs.declared.reply.Reply.TheVariants as reply;
 /// refused with a cause that is true, and a move of a component likewise; what is refused changes nothing.
 pub fn begins_decide_rightly()
     ensures { (s : State) → IsSteady s
-        → AreDecided s (waiting s) (map (λ decision. decision.outcome) (decisions_in (begin_reply s))) (begin_effect s) }
+        → AreDecided s (waiting s) (outcomes_in (begin_reply s)) (begin_effect s) }
 {}
 
 /// Where all outcomes were told by ticket, they still are after a begin with what it tells, and after the close with what that tells;
