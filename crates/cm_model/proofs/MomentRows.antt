@@ -9,17 +9,16 @@ use Rattle.cm_document.specs.declared.call.Call.TheVariants.{Begin}
 use Rattle.cm_document.specs.declared.call.SwitchRequest.{SwitchRequest}
 use Rattle.cm_document.specs.declared.life.Life.{Life}
 use Rattle.cm_document.specs.declared.life.Life.TheVariants.{Inactive, Active}
-use Rattle.cm_model.proofs.Worked.{robot, stock, runs, rests, with_running}
+use Rattle.cm_model.proofs.Worked.{runs, rests, with_running}
 use Rattle.cm_model.specs.Boundary.{life_at}
 use Rattle.cm_model.specs.CauseIsTrue.{strict_set}
 use Rattle.cm_model.specs.Commit.{scene_of}
 use Rattle.cm_model.specs.Deciding.{AreRelated, IsSwitched, is_let_go, IsLetGo, on_both, without_mail, apart_from_mail}
 use Rattle.cm_model.specs.Order.{Places}
 use Rattle.cm_model.specs.Sound.{Moment, DecidesRightly}
-use Rattle.cm_model.specs.State.{State, Loaded, boot, is_active, active}
+use Rattle.cm_model.specs.State.{State, Loaded, is_active, active}
 use Rattle.cm_model.specs.Values.{InterfaceValue}
 use Rattle.cm_model.specs.declared.cause.Cause.TheVariants as cause
-use Rattle.cm_model.specs.declared.cause.Decision.{Decision}
 use Rattle.cm_model.specs.declared.cause.Outcome.{Outcome}
 use Rattle.cm_model.specs.declared.cause.Outcome.TheVariants as outcome
 use Rattle.cm_model.specs.declared.data.RunData.{RunData}

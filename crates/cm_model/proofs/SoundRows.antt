@@ -1,7 +1,7 @@
 -- Worked rows of soundness: for each of its parts a small history that meets it, and what it refuses.
 use Rattle.std.proofs.Common.{◌≡◌, ℕ, ◌<◌, Bool, true, false, [], ◌∷◌, ◌++◌, length, Option, Some, refl, sym, ap, true≢false, arith, pos}
 use Rattle.std.specs.Prelude.{codes, ◌==◌, ◌||◌}
-use Rattle.std.specs.List.{list_any, IsDistinct}
+use Rattle.std.specs.List.{IsDistinct}
 use Rattle.fixed_num.specs.declared.value.Value.TheVariants.{Unset, Num}
 use Rattle.cm_document.specs.Places.{a_command, of_joint, of_controller}
 use Rattle.cm_document.specs.declared.call.Call.TheVariants.{Load, Unload, Hardware, Told, ListControllers, Begin, End}
@@ -12,7 +12,7 @@ use Rattle.cm_model.specs.Boundary.{all_concluded}
 use Rattle.cm_model.specs.Cycle.{cycle}
 use Rattle.cm_model.specs.Order.{rank_within}
 use Rattle.cm_model.specs.Sound.{Moment, LoansHold, EachRunsOnce, OneConfigurationEach, TicketsFrom, UnloadsLeaveNothing}
-use Rattle.cm_model.specs.State.{State, boot, is_active, controller_lines}
+use Rattle.cm_model.specs.State.{State, boot, controller_lines}
 use Rattle.cm_model.specs.declared.cause.Outcome.TheVariants as outcome
 use Rattle.cm_model.specs.declared.reply.Reply.{Reply}
 use Rattle.cm_model.specs.declared.reply.Reply.TheVariants as reply

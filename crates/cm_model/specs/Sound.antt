@@ -164,8 +164,8 @@ abbrev pub TicketsFrom : List Decision → List Moment → Type 0
 TicketsFrom so_far [] = Unit {0}
 TicketsFrom so_far (moment ∷ moments) = TicketsAreRight so_far moment × TicketsFrom (so_far ++ decisions_in moment.reply) moments
 
--- A begin decides those that waited, one after the other, with the outcomes that it tells, and so comes to the state after
--- it.
+-- A begin decides those that waited, one after the other, with the outcomes that it tells, and so comes to the state
+-- after it.
 abbrev pub DecidesRightly : Moment → Call → Type 0
 DecidesRightly moment (call.Begin _) =
     AreDecided moment.before (waiting moment.before) (outcomes_in moment.reply) moment.after
