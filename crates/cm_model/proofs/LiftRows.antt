@@ -136,6 +136,18 @@ a_named_restart : once_ready (codes "servo" ∷ codes "pass" ∷ []) (
 unfolding digits rank_within all_concluded commit spelled stepped within clamped floor_div reaches cycle after_cycle
 a_named_restart = refl
 
+-- The mail that waits for `hold` when it restarts is gone, so it gives out nothing in cycle 1.
+a_restart_empties_the_mail : once_ready (codes "hold" ∷ []) (
+    on (codes "hold" ∷ []) ∷ Begin 0 ∷ Send (codes "hold") (Values (neg_ℤ (pos 199000) ∷ pos 1090000 ∷ []))
+    ∷ strictly (codes "hold" ∷ []) (codes "hold" ∷ []) ∷ End 0 ∷ Begin 1 ∷ End 1 ∷ [])
+    ≡ codes "queued 0" ∷ codes "0 done" ∷ codes "ok" ∷ codes "queued 1"
+    ∷ (codes "run hold ok unset unset; " ++ standing)
+    ∷ codes "1 done"
+    ∷ (codes "run hold ok unset unset; " ++ standing)
+    ∷ []
+unfolding digits rank_within all_concluded commit spelled stepped within clamped floor_div reaches cycle after_cycle
+a_restart_empties_the_mail = refl
+
 -- ---- Cycles
 
 -- `plan` holds what it read at activation, 0.3 and -0.2, until cycle 1 takes its points at 5 ms: 10 ms later 0.32 and

@@ -1,5 +1,5 @@
 -- A robot for worked rows, one joint and seven controllers, and what its calls come to by the definitions alone.
-use Rattle.std.proofs.Common.{ℕ, Bool, true, false, List, [], ◌∷◌, pos}
+use Rattle.std.proofs.Common.{ℕ, Bool, false, List, [], ◌∷◌, pos}
 use Rattle.std.specs.Prelude.{codes, Some, None}
 use Rattle.iface_names.specs.declared.interface.IfaceName.{IfaceName}
 use Rattle.iface_names.specs.declared.interface.IfaceName.TheVariants.{Joint, Reference}

@@ -1,6 +1,6 @@
 -- A second robot for worked rows: a lift and a wrist of two joints each, with a number of its own at every key, ten
 -- controllers of which most have two claims, a chain of three, and what its calls come to by the definitions alone.
-use Rattle.std.proofs.Common.{ℕ, true, false, List, [], ◌∷◌, pos, Some, None}
+use Rattle.std.proofs.Common.{ℕ, true, false, List, [], ◌∷◌, pos}
 use Rattle.std.specs.Prelude.{codes, map, neg_ℤ}
 use Rattle.fixed_num.specs.declared.value.BodyState.{BodyState}
 use Rattle.iface_names.specs.declared.interface.IfaceName.{IfaceName}
