@@ -27,7 +27,7 @@ use Rattle.cm_desk.specs.End.{CanLand}
 abbrev moment : State → Call → Reply → State → Moment
 moment s call r next = record { before = s; call = call; reply = r; after = next }
 
-moments_cons : (s mid : State) (e : Entry) (es : List Entry) → step s e.who e.call ≡ Some (mid, e.reply) → moments s (e ∷ es) ≡ moment s e.call e.reply mid ∷ moments mid es
+pub moments_cons : (s mid : State) (e : Entry) (es : List Entry) → step s e.who e.call ≡ Some (mid, e.reply) → moments s (e ∷ es) ≡ moment s e.call e.reply mid ∷ moments mid es
 moments_cons s mid e es stepped =
     ap (λ (o : Option (State × Reply)). elim o [ None ↦ [] | Some reached ↦ record { before = s; call = e.call; reply = e.reply; after = reached.0 } ∷ moments reached.0 es ]) stepped
 
@@ -39,7 +39,7 @@ moments_none : (s : State) (e : Entry) (es : List Entry) → step s e.who e.call
 moments_none s e es stepped =
     ap (λ (o : Option (State × Reply)). elim o [ None ↦ [] | Some reached ↦ record { before = s; call = e.call; reply = e.reply; after = reached.0 } ∷ moments reached.0 es ]) stepped
 
-after_cons : (s mid : State) (e : Entry) (es : List Entry) → step s e.who e.call ≡ Some (mid, e.reply) → state_after s (e ∷ es) ≡ state_after mid es
+pub after_cons : (s mid : State) (e : Entry) (es : List Entry) → step s e.who e.call ≡ Some (mid, e.reply) → state_after s (e ∷ es) ≡ state_after mid es
 after_cons s mid e es stepped = ap (λ (o : Option (State × Reply)). elim o [ None ↦ s | Some made ↦ state_after made.0 es ]) stepped
 
 -- ---- One entry more

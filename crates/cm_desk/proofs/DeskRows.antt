@@ -1,5 +1,5 @@
 -- Worked rows of what a desk is seen as, computed from the definitions alone: what is written down here is by hand.
-use Rattle.std.proofs.Common.{◌≡◌, ℕ, true, false, List, [], ◌∷◌, Some, None, refl}
+use Rattle.std.proofs.Common.{◌≡◌, ℕ, true, false, List, [], ◌∷◌, length, Some, None, refl, ap}
 use Rattle.std.specs.Prelude.{codes}
 use Rattle.cm_document.specs.Described.{a_controller, a_description}
 use Rattle.cm_document.specs.declared.call.Call.{Call}
@@ -14,7 +14,7 @@ use Rattle.cm_model.specs.declared.entry.Entry.{Entry}
 use Rattle.cm_model.specs.declared.reply.Reply.{Reply}
 use Rattle.cm_model.specs.declared.reply.Reply.TheVariants as reply
 use Rattle.cm_model.specs.declared.reply.Why.TheVariants as why
-use Rattle.cm_desk.specs.Desk.{now_of, owed, hands_out, seen}
+use Rattle.cm_desk.specs.Desk.{GoesOnWithoutLoop, now_of, owed, hands_out, seen}
 
 -- ---- A day with one mock
 
@@ -82,3 +82,10 @@ who_waits = (refl, refl, refl, refl)
 seen_so : seen stock (after loaded) loaded ≡ record { opening = opening; made = loaded }
 unfolding step
 seen_so = refl
+
+-- A session that loads leaves the loop as it was, and the loop's close does not.
+goes_on_without_loop : GoesOnWithoutLoop (record { opening = opening; made = loaded }) (record { opening = opening; made = unloaded })
+goes_on_without_loop = record { opening = refl; begins = (by 0 (Unload (codes "mk")) reply.Done ∷ [], refl); own = refl }
+
+not_without_loop : GoesOnWithoutLoop (record { opening = opening; made = unloaded }) (record { opening = opening; made = loaded_again }) → ⊥
+not_without_loop goes_on = let wrong : 1 ≡ 0 = ap length goes_on.own in cc

@@ -16,6 +16,7 @@ pub mod EndLemmas
 pub mod LandLemmas
 pub mod BegunLemmas
 pub mod RecordLemmas
+pub mod LoopLemmas
 mod DeskRows
 pub mod ChangeLemmas
 pub mod OrderLemmas
@@ -24,3 +25,4 @@ pub mod TimeLemmas
 pub mod SendLemmas
 pub mod AfterLemmas
 pub mod ActingLemmas
+pub mod Crossing

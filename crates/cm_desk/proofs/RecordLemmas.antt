@@ -30,7 +30,7 @@ use Rattle.cm_model.proofs.UpdateLemmas.{updates_keep}
 use Rattle.sound_laws.proofs.HistoryLemmas.{legal_sound, step_steady}
 use Rattle.sound_laws.proofs.SerialLemmas.{renumbered_numbered, effect_renumbered}
 use Rattle.cm_hardware.specs.Wiring.{one_if}
-use Rattle.cm_desk.specs.Desk.{owed, seen, Keeps, Grows, CanBeCalled}
+use Rattle.cm_desk.specs.Desk.{owed, seen, AreFew, LeavesFew, Keeps, Grows, CanBeCalled}
 use Rattle.cm_desk.proofs.BeginLemmas.{boundary_stays, loop_itself}
 use Rattle.cm_desk.proofs.StayLemmas.{begun_stays, count_stays}
 
@@ -49,8 +49,8 @@ pub record Recorded (at_boot : Blanks) (s next : State) (made after : List Entry
 
 pub recorded : (at_boot : Blanks) (s next : State) (made after : List Entry) (who : ℕ) (call : Call) (r : Reply) (entries boxes later places : ℕ)
     → Keeps (boot s.description at_boot s.sessions) made s entries boxes → step s who call ≡ Some (next, r) → after ≡ with_entry made who call r
-    → length after + owed next ≤ later → length next.loaded ≤ places → Recorded at_boot s next made after who call r later places
-recorded at_boot s next made after who call r entries boxes later places kept stepped grown room loaded =
+    → AreFew after next → length after + owed next ≤ later → length next.loaded ≤ places → Recorded at_boot s next made after who call r later places
+recorded at_boot s next made after who call r entries boxes later places kept stepped grown few room loaded =
     let opening = boot s.description at_boot s.sessions in
     let before : Leads opening made s = record { legal = kept.legal; ends = kept.ends } in
     let leads : Leads opening (with_entry made who call r) next = Leads-step made opening s who call next r before stepped in
@@ -64,6 +64,7 @@ recorded at_boot s next made after who call r entries boxes later places kept st
         ends = rw grown leads.ends;
         steady = step_steady s who call (next, r) kept.valid kept.steady stepped;
         numbered = step_numbered s who call (next, r) kept.numbered stepped;
+        few = few;
         room = room;
         places = loaded;
       });
@@ -77,13 +78,22 @@ one_if-few true = omega arith
 one_if-few false = omega arith
 
 -- no more is owed than the end and the close
-pub owed-few : (s : State) → owed s ≤ 2
-owed-few s = omega (arith, one_if-few s.aloft, one_if-few (not s.closed))
+pub owed_few : (s : State) → owed s ≤ 2
+owed_few s = omega (arith, one_if-few s.aloft, one_if-few (not s.closed))
 
 -- what is reserved before a call is room for its entry, and for what is owed after it
-pub room_after : (s : State) (made after : List Entry) (who : ℕ) (call : Call) (r : Reply) (entries : ℕ) → length made + 3 ≤ entries → after ≡ with_entry made who call r
+pub room_after : (s : State) (made after : List Entry) (who : ℕ) (call : Call) (r : Reply) (entries : ℕ) → length made + 1 + owed s ≤ entries → after ≡ with_entry made who call r
     → length after + owed s ≤ entries
-room_after s made after who call r entries room grown = rw grown (omega (arith, room, owed-few s, length_push made (record { who = who; call = call; reply = r })))
+room_after s made after who call r entries room grown = rw grown (omega (arith, room, length_push made (record { who = who; call = call; reply = r })))
+
+-- where a call looked whether they would be too many, they are few enough after it
+pub few_after : (s : State) (made after : List Entry) (who : ℕ) (call : Call) (r : Reply) → LeavesFew made → after ≡ with_entry made who call r → AreFew after s
+few_after s made after who call r few grown = rw grown (omega (arith, few s, length_push made (record { who = who; call = call; reply = r })))
+
+-- an entry that was owed leaves as many
+pub few_owed : (s next : State) (made after : List Entry) (who : ℕ) (call : Call) (r : Reply) → AreFew made s → owed next + 1 ≡ owed s → after ≡ with_entry made who call r
+    → AreFew after next
+few_owed s next made after who call r few less grown = rw grown (omega (arith, few, less, length_push made (record { who = who; call = call; reply = r })))
 
 -- an entry that was owed takes the room that was kept for it
 pub room_owed : (s next : State) (made after : List Entry) (who : ℕ) (call : Call) (r : Reply) (entries : ℕ) → length made + owed s ≤ entries → owed next + 1 ≡ owed s

@@ -1,13 +1,17 @@
 -- What contracts see of the desk, and what its type keeps.
-use Rattle.std.specs.Prelude.{◌≡◌, ℕ, ◌+◌, ◌≤◌, Bool, true, false, not, List, [], ◌∷◌, length, Option, Some, None, is_some, IfSome, IsSomeAnd}
+use Rattle.std.specs.Prelude.{◌≡◌, ℕ, ◌+◌, ◌<◌, ◌≤◌, Bool, true, false, not, List, [], ◌∷◌, length, Option, Some, None, is_some, IfSome, IsSomeAnd}
+use mathlib.Core.List.{IsPrefix}
+use Rattle.cm_desk.specs.declared.TheConstants.{TOO_MANY_ENTRIES}
 use Rattle.cm_document.specs.Valid.{IsValid}
 use Rattle.cm_document.specs.declared.call.Call.{Call}
 use Rattle.cm_document.specs.declared.call.Call.TheVariants.{Unload, ListControllers, ListInterfaces, ListComponents}
 use Rattle.cm_model.specs.Console.{moves_out}
+use Rattle.cm_model.specs.Histories.{ends_in, decided_in, SameLoop}
 use Rattle.cm_model.specs.Machine.{LegalFrom, state_after, reply_of, effect, step}
 pub use Rattle.cm_model.specs.Ports.{CanBeCalled}
 use Rattle.cm_model.specs.Scheduled.{with_entry}
 use Rattle.cm_model.specs.Serials.{IsNumbered}
+use Rattle.cm_model.specs.Sessions.{entries_by}
 use Rattle.cm_model.specs.Sound.{Moment, moments, aloft_after, AreSound}
 use Rattle.cm_model.specs.State.{State, boot}
 use Rattle.cm_model.specs.Steady.{IsSteady}
@@ -75,6 +79,20 @@ pub record IsAloftAlike (old new : History) : Type 0 where
   pub begun : begun_of new ≡ begun_of old
   pub aloft : (now_of new).aloft ≡ (now_of old).aloft
 
+-- ---- Other callers
+
+-- The history went on from the other without the loop: it begins with it, and has no more entries of the loop.
+pub record GoesOnWithoutLoop (old new : History) : Type 0 where
+  pub opening : new.opening ≡ old.opening
+  pub begins : IsPrefix old.made new.made
+  pub own : entries_by old.opening.sessions new.made ≡ entries_by old.opening.sessions old.made
+
+-- From one history to the other the loop stands as it stood: the same cycle is aloft, if one is, as many have ended, and the loop is
+-- open or closed as it was.
+pub record StandsAlike (old new : History) : Type 0 where
+  pub alike : IsAloftAlike old new
+  pub loop : SameLoop (now_of old) (now_of new)
+
 -- ---- Calls
 
 -- it asks for a list
@@ -109,8 +127,31 @@ pub record IsAnswerTo (old : State) (call : Call) (new : State) (reply : Reply) 
 abbrev pub owed : State → ℕ
 owed s = one_if s.aloft + one_if (not s.closed)
 
--- The description is valid; the history is legal and sound, and leads to this state, which is steady and whose serials differ; there is
--- room for the entries that are owed, and for the boxes that are loaded.
+-- The entries that were made, with those that are owed in this state, are fewer than are too many.
+abbrev pub AreFew : List Entry → State → Type 0
+AreFew made now = length made + owed now < TOO_MANY_ENTRIES
+
+-- With one entry more, and whatever is owed then, they are few enough still,
+abbrev pub LeavesFew : List Entry → Type 0
+LeavesFew made = (next : State) → length made + 1 + owed next < TOO_MANY_ENTRIES
+
+-- and there is room for them.
+abbrev pub HasRoomFor : List Entry → ℕ → Type 0
+HasRoomFor made entries = (next : State) → length made + 1 + owed next ≤ entries
+
+-- What every desk keeps of its history. It began at the boot of a valid description, is legal and sound, and has few enough entries; and
+-- how many cycles have ended and how many requests are decided can be counted in it.
+pub record IsRight (h : History) : Type 0 where
+  pub valid : IsValid h.opening.description
+  pub opening : h.opening ≡ boot h.opening.description h.opening.blanks h.opening.sessions
+  pub legal : LegalFrom h.opening h.made
+  pub sound : AreSound (moments h.opening h.made)
+  pub ended : (now_of h).ended ≡ ends_in h.made
+  pub decided : length (now_of h).outcomes ≡ decided_in h.made
+  pub few : AreFew h.made (now_of h)
+
+-- The description is valid; the history is legal and sound, and leads to this state, which is steady and whose serials differ; its
+-- entries are few enough; there is room for the entries that are owed, and for the boxes that are loaded.
 pub record Keeps (opening : State) (made : List Entry) (now : State) (entries boxes : ℕ) : Type 0 where
   pub valid : IsValid opening.description
   pub legal : LegalFrom opening made
@@ -118,6 +159,7 @@ pub record Keeps (opening : State) (made : List Entry) (now : State) (entries bo
   pub ends : state_after opening made ≡ now
   pub steady : IsSteady now
   pub numbered : IsNumbered now
+  pub few : AreFew made now
   pub room : length made + owed now ≤ entries
   pub places : length now.loaded ≤ boxes
 

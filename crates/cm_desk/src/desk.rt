@@ -1,14 +1,15 @@
 //! The desk: the manager at work, with the history of all that it did.
 
-ghost use Rattle.std.specs.Prelude.{◌≡◌, ◌<◌, ◌≤◌, ◌+◌, true, [], map, length, vec_capacity, option_map, IfOk, OnOk, OnErr, MatchOption};
+ghost use Rattle.std.specs.Prelude.{◌≡◌, ◌<◌, ◌≤◌, ◌+◌, true, [], map, length, vec_capacity, option_map, IfOk, OnOk, MatchOption, MatchResult};
 ghost use Rattle.cm_document.specs.declared.call.Call.TheVariants as call;
 ghost use Rattle.cm_model.specs.Boundary.{begin_reply, close_reply};
 ghost use Rattle.cm_model.specs.Cycle.{cycle};
 ghost use Rattle.cm_model.specs.Machine.{can_begin, can_close};
 ghost use Rattle.cm_model.specs.State.{boot};
 ghost use Rattle.cm_desk.specs.Calls.Answers.{MayCall, IsHandedOver};
-ghost use Rattle.cm_desk.specs.Desk.{now_of, Grows, Waits, GrowsWhere, hands_out, IsOut, MayLand};
+ghost use Rattle.cm_desk.specs.Desk.{now_of, AreFew, HasRoomFor, LeavesFew, Grows, IsRight, Waits, GrowsWhere, hands_out, IsOut, MayLand};
 
+use crate::TOO_MANY_ENTRIES;
 use crate::book::Book;
 use crate::works::Works;
 use cm_model::{Blanks, Boxed, Call, Checked, Entry, KeptCall, Memory, Outcome, Reply};
@@ -67,7 +68,8 @@ impl<C: Controller> Desk<C> {
         })
     }
 
-    /// Answers a call of a session, with the box that an unload hands out. Want of memory changes nothing.
+    /// Answers a call of a session, with the box that an unload hands out. Want of memory changes nothing; a history that would have too
+    /// many entries (`TOO_MANY_ENTRIES`) wants memory too.
     pub fn call(
         &mut self,
         alloc: Global,
@@ -78,14 +80,13 @@ impl<C: Controller> Desk<C> {
         ensures made { IfOk result (λ answer. Grows self.old self.new who call answer.0) }
         ensures given { IfOk result
             (λ answer. option_map C.meaning answer.1 ≡ hands_out (now_of self.old) call answer.0) }
-        ensures kept { OnErr result (self.new ≡ self.old) }
+        ensures kept { MatchResult result (λ _. AreFew self.new.made (now_of self.new)) (λ _. self.new ≡ self.old) }
     {
         let places = self.works.slots().len() + 1;
         let Ok(kept) = ready(
             alloc,
             &call,
             &mut self.history,
-            ENTRIES_AHEAD,
             &mut self.boxes,
             places,
         ) else {
@@ -102,19 +103,19 @@ impl<C: Controller> Desk<C> {
     }
 
     /// What became of the request of a ticket, asked by a session. Where it is not decided, None, and nothing changes. Want of memory
-    /// changes nothing either.
+    /// changes nothing either; a history that would have too many entries wants memory too.
     pub fn told(&mut self, alloc: Global, who: u32, ticket: u32) -> Result<Option<Outcome>, Memory>
         requires session { who < self.old.opening.sessions }
         ensures made { IfOk result
             (λ outcome. MatchOption outcome
             (Waits self.old self.new who (call.Told ticket))
             (λ o. Grows self.old self.new who (call.Told ticket) (Reply.Outcome o))) }
-        ensures kept { OnErr result (self.new ≡ self.old) }
+        ensures kept { MatchResult result (λ _. AreFew self.new.made (now_of self.new)) (λ _. self.new ≡ self.old) }
     {
         let Some(outcome) = self.works.told(ticket) else {
             return Ok(None);
         };
-        self.history.reserve(ENTRIES_AHEAD)?;
+        make_room(&mut self.history)?;
         let told = copy_of(outcome)?;
         let entry = told_entry(alloc, who, ticket, outcome)?;
         self.history.push_reserved(entry);
@@ -122,18 +123,18 @@ impl<C: Controller> Desk<C> {
     }
 
     /// Whether so many cycles have ended or the loop is closed, asked by a session, which goes on where it is so. Where not, nothing
-    /// changes. Want of memory changes nothing either.
+    /// changes. Want of memory changes nothing either; a history that would have too many entries wants memory too.
     pub fn reached(&mut self, alloc: Global, who: u32, cycles: u64) -> Result<bool, Memory>
         requires session { who < self.old.opening.sessions }
         ensures made { IfOk result
             (λ reached. GrowsWhere reached self.old self.new who (call.Await cycles) Reply.Done) }
-        ensures kept { OnErr result (self.new ≡ self.old) }
+        ensures kept { MatchResult result (λ _. AreFew self.new.made (now_of self.new)) (λ _. self.new ≡ self.old) }
     {
         if !self.works.is_reached(cycles) {
             return Ok(false);
         }
         let kept = KeptCall::of(alloc, Call::Await(cycles))?;
-        self.history.reserve(ENTRIES_AHEAD)?;
+        make_room(&mut self.history)?;
         self.history.push_reserved(Entry {
             who,
             call: kept,
@@ -143,17 +144,18 @@ impl<C: Controller> Desk<C> {
     }
 
     /// The loop begins the next cycle: the requests that wait are decided, all memory is taken that the cycle needs, and its flight is handed
-    /// out, which is computed wherever it is moved to. Want of memory changes nothing. A flight that is dropped leaves the desk aloft for
-    /// good: console calls go on, and no cycle begins and the loop does not close any more.
+    /// out, which is computed wherever it is moved to. Want of memory changes nothing; a history that would have too many entries, its end
+    /// and the close included, wants memory too. A flight that is dropped leaves the desk aloft for good: console calls go on, and no cycle
+    /// begins and the loop does not close any more.
     pub fn begin(&mut self, alloc: Global) -> Result<Flight<C>, Memory>
         requires can { can_begin (now_of self.old) (now_of self.old).ended ≡ true }
         ensures made { OnOk result
             (Grows self.old self.new self.old.opening.sessions (call.Begin (now_of self.old).ended)
             (begin_reply (now_of self.old))) }
         ensures flight { IfOk result (IsOut self.new) }
-        ensures kept { OnErr result (self.new ≡ self.old) }
+        ensures kept { MatchResult result (λ _. AreFew self.new.made (now_of self.new)) (λ _. self.new ≡ self.old) }
     {
-        self.history.reserve(ENTRIES_AHEAD)?;
+        make_room(&mut self.history)?;
         let who = self.works.sessions();
         let cycle = self.works.ended();
         let (flight, decisions) = self.works.begin(alloc)?;
@@ -245,6 +247,13 @@ impl<C: Controller> Desk<C> {
         self.history.as_slice()
     }
 
+    /// What every desk keeps of its history, for a caller's proof: it does nothing.
+    pub fn is_right(&self)
+        ensures { IsRight self.now }
+    {
+        let _ = &self.works;
+    }
+
     /// The book: the history, which is legal and sound, and the boxes of the loaded controllers, by serial, each with the data that the history
     /// gives it. It takes no memory.
     pub fn finish(self) -> Book<C>
@@ -264,23 +273,37 @@ impl<C: Controller> Desk<C> {
     }
 }
 
-/// A call as it is kept, and room for so many more entries and so many more boxes.
+/// Room for the entries of one call: its own, the end of a cycle that is aloft, and the close. Where they would be too many there is none.
+#[tactic(auto, using(crate::proofs::RecordLemmas::owed_few))]
+fn make_room(history: &mut Vec<Entry>) -> Result<(), Memory>
+    ensures room { OnOk result (HasRoomFor history.old.items (vec_capacity history.new)) }
+    ensures few { OnOk result (LeavesFew history.old.items) }
+    ensures history { (history.new.items ≡ history.old.items)
+        × (vec_capacity history.old ≤ vec_capacity history.new) }
+{
+    if history.len() >= TOO_MANY_ENTRIES - ENTRIES_AHEAD {
+        return Err(Memory);
+    }
+    history.reserve(ENTRIES_AHEAD)?;
+    Ok(())
+}
+
+/// A call as it is kept, room for its entries, and for so many more boxes.
 fn ready<C: Controller>(
     alloc: Global,
     call: &Call,
     history: &mut Vec<Entry>,
-    entries: usize,
     boxes: &mut Vec<C>,
     places: usize,
 ) -> Result<KeptCall, Memory>
     ensures kept { IfOk result (λ kept. kept ≡ call.now) }
-    ensures room { OnOk result ((length history.old.items + entries ≤ vec_capacity history.new)
-        × (length boxes.old.items + places ≤ vec_capacity boxes.new)) }
+    ensures room { OnOk result (HasRoomFor history.old.items (vec_capacity history.new)
+        × LeavesFew history.old.items × (length boxes.old.items + places ≤ vec_capacity boxes.new)) }
     ensures history { (history.new.items ≡ history.old.items)
         × (vec_capacity history.old ≤ vec_capacity history.new) }
     ensures boxes { (boxes.new.items ≡ boxes.old.items) × (vec_capacity boxes.old ≤ vec_capacity boxes.new) }
 {
-    history.reserve(entries)?;
+    make_room(history)?;
     boxes.reserve(places)?;
     Ok(KeptCall::copy_of(alloc, call)?)
 }

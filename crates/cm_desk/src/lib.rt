@@ -29,3 +29,6 @@ mod roster;
 mod start;
 mod supplies;
 mod works;
+
+/// The entries of a book are fewer than this.
+pub const TOO_MANY_ENTRIES: usize = 1 << 32;

@@ -3,10 +3,10 @@ use Rattle.cm_document.specs.declared.call.Call.TheVariants.{Begin}
 use Rattle.cm_model.specs.Boundary.{begin_reply}
 use Rattle.cm_model.specs.Machine.{step}
 use Rattle.cm_model.specs.Scheduled.{with_entry}
-use Rattle.cm_desk.specs.Desk.{seen}
+use Rattle.cm_desk.specs.Desk.{owed, seen}
 use Rattle.cm_desk.proofs.BeginLemmas.{begin_step}
 use Rattle.cm_desk.proofs.BegunLemmas.{begun_begins, is_out}
-use Rattle.cm_desk.proofs.RecordLemmas.{Recorded, recorded, room_after, begin-few}
+use Rattle.cm_desk.proofs.RecordLemmas.{Recorded, recorded, few_after, room_after, begin-few}
 use Rattle.cm_desk.proofs.desk.Desk.begin.Given.{Over}
 use Rattle.cm_desk.proofs.desk.Desk.begin.Goals as goal
 
@@ -21,10 +21,11 @@ entry g c =
     let begun = c.in_ok-flight.ensures.begun.begun in
     let reply = begin_reply a.works in
     let grown : c.push_reserved.new.self.items ≡ with_entry a.history.items who call reply =
-    rw (c.push_reserved.ensures.items, c.reserve.ensures.items, c.sessions-who.ensures, c.begin-2.ensures, c.ended-cycle.ensures, c.in_ok-flight.ensures.begun.told) refl in
+    rw (c.push_reserved.ensures.items, c.make_room.ensures.history.0, c.sessions-who.ensures, c.begin-2.ensures, c.ended-cycle.ensures, c.in_ok-flight.ensures.begun.told) refl in
     let stepped : step a.works who call ≡ Some (c.begin.new.self, reply) = rw begun (begin_step a.works a.works.ended (rw (← c.self.view_is, c.self.invariant.0.ends) at c.requires.can)) in
-    let room : length a.history.items + 3 ≤ vec_capacity c.push_reserved.new.self = omega (arith, c.push_reserved.ensures.capacity, c.in_ok-reserve.ensures.ok) in
+    let room : length a.history.items + 1 + owed c.begin.new.self ≤ vec_capacity c.push_reserved.new.self = omega (arith, c.push_reserved.ensures.capacity, c.in_ok-make_room.ensures.room c.begin.new.self) in
     recorded _ _ _ _ _ _ _ _ _ _ _ _ c.self.invariant.0 stepped grown
+    (few_after c.begin.new.self a.history.items _ who call reply c.in_ok-make_room.ensures.few grown)
     (room_after c.begin.new.self a.history.items _ who call reply _ room grown) (rw (begun, begin-few a.works) c.self.invariant.0.places)
 
 pub begin-requires : goal.begin-requires
@@ -49,3 +50,6 @@ returns-clause-flight g c =
     is_out _ c.begin.new.self c.in_ok-flight.flight
     (begun_begins before _ a.works.sessions a.works.ended (begin_reply a.works) c.self.invariant.0.legal grows ∙ ap Some (entry g c).keeps.ends)
     c.in_ok-flight.ensures.begun.aloft
+
+pub returns-clause-kept : goal.returns-clause-kept
+returns-clause-kept g c = rw (entry g c).keeps.ends (entry g c).keeps.few

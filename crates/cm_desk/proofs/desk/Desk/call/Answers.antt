@@ -1,6 +1,7 @@
 use Rattle.std.proofs.Common.{◌≡◌, ◌+◌, ◌≤◌, length, vec_capacity, refl, ap, ◌∙◌, arith}
 use Rattle.cm_model.specs.Scheduled.{with_entry}
-use Rattle.cm_desk.proofs.RecordLemmas.{Recorded, recorded, room_after, effect-few, called_step}
+use Rattle.cm_desk.specs.Desk.{owed}
+use Rattle.cm_desk.proofs.RecordLemmas.{Recorded, recorded, few_after, room_after, effect-few, called_step}
 use Rattle.cm_desk.proofs.desk.Desk.call.Given.{Over}
 use Rattle.cm_desk.proofs.desk.Desk.call.Goals as goal
 
@@ -15,10 +16,11 @@ entry g c =
     let grown : c.push_reserved.new.self.items ≡ with_entry a.history.items c.args.who c.args.call answer.reply =
     rw (c.push_reserved.ensures.items, c.ready.ensures.history.0, c.in-Ok.ensures.kept, c.in_ok-answer.ensures.twice) refl in
     let stepped = called_step a.works c.answer.new.self c.args.who c.args.call answer.reply (rw (← c.self.view_is) at c.requires.session) c.requires.called made.replied made.next in
-    let room : length a.history.items + 3 ≤ vec_capacity c.push_reserved.new.self = omega (arith, c.push_reserved.ensures.capacity, c.in-Ok.ensures.room.0) in
+    let room : length a.history.items + 1 + owed c.answer.new.self ≤ vec_capacity c.push_reserved.new.self = omega (arith, c.push_reserved.ensures.capacity, c.in-Ok.ensures.room.0 c.answer.new.self) in
     let few : length c.answer.new.self.loaded ≤ length a.works.loaded + 1 = rw made.next (effect-few a.works c.args.call answer.reply c.requires.called) in
-    let places : length a.works.loaded + 1 ≤ vec_capacity c.ready.new.boxes = omega (arith, c.in-Ok.ensures.room.1, ap length c.slots.ensures, ap length c.self.invariant.1) in
+    let places : length a.works.loaded + 1 ≤ vec_capacity c.ready.new.boxes = omega (arith, c.in-Ok.ensures.room.2, ap length c.slots.ensures, ap length c.self.invariant.1) in
     recorded _ _ _ _ _ _ _ _ _ _ _ _ c.self.invariant.0 stepped grown
+    (few_after c.answer.new.self a.history.items _ c.args.who c.args.call answer.reply c.in-Ok.ensures.room.1 grown)
     (room_after c.answer.new.self a.history.items _ c.args.who c.args.call answer.reply _ room grown) (omega (arith, few, places))
 
 pub invariant_of-self-2 : goal.invariant_of-self-2
@@ -30,3 +32,6 @@ returns-clause-made g c = rw (← c.self.view_is) (entry g c).grows
 -- the box that it hands out is that of its step
 pub returns-clause-given : goal.returns-clause-given
 returns-clause-given g c = rw (← c.self.view_is, c.self.invariant.0.ends) c.in_ok-answer.ensures.made.handed
+
+pub returns-clause-kept : goal.returns-clause-kept
+returns-clause-kept g c = rw (entry g c).keeps.ends (entry g c).keeps.few

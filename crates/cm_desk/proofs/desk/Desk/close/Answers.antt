@@ -4,7 +4,7 @@ use Rattle.cm_model.specs.Boundary.{close_reply}
 use Rattle.cm_model.specs.Machine.{can_close, step}
 use Rattle.cm_model.specs.Scheduled.{with_entry}
 use Rattle.cm_desk.specs.Desk.{owed}
-use Rattle.cm_desk.proofs.RecordLemmas.{Recorded, recorded, room_owed, owed-close, open_where, close_step}
+use Rattle.cm_desk.proofs.RecordLemmas.{Recorded, recorded, few_owed, room_owed, owed-close, open_where, close_step}
 use Rattle.cm_desk.proofs.desk.Desk.close.Given.{Over}
 use Rattle.cm_desk.proofs.desk.Desk.close.Goals as goal
 
@@ -22,8 +22,10 @@ entry g c =
     rw (c.push_reserved.ensures.items, c.sessions-who.ensures, c.close.ensures, c.close-decisions.ensures.told) refl in
     let stepped : step s who Close ≡ Some (c.close-decisions.new.self, reply) = rw c.close-decisions.ensures.closed (close_step s can) in
     let room : length a.history.items + owed s ≤ vec_capacity c.push_reserved.new.self = omega (arith, c.push_reserved.ensures.capacity, c.self.invariant.0.room) in
+    let less : owed c.close-decisions.new.self + 1 ≡ owed s = rw c.close-decisions.ensures.closed (owed-close s (open_where s can)) in
     recorded _ _ _ _ _ _ _ _ _ _ _ _ c.self.invariant.0 stepped grown
-    (room_owed s c.close-decisions.new.self a.history.items _ who Close reply _ room (rw c.close-decisions.ensures.closed (owed-close s (open_where s can))) grown) (rw c.close-decisions.ensures.closed c.self.invariant.0.places)
+    (few_owed s c.close-decisions.new.self a.history.items _ who Close reply c.self.invariant.0.few less grown)
+    (room_owed s c.close-decisions.new.self a.history.items _ who Close reply _ room less grown) (rw c.close-decisions.ensures.closed c.self.invariant.0.places)
 
 pub invariant_of-self : goal.invariant_of-self
 invariant_of-self g c = ((entry g c).keeps, c.self.invariant.1)

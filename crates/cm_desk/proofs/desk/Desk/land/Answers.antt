@@ -9,7 +9,7 @@ use Rattle.sound_laws.proofs.BetweenLemmas.{HasBegun}
 use Rattle.cm_desk.specs.Desk.{begun_of, owed, seen}
 use Rattle.cm_desk.specs.End.{CanLand}
 use Rattle.cm_desk.proofs.BegunLemmas.{has_begun, can_land}
-use Rattle.cm_desk.proofs.RecordLemmas.{Recorded, recorded, room_owed, owed-end, end-few, end_step}
+use Rattle.cm_desk.proofs.RecordLemmas.{Recorded, recorded, few_owed, room_owed, owed-end, end-few, end_step}
 use Rattle.cm_desk.proofs.desk.Desk.land.Given.{Over}
 use Rattle.cm_desk.proofs.desk.Desk.land.Goals as goal
 
@@ -53,8 +53,10 @@ entry g c =
     rw (c.push_reserved.ensures.items, c.sessions-who.ensures, c.end.ensures, c.ended-cycle.ensures, c.land-record.ensures.told) refl in
     let stepped : step s who call ≡ Some (c.land-record.new.self, reply) = rw after (end_step s aloft) in
     let room : length a.history.items + owed s ≤ vec_capacity c.push_reserved.new.self = omega (arith, c.push_reserved.ensures.capacity, c.self.invariant.0.room) in
+    let less : owed c.land-record.new.self + 1 ≡ owed s = rw after (owed-end s (cycle s) aloft) in
     recorded _ _ _ _ _ _ _ _ _ _ _ _ c.self.invariant.0 stepped grown
-    (room_owed s c.land-record.new.self a.history.items _ who call reply _ room (rw after (owed-end s (cycle s) aloft)) grown) (rw (after, end-few s) c.self.invariant.0.places)
+    (few_owed s c.land-record.new.self a.history.items _ who call reply c.self.invariant.0.few less grown)
+    (room_owed s c.land-record.new.self a.history.items _ who call reply _ room less grown) (rw (after, end-few s) c.self.invariant.0.places)
 
 pub invariant_of-self : goal.invariant_of-self
 invariant_of-self g c = ((entry g c).keeps, c.self.invariant.1)
