@@ -195,7 +195,7 @@ class Reading:
             name = self.names.make(f"{it.name}_{joint}")
             pid = Controller(it.place, it.given, name, "pid", it.rate, [claim], [read])
             pid.numbers = tuning(f"joint {quoted(joint)} of {quoted(it.given)}", used.gains(joint), self.listing)
-            pid.exports = [f"{name}/{joint}/position"]
+            pid.exports = [f"{it.given}//{joint}/position"]  # a path that no YAML has
             pids.append(pid)
         it.claims = [Named(pid.exports[0], claim.joint_place, claim.kind_place) for pid, claim in zip(pids, it.claims)]
         self.check_gains(it, used, [read.joint() for read in it.reads])

@@ -27,8 +27,9 @@ def go_on_with_packages():
 
 def advice(lacking):
     """Returns what to do, as lines: which packages lack, what installs them, and what runs the script then."""
+    is_other = os.path.realpath(sys.executable) != os.path.realpath(DEBIAN)
     return [
-        f"{sys.executable} lacks {' and '.join(lacking)}, and so does {DEBIAN}",
+        f"{sys.executable} lacks {' and '.join(lacking)}{f', and {DEBIAN} does not have both' if is_other else ''}",
         f"    {COMMAND}",
         f"installs them for {DEBIAN}; the script finds that one by itself, or run {DEBIAN} {sys.argv[0]} ..",
     ]
