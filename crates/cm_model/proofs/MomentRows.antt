@@ -9,7 +9,7 @@ use Rattle.cm_document.specs.declared.call.Call.TheVariants.{Begin}
 use Rattle.cm_document.specs.declared.call.SwitchRequest.{SwitchRequest}
 use Rattle.cm_document.specs.declared.life.Life.{Life}
 use Rattle.cm_document.specs.declared.life.Life.TheVariants.{Inactive, Active}
-use Rattle.cm_model.proofs.Worked.{runs, rests, with_running}
+use Rattle.cm_model.proofs.Worked.{j1_position, runs, rests, with_running}
 use Rattle.cm_model.specs.Boundary.{life_at}
 use Rattle.cm_model.specs.CauseIsTrue.{strict_set}
 use Rattle.cm_model.specs.Commit.{scene_of}
@@ -204,6 +204,27 @@ refused_so = record (told (rests 0 0 ∷ []) forward_on (outcome.Refused (codes 
 
 untrue_cause : IsRight (begin_of (asked (rests 0 0 ∷ []) forward_on) (outcome.Refused (codes "fwd") cause.NoSuchMove) refused_so) → ⊥
 untrue_cause (next, step, last) = step.rightly.1
+
+-- ---- A switch of best effort
+
+-- two run that claim one interface
+abbrev rival_at_best : Request
+rival_at_best = request.Switch (record { on = codes "traj2" ∷ []; off = []; strict = false })
+
+abbrev rivals_run : State
+rivals_run = record (told (runs 0 0 false ∷ runs 1 3 false ∷ []) rival_at_best (outcome.Done [])) { aloft = true }
+
+two_owners : IsRight (begin_of (asked (runs 0 0 false ∷ rests 1 3 ∷ []) rival_at_best) (outcome.Done []) rivals_run) → ⊥
+two_owners (next, step, last) =
+    let same : ◌≡◌ {A = ℕ} 0 3 =
+    step.rightly.together.exclusive 0 3 j1_position (same_active next rivals_run last 0) (same_active next rivals_run last 3) refl refl in omega (arith, same)
+
+-- one runs that nobody asked for
+abbrev uninvited_runs : State
+uninvited_runs = record (told (runs 0 4 false ∷ runs 1 3 false ∷ []) rival_at_best (outcome.Done [])) { aloft = true }
+
+uninvited : IsRight (begin_of (asked (rests 0 4 ∷ rests 1 3 ∷ []) rival_at_best) (outcome.Done []) uninvited_runs) → ⊥
+uninvited (next, step, last) = never (step.rightly.came 4 refl (same_active next uninvited_runs last 4))
 
 -- ---- A hardware request
 
