@@ -8,6 +8,7 @@ ghost use Rattle.cm_model.specs.State.{boot};
 ghost use Rattle.cm_desk.specs.Works.{IsAnswered, load_reply};
 
 use crate::bay::Bay;
+use crate::last_told::LastTold;
 use crate::roster::Roster;
 use crate::start::{at_start, names_of};
 use cm_model::{Checked, CtlDesc, Memory, Name, Reply, Shared, Why};
@@ -40,6 +41,8 @@ pub struct Works<C: Controller> {
     pub(crate) boxes: Vec<C>,
     /// Who is active.
     pub(crate) roster: Roster,
+    /// For the next list of interfaces.
+    pub(crate) last_told: LastTold,
     /// How many cycles have ended.
     pub(crate) ended: u64,
     /// Whether the loop is closed.
@@ -89,6 +92,7 @@ impl<C: Controller> Works<C> {
             cells: Vec::new(alloc),
             boxes: Vec::new(alloc),
             roster: start.roster,
+            last_told: LastTold::none(),
             ended: 0,
             closed: false,
         })

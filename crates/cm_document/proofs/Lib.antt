@@ -1,6 +1,7 @@
 pub mod ReadingLemmas
 pub mod VocabularyLemmas
 pub mod FormLemmas
+pub mod CycleLemmas
 pub mod DescribedLemmas
 pub mod DocumentLemmas
 pub mod LineLemmas

@@ -5,6 +5,7 @@ ghost use Rattle.cm_document.specs.Links.{exported_for, reference_for};
 ghost use Rattle.cm_document.specs.Params.{kind_of};
 ghost use Rattle.cm_document.specs.Places.{kinds_of};
 
+use crate::cycles::Cycles;
 use crate::life::Life;
 use fixed_num::Fx;
 use iface_names::{IfaceName, Kind, Name};
@@ -49,9 +50,9 @@ pub struct CompDesc {
     /// Its lifecycle state after a read or write that failed.
     pub on_error: Life,
     /// The cycles in which its read fails.
-    pub fail_read: Seq<u64>,
+    pub fail_read: Cycles,
     /// The cycles in which its write fails.
-    pub fail_write: Seq<u64>,
+    pub fail_write: Cycles,
     /// Its joints, in written order.
     pub joints: Seq<JointDesc>,
 }
@@ -204,9 +205,9 @@ pub enum Params {
         /// Whether it refuses to be configured.
         refuse_config: bool,
         /// The cycles before which it is not ready to be activated.
-        not_ready: Seq<u64>,
+        not_ready: Cycles,
         /// The cycles in which its update gives an error.
-        fail_update: Seq<u64>,
+        fail_update: Cycles,
     },
 }
 

@@ -4,6 +4,7 @@
 
 pub use call::{Call, Mail, Point2, SwitchRequest};
 pub use checked::Checked;
+pub use cycles::Cycles;
 pub use description::{CompDesc, CompKind, CtlDesc, CtlKind, Description, JointDesc, Params};
 pub use document::Document;
 pub use faults::{CheckFault, DescFault, DescProblem, DocumentFault, ScriptFault, What, Wrong};
@@ -25,6 +26,7 @@ pub use vocabulary::{
 
 mod call;
 mod checked;
+mod cycles;
 mod description;
 mod display;
 mod document;

@@ -10,6 +10,7 @@ use Rattle.fixed_num.specs.declared.value.Value.{Value}
 use Rattle.fixed_num.specs.declared.value.Value.TheVariants.{Unset, Num}
 use Rattle.iface_names.specs.declared.kind.Kind.{Kind}
 use Rattle.iface_names.specs.declared.kind.Kind.TheVariants.{Position, Velocity, Effort}
+pub use Rattle.cm_document.specs.Cycles.{is_listed}
 use Rattle.cm_document.specs.declared.description.CompDesc.{CompDesc}
 use Rattle.cm_document.specs.declared.description.JointDesc.{JointDesc}
 use Rattle.cm_document.specs.declared.life.Life.{Life}
@@ -42,10 +43,6 @@ has_move Finalized target = false
 has_move life target = true
 
 -- ---- Failures
-
--- The cycle is among these, in whatever order they stand.
-abbrev pub is_listed : List ℕ → ℕ → Bool
-is_listed these cycle = list_any (λ each. each == cycle) these
 
 -- How a read or a write that runs ends in a cycle: it fails where the cycle is listed.
 abbrev pub ends : List ℕ → ℕ → Done

@@ -1,9 +1,10 @@
 //! What became of requests, and why.
 
 use iface_names::{IfaceName, Name};
-use sequence::{Boxed, Rare};
+use sequence::{Boxed, Shared, SharedList};
 
-/// Why a name of a request was dropped or refused. An interface or a name that it carries belongs to the reason.
+/// Why a name of a request was dropped or refused. An interface or a name that it carries belongs to the reason. An
+/// interface stands on the heap, so that each reason is small.
 #[derive(Clone, Debug, PartialEq, Eq, Drop)]
 pub enum Cause {
     /// No such controller is loaded, or no such component described.
@@ -17,11 +18,11 @@ pub enum Cause {
     /// It is to be activated and is active already.
     AlreadyActive,
     /// It claims this reference, whose controller would not be active.
-    MissingFollower(IfaceName),
+    MissingFollower(Boxed<IfaceName>),
     /// It claims or reads this interface, which is not available.
-    Unavailable(IfaceName),
+    Unavailable(Boxed<IfaceName>),
     /// It claims this interface, which this other controller claims too.
-    Conflict(IfaceName, Name),
+    Conflict(Boxed<IfaceName>, Name),
     /// It claims an interface of this joint, on which another one is claimed.
     ModeRefused(Name),
     /// It is not ready to be activated in the cycle to come.
@@ -41,16 +42,18 @@ pub struct Dropped {
     pub cause: Cause,
 }
 
-/// What became of a request.
+const _: () = prove!(size_of::<Dropped>() <= 40);
+
+/// What became of a request. What is long in it is kept once for all that hold it: a clone takes no memory.
 #[derive(Clone, Debug, PartialEq, Eq, Drop)]
 pub enum Outcome {
     /// It was carried out, without these names.
     Done {
         /// The names that were left out, in the order in which they were dropped.
-        dropped: Rare<Dropped>,
+        dropped: SharedList<Dropped>,
     },
     /// Nothing of it was done, because of this name.
-    Refused(Boxed<Name>, Boxed<Cause>),
+    Refused(Name, Shared<Cause>),
     /// The loop closed before it was decided.
     LoopEnded,
 }

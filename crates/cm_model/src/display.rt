@@ -59,9 +59,18 @@ impl Display for Cause {
             Cause::NotActive => f.write_str("not_active"),
             Cause::NotConfigured => f.write_str("not_configured"),
             Cause::AlreadyActive => f.write_str("already_active"),
-            Cause::MissingFollower(interface) => write!(f, "missing_follower {interface}"),
-            Cause::Unavailable(interface) => write!(f, "unavailable {interface}"),
-            Cause::Conflict(interface, owner) => write!(f, "conflict {interface} {owner}"),
+            Cause::MissingFollower(missing) => {
+                let interface = missing.get();
+                write!(f, "missing_follower {interface}")
+            }
+            Cause::Unavailable(needed) => {
+                let interface = needed.get();
+                write!(f, "unavailable {interface}")
+            }
+            Cause::Conflict(claimed, owner) => {
+                let interface = claimed.get();
+                write!(f, "conflict {interface} {owner}")
+            }
             Cause::ModeRefused(joint) => write!(f, "mode_refused {joint}"),
             Cause::NotReady => f.write_str("not_ready"),
             Cause::NoSuchMove => f.write_str("no_such_move"),
@@ -96,7 +105,6 @@ impl Display for Outcome {
                 write_drops(dropped.as_slice(), f)
             }
             Outcome::Refused(name, cause) => {
-                let name = name.get();
                 let cause = cause.get();
                 write!(f, "refused {name} {cause}")
             }

@@ -6,7 +6,7 @@ pub use append::{push_number, push_numbered};
 pub use blanks::Blanks;
 pub use cause::{Cause, Decision, Dropped, Outcome};
 pub use cm_document::{
-    Call, CheckFault, Checked, CompDesc, CompKind, CtlDesc, CtlKind, DescFault, DescProblem,
+    Call, CheckFault, Checked, CompDesc, CompKind, CtlDesc, CtlKind, Cycles, DescFault, DescProblem,
     Description, Document, DocumentFault, Fx, Grammar, IfaceName, JointDesc, Kind, Life, Mail,
     Memory, Name, NameFault, Params, Point2, Script, ScriptFault, ScriptLine, Seq, SessionText,
     Shared, SwitchRequest, Text, Turn, Verb, What, Wrong, whole_grammar,
@@ -27,7 +27,7 @@ pub use record_room::{RecordRoom, RecordSize};
 pub use reply::{Reply, Why};
 pub use request::Request;
 pub use seen::Seen;
-pub use sequence::{Boxed, ListRoom, Rare};
+pub use sequence::{Boxed, ListRoom, Rare, SharedList};
 pub use shape::Shape;
 pub use tick::{LONGEST_PERIOD, Tick};
 

@@ -3,7 +3,7 @@
 use crate::cause::{Decision, Outcome};
 use crate::lines::{CompLine, CtlLine, IfaceLine};
 use crate::record::CycleRecord;
-use sequence::{Boxed, Rare, Seq};
+use sequence::{Boxed, Rare, Seq, Shared};
 
 /// Why a call did nothing.
 #[derive(Clone, Copy, Debug, PartialEq, Eq)]
@@ -51,8 +51,8 @@ pub enum Reply {
     Outcome(Boxed<Outcome>),
     /// The loaded controllers by serial.
     Controllers(Boxed<Seq<CtlLine>>),
-    /// The interfaces by place.
-    Interfaces(Boxed<Seq<IfaceLine>>),
+    /// The interfaces by place. A list is kept once for all that hold it.
+    Interfaces(Shared<Seq<IfaceLine>>),
     /// The components as described.
     Components(Boxed<Seq<CompLine>>),
     /// What a begin or the close decided, by ticket.

@@ -192,7 +192,7 @@ impl<'a> Replay<'a> {
             .mark(column, event_of(&decision.outcome), cycle, number);
         match &decision.outcome {
             Outcome::Done { dropped } => self.carry_out(asked, dropped.as_slice()),
-            Outcome::Refused(name, _) => self.mark_refused(name.get(), column, number),
+            Outcome::Refused(name, _) => self.mark_refused(name, column, number),
             Outcome::LoopEnded => {}
         }
         Ok(())
@@ -433,7 +433,15 @@ fn speaks_against(cause: &Cause, name: &Name) -> bool {
 /// Whether a missing follower is the controller itself: it was to leave, and one that stays claims a reference of it.
 pub fn is_own(cause: &Cause, name: &Name) -> bool {
     match cause {
-        Cause::MissingFollower(IfaceName::Reference { controller, .. }) => controller == name,
+        Cause::MissingFollower(interface) => is_of(interface.get(), name),
         _ => false,
+    }
+}
+
+/// Whether an interface is a reference of this controller.
+fn is_of(interface: &IfaceName, name: &Name) -> bool {
+    match interface {
+        IfaceName::Reference { controller, .. } => controller == name,
+        IfaceName::Joint { .. } => false,
     }
 }

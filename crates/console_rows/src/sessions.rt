@@ -9,7 +9,7 @@ use case_calls::replies::push_reply;
 use case_pages::acts::{Player, hold_acts};
 use case_pages::pages::joined;
 use cm_model::{
-    Boxed, Call, Entry, KeptCall, Memory, Outcome, Port, Rare, Reply, Seq, SessionText, Why,
+    Boxed, Call, Entry, KeptCall, Memory, Outcome, Port, Reply, Seq, SessionText, SharedList, Why,
 };
 use console_session::{Progress, Session};
 use std::alloc::Global;
@@ -130,12 +130,12 @@ impl Port for Console {
             return Ok(None);
         }
         let told = Outcome::Done {
-            dropped: Rare::none(),
+            dropped: SharedList::none(),
         };
         let kept = Boxed::new(self.alloc, told)?;
         self.note(Call::Told(ticket), Reply::Outcome(kept))?;
         Ok(Some(Outcome::Done {
-            dropped: Rare::none(),
+            dropped: SharedList::none(),
         }))
     }
 

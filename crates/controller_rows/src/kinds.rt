@@ -12,7 +12,7 @@ use crate::kinds::pages::{FORWARDS, LIFECYCLE, MOCKS, PASSTHROUGHS};
 use crate::kinds::tried::Tried;
 use case_pages::pages::{Teller, hold, push_parted};
 use case_pages::words::number;
-use cm_model::{Fx, Mail, Params, Point2, Seq};
+use cm_model::{Cycles, Fx, Mail, Params, Point2, Seq};
 use ctl_bcast::Broadcaster;
 use ctl_forward::{Forward, Passthrough};
 use ctl_mock::Mock;
@@ -341,8 +341,8 @@ fn mock_of(alloc: Global, given: &str) -> Result<Params, Fail> {
     Ok(Params::Mock {
         outs: outs.parse()?,
         refuse_config: parts.contains("refuses"),
-        not_ready: Seq::from_vec(not_ready),
-        fail_update: Seq::from_vec(fail_update),
+        not_ready: Cycles::of(alloc, not_ready)?,
+        fail_update: Cycles::of(alloc, fail_update)?,
     })
 }
 

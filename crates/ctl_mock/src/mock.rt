@@ -1,11 +1,12 @@
 //! The mock.
 
 ghost use Rattle.std.specs.Prelude.{◌≡◌};
-ghost use Rattle.cm_model.specs.Components.{is_listed};
 ghost use Rattle.cm_model.specs.State.{fresh};
 ghost use Rattle.cm_document.specs.declared.description.CtlKind.TheVariants as kind;
 
-use ctl_trait::{CfgFault, Controller, CtlKind, Done, Fx, Mail, Params, Seq, SetPart, Tick, Value};
+use ctl_trait::{
+    CfgFault, Controller, CtlKind, Cycles, Done, Fx, Mail, Params, SetPart, Tick, Value,
+};
 use std::alloc::Global;
 
 /// A mock: it gives the values that it was sent last, and fails in the cycles that its parameters list.
@@ -18,8 +19,8 @@ pub struct Mock {
 #[derive(Debug, Drop)]
 struct Kept {
     part: SetPart,
-    not_ready: Seq<u64>,
-    fail_update: Seq<u64>,
+    not_ready: Cycles,
+    fail_update: Cycles,
 }
 
 impl Mock {
@@ -63,7 +64,7 @@ impl Controller for Mock {
 
     fn ready(&self, cycle: u64) -> bool {
         match &self.kept {
-            Some(kept) => !is_listed(kept.not_ready.as_slice(), cycle),
+            Some(kept) => !kept.not_ready.has(cycle),
             None => true,
         }
     }
@@ -100,6 +101,7 @@ impl Controller for Mock {
 
 impl Kept {
     ghost use Rattle.std.specs.Prelude.{if◌then◌else◌, length};
+    ghost use Rattle.cm_document.specs.Cycles.{is_listed};
     ghost use Rattle.cm_model.specs.declared.ran.Done.TheVariants as done;
 
     /// Gives the values that are set, unless it fails in this cycle.
@@ -108,17 +110,10 @@ impl Kept {
         ensures answer { result ≡ (if is_listed self.now.fail_update cycle then done.Error else done.Ok) }
         ensures outputs { outs.new ≡ (if is_listed self.now.fail_update cycle then outs.old else self.now.part.set) }
     {
-        if is_listed(self.fail_update.as_slice(), cycle) {
+        if self.fail_update.has(cycle) {
             return Done::Error;
         }
         outs.copy_from_slice(self.part.set());
         Done::Ok
     }
-}
-
-/// Whether the cycle is one of these.
-fn is_listed(cycles: &[u64], cycle: u64) -> bool
-    ensures { result ≡ is_listed cycles.now cycle }
-{
-    cycles.iter().any(|c| *c == cycle)
 }

@@ -3,7 +3,7 @@
 #![tactic(auto)]
 
 pub use cm_model::{
-    CtlData, CtlKind, Done, Fx, LONGEST_PERIOD, Mail, Params, Seq, Shape, Tick, Value,
+    CtlData, CtlKind, Cycles, Done, Fx, LONGEST_PERIOD, Mail, Params, Seq, Shape, Tick, Value,
 };
 pub use controller::Controller;
 pub use fault::CfgFault;

@@ -7,12 +7,13 @@ ghost use Rattle.cm_document.specs.Described.{controller_form, claiming_table, p
 ghost use Rattle.cm_document.specs.Tables.{walk};
 ghost use Rattle.cm_document.specs.declared.description.Params.TheVariants as params;
 
+use crate::cycles::CycleList;
 use crate::forms::{ListOf, One, TableForm};
 use crate::keys::Keys;
 use crate::states::{AllOrList, ReadList};
-use crate::values::{Boolean, Cycle, Interface, Named, Quantity, Whole};
+use crate::values::{Boolean, Interface, Named, Quantity, Whole};
 use crate::words::{ControllerKinds, WordOf};
-use cm_document::{CtlDesc, CtlKind, DescFault, Fx, IfaceName, Params, Seq, Shared};
+use cm_document::{CtlDesc, CtlKind, Cycles, DescFault, Fx, IfaceName, Params, Seq, Shared};
 use std::alloc::{AllocError, Global};
 
 /// The keys that a forward or a passthrough may have.
@@ -198,8 +199,8 @@ fn mock(keys: &Keys<'_>) -> Result<CtlDesc, DescFault>
     let claims = keys.defaulted("claims", &ListOf(Interface), Seq::new(keys.alloc))?;
     let reads = keys.defaulted("reads", &ReadList, no_reads(keys.alloc)?)?;
     let refuse_config = keys.defaulted("refuse_config", &One(Boolean), false)?;
-    let not_ready = keys.defaulted("not_ready", &ListOf(Cycle), Seq::new(keys.alloc))?;
-    let fail_update = keys.defaulted("fail_update", &ListOf(Cycle), Seq::new(keys.alloc))?;
+    let not_ready = keys.defaulted("not_ready", &CycleList, Cycles::none(keys.alloc)?)?;
+    let fail_update = keys.defaulted("fail_update", &CycleList, Cycles::none(keys.alloc)?)?;
     Ok(CtlDesc {
         name,
         rate,

@@ -6,6 +6,7 @@ pub use read::read_description;
 
 mod component;
 mod controller;
+mod cycles;
 mod faults;
 mod forms;
 mod joint;

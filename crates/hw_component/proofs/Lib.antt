@@ -1,4 +1,3 @@
-pub mod CycleLemmas
 pub mod ClaimLemmas
 pub mod JointLemmas
 pub mod MakingLemmas

@@ -1,6 +1,5 @@
 -- What a component keeps, and what contracts see of it.
 use Rattle.hw_component.specs.declared.component.Component.TheInside.{Inside}
-use Rattle.hw_component.specs.Cycles.{ListsSame}
 use Rattle.hw_component.specs.Drives.{states_in, FitsDescription}
 use Rattle.hw_component.specs.Hardware.{Hardware}
 
@@ -15,8 +14,6 @@ hardware_of c = record {
   written = c.written;
 }
 
--- It fits the description, and each cycle in which a read or a write fails is found.
+-- It fits the description.
 pub record IsKept (c : Inside) : Type 0 where
   pub fits : FitsDescription c.description c.bodies.items c.claimed.items c.states.items c.commands.items c.applied.items
-  pub reads : ListsSame c.failing_reads c.description.fail_read
-  pub writes : ListsSame c.failing_writes c.description.fail_write

@@ -1,6 +1,5 @@
 pub mod Hardware
 pub mod Calls
 -- how the code keeps a component
-pub mod Cycles
 pub mod Drives
 pub mod Kept

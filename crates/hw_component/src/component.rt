@@ -6,7 +6,6 @@ ghost use Rattle.hw_component.specs.Calls.Reads.{CanRead};
 ghost use Rattle.hw_component.specs.Hardware.{IsHardware, Prepares, after_read, after_write, after_step, with_claims, moves, after_move};
 
 use crate::claims::{claim_joints, is_contested};
-use crate::cycles::Cycles;
 use crate::faults::{HwFault, ModeFault};
 use crate::joints::{measure, step_bodies};
 use cm_model::{BodyState, CompDesc, Done, JointInterface, Life, Value};
@@ -28,8 +27,6 @@ pub struct Component {
     pub(crate) applied: Vec<Value>,
     /// Whether it was written since the last step.
     pub(crate) written: bool,
-    pub(crate) failing_reads: Cycles,
-    pub(crate) failing_writes: Cycles,
 }
 
 impl Model for Component {
@@ -99,7 +96,7 @@ impl Component {
         ensures states { states.new ≡ after_read self.old cycle states.old }
         ensures kept { self.new ≡ self.old }
     {
-        if self.failing_reads.has(cycle) {
+        if self.description.fail_read.has(cycle) {
             return Done::Error;
         }
         self.measure(states);
@@ -114,7 +111,7 @@ impl Component {
         ensures done { result ≡ ends self.old.description.fail_write cycle }
         ensures state { self.new ≡ after_write self.old cycle commands.now }
     {
-        if self.failing_writes.has(cycle) {
+        if self.description.fail_write.has(cycle) {
             return Done::Error;
         }
         self.applied.copy_from_slice(commands);

@@ -7,7 +7,6 @@ pub use faults::{HwFault, ModeFault};
 
 mod claims;
 mod component;
-mod cycles;
 mod faults;
 mod joints;
 pub mod laws;

@@ -7,7 +7,6 @@ ghost use Rattle.hw_component.specs.Hardware.{CanBeMade, at_start};
 ghost use Rattle.hw_component.specs.Drives.{body_made, of_joint};
 
 use crate::component::Component;
-use crate::cycles::Cycles;
 use cm_model::{BodyState, CompDesc, Fx, JointDesc, JointInterface, Kind, Memory, Value};
 use joint_body::Body;
 use std::alloc::Global;
@@ -28,8 +27,6 @@ impl Component {
             applied: vec![in alloc; Value::Unset; commands.len()]?,
             commands,
             written: false,
-            failing_reads: Cycles::listed(alloc, description.fail_read.as_slice())?,
-            failing_writes: Cycles::listed(alloc, description.fail_write.as_slice())?,
             description: copied(description)?,
         })
     }

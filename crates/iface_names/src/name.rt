@@ -1,6 +1,6 @@
 //! Names of controllers, joints and sessions.
 
-ghost use Rattle.std.specs.Prelude.{◌≡◌, IsTrue};
+ghost use Rattle.std.specs.Prelude.{◌≡◌, IfOk, IsTrue, string_bytes};
 ghost use Rattle.std.specs.List.{list_all};
 ghost use Rattle.iface_names.specs.Answers.{Answers};
 ghost use Rattle.iface_names.specs.Names.{is_name, is_letter, is_name_byte, name_of};
@@ -11,12 +11,14 @@ use std::fmt;
 use std::fmt::{Display, Formatter, Write};
 use std::hash::{Hash, Hasher};
 use std::marker::Model;
+use std::sync::Arc;
 use thiserror::Error;
 
-/// 1 to 64 bytes (`LONGEST_NAME`) of A to Z, a to z, 0 to 9 and `_`, of which the first is a letter. Contracts see the bytes.
+/// 1 to 64 bytes (`LONGEST_NAME`) of A to Z, a to z, 0 to 9 and `_`, of which the first is a letter. Contracts see the
+/// bytes. A name is kept once for all that hold it, also on several threads: a clone copies a pointer and takes no memory.
 #[derive(Debug, Drop)]
 pub struct Name {
-    text: String,
+    text: Arc<String>,
 }
 
 /// Why a text is no name.
@@ -47,9 +49,9 @@ impl Model for Name {
 
     ghost Value = { List ℕ };
 
-    ghost view = { λ s. string_bytes s.text };
+    ghost view = { λ s. string_bytes s.text.value };
 
-    ghost invariant = { λ s. IsTrue (is_name (string_bytes s.text)) };
+    ghost invariant = { λ s. IsTrue (is_name (string_bytes s.text.value)) };
 }
 
 impl Name {
@@ -62,7 +64,7 @@ impl Name {
         }
         match std::str::from_utf8(text) {
             Ok(text) => Ok(Name {
-                text: String::from_str(alloc, text)?,
+                text: shared(alloc, text)?,
             }),
             Err(_) => Err(NameFault::BadName),
         }
@@ -73,15 +75,22 @@ impl Name {
         ensures bytes { result.now ≡ self.now }
         ensures named { IsTrue (is_name self.now) }
     {
-        self.text.as_bytes()
+        self.text.as_ref().as_bytes()
     }
 
     /// The name as it prints.
     pub fn as_str(&self) -> &str
         ensures { result.now ≡ self.now }
     {
-        self.text.as_str()
+        self.text.as_ref().as_str()
     }
+}
+
+/// The text, kept once for all that will hold it.
+fn shared(alloc: Global, text: &str) -> Result<Arc<String>, AllocError>
+    ensures { IfOk result (λ kept. string_bytes kept.value ≡ text.now) }
+{
+    Ok(Arc::new(alloc, String::from_str(alloc, text)?)?)
 }
 
 fn follows_the_rule(text: &[u8]) -> bool
@@ -129,7 +138,7 @@ impl PartialEq for Name {
     ghost laws = { Prim.search (comparing, rules) };
 
     fn eq(&self, other: &Name) -> bool {
-        self.text == other.text
+        self.text.as_ref() == other.text.as_ref()
     }
 }
 
@@ -150,7 +159,7 @@ impl Hash for Name {
     ghost respects_eq = { Prim.search (hashing, rules) };
 
     fn hash<H: Hasher>(&self, state: &mut H) {
-        self.text.hash(state);
+        self.text.as_ref().hash(state);
     }
 }
 

@@ -11,7 +11,9 @@ ghost use Rattle.request_plan.specs.Stands.{IsSeenOf};
 use crate::acts::{Act, Conclusion};
 use crate::moves::move_fault;
 use crate::stand::{Stand, order};
-use cm_model::{Boxed, Cause, Checked, CompDesc, Life, Member, Memory, Name, Outcome, Rare};
+use cm_model::{
+    Cause, Checked, CompDesc, Life, Member, Memory, Name, Outcome, Shared, SharedList,
+};
 use std::alloc::Global;
 use switch_plan::Relations;
 
@@ -63,7 +65,7 @@ fn conclude_at(
         }
         None => Ok(Conclusion {
             outcome: Outcome::Done {
-                dropped: Rare::none(),
+                dropped: SharedList::none(),
             },
             act: Act::Move {
                 component: place,
@@ -100,8 +102,8 @@ fn refused(alloc: Global, name: &Name, cause: Cause) -> Result<Conclusion, Memor
     ensures outcome { IfOk result (λ c. c.outcome ≡ Outcome.Refused name.now cause) }
     ensures act { IfOk result (λ c. c.act ≡ Act.Nothing) }
 {
-    let name = Boxed::new(alloc, name.clone()?)?;
-    let cause = Boxed::new(alloc, cause)?;
+    let name = name.clone()?;
+    let cause = Shared::new(alloc, cause)?;
     Ok(Conclusion {
         outcome: Outcome::Refused(name, cause),
         act: Act::Nothing,

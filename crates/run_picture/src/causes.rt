@@ -47,7 +47,7 @@ fn push_outcome(text: &mut String, outcome: &Outcome) -> Result<(), Memory> {
         Outcome::Done { dropped } => push_done(text, dropped.as_slice()),
         Outcome::Refused(name, cause) => {
             text.push_str(": refused, ")?;
-            push_cause(text, name.get(), cause.get())
+            push_cause(text, name, cause.get())
         }
         Outcome::LoopEnded => {
             text.push_str(": not decided, the loop closed")?;
@@ -105,16 +105,24 @@ fn push_cause(text: &mut String, name: &Name, cause: &Cause) -> Result<(), Memor
 fn push_related(text: &mut String, name: &Name, cause: &Cause) -> Result<(), Memory> {
     match cause {
         Cause::MissingFollower(it) if is_own(cause, name) => {
+            let it = it.get();
             write!(text, "{name} is needed, as {it} is claimed")?;
         }
         Cause::MissingFollower(it) => {
+            let it = it.get();
             write!(
                 text,
                 "{name} claims {it}, whose controller would not be active"
             )?;
         }
-        Cause::Unavailable(it) => write!(text, "{name} needs {it}, which is not available")?,
-        Cause::Conflict(it, owner) => write!(text, "{name} claims {it}, which is {owner}'s")?,
+        Cause::Unavailable(it) => {
+            let it = it.get();
+            write!(text, "{name} needs {it}, which is not available")?
+        }
+        Cause::Conflict(it, owner) => {
+            let it = it.get();
+            write!(text, "{name} claims {it}, which is {owner}'s")?
+        }
         Cause::ModeRefused(joint) => write!(text, "{name} drives {joint} in another mode")?,
         Cause::InUse(controller) => write!(text, "{name} is in use by {controller}")?,
         _ => {}

@@ -7,9 +7,11 @@ pub use rare::Rare;
 pub use room::ListRoom;
 pub use seq::Seq;
 pub use shared::Shared;
+pub use shared_list::SharedList;
 
 mod boxed;
 mod rare;
 mod room;
 mod seq;
 mod shared;
+mod shared_list;

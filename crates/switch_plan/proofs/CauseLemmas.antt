@@ -35,10 +35,10 @@ use Rattle.switch_plan.proofs.ElementLemmas.{map_some, here, later, none_inside,
 
 -- ---- Names and interfaces
 
-same_names : (a b : List ℕ) → same_name a b ≡ true → a ≡ b
+pub same_names : (a b : List ℕ) → same_name a b ≡ true → a ≡ b
 same_names a b same = (bytes_eq-Decides a b).0 same
 
-name_itself : (a : List ℕ) → same_name a a ≡ true
+pub name_itself : (a : List ℕ) → same_name a a ≡ true
 name_itself a = (bytes_eq-Decides a a).1 refl
 
 -- a controller that claims an interface has it among its claims
@@ -127,7 +127,7 @@ module _ (scene : Scene) where
         | inr rest ↦ inr rest
       ]
 
-  named_back : (names : List (List ℕ)) (p : ℕ) → named scene names p ≡ true → Contains names (described scene p).name
+  pub named_back : (names : List (List ℕ)) (p : ℕ) → named scene names p ≡ true → Contains names (described scene p).name
   named_back [] p any = absurd (true≢false (sym any))
   named_back (name ∷ names) p any =
       elim (named_one (loaded_of scene name) (loaded_all scene names) p any) [
@@ -148,7 +148,7 @@ module _ (scene : Scene) where
   named_first (Some other) ms l is =
       or_left (other.place == l.place) (list_any (λ m. m.place == l.place) ms) (eq-eqb other.place l.place (ap (λ (s : Seen). s.place) (same_Some other l is)))
 
-  named_from : (names : List (List ℕ)) (name : List ℕ) (l : Seen) → Contains names name → loaded_of scene name ≡ Some l → named scene names l.place ≡ true
+  pub named_from : (names : List (List ℕ)) (name : List ℕ) (l : Seen) → Contains names name → loaded_of scene name ≡ Some l → named scene names l.place ≡ true
   named_from [] name l inside is = absurd (none_inside name inside)
   named_from (n ∷ names) name l inside is =
       elim (first_or_later n names name inside) [

@@ -6,6 +6,7 @@ pub mod BestLemmas
 pub mod ElementLemmas
 pub mod DecisionLemmas
 pub mod CauseLemmas
+pub mod MetLemmas
 pub mod LeavingLemmas
 pub mod MaximalLemmas
 pub mod ClearLemmas

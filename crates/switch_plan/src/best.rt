@@ -19,7 +19,7 @@ use crate::setting::{Setting, order};
 use crate::view::{View, controllers, described};
 use chain_order::{PlaceSet, by_rank, heights, is_chained};
 use cm_document::{CtlDesc, IfaceName, Memory, Name};
-use cm_model::{Cause, Dropped, Member, Planned};
+use cm_model::{Boxed, Cause, Dropped, Member, Planned};
 use std::alloc::Global;
 
 /// The plan of a switch of best effort.
@@ -50,7 +50,7 @@ fn best_asked(
     let mut dropped = dropped;
     let leaving = PlaceSet::of(alloc, controllers(&setting.view).len(), asked)?;
     let staying = stays(alloc, setting, &leaving)?;
-    drop_kept(setting, &staying, asked, &mut dropped)?;
+    drop_kept(alloc, setting, &staying, asked, &mut dropped)?;
     let leaving = leaving.without(alloc, &staying)?;
     let plan = best_leaving(alloc, setting, &leaving, dropped, on)?;
     Ok(plan)
@@ -135,6 +135,7 @@ fn stays_or_chained(staying: bool, active: bool, chained: bool) -> bool
 
 /// Drops each that was asked to leave and stays.
 fn drop_kept(
+    alloc: Global,
     setting: &Setting,
     staying: &PlaceSet,
     asked: &[Member],
@@ -146,7 +147,7 @@ fn drop_kept(
         ≡ dropped.old.items ++ filter_map (kept_drop (set_scene setting.now) (set_of staying.now)) asked.now) }
 {
     for member in asked {
-        if let Some(kept) = kept_drop(setting, staying, member)? {
+        if let Some(kept) = kept_drop(alloc, setting, staying, member)? {
             dropped.push(kept)?;
         }
     }
@@ -155,6 +156,7 @@ fn drop_kept(
 
 /// A controller that was asked to leave and stays, with the reference that would be missing.
 fn kept_drop(
+    alloc: Global,
     setting: &Setting,
     staying: &PlaceSet,
     member: &Member,
@@ -172,7 +174,7 @@ fn kept_drop(
     };
     Ok(Some(Dropped {
         name: controller.name.clone()?,
-        cause: Cause::MissingFollower(reference),
+        cause: Cause::MissingFollower(Boxed::new(alloc, reference)?),
     }))
 }
 
@@ -276,6 +278,7 @@ fn join(
     let tried = set.with(alloc, member.place)?;
     let members = order(alloc, setting, &tried)?;
     let proposal = Proposal {
+        alloc,
         view: setting.view,
         set: &tried,
         on,

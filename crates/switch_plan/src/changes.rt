@@ -12,7 +12,7 @@ use crate::members::member;
 use crate::setting::{Setting, in_order_of};
 use chain_order::{PlaceSet, is_chained, serials};
 use cm_document::Memory;
-use cm_model::{Boxed, Dropped, Member, Outcome, Planned, Rare, Seq};
+use cm_model::{Dropped, Member, Outcome, Planned, Seq, Shared, SharedList};
 use std::alloc::Global;
 
 /// A decision that is done: the controllers that will be active, and those of them that restart because they are named for it.
@@ -31,10 +31,9 @@ pub fn refused(alloc: Global, because: Dropped) -> Result<Planned, Memory>
     ensures { IfOk result (λ plan. plan
         ≡ record { outcome = outcome.Refused because.name because.cause; off = []; on = [] }) }
 {
-    let name = Boxed::new(alloc, because.name)?;
-    let cause = Boxed::new(alloc, because.cause)?;
+    let cause = Shared::new(alloc, because.cause)?;
     Ok(Planned {
-        outcome: Outcome::Refused(name, cause),
+        outcome: Outcome::Refused(because.name, cause),
         off: Seq::new(alloc),
         on: Seq::new(alloc),
     })
@@ -48,7 +47,7 @@ pub fn done(alloc: Global, change: &Change, dropped: Vec<Dropped>) -> Result<Pla
 {
     Ok(Planned {
         outcome: Outcome::Done {
-            dropped: Rare::of(alloc, dropped)?,
+            dropped: SharedList::of(alloc, dropped)?,
         },
         off: off_list(alloc, change)?,
         on: on_list(alloc, change)?,

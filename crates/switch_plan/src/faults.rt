@@ -16,12 +16,15 @@ use crate::members::is_ready;
 use crate::view::{View, controllers, described};
 use chain_order::PlaceSet;
 use cm_document::{IfaceName, Life, Memory};
-use cm_model::{Cause, FAULT_KINDS, FaultKind, Member};
+use cm_model::{Boxed, Cause, FAULT_KINDS, FaultKind, Member};
+use std::alloc::Global;
 
 /// A set of controllers that is proposed to be active, with what is asked of its members: which of them are to be activated, and the
 /// order of their updates.
 #[derive(Clone, Copy)]
 pub struct Proposal<'a> {
+    /// Where the memory of what is told comes from.
+    pub alloc: Global,
     /// What the set is judged by.
     pub view: View<'a>,
     /// The set.
@@ -62,11 +65,20 @@ pub fn fault_of_kind(
     let claims = controller.claims.as_slice();
     match kind {
         FaultKind::Follower => missing_follower(proposal, claims),
-        FaultKind::Availability => unavailable(&proposal.view, claims, controller.reads()),
+        FaultKind::Availability => {
+            unavailable(proposal.alloc, &proposal.view, claims, controller.reads())
+        }
         FaultKind::Conflict => conflict(proposal, place, claims),
         FaultKind::Mode => mode_refused(proposal, claims),
         FaultKind::Readiness => Ok(not_ready(proposal, place)),
     }
+}
+
+/// An interface once more, on the heap.
+fn boxed(alloc: Global, interface: &IfaceName) -> Result<Boxed<IfaceName>, Memory>
+    ensures { IfOk result (λ copy. copy ≡ interface.now) }
+{
+    Ok(Boxed::new(alloc, interface.clone()?)?)
 }
 
 /// The first of these references whose exporter is not in the set.
@@ -75,7 +87,7 @@ fn missing_follower(proposal: &Proposal, claims: &[IfaceName]) -> Result<Option<
 {
     for claim in claims {
         if interfaces::is_missing(controllers(&proposal.view), proposal.set, claim) {
-            return Ok(Some(Cause::MissingFollower(claim.clone()?)));
+            return Ok(Some(Cause::MissingFollower(boxed(proposal.alloc, claim)?)));
         }
     }
     Ok(None)
@@ -84,6 +96,7 @@ fn missing_follower(proposal: &Proposal, claims: &[IfaceName]) -> Result<Option<
 /// The first of these claims, or else of these reads, whose component is neither inactive nor active.
 #[tactic(auto, using(crate::proofs::TestLemmas::first_of_append))]
 fn unavailable(
+    alloc: Global,
     view: &View,
     claims: &[IfaceName],
     reads: &[IfaceName],
@@ -92,21 +105,25 @@ fn unavailable(
         ≡ first_of (λ i. cause_if (is_unavailable (scene_of view.now) i) (cause.Unavailable i))
         (claims.now ++ reads.now)) }
 {
-    if let Some(cause) = first_unavailable(view, claims)? {
+    if let Some(cause) = first_unavailable(alloc, view, claims)? {
         return Ok(Some(cause));
     }
-    let found = first_unavailable(view, reads)?;
+    let found = first_unavailable(alloc, view, reads)?;
     Ok(found)
 }
 
 /// The first of these interfaces whose component is neither inactive nor active.
-fn first_unavailable(view: &View, these: &[IfaceName]) -> Result<Option<Cause>, Memory>
+fn first_unavailable(
+    alloc: Global,
+    view: &View,
+    these: &[IfaceName],
+) -> Result<Option<Cause>, Memory>
     ensures { IfOk result (λ found. found
         ≡ first_of (λ i. cause_if (is_unavailable (scene_of view.now) i) (cause.Unavailable i)) these.now) }
 {
     for interface in these {
         if is_unavailable(view, interface) {
-            return Ok(Some(Cause::Unavailable(interface.clone()?)));
+            return Ok(Some(Cause::Unavailable(boxed(alloc, interface)?)));
         }
     }
     Ok(None)
@@ -161,7 +178,7 @@ fn conflict_over(
         return Ok(None);
     };
     let name = described(&proposal.view, owner.place).name.clone()?;
-    Ok(Some(Cause::Conflict(claim.clone()?, name)))
+    Ok(Some(Cause::Conflict(boxed(proposal.alloc, claim)?, name)))
 }
 
 /// The first other member, by order, that claims an interface.

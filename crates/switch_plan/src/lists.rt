@@ -1,17 +1,16 @@
 //! What speaks against the names of a list.
 
 ghost use Rattle.std.specs.Prelude.{◌≡◌, ◌++◌, [], ◌∷◌, ◌<◌, length, Option, option_map, IfOk, OnOk, All};
-ghost use Rattle.std.specs.List.{list_any};
-ghost use Rattle.iface_names.specs.Names.{same_name};
 ghost use Rattle.cm_model.specs.Scene.{controllers_in, loaded_of, loaded_all};
-ghost use Rattle.cm_model.specs.Switches.{off_cause, on_cause, off_fault, on_fault};
+ghost use Rattle.cm_model.specs.Switches.{off_cause, on_cause};
 ghost use Rattle.cm_model.specs.BestEffort.{faulty, faultless};
 ghost use Rattle.cm_model.specs.Order.{set_of};
+ghost use Rattle.switch_plan.specs.Calls.Members.{IsLoadedAs, HaveMet};
 ghost use Rattle.switch_plan.specs.View.{scene_of, IsView, HavePlaces};
-ghost use Rattle.switch_plan.specs.Lists.{list_fault, IsListed};
+ghost use Rattle.switch_plan.specs.Lists.{list_fault, fault_met, IsListed};
 
 use crate::members::{is_configured, is_running, loaded_of, push_seen};
-use crate::view::View;
+use crate::view::{View, controllers};
 use chain_order::PlaceSet;
 use cm_document::{Memory, Name};
 use cm_model::{Cause, Dropped, Member, Seen};
@@ -26,58 +25,48 @@ pub enum Listed {
     Faulty(Dropped),
 }
 
-/// What speaks against a name of the list to deactivate, or, where it is told which controllers leave, of the list to
-/// activate, behind the names before it. The controller of this name was looked up, if it is loaded.
+/// What speaks against a name of the list to deactivate, or, if it is told which controllers leave, of the list to
+/// activate. The controller of this name was looked up, and those of the names before it were met. Whether the name stands
+/// among these is asked of the set of places; the names before it serve the contract alone.
 fn list_fault(
     view: &View,
     leaving: Option<&PlaceSet>,
     before: &[Name],
+    met: &PlaceSet,
     name: &Name,
     seen: Option<Seen>,
 ) -> Option<Cause>
-    requires { seen ≡ loaded_of (scene_of view.now) name.now }
+    requires seen { seen ≡ loaded_of (scene_of view.now) name.now }
+    requires met { HaveMet (scene_of view.now) before.now met.now }
     ensures { result
         ≡ list_fault (scene_of view.now) (option_map (λ set. set.now) leaving.entry) before.now name.now }
 {
+    fault_met(leaving, met, seen)
+}
+
+/// The same, by the controllers that were met.
+fn fault_met(leaving: Option<&PlaceSet>, met: &PlaceSet, seen: Option<Seen>) -> Option<Cause>
+    ensures { result ≡ fault_met (option_map (λ set. set.now) leaving.entry) (set_of met.now) seen }
+{
+    let Some(seen) = seen else {
+        return Some(Cause::Unknown);
+    };
+    let twice = met.has(seen.place);
     match leaving {
-        None => off_fault(view, before, name, seen),
-        Some(leaving) => on_fault(view, leaving, before, name, seen),
+        None => off_cause(twice, &seen),
+        Some(leaving) => on_cause(leaving, twice, &seen),
     }
 }
 
-/// What speaks against a name of the list to deactivate, behind the names before it.
-fn off_fault(view: &View, before: &[Name], name: &Name, seen: Option<Seen>) -> Option<Cause>
-    requires { seen ≡ loaded_of (scene_of view.now) name.now }
-    ensures { result ≡ off_fault (scene_of view.now) before.now name.now }
+/// The controller of this name was met, if it is loaded, as those of the names before it.
+fn meet(view: &View, before: &[Name], name: &Name, seen: Option<Seen>, met: &mut PlaceSet)
+    requires before { HaveMet (scene_of view.now) before.now met.old }
+    requires seen { IsLoadedAs (scene_of view.now) name.now seen }
+    ensures { HaveMet (scene_of view.now) (before.now ++ name.now ∷ []) met.new }
 {
-    match seen {
-        None => Some(Cause::Unknown),
-        Some(seen) => off_cause(stands_in(before, name), &seen),
+    if let Some(seen) = seen {
+        met.insert(seen.place);
     }
-}
-
-/// What speaks against a name of the list to activate, behind the names before it, where these leave.
-fn on_fault(
-    view: &View,
-    leaving: &PlaceSet,
-    before: &[Name],
-    name: &Name,
-    seen: Option<Seen>,
-) -> Option<Cause>
-    requires { seen ≡ loaded_of (scene_of view.now) name.now }
-    ensures { result ≡ on_fault (scene_of view.now) (set_of leaving.now) before.now name.now }
-{
-    match seen {
-        None => Some(Cause::Unknown),
-        Some(seen) => on_cause(leaving, stands_in(before, name), &seen),
-    }
-}
-
-/// Whether a name is among these.
-fn stands_in(names: &[Name], name: &Name) -> bool
-    ensures { result ≡ list_any (same_name name.now) names.now }
-{
-    names.iter().any(|other| name == other)
 }
 
 /// Why a loaded controller cannot be deactivated.
@@ -120,12 +109,15 @@ pub fn look_through(
         (list_fault (scene_of view.now) (option_map (λ set. set.now) leaving.entry)) names.now) }
 {
     let mut members = Vec::new(alloc);
+    let mut met = PlaceSet::none(alloc, controllers(view).len())?;
     for (index, name) in names.iter().enumerate() {
+        let before = &names[..index];
         let seen = loaded_of(view, name);
-        if let Some(cause) = list_fault(view, leaving, &names[..index], name, seen) {
+        if let Some(cause) = list_fault(view, leaving, before, &met, name, seen) {
             let name = name.clone()?;
             return Ok(Listed::Faulty(Dropped { name, cause }));
         }
+        meet(view, before, name, seen, &mut met);
         push_seen(view, name, seen, &mut members)?;
     }
     Ok(Listed::Faultless(members))
@@ -147,15 +139,18 @@ pub fn sifted(
         ++ faulty (list_fault (scene_of view.now) (option_map (λ set. set.now) leaving.entry)) [] names.now) }
 {
     let mut list = Vec::new(alloc);
+    let mut met = PlaceSet::none(alloc, controllers(view).len())?;
     for (index, name) in names.iter().enumerate() {
+        let before = &names[..index];
         let seen = loaded_of(view, name);
-        match list_fault(view, leaving, &names[..index], name, seen) {
+        match list_fault(view, leaving, before, &met, name, seen) {
             Some(cause) => {
                 let name = name.clone()?;
                 dropped.push(Dropped { name, cause })?;
             }
             None => push_seen(view, name, seen, &mut list)?,
         }
+        meet(view, before, name, seen, &mut met);
     }
     Ok(list)
 }

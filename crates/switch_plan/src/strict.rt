@@ -98,6 +98,7 @@ fn member_fault(
     }
     let members = order(alloc, setting, set)?;
     let proposal = Proposal {
+        alloc,
         view: setting.view,
         set,
         on,

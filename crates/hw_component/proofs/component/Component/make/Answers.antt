@@ -16,8 +16,6 @@ invariant_of-result c =
     let applied : c.in_ok-vec-2.field-0.items ≡ replicate (length (command_interfaces d)) Unset = search rules in
     record {
       fits = rw (same, bodies, claimed, states, commands, applied) (made_fits d c.requires.joints);
-      reads = search rules;
-      writes = search rules;
     }
 
 pub returns : goal.returns

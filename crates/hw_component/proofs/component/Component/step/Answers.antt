@@ -18,8 +18,6 @@ invariant_of-self c =
     record {
       fits = rw now (steps_fit c.is_commanded-is_commanded.result c.args.dt_us k.description k.bodies.items k.claimed.items k.states.items
           k.commands.items k.applied.items c.self.invariant.fits);
-      reads = c.self.invariant.reads;
-      writes = c.self.invariant.writes;
     }
 
 pub returns : goal.returns

@@ -7,8 +7,7 @@ use Rattle.std.proofs.lemmas.Bool.{cases_lt, eq-eqb, ne_eqb}
 use Rattle.std.proofs.lemmas.List.{get_or_default}
 use Rattle.std.proofs.lemmas.List.Folds.{list_any_at, list_any_none}
 use Rattle.std.proofs.lemmas.List.Sorted.{searched, list_any-IsPermutation}
-use Rattle.cm_model.specs.Components.{is_listed}
-use Rattle.hw_component.specs.Cycles.{ListsSame}
+use Rattle.cm_document.specs.Cycles.{is_listed, ListsSame}
 
 -- a cycle is found exactly where it is listed
 pub found_where_listed : (xs : List ℕ) (x : ℕ) (r : Result ℕ ℕ) → IsNonDecreasing xs → IsBinarySearchResult (λ y. nat_cmp y x) xs r → is_ok r ≡ is_listed xs x
