@@ -139,10 +139,11 @@ fn draw_curve_part(
     }
     let top = draw_section(svg, top, "Where each joint was")?;
     let top = draw_curve_keys(svg, top)?;
+    let courses = run.replay.courses.as_slice();
     let curves = Curves {
         strip: &run.strip,
         joints: linked.joints,
-        courses: run.replay.courses.as_slice(),
+        courses,
         values,
     };
     draw_curves(alloc, svg, top, curves)
