@@ -57,7 +57,8 @@ snapshot_send T = search (sendable, crosses) depth 40
 
 slot_send : (C : RattleType) (m : Ghosts C.Denot) → IsSend C → IsSend (Slot.the_row C m)
 slot_send C m s = view_send _ _ _ _ _ (declared_send (SlotInside.the_type C m) (
-  search sendable, (search sendable, (search sendable, (search sendable depth 30, (search (sendable, kind.the_send) depth 30, (search (sendable, life.the_send) depth 30, (search (sendable, mail.the_send) depth 30, (as_row_send (Snapshot.the_field C) (snapshot_send C), tt))))))),
+  search sendable,
+  (search sendable, (search sendable, (search sendable depth 30, (search (sendable, kind.the_send) depth 30, (search (sendable, life.the_send) depth 30, (search (sendable, mail.the_send) depth 30, (as_row_send (Snapshot.the_field C) (snapshot_send C), tt))))))),
 ))
 
 option_send : (C : RattleType) → IsSend C → IsSend (Option.the_row C)
@@ -86,21 +87,44 @@ bay_send = declared_send Bay.the_type (
 works_send : (C : RattleType) (m : Ghosts C.Denot) → IsSend C → IsSend (Works.the_row C m)
 works_send C m s = view_send _ _ _ _ _ (declared_send (WorksInside.the_type C m) (
   checked.the_send,
-  (vec_send (Shared.the_row Name.the_row) (shared.the_send Name.the_row name.the_send name.the_sync),
-  (search sendable,
-  (piles.the_send C m s,
-  (search sendable,
-  (slots_send C m s,
-  (requests.the_send,
-  (bay_send,
-  (vec_send (Cell.the_row C m) (cell.the_send C m s),
-  (vec_send C s,
-  (roster.the_send,
-  (search sendable,
-  (search sendable, tt)))))))))))),
+  (
+    vec_send (Shared.the_row Name.the_row) (shared.the_send Name.the_row name.the_send name.the_sync),
+    (
+      search sendable,
+      (
+        piles.the_send C m s,
+        (
+          search sendable,
+          (
+            slots_send C m s,
+            (
+              requests.the_send,
+              (
+                bay_send,
+                (
+                  vec_send (Cell.the_row C m) (cell.the_send C m s),
+                  (
+                    vec_send C s,
+                    (
+                      roster.the_send,
+                      (
+                        search sendable,
+                        (search sendable, tt),
+                      ),
+                    ),
+                  ),
+                ),
+              ),
+            ),
+          ),
+        ),
+      ),
+    ),
+  ),
 ))
 
 pub desk_send : (C : RattleType) (m : Ghosts C.Denot) → IsSend C → IsSend (Desk.the_row C m)
 desk_send C m s = view_send _ _ _ _ _ (declared_send (DeskInside.the_type C m) (
-  works_send C m s, (blanks.the_send, (vec_send Entry.the_row entry.the_send, (vec_send C s, tt))),
+  works_send C m s,
+  (blanks.the_send, (vec_send Entry.the_row entry.the_send, (vec_send C s, tt))),
 ))

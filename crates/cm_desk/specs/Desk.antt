@@ -87,8 +87,8 @@ pub record GoesOnWithoutLoop (old new : History) : Type 0 where
   pub begins : IsPrefix old.made new.made
   pub own : entries_by old.opening.sessions new.made ≡ entries_by old.opening.sessions old.made
 
--- From one history to the other the loop stands as it stood: the same cycle is aloft, if one is, as many have ended, and the loop is
--- open or closed as it was.
+-- From one history to the other the loop stands as it stood: the same cycle is aloft, if one is, as many have ended,
+-- and the loop is open or closed as it was.
 pub record StandsAlike (old new : History) : Type 0 where
   pub alike : IsAloftAlike old new
   pub loop : SameLoop (now_of old) (now_of new)
@@ -139,8 +139,8 @@ LeavesFew made = (next : State) → length made + 1 + owed next < TOO_MANY_ENTRI
 abbrev pub HasRoomFor : List Entry → ℕ → Type 0
 HasRoomFor made entries = (next : State) → length made + 1 + owed next ≤ entries
 
--- What every desk keeps of its history. It began at the boot of a valid description, is legal and sound, and has few enough entries; and
--- how many cycles have ended and how many requests are decided can be counted in it.
+-- What every desk keeps of its history. It began at the boot of a valid description, is legal and sound, and has few
+-- enough entries; and how many cycles have ended and how many requests are decided can be counted in it.
 pub record IsRight (h : History) : Type 0 where
   pub valid : IsValid h.opening.description
   pub opening : h.opening ≡ boot h.opening.description h.opening.blanks h.opening.sessions
@@ -150,8 +150,8 @@ pub record IsRight (h : History) : Type 0 where
   pub decided : length (now_of h).outcomes ≡ decided_in h.made
   pub few : AreFew h.made (now_of h)
 
--- The description is valid; the history is legal and sound, and leads to this state, which is steady and whose serials differ; its
--- entries are few enough; there is room for the entries that are owed, and for the boxes that are loaded.
+-- The description is valid; the history is legal and sound, and leads to this state, which is steady and whose serials
+-- differ; its entries are few enough; there is room for the entries that are owed, and for the boxes that are loaded.
 pub record Keeps (opening : State) (made : List Entry) (now : State) (entries boxes : ℕ) : Type 0 where
   pub valid : IsValid opening.description
   pub legal : LegalFrom opening made

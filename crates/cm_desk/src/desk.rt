@@ -7,7 +7,8 @@ ghost use Rattle.cm_model.specs.Cycle.{cycle};
 ghost use Rattle.cm_model.specs.Machine.{can_begin, can_close};
 ghost use Rattle.cm_model.specs.State.{boot};
 ghost use Rattle.cm_desk.specs.Calls.Answers.{MayCall, IsHandedOver};
-ghost use Rattle.cm_desk.specs.Desk.{now_of, AreFew, HasRoomFor, LeavesFew, Grows, IsRight, Waits, GrowsWhere, hands_out, IsOut, MayLand};
+ghost use Rattle.cm_desk.specs.Desk.{now_of, Grows, Waits, GrowsWhere, hands_out, IsOut, MayLand};
+ghost use Rattle.cm_desk.specs.Desk.{AreFew, HasRoomFor, LeavesFew, IsRight};
 
 use crate::TOO_MANY_ENTRIES;
 use crate::book::Book;
@@ -68,8 +69,8 @@ impl<C: Controller> Desk<C> {
         })
     }
 
-    /// Answers a call of a session, with the box that an unload hands out. Want of memory changes nothing; a history that would have too
-    /// many entries (`TOO_MANY_ENTRIES`) wants memory too.
+    /// Answers a call of a session, with the box that an unload hands out. Want of memory changes nothing; a history
+    /// that would have too many entries (`TOO_MANY_ENTRIES`) wants memory too.
     pub fn call(
         &mut self,
         alloc: Global,
@@ -83,13 +84,7 @@ impl<C: Controller> Desk<C> {
         ensures kept { MatchResult result (λ _. AreFew self.new.made (now_of self.new)) (λ _. self.new ≡ self.old) }
     {
         let places = self.works.slots().len() + 1;
-        let Ok(kept) = ready(
-            alloc,
-            &call,
-            &mut self.history,
-            &mut self.boxes,
-            places,
-        ) else {
+        let Ok(kept) = ready(alloc, &call, &mut self.history, &mut self.boxes, places) else {
             drop(call);
             return Err(Memory);
         };
@@ -143,10 +138,11 @@ impl<C: Controller> Desk<C> {
         Ok(true)
     }
 
-    /// The loop begins the next cycle: the requests that wait are decided, all memory is taken that the cycle needs, and its flight is handed
-    /// out, which is computed wherever it is moved to. Want of memory changes nothing; a history that would have too many entries, its end
-    /// and the close included, wants memory too. A flight that is dropped leaves the desk aloft for good: console calls go on, and no cycle
-    /// begins and the loop does not close any more.
+    /// The loop begins the next cycle: the requests that wait are decided, all memory is taken that the cycle needs,
+    /// and its flight is handed out, which is computed wherever it is moved to. Want of memory changes nothing; a
+    /// history that would have too many entries, its end and the close included, wants memory too. A flight that is
+    /// dropped leaves the desk aloft for good: console calls go on, and no cycle begins and the loop does not close any
+    /// more.
     pub fn begin(&mut self, alloc: Global) -> Result<Flight<C>, Memory>
         requires can { can_begin (now_of self.old) (now_of self.old).ended ≡ true }
         ensures made { OnOk result
@@ -273,7 +269,8 @@ impl<C: Controller> Desk<C> {
     }
 }
 
-/// Room for the entries of one call: its own, the end of a cycle that is aloft, and the close. Where they would be too many there is none.
+/// Room for the entries of one call: its own, the end of a cycle that is aloft, and the close. Where they would be too
+/// many there is none.
 #[tactic(auto, using(crate::proofs::RecordLemmas::owed_few))]
 fn make_room(history: &mut Vec<Entry>) -> Result<(), Memory>
     ensures room { OnOk result (HasRoomFor history.old.items (vec_capacity history.new)) }

@@ -1,5 +1,5 @@
-//! Laws of the histories of a desk: what calls of sessions leave of the cycle that is aloft and of the loop, what a landing tells, and
-//! what is counted. Each is the contract of a function that does nothing.
+//! Laws of the histories of a desk: what calls of sessions leave of the cycle that is aloft and of the loop, what a
+//! landing tells, and what is counted. Each is the contract of a function that does nothing.
 
 ghost use Rattle.std.specs.Prelude.{◌≡◌, ℕ, List, length, Some};
 ghost use Rattle.cm_document.specs.declared.call.Call.{Call};
@@ -13,7 +13,8 @@ ghost use Rattle.cm_model.specs.declared.blanks.Blanks.{Blanks};
 ghost use Rattle.cm_model.specs.declared.entry.Entry.{Entry};
 ghost use Rattle.cm_model.specs.declared.reply.Reply.{Reply};
 ghost use Rattle.rt_flight.specs.Flights.{FlightFacts};
-ghost use Rattle.cm_desk.specs.Desk.{History, GoesOnWithoutLoop, Grows, IsAloftAlike, IsOut, MayLand, StandsAlike, begun_of, now_of};
+ghost use Rattle.cm_desk.specs.Desk.{History, Grows, IsAloftAlike, IsOut, MayLand, begun_of, now_of};
+ghost use Rattle.cm_desk.specs.Desk.{GoesOnWithoutLoop, StandsAlike};
 
 /// A call of a session leaves the cycle that is aloft: a flight that is out stays out, and one that may land may land after it.
 pub fn console_calls_leave_the_cycle_that_is_aloft()
@@ -23,8 +24,8 @@ pub fn console_calls_leave_the_cycle_that_is_aloft()
     ensures lands { (old new : History) (f : FlightFacts) → IsAloftAlike old new → MayLand old f → MayLand new f }
 {}
 
-/// Entries of other callers leave the loop as it stood, however many they are: the same cycle is aloft, as many have ended, and the loop
-/// is open or closed as it was.
+/// Entries of other callers leave the loop as it stood, however many they are: the same cycle is aloft, as many have
+/// ended, and the loop is open or closed as it was.
 pub fn entries_of_others_leave_the_loop_as_it_stood()
     ensures { (old new : History)
         → LegalFrom new.opening new.made → GoesOnWithoutLoop old new → StandsAlike old new }

@@ -26,8 +26,8 @@ pub record MayCall (h : History) (who : ℕ) (call : Call) : Type 0 where
   pub session : who < h.opening.sessions
   pub called : CanBeCalled call
 
--- What is handed over of a desk: its history, which is legal and sound and has few enough entries, and the data of the boxes, which are
--- those of the loaded controllers.
+-- What is handed over of a desk: its history, which is legal and sound and has few enough entries, and the data of the
+-- boxes, which are those of the loaded controllers.
 pub record IsHandedOver (h : History) (entries : List Entry) (held : List CtlData) : Type 0 where
   pub history : entries ≡ h.made
   pub legal : LegalFrom h.opening h.made
