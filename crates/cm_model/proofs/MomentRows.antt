@@ -1,6 +1,6 @@
 -- Worked rows of what a begin decides: moments of two states and a reply, written down by hand, that are right, and others that are not.
-use Rattle.std.proofs.Common.{◌≡◌, ℕ, Bool, true, false, List, [], ◌∷◌, map, pos, Option, Some, None, refl, sym, ap, ◌∙◌, true≢false, arith}
-use Rattle.std.specs.Prelude.{codes, ◌==◌, ◌&&◌, ◌||◌, not, is_some}
+use Rattle.std.proofs.Common.{◌≡◌, ℕ, Bool, true, false, List, [], ◌∷◌, length, map, pos, Option, Some, None, refl, sym, ap, ◌∙◌, true≢false, arith}
+use Rattle.std.specs.Prelude.{codes, ◌==◌, ◌&&◌, is_some}
 use Rattle.std.specs.List.{list_any}
 use Rattle.std.proofs.lemmas.Option.{same_Some}
 use Rattle.sequence.proofs.ListLemmas.{any_map}
@@ -11,9 +11,7 @@ use Rattle.cm_document.specs.declared.life.Life.{Life}
 use Rattle.cm_document.specs.declared.life.Life.TheVariants.{Inactive, Active}
 use Rattle.cm_model.proofs.Worked.{j1_position, runs, rests, with_running}
 use Rattle.cm_model.specs.Boundary.{life_at}
-use Rattle.cm_model.specs.CauseIsTrue.{strict_set}
-use Rattle.cm_model.specs.Commit.{scene_of}
-use Rattle.cm_model.specs.Deciding.{AreRelated, IsSwitched, is_let_go, IsLetGo, on_both, without_mail, apart_from_mail}
+use Rattle.cm_model.specs.Deciding.{AreRelated, IsSwitched, is_let_go, IsLetGo, asked_set, on_both, without_mail, apart_from_mail}
 use Rattle.cm_model.specs.Order.{Places}
 use Rattle.cm_model.specs.Sound.{Moment, DecidesRightly}
 use Rattle.cm_model.specs.State.{State, Loaded, is_active, active}
@@ -50,8 +48,11 @@ abbrev IsRight : Moment → Type 0
 IsRight moment = DecidesRightly moment moment.call
 
 -- the forward is to come, to leave, and to restart; the pid is to restart
+abbrev forward_request : SwitchRequest
+forward_request = record { on = codes "fwd" ∷ []; off = []; strict = true }
+
 abbrev forward_on : Request
-forward_on = request.Switch (record { on = codes "fwd" ∷ []; off = []; strict = true })
+forward_on = request.Switch forward_request
 
 abbrev forward_off : Request
 forward_off = request.Switch (record { on = []; off = codes "fwd" ∷ []; strict = true })
@@ -107,12 +108,8 @@ held : (s : State) (ceased : Places) (v : InterfaceValue) → is_let_go s.descri
 held s ceased v none = record { emptied = λ gone. absurd (true≢false (sym gone ∙ none)); held = λ kept. refl }
 
 -- the forward comes
-forward_set : (p : ℕ) → active (told (runs 0 0 false ∷ []) forward_on (outcome.Done [])) p ≡ strict_set (scene_of (asked (rests 0 0 ∷ []) forward_on)) [] (codes "fwd" ∷ []) p
-forward_set p = by_place (0 == p)
-  where
-    by_place : (here : Bool) → (here || false) ≡ ((((here && false) || false) && not false) || (here || false))
-    by_place true = refl
-    by_place false = refl
+forward_set : (p : ℕ) → active (told (runs 0 0 false ∷ []) forward_on (outcome.Done [])) p ≡ asked_set (asked (rests 0 0 ∷ []) forward_on) forward_request p
+forward_set p = refl
 
 forward_comes : IsRight (begin_of (asked (rests 0 0 ∷ []) forward_on) (outcome.Done []) (told (runs 0 0 false ∷ []) forward_on (outcome.Done [])))
 forward_comes = (
@@ -165,8 +162,8 @@ not_restarted = record (told (steered ∷ []) pid_again (outcome.Done [])) { alo
 
 abbrev PidSwitched : Loaded → Loaded → Type 0
 PidSwitched l new =
-    let scene = scene_of (asked (steered ∷ []) pid_again) in
-    IsSwitched (asked (steered ∷ []) pid_again) (strict_set scene pid_on_both.off pid_on_both.on) (on_both scene pid_on_both) l new
+    let before = asked (steered ∷ []) pid_again in
+    IsSwitched before (asked_set before pid_on_both) (on_both before pid_on_both) l new
 
 restart_without_effect : IsRight (begin_of (asked (steered ∷ []) pid_again) (outcome.Done []) not_restarted) → ⊥
 restart_without_effect (next, step, last) =
@@ -241,3 +238,14 @@ arm_told_and_not_moved (next, step, last) =
     let moves = step.rightly.1.2 in
     let here : 0 ≡ step.rightly.1.0 = same_Some 0 step.rightly.1.0 step.rightly.1.1 in
     true≢false (ap is_up (ap (λ (u : State). life_at u 0) last ∙ ap (life_at next) here ∙ moves.moved))
+
+-- a component that is not described is refused under another name
+abbrev nosuch_down : Request
+nosuch_down = request.Hardware (codes "nosuch") Inactive
+
+abbrev named_another : State
+named_another = record (told [] nosuch_down (outcome.Refused (codes "arm") cause.Unknown)) { aloft = true }
+
+another_name : IsRight (begin_of (asked [] nosuch_down) (outcome.Refused (codes "arm") cause.Unknown) named_another) → ⊥
+another_name (next, step, last) =
+    let longer : ◌≡◌ {A = ℕ} 3 6 = ap (λ (name : List ℕ). length name) step.rightly.0 in omega (arith, longer)

@@ -6,14 +6,14 @@ use Rattle.cm_document.specs.declared.call.SwitchRequest.{SwitchRequest}
 use Rattle.cm_document.specs.declared.description.CtlDesc.{CtlDesc}
 use Rattle.cm_document.specs.declared.life.Life.{Life}
 use Rattle.cm_model.specs.Boundary.{component_place, life_at}
-use Rattle.cm_model.specs.CauseIsTrue.{IsTrueOf, is_true_of_move, strict_set}
+use Rattle.cm_model.specs.CauseIsTrue.{IsTrueOf, is_true_of_move}
 use Rattle.cm_model.specs.Claims.{states_for}
 use Rattle.cm_model.specs.Commit.{described_of, scene_of}
 use Rattle.cm_model.specs.Components.{is_available}
 use Rattle.cm_model.specs.Controllers.{started}
 use Rattle.cm_model.specs.Loans.{CanRunTogether}
 use Rattle.cm_model.specs.Order.{Places}
-use Rattle.cm_model.specs.Scene.{Scene, is_claimed_by, is_chained_in, named}
+use Rattle.cm_model.specs.Scene.{is_claimed_by, is_chained_in, named}
 use Rattle.cm_model.specs.State.{State, Loaded, is_active, active}
 use Rattle.cm_model.specs.Switches.{differ}
 use Rattle.cm_model.specs.Values.{InterfaceValue, unset, belongs_to, shown}
@@ -113,17 +113,21 @@ pub record HasSwitched (before : State) (set again : Places) (after : State) : T
 
 -- ---- Switches
 
--- the controllers that a switch names on both lists
-abbrev pub on_both : Scene → SwitchRequest → Places
-on_both scene switch p = named scene switch.off p && named scene switch.on p
+-- what a switch asks for: those that were active without those to deactivate, and with those to activate
+abbrev pub asked_set : State → SwitchRequest → Places
+asked_set before switch p =
+    (active before p && not (named (scene_of before) switch.off p)) || named (scene_of before) switch.on p
+
+-- those that it names on both lists
+abbrev pub on_both : State → SwitchRequest → Places
+on_both before switch p = named (scene_of before) switch.off p && named (scene_of before) switch.on p
 
 -- A strict switch was done whole: the active controllers are those from before without those to deactivate, and with
 -- those to activate, and those on both lists restarted. Or it was refused: then nothing changes, and the cause is true
 -- of the name. The loop's end decides none.
 abbrev pub WholeOrNothing : State → SwitchRequest → State → Outcome → Type 0
 WholeOrNothing before switch after (outcome.Done dropped) =
-    (dropped ≡ [])
-    × HasSwitched before (strict_set (scene_of before) switch.off switch.on) (on_both (scene_of before) switch) after
+    (dropped ≡ []) × HasSwitched before (asked_set before switch) (on_both before switch) after
 WholeOrNothing before switch after (outcome.Refused name reason) =
     NothingChanges before after × IsTrueOf (scene_of before) switch.off switch.on name reason
 WholeOrNothing before switch after outcome.LoopEnded = ⊥
@@ -132,7 +136,7 @@ WholeOrNothing before switch after outcome.LoopEnded = ⊥
 pub record IsDoneInPart (before : State) (switch : SwitchRequest) (after : State) : Type 0 where
   -- of those that it names on both lists
   pub again : Places
-  pub named_again : (p : ℕ) → again p ≡ true → on_both (scene_of before) switch p ≡ true
+  pub named_again : (p : ℕ) → again p ≡ true → on_both before switch p ≡ true
   -- these restarted, as its set came to be active;
   pub switched : HasSwitched before (active after) again after
   -- that can run together;
@@ -184,15 +188,15 @@ pub record HasMoved (before : State) (component : ℕ) (target : Life) (after : 
   pub others : (place : ℕ) → place ≢ component → life_at after place ≡ life_at before place
   pub values : AreRelated (IsMoved before component target) before.values after.values
 
--- A hardware request was done: the component is in the asked state. Or it was refused: then nothing changes, and the
--- cause is true.
+-- A hardware request was done: the component is in the asked state. Or it was refused: then the component is named,
+-- nothing changes, and the cause is true.
 abbrev pub MovedOrNothing : State → List ℕ → Life → State → Outcome → Type 0
 MovedOrNothing before name target after (outcome.Done dropped) =
     (dropped ≡ [])
     × ((component : ℕ) × (component_place before.description name ≡ Some component)
     × HasMoved before component target after)
 MovedOrNothing before name target after (outcome.Refused named reason) =
-    NothingChanges before after × (is_true_of_move before name target reason ≡ true)
+    (named ≡ name) × NothingChanges before after × (is_true_of_move before name target reason ≡ true)
 MovedOrNothing before name target after outcome.LoopEnded = ⊥
 
 -- ---- All that wait

@@ -1,6 +1,6 @@
 -- A request is decided rightly: done whole, or refused with a cause that is true and no change.
 use Rattle.std.proofs.Common.{◌≡◌, ℕ, ◌<◌, Bool, true, false, List, [], ◌∷◌, ◌++◌, length, Option, Some, None, inl, inr, refl, sym, ◌∙◌, subst, ap, arith}
-use Rattle.std.specs.Prelude.{◌==◌, ◌&&◌, not, if◌then◌else◌, find, position, is_some, option_map, slice_set}
+use Rattle.std.specs.Prelude.{◌==◌, ◌&&◌, ◌||◌, not, if◌then◌else◌, find, position, is_some, option_map, slice_set}
 use Rattle.std.specs.Option.{option_map_or}
 use Rattle.std.proofs.Math.Path.{fun_ext}
 use Rattle.std.proofs.lemmas.Bool.{and_from, and_parts}
@@ -13,6 +13,7 @@ use Rattle.cm_document.specs.declared.call.Call.TheVariants.{Begin}
 use Rattle.cm_document.specs.declared.call.SwitchRequest.{SwitchRequest}
 use Rattle.cm_document.specs.declared.description.CompDesc.{CompDesc}
 use Rattle.cm_document.specs.declared.life.Life.{Life}
+use Rattle.cm_model.proofs.CommitLemmas.{scene_active}
 use Rattle.cm_model.proofs.StayLemmas.{IsStep}
 use Rattle.cm_model.specs.BestEffort.{best, decided}
 use Rattle.cm_model.specs.Boundary.{waiting, with_switch, component_place, user_of, life_at, move_fault, with_move_unless, with_move, Concluded, concluded, with_outcome, all_concluded, begin_effect, begin_reply}
@@ -21,7 +22,7 @@ use Rattle.cm_model.specs.Claims.{uses}
 use Rattle.cm_model.specs.Commit.{described_of, scene_of, commit}
 use Rattle.cm_model.specs.Components.{is_available, has_move}
 use Rattle.cm_model.specs.Cycle.{active_order, is_due_now, without_mail_off, moved, begun}
-use Rattle.cm_model.specs.Deciding.{lasting, NothingChanges, HasSwitched, WholeOrNothing, IsDoneInPart, AsMuchAsCanBe, IsSwitchDecided, HasMoved, MovedOrNothing, IsDecidedRightly, IsDecision, without_mail, apart_from_mail, AreDecided}
+use Rattle.cm_model.specs.Deciding.{lasting, NothingChanges, HasSwitched, asked_set, WholeOrNothing, IsDoneInPart, AsMuchAsCanBe, IsSwitchDecided, HasMoved, MovedOrNothing, IsDecidedRightly, IsDecision, without_mail, apart_from_mail, AreDecided}
 use Rattle.cm_model.specs.Faults.{cause_if}
 use Rattle.cm_model.specs.Loans.{CanRunTogether}
 use Rattle.cm_model.specs.Order.{Places}
@@ -67,6 +68,10 @@ module _ (s : State) (steady : IsSteady s) (r : SwitchRequest) where
   set_switched set again have =
       commit_switched s set again steady.in_order (params_loaded s.loaded set have) (params_configured s set steady.in_order have)
 
+  -- the set of the scene is the one that is asked for
+  asked_is : strict_set (scene_of s) r.off r.on ≡ asked_set s r
+  asked_is = ap (λ (f : Places). λ (p : ℕ). (f p && not (named (scene_of s) r.off p)) || named (scene_of s) r.on p) (scene_active s steady.in_order.own)
+
   -- that the decision is whole or nothing
   abbrev IsRight : Decided → Type 0
   IsRight d = WholeOrNothing s r (with_outcome (with_switch s d)) (with_switch s d).outcome
@@ -78,8 +83,11 @@ module _ (s : State) (steady : IsSteady s) (r : SwitchRequest) where
             let can = (strict_done (scene_of s) r.off r.on).0 whole in
             let set = strict_set (scene_of s) r.off r.on in
             let again : Places = λ p. named (scene_of s) r.off p && named (scene_of s) r.on p in
-            subst IsRight (sym whole)
-            (refl, told_switched s set again (with_switch s (done [] set again)) (set_switched set again (params s steady r.off r.on can)))
+            subst IsRight (sym whole) (
+              refl,
+              subst (λ f. HasSwitched s f again (with_outcome (with_switch s (done [] set again)))) asked_is
+                  (told_switched s set again (with_switch s (done [] set again)) (set_switched set again (params s steady r.off r.on can))),
+            )
         | inr (d, refuses) ↦
             subst IsRight (sym refuses)
             (unchanged s (outcome.Refused d.name d.cause), counts_true (scene_of s) r.off r.on d (strict_refused (scene_of s) r.off r.on d refuses))
@@ -184,11 +192,11 @@ module _ (s : State) (name : List ℕ) (target : Life) (component : ℕ) (at : c
   moved_right : IsInOrder s → (o : Option Cause) → move_fault s component target ≡ o
       → MovedOrNothing s name target (with_outcome (with_move_unless s name component target o)) (with_move_unless s name component target o).outcome
   moved_right kept None none = (refl, (component, at, told_moved (with_move_unless s name component target None) (comes kept)))
-  moved_right kept (Some c) is = (unchanged s (outcome.Refused name c), fault_true c is)
+  moved_right kept (Some c) is = (refl, unchanged s (outcome.Refused name c), fault_true c is)
 
 move_right : (s : State) → IsInOrder s → (name : List ℕ) (target : Life) (o : Option ℕ) → component_place s.description name ≡ o
     → MovedOrNothing s name target (with_outcome (with_move s name target o)) (with_move s name target o).outcome
-move_right s kept name target None at = (unchanged s (outcome.Refused name cause.Unknown), ap (λ o. not (is_some o)) at)
+move_right s kept name target None at = (refl, unchanged s (outcome.Refused name cause.Unknown), ap (λ o. not (is_some o)) at)
 move_right s kept name target (Some component) at = moved_right s name target component at kept (move_fault s component target) refl
 
 -- ---- What stays
