@@ -162,7 +162,7 @@ def names_in_a_description(what, size):
     described += controller(below, "forward", [f"{above}/{whose}/position"])
     lines = [*activated([above, below]), f"send {below} 1", "list controllers", "list interfaces", "list components"]
     lines += [f"hw {part} inactive", f"switch strict -{above}", f"switch best -{below} -{above}", f"switch best +{below} -nosuch"]
-    return case(described, [f"session {who}", *lines[1:]], untold=1)
+    return case(described, [f"session {who}", *lines[1:]])
 
 
 def key(size):
