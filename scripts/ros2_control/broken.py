@@ -5,8 +5,8 @@ import re
 
 CUTS = 12  # of a URDF, at characters that are drawn with a fixed seed
 SOMEWHERE = None  # the fault shows at a line that is not said
-# What is replaced in a URDF: the title, a pattern, of which the first group is replaced wherever it stands, by what, the
-# word that is to be named, and at how many lines from there it is refused.
+# What is replaced in a URDF: the title, a pattern, of which the first group is replaced wherever it stands, by what,
+# the word that is to be named, and at how many lines from there it is refused.
 OF_URDF = (
     ("a joint is not closed", r"(</joint>)\n\s*<joint", "", "", SOMEWHERE),
     ("an interface is not closed", r'_interface name="velocity"(/)>', "", "", SOMEWHERE),
