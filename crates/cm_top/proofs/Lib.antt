@@ -1,4 +1,3 @@
-pub mod NumberLemmas
 pub mod PortLemmas
 pub mod PartsLemmas
 pub mod SettleLemmas

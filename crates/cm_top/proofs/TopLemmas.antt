@@ -1,6 +1,6 @@
 -- From the parts of a run to what it promises.
 use Rattle.std.proofs.Common.{◌≡◌, ℕ, ◌+◌, ◌<◌, ◌≤◌, ◌^◌, List, [], ◌∷◌, length, map, Option, Some, None, Ok, true, false, refl, sym, ap, ◌∙◌, inl, inr, ◌⊎◌, arith}
-use Rattle.std.specs.Prelude.{◌≢◌, IfSome, IsSome, IfOk, Result, Err, nat_lt, sum_by}
+use Rattle.std.specs.Prelude.{IfSome, IsSome, IfOk, Result, Err, nat_lt, sum_by}
 use Rattle.std.specs.List.{All, AllByRecursion}
 use Rattle.std.proofs.lemmas.Bool.Decides.{nat_tests}
 use Rattle.std.proofs.lemmas.List.Elements.{All-from_recursion}
@@ -42,7 +42,7 @@ use Rattle.cm_words.specs.declared.job.JobKind.TheVariants as kind
 use Rattle.cm_words.specs.declared.job.WordsFault.{WordsFault}
 use Rattle.cm_top.specs.Jobs.{JobFacts, progress_of}
 use Rattle.cm_top.specs.Book.{BookFacts, Task, IsBookOf, finished, made_by, task_of}
-use Rattle.cm_top.specs.Calls.Run.{SourceFacts, SinkFacts, MindsFaults, Runs, RunsBytes, RunsMade, RunsFrom, RunsJob}
+use Rattle.cm_top.specs.Calls.Run.{SourceFacts, SinkFacts, MindsSink, MindsFaults, Runs, RunsBytes, RunsMade, RunsFrom, RunsJob}
 use Rattle.cm_top.specs.Status.{Written, EndedWith, HandsOut, Wrote, RanDocument, IsPlain, ComesOfBytes, status_of, status_of_document}
 use Rattle.cm_model.proofs.HistoryLemmas.{whole-closed}
 use Rattle.cm_top.specs.declared.status.Status.{Status}
@@ -230,13 +230,25 @@ read-end (Some told) left' bytes whole is_told = rw whole.1 refl
 
 -- ---- Before the document
 
--- where nothing was read and nothing written, no fault is told
-pub untouched-MindsFaults : (source : SourceFacts) (sink : SinkFacts) (ended : Status) → ended ≢ status.ReadFault → ended ≢ status.WriteFault → MindsFaults source source sink sink ended
-untouched-MindsFaults source sink ended no_read no_write = record {
-  read_fault = record { later = omega arith; counted = λ failed. absurd (no_read failed); uncounted = λ other. refl };
-  write_fault = record { later = omega arith; counted = λ failed. absurd (no_write failed); uncounted = λ other. refl };
-  read_at_most = ([], omega arith, Consumes-nil source.left);
+-- a status that is no fault of reading or writing
+abbrev pub IsNoFault : Status → Type 0
+IsNoFault status.ReadFault = ⊥
+IsNoFault status.WriteFault = ⊥
+IsNoFault _ = Unit {0}
+
+-- where nothing was written, no fault of writing is told
+pub untouched-MindsSink : (sink : SinkFacts) (ended : Status) → IsNoFault ended → MindsSink sink sink ended
+untouched-MindsSink sink ended none = record {
+  write_fault = record { later = omega arith; counted = λ failed. absurd (rw failed at none); uncounted = λ other. refl };
   unflushed = λ other. refl;
+}
+
+-- where nothing was read either, no fault is told
+pub untouched-MindsFaults : (source : SourceFacts) (sink : SinkFacts) (ended : Status) → IsNoFault ended → MindsFaults source source sink sink ended
+untouched-MindsFaults source sink ended none = record {
+  read_fault = record { later = omega arith; counted = λ failed. absurd (rw failed at none); uncounted = λ other. refl };
+  read_at_most = ([], omega arith, Consumes-nil source.left);
+  of_sink = untouched-MindsSink sink ended none;
 }
 
 all_known : (known : Option (List ℕ)) (P : List ℕ → Type 0) → ((bytes : List ℕ) → P bytes) → IfSome known P

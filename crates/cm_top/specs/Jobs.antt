@@ -1,5 +1,5 @@
 -- How far a job has come, and a move of it.
-use Rattle.std.specs.Prelude.{◌≡◌, ℕ, suc, List, [], ◌∷◌, length, map}
+use Rattle.std.specs.Prelude.{◌≡◌, List, map}
 use Rattle.cm_model.specs.Scheduled.{Session, Advanced, Progress}
 use Rattle.cm_desk.specs.Desk.{History, now_of}
 use Rattle.console_session.specs.Sessions.{SessionState, left_of}
@@ -7,16 +7,6 @@ use Rattle.console_session.specs.Sessions.{SessionState, left_of}
 -- how far the run has come where a session that stands so advances over a desk of this history
 abbrev pub at : History → Session → Advanced
 at h x = record { state = now_of h; made = h.made; session = x }
-
--- the numbers of these sessions go up by one, from this one on
-abbrev pub AreNumberedFrom : ℕ → List SessionState → Type 0
-AreNumberedFrom n [] = Unit {0}
-AreNumberedFrom n (x ∷ xs) = (x.who ≡ n) × AreNumberedFrom (suc n) xs
-
--- The sessions of a desk: as many as it has, each with its place as its number, which is that of its console.
-pub record AreSessionsOf (desk : History) (sessions : List SessionState) : Type 0 where
-  pub many : length sessions ≡ desk.opening.sessions
-  pub numbered : AreNumberedFrom 0 sessions
 
 -- How far a job has come: what its desk did from the opening on, and where each session stands.
 pub record JobFacts : Type 0 where

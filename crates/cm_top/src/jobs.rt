@@ -9,7 +9,7 @@ ghost use Rattle.cm_model.specs.Sound.{moments, AreSound};
 ghost use Rattle.cm_model.specs.State.{boot};
 ghost use Rattle.cm_desk.specs.Desk.{now_of, IsAloftAlike};
 ghost use Rattle.console_session.specs.Sessions.{AreLines, left_of};
-ghost use Rattle.cm_top.specs.Jobs.{AreNumberedFrom, AreSessionsOf, at, progress_of};
+ghost use Rattle.cm_top.specs.Jobs.{at, progress_of};
 
 use crate::port::DeskPort;
 use cm_desk::{Book, Desk, Flight, Stock};
@@ -30,14 +30,15 @@ pub struct Job<C: Controller> {
 }
 
 impl<C: Controller> Model for Job<C> {
+    ghost use Rattle.std.specs.Prelude.{◌≡◌, length};
     ghost use Rattle.cm_desk.specs.Desk.{IsFlown};
-    ghost use Rattle.cm_top.specs.Jobs.{AreSessionsOf, JobFacts};
+    ghost use Rattle.cm_top.specs.Jobs.{JobFacts};
 
     ghost Value = { JobFacts };
 
     ghost view = { λ j. record { desk = j.desk; sessions = j.sessions.items } };
 
-    ghost invariant = { λ j. AreSessionsOf j.desk j.sessions.items × IsFlown j.desk j.flight };
+    ghost invariant = { λ j. (length j.sessions.items ≡ j.desk.opening.sessions) × IsFlown j.desk j.flight };
 }
 
 impl<C: Controller> Job<C> {
@@ -326,9 +327,8 @@ pub fn run_in_steps<C: Controller>(
 fn waiting(alloc: Global, texts: &[SessionText]) -> Result<Vec<Session>, Memory>
     requires few { length texts.now < 2 ^ 32 }
     requires lines { All (λ s. AreLines s.lines) texts.now }
-    ensures left { IfOk result
+    ensures { IfOk result
         (λ sessions. map left_of sessions.items ≡ map (λ s. record { lines = s.lines; ticket = None }) texts.now) }
-    ensures numbered { IfOk result (λ sessions. AreNumberedFrom 0 sessions.items) }
 {
     let mut sessions = Vec::with_capacity(alloc, texts.len())?;
     for text in texts {
@@ -371,34 +371,33 @@ fn settle_each<C: Controller>(
     sessions: &mut [Session],
     desk: &mut Desk<C>,
 ) -> Result<(), Memory>
-    requires { AreSessionsOf desk.old sessions.old }
+    requires { length sessions.old ≡ desk.old.opening.sessions }
     ensures settled { OnOk result
         (settle_from 0 (map left_of sessions.old) (now_of desk.old) desk.old.made []
         ≡ progress_of (record { desk = desk.new; sessions = sessions.new })) }
     ensures opening { desk.new.opening ≡ desk.old.opening }
     ensures aloft { IsAloftAlike desk.old desk.new }
-    ensures numbered { AreSessionsOf desk.new sessions.new }
 {
     for who in 0..desk.sessions() {
-        settle(alloc, &mut sessions[who as usize], desk)?;
+        settle(alloc, who, &mut sessions[who as usize], desk)?;
     }
     Ok(())
 }
 
-/// A session settles: it advances over the console of its number until it cannot.
+/// A session settles: it advances until it cannot.
 fn settle<C: Controller>(
     alloc: Global,
+    who: u32,
     session: &mut Session,
     desk: &mut Desk<C>,
 ) -> Result<(), Memory>
-    requires { session.old.who < desk.old.opening.sessions }
+    requires { who < desk.old.opening.sessions }
     ensures settled { OnOk result
-        (settle session.old.who (at desk.old (left_of session.old)) ≡ at desk.new (left_of session.new)) }
+        (settle who (at desk.old (left_of session.old)) ≡ at desk.new (left_of session.new)) }
     ensures opening { desk.new.opening ≡ desk.old.opening }
     ensures aloft { IsAloftAlike desk.old desk.new }
-    ensures number { session.new.who ≡ session.old.who }
 {
-    let mut port = DeskPort::over(alloc, desk, session.who());
+    let mut port = DeskPort::over(alloc, desk, who);
     while let Progress::Ran = session.advance(&mut port)? {}
     Ok(())
 }
@@ -410,13 +409,12 @@ fn step<C: Controller>(
     sessions: &mut [Session],
     desk: &mut Desk<C>,
 ) -> Result<(), Memory>
-    requires { AreSessionsOf desk.old sessions.old }
+    requires { length sessions.old ≡ desk.old.opening.sessions }
     ensures stepped { OnOk result
         (progress_of (record { desk = desk.new; sessions = sessions.new })
         ≡ turned (Turn.Step who) (progress_of (record { desk = desk.old; sessions = sessions.old }))) }
     ensures opening { desk.new.opening ≡ desk.old.opening }
     ensures aloft { IsAloftAlike desk.old desk.new }
-    ensures numbered { AreSessionsOf desk.new sessions.new }
 {
     if who >= desk.sessions() {
         return Ok(());

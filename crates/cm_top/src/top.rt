@@ -1,13 +1,12 @@
 //! The top call: words and a document in, the run's trace or summary and its book out.
 
-ghost use Rattle.std.specs.Prelude.{◌≡◌, ◌≢◌, ◌≤◌, length, map, option_map, string_bytes, IfOk, IfSome};
-ghost use Rattle.outside_io.specs.Faults.{IsToldAs};
+ghost use Rattle.std.specs.Prelude.{◌≡◌, ◌≤◌, length, map, option_map, string_bytes, IfOk, IfSome};
 ghost use Rattle.cm_document.specs.declared.limits.TheConstants.{LONGEST_DOCUMENT};
 ghost use Rattle.cm_words.specs.declared.job.TheConstants.{MOST_ROUNDS};
 ghost use Rattle.cm_words.specs.Words.{asked};
 ghost use Rattle.cm_top.specs.Book.{book_facts, task_of};
 ghost use Rattle.cm_top.specs.Status.{ComesBeforeWriting};
-ghost use Rattle.cm_top.specs.Calls.Run.{source_facts, sink_facts, RefusesWords, Spares, MindsFaults, Runs, RunsBytes, RunsJob, RunsMade};
+ghost use Rattle.cm_top.specs.Calls.Run.{source_facts, sink_facts, RefusesWords, Spares, SparesAlone, MindsSink, MindsFaults, Runs, RunsBytes, RunsJob, RunsMade};
 
 use crate::accepted::run_document;
 use crate::document::read_document;
@@ -28,6 +27,7 @@ use std::thread::Threads;
 /// Reads the source to its end, checks description and script, runs the job over the stock, writes the trace and flushes it, and hands
 /// out the book. With a number of rounds the document is made, nothing is read, and the summary is written. Nothing is written before
 /// the job has run. The pace and the gate are not called.
+#[tactic(auto, using(crate::proofs::TopLemmas::untouched-MindsFaults))]
 pub fn run<R, S, K, P, G, C>(
     rt: &R,
     alloc: Global,
@@ -80,10 +80,7 @@ pub fn run_alone<S: Source, K: Sink, C: Controller>(
     ensures outside { MindsFaults
         (source_facts S.left S.faults source.old) (source_facts S.left S.faults source.new)
         (sink_facts K.taken K.flushed K.faults sink.old) (sink_facts K.taken K.flushed K.faults sink.new) result.0 }
-    // A made document is not read.
-    ensures unread { IfSome job.now.make (λ _. source.new ≡ source.old) }
-    // Statuses 3 to 6 leave the sink as it was.
-    ensures untouched { ComesBeforeWriting result.0 → sink.new ≡ sink.old }
+    ensures spared { SparesAlone job.now result.0 source.old source.new sink.old sink.new }
 {
     match job.make {
         Some(rounds) => run_made(alloc, *job, rounds, sink, stock),
@@ -117,6 +114,7 @@ fn run_read<S: Source, K: Sink, C: Controller>(
 }
 
 /// Runs the made document of so many rounds.
+#[tactic(auto, using(crate::proofs::TopLemmas::untouched-MindsSink))]
 fn run_made<K: Sink, C: Controller>(
     alloc: Global,
     job: Job,
@@ -128,8 +126,8 @@ fn run_made<K: Sink, C: Controller>(
     ensures runs { RunsMade (task_of job stock) stock rounds
         (sink_facts K.taken K.flushed K.faults sink.old) (sink_facts K.taken K.flushed K.faults sink.new)
         result.0 (option_map (book_facts C.meaning) result.1) }
-    ensures write_fault { IsToldAs Status.WriteFault result.0 (K.faults sink.old) (K.faults sink.new) }
-    ensures unflushed { result.0 ≢ Status.Ok → K.flushed sink.new ≡ K.flushed sink.old }
+    ensures outside { MindsSink
+        (sink_facts K.taken K.flushed K.faults sink.old) (sink_facts K.taken K.flushed K.faults sink.new) result.0 }
     ensures untouched { ComesBeforeWriting result.0 → sink.new ≡ sink.old }
 {
     match make_document(alloc, rounds) {
@@ -139,6 +137,7 @@ fn run_made<K: Sink, C: Controller>(
 }
 
 /// Runs the document that these bytes are.
+#[tactic(auto, using(crate::proofs::TopLemmas::untouched-MindsSink))]
 fn run_bytes<K: Sink, C: Controller>(
     alloc: Global,
     job: Job,
@@ -150,8 +149,8 @@ fn run_bytes<K: Sink, C: Controller>(
     ensures runs { RunsBytes (task_of job stock) stock bytes.now
         (sink_facts K.taken K.flushed K.faults sink.old) (sink_facts K.taken K.flushed K.faults sink.new)
         result.0 (option_map (book_facts C.meaning) result.1) }
-    ensures write_fault { IsToldAs Status.WriteFault result.0 (K.faults sink.old) (K.faults sink.new) }
-    ensures unflushed { result.0 ≢ Status.Ok → K.flushed sink.new ≡ K.flushed sink.old }
+    ensures outside { MindsSink
+        (sink_facts K.taken K.flushed K.faults sink.old) (sink_facts K.taken K.flushed K.faults sink.new) result.0 }
     ensures untouched { ComesBeforeWriting result.0 → sink.new ≡ sink.old }
 {
     match read_document(alloc, bytes) {

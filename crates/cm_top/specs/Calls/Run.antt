@@ -45,6 +45,13 @@ pub record RefusesWords {S K B : Type 0} (words : List (List ℕ)) (source sourc
   pub nothing_written : asked words ≡ Err Usage → sink' ≡ sink
   pub no_book : asked words ≡ Err Usage → book ≡ None
 
+-- What a run of a job leaves as it was.
+pub record SparesAlone {S K : Type 0} (job : Job) (ended : Status) (source source' : S) (sink sink' : K) : Type 0 where
+  -- a made document is not read
+  pub unread : IfSome job.make (λ _. source' ≡ source)
+  -- statuses 3 to 6 leave the sink as it was
+  pub untouched : ComesBeforeWriting ended → sink' ≡ sink
+
 -- What a run of words leaves as it was.
 pub record Spares {S K P : Type 0} (words : List (List ℕ)) (ended : Status) (source source' : S) (sink sink' : K) (pace pace' : P) : Type 0 where
   -- a made document is not read
@@ -54,15 +61,20 @@ pub record Spares {S K P : Type 0} (words : List (List ℕ)) (ended : Status) (s
   -- nothing is paced
   pub unpaced : pace' ≡ pace
 
--- How a run ends by the faults of its source and its sink, before and after it, whatever its words and its document are.
-pub record MindsFaults (source source' : SourceFacts) (sink sink' : SinkFacts) (ended : Status) : Type 0 where
-  -- it ends as a fault of reading exactly where a read failed, and as one of writing exactly where a write or a flush did
-  pub read_fault : IsToldAs status.ReadFault ended source.faults source'.faults
+-- How a run ends by the faults of its sink, before and after it.
+pub record MindsSink (sink sink' : SinkFacts) (ended : Status) : Type 0 where
+  -- it ends as a fault of writing exactly where a write or a flush failed
   pub write_fault : IsToldAs status.WriteFault ended sink.faults sink'.faults
-  -- never more than one byte past the longest document is taken from the source
-  pub read_at_most : TakesAtMost source.left source'.left (LONGEST_DOCUMENT + 1)
   -- what was taken is flushed where the run went well, and nowhere else
   pub unflushed : ended ≢ status.Ok → sink'.flushed ≡ sink.flushed
+
+-- How a run ends by the faults of its source and its sink, before and after it, whatever its words and its document are.
+pub record MindsFaults (source source' : SourceFacts) (sink sink' : SinkFacts) (ended : Status) : Type 0 where
+  -- it ends as a fault of reading exactly where a read failed
+  pub read_fault : IsToldAs status.ReadFault ended source.faults source'.faults
+  -- never more than one byte past the longest document is taken from the source
+  pub read_at_most : TakesAtMost source.left source'.left (LONGEST_DOCUMENT + 1)
+  pub of_sink : MindsSink sink sink' ended
 
 -- A run of these bytes into this sink, before and after, with its status and its book.
 pub record RunsBytes (task : Task) (blanks : Blanks) (bytes : List ℕ) (sink sink' : SinkFacts) (ended : Status) (book : Option BookFacts) : Type 0 where

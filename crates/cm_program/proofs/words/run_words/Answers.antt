@@ -3,4 +3,4 @@ use Rattle.cm_program.proofs.words.run_words.Goals as goal
 
 -- words that can't be had end the program before anything is read or written, and so do blanks
 pub returns-in-Err-clause-outside : goal.returns-in-Err-clause-outside
-returns-in-Err-clause-outside g c = untouched-MindsFaults _ _ _ (λ failed. cc) (λ failed. cc)
+returns-in-Err-clause-outside g c = untouched-MindsFaults _ _ _ tt

@@ -1,5 +1,4 @@
 use Rattle.std.proofs.Common.{◌≡◌, ◌++◌, ◌∷◌, [], rules, refl}
-use Rattle.cm_top.proofs.NumberLemmas.{numbered_more}
 use Rattle.cm_top.proofs.SettleLemmas.{waiting_more}
 use Rattle.cm_top.proofs.jobs.waiting.Goals as goal
 
@@ -11,8 +10,5 @@ make-requires c = rw (c.in_ok-text_again.ensures, c.text-item.is) (c.requires.li
 pub loop-text-preserved : goal.loop-text-preserved
 loop-text-preserved c =
     let pushed : c.push.new.self.items ≡ c.loop-text.sessions.items ++ c.make.result ∷ [] = search rules in
-    record {
-      left = rw pushed (waiting_more c.args.texts.now c.loop-text.text-index c.text-item.result c.loop-text.sessions.items c.make.result
-          c.loop-text-test.true c.text-item.is (rw (c.make.ensures, c.in_ok-text_again.ensures) refl) c.loop-text.invariant.left);
-      numbered = rw pushed (numbered_more 0 c.loop-text.sessions.items c.make.result c.loop-text.invariant.numbered (rw c.make.ensures (search rules)));
-    }
+    rw pushed (waiting_more c.args.texts.now c.loop-text.text-index c.text-item.result c.loop-text.sessions.items c.make.result
+    c.loop-text-test.true c.text-item.is (rw (c.make.ensures, c.in_ok-text_again.ensures) refl) c.loop-text.invariant)

@@ -6,7 +6,6 @@ use Rattle.cm_top.proofs.top.run_alone.Goals as goal
 pub returns-in-Some-clause-outside : goal.returns-in-Some-clause-outside
 returns-in-Some-clause-outside g c = record {
   read_fault = record { later = omega arith; counted = λ failed. absurd (rw failed at c.run_made.ensures.runs.ran.of_bytes); uncounted = λ other. refl };
-  write_fault = c.run_made.ensures.write_fault;
   read_at_most = ([], omega arith, Consumes-nil _);
-  unflushed = c.run_made.ensures.unflushed;
+  of_sink = c.run_made.ensures.outside;
 }

@@ -12,7 +12,7 @@ run_bytes-requires g c = rw (c.as_slice.ensures.value, c.in-Ok.ensures) (made_is
 pub returns-in-Ok-clause-runs : goal.returns-in-Ok-clause-runs
 returns-in-Ok-clause-runs g c =
     let ran = rw (c.as_slice.ensures.value, c.in-Ok.ensures) at c.run_bytes.ensures.runs in
-    record { ran = ran; exact = made-exact (task_of c.args.job c.args.stock) c.args.rounds _ _ _ _ _ (omega (arith, c.requires)) ran.ran ran.of_bytes (told-Rose _ _ _ _ c.run_bytes.ensures.write_fault) }
+    record { ran = ran; exact = made-exact (task_of c.args.job c.args.stock) c.args.rounds _ _ _ _ _ (omega (arith, c.requires)) ran.ran ran.of_bytes (told-Rose _ _ _ _ c.run_bytes.ensures.outside.write_fault) }
 
 pub returns-in-Err-clause-runs : goal.returns-in-Err-clause-runs
 returns-in-Err-clause-runs g c = nothing-RunsMade _ _ _ _

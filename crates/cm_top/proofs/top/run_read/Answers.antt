@@ -14,7 +14,7 @@ returns-in-Ok-clause-runs g c =
       plain = c.run_bytes.ensures.runs.plain;
       exact = read-EndedWith _ _ c.in-Ok.bytes.items _ c.in-Ok.ensures.read.whole
           (EndedWith-exact (task_of c.args.job c.args.stock) c.in-Ok.bytes.items _ _ _ _ _ _ ran (λ failed. absurd (rw failed at c.run_bytes.ensures.runs.of_bytes))
-          (told-Rose _ _ _ _ c.run_bytes.ensures.write_fault));
+          (told-Rose _ _ _ _ c.run_bytes.ensures.outside.write_fault));
     }
 
 -- the source was read without a fault, and the sink's are told
@@ -25,7 +25,6 @@ returns-in-Ok-clause-outside g c = record {
     counted = λ failed. absurd (rw failed at c.run_bytes.ensures.runs.of_bytes);
     uncounted = λ other. c.read_whole.ensures.cause.uncounted (λ failed. cc);
   };
-  write_fault = c.run_bytes.ensures.write_fault;
   read_at_most = c.read_whole.ensures.at_most;
-  unflushed = c.run_bytes.ensures.unflushed;
+  of_sink = c.run_bytes.ensures.outside;
 }

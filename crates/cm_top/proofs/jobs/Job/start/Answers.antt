@@ -5,5 +5,5 @@ use Rattle.cm_top.proofs.jobs.Job.start.Goals as goal
 -- a desk for as many sessions as there are
 pub invariant_of-result : goal.invariant_of-result
 invariant_of-result g c =
-    let many : length c.in_ok-sessions.sessions.items ≡ length c.as_slice-texts.result.now = as_many _ _ c.in_ok-sessions.ensures.left in
-    (record { many = rw (c.in_ok-desk.ensures, many) refl; numbered = c.in_ok-sessions.ensures.numbered }, search rules)
+    let many : length c.in_ok-sessions.sessions.items ≡ length c.as_slice-texts.result.now = as_many _ _ c.in_ok-sessions.ensures in
+    rw (c.in_ok-desk.ensures, many) (search rules)
