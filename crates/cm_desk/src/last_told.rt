@@ -18,7 +18,11 @@ impl LastTold {
     }
 
     /// The list to tell: the last one, if it says the same.
-    pub(crate) fn told(&mut self, alloc: Global, lines: Seq<IfaceLine>) -> Result<Shared<Seq<IfaceLine>>, Memory>
+    pub(crate) fn told(
+        &mut self,
+        alloc: Global,
+        lines: Seq<IfaceLine>,
+    ) -> Result<Shared<Seq<IfaceLine>>, Memory>
         ensures { IfOk result (λ told. told ≡ lines) }
     {
         if let Some(last) = &self.lines {
@@ -65,7 +69,7 @@ fn same_value(one: StoredValue, other: StoredValue) -> bool
 {
     match (one.get(), other.get()) {
         (Value::Unset, Value::Unset) => true,
-        (Value::Num(one), Value::Num(other)) => one == other,
+        (Value::Num(one), Value::Num(other)) => one.micro() == other.micro(),
         _ => false,
     }
 }

@@ -6,10 +6,10 @@ pub use append::{push_number, push_numbered};
 pub use blanks::Blanks;
 pub use cause::{Cause, Decision, Dropped, Outcome};
 pub use cm_document::{
-    Call, CheckFault, Checked, CompDesc, CompKind, CtlDesc, CtlKind, Cycles, DescFault, DescProblem,
-    Description, Document, DocumentFault, Fx, Grammar, IfaceName, JointDesc, Kind, Life, Mail,
-    Memory, Name, NameFault, Params, Point2, Script, ScriptFault, ScriptLine, Seq, SessionText,
-    Shared, SwitchRequest, Text, Turn, Verb, What, Wrong, whole_grammar,
+    Call, CheckFault, Checked, CompDesc, CompKind, CtlDesc, CtlKind, Cycles, DescFault,
+    DescProblem, Description, Document, DocumentFault, Fx, Grammar, IfaceName, JointDesc, Kind,
+    Life, Mail, Memory, Name, NameFault, Params, Point2, Script, ScriptFault, ScriptLine, Seq,
+    SessionText, Shared, SwitchRequest, Text, Turn, Verb, What, Wrong, whole_grammar,
 };
 pub use component::JointInterface;
 pub use data::{CtlData, RunData};

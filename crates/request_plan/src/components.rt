@@ -11,9 +11,7 @@ ghost use Rattle.request_plan.specs.Stands.{IsSeenOf};
 use crate::acts::{Act, Conclusion};
 use crate::moves::move_fault;
 use crate::stand::{Stand, order};
-use cm_model::{
-    Cause, Checked, CompDesc, Life, Member, Memory, Name, Outcome, Shared, SharedList,
-};
+use cm_model::{Cause, Checked, CompDesc, Life, Member, Memory, Name, Outcome, Shared, SharedList};
 use std::alloc::Global;
 use switch_plan::Relations;
 

@@ -49,9 +49,9 @@ met_push scene name seen before e = fun_ext (λ p. ap (λ o. is_at p o || named 
 met_twice : (scene : Scene) (before : List (List ℕ)) (name : List ℕ) (l : Seen) → loaded_of scene name ≡ Some l → named scene before l.place ≡ list_any (same_name name) before
 met_twice scene before name l is = both_ways (named scene before l.place) (list_any (same_name name) before)
     (λ met. any_from (same_name name) before (described scene l.place).name (named_back scene before l.place met)
-      (ap (same_name name) (loaded_called scene name l is).name_is ∙ name_itself name))
+    (ap (same_name name) (loaded_called scene name l is).name_is ∙ name_itself name))
     (λ any. let r = some_of (same_name name) before any in
-      named_from scene before r.0 l r.1 (ap (loaded_of scene) (sym (same_names name r.0 r.2)) ∙ is))
+    named_from scene before r.0 l r.1 (ap (loaded_of scene) (sym (same_names name r.0 r.2)) ∙ is))
 
 -- so what speaks against it is told by the controllers that were met
 pub met_fault : (scene : Scene) (leaving : Option (List Bool)) (before : List (List ℕ)) (name : List ℕ) (seen : Option Seen) (met : Places)
