@@ -3,11 +3,15 @@
 #![tactic(auto)]
 
 #[cfg(test)]
+mod cycles;
+#[cfg(test)]
 mod desks;
 #[cfg(test)]
 mod flights;
 #[cfg(test)]
 mod lines;
+#[cfg(test)]
+mod looping;
 #[cfg(test)]
 mod marked;
 #[cfg(test)]

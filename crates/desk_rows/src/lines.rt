@@ -20,7 +20,7 @@ use std::test::Fail;
 use std::thread::Threads;
 
 /// What is told where a call of the loop has not its condition, and is not made.
-const CANNOT: &str = "cannot";
+pub const CANNOT: &str = "cannot";
 
 /// The most blanks of a stock here.
 const MOST_BLANKS: usize = 100;
@@ -150,7 +150,7 @@ fn push_outcome_of<C: Controller>(
 }
 
 /// Appends the reply of the last entry, where the call of the loop was made.
-fn push_last(told: &mut String, made: bool, history: &[Entry]) -> Result<(), Fail> {
+pub fn push_last(told: &mut String, made: bool, history: &[Entry]) -> Result<(), Fail> {
     match history.last() {
         Some(entry) if made => push_reply(told, &entry.reply),
         _ => push_made(told, false),
@@ -165,7 +165,7 @@ fn push_made(told: &mut String, made: bool) -> Result<(), Fail> {
 // ---- The history
 
 /// Appends all entries: who called, the call, and the reply.
-fn push_history(alloc: Global, told: &mut String, history: &[Entry]) -> Result<(), Fail> {
+pub fn push_history(alloc: Global, told: &mut String, history: &[Entry]) -> Result<(), Fail> {
     for entry in history {
         push_entry(alloc, told, entry)?;
     }
@@ -264,7 +264,7 @@ fn call_desk<C: Controller>(
 }
 
 /// Whether a desk answers this call for a session.
-fn is_call(call: &Call) -> bool
+pub fn is_call(call: &Call) -> bool
     ensures { result ≡ true → CanBeCalled call.now }
 {
     match call {
