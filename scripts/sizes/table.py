@@ -142,7 +142,7 @@ def rows_of_scripts():
 
 def rows_of_words():
     yield Row("rounds", ROUNDS, calls.rounds, USAGE, 1, USAGE)
-    yield Row("digits of rounds", limit("cm_words::MOST_DIGITS"), calls.digits_of_rounds, USAGE, 1, USAGE)
+    yield Row("digits of rounds", limit("cm_words::MOST_DIGITS_OF_ROUNDS"), calls.digits_of_rounds, USAGE, 1, USAGE)
 
 
 @functools.cache

@@ -6,7 +6,7 @@ ghost use Rattle.ctl_places.specs.Placed.{HasAllRows};
 use case_pages::largest::AT_ALL_LIMITS;
 use case_pages::pages::{Teller, hold, push_parted};
 use case_robots::described::described;
-use cm_model::Checked;
+use cm_document::Checked;
 use ctl_places::CtlPlaces;
 use ctl_places::laws::each_has_its_row;
 use loan_board::Board;

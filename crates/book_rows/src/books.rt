@@ -5,7 +5,7 @@ use case_pages::pages::{Teller, hold};
 use case_runs::books::left_by;
 use case_runs::documents::ROBOT;
 use case_runs::runs::{IN_STOCK, OF_PROGRAM, ample_sink, run_by};
-use cm_top::JobKind;
+use cm_words::JobKind;
 use std::alloc::Global;
 use std::test::Fail;
 

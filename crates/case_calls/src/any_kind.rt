@@ -1,11 +1,14 @@
 //! A controller of any kind, without a box.
 
+use cm_document::{CtlKind, Mail, Params};
+use cm_model::{Done, Tick};
 use ctl_bcast::Broadcaster;
 use ctl_forward::{Forward, Passthrough};
 use ctl_mock::Mock;
 use ctl_pid::PidCtl;
-use ctl_trait::{CfgFault, Controller, CtlKind, Done, Fx, Mail, Params, Tick, Value};
+use ctl_trait::{CfgFault, Controller};
 use ctl_traj::TrajCtl;
+use fixed_num::{Fx, Value};
 use std::alloc::Global;
 
 /// A controller of any of the six kinds. The stocks of rows are of these and not of boxes, since no function of a library may hand out a

@@ -1,7 +1,10 @@
 //! Calls of a session, of words as a script has them.
 
 use case_pages::pages::halves;
-use cm_model::{Call, Fx, Life, Mail, Name, Seq, SwitchRequest};
+use cm_document::{Call, Life, Mail, SwitchRequest};
+use fixed_num::Fx;
+use iface_names::Name;
+use sequence::Seq;
 use std::alloc::Global;
 use std::test::Fail;
 

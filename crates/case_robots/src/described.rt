@@ -1,6 +1,6 @@
 //! Descriptions of texts, and the places of what is described.
 
-use cm_model::Checked;
+use cm_document::Checked;
 use desc_check::check;
 use desc_text::read_description;
 use std::alloc::Global;

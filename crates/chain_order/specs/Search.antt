@@ -1,5 +1,6 @@
 -- What a search over links has seen, and what one step of it does.
-use Rattle.std.specs.Prelude.{◌≡◌, ◌⊎◌, ℕ, ◌+◌, Bool, true, false, not, List, length, count_by, slice_index_or, All, Contains}
+use Rattle.std.specs.Prelude.{◌≡◌, ◌⊎◌, ℕ, ◌+◌, Bool, true, false, not, List, length, count_by, slice_index_or, All}
+use Rattle.std.specs.Prelude.{Contains}
 
 -- for each place whether it was reached, and those of the reached places whose links are still to be followed
 pub record Searched : Type 0 where
@@ -14,7 +15,8 @@ IsReached seen place = slice_index_or seen.reached place false ≡ true
 abbrev pub turns_left : Searched → ℕ
 turns_left seen = count_by not seen.reached + length seen.waiting
 
--- The search has come to these places too: those among them that it had not reached now wait, and nothing else has changed.
+-- The search has come to these places too: those among them that it had not reached now wait, and nothing else has
+-- changed.
 pub record Spreads (old new : Searched) (places : List ℕ) : Type 0 where
   pub arrived : All (IsReached new) places
   pub kept : (p : ℕ) → IsReached old p → IsReached new p

@@ -2,7 +2,6 @@
 //! active ones are updated. Claims are resolved to places once, and what remains goes over places.
 #![tactic(auto)]
 
-pub use cm_model::Member;
 pub use links::{Links, exports, precedes};
 pub use loops::first_loop;
 pub use orders::{by_rank, has_any, heights, in_order, is_chained, run_list, serials};

@@ -9,7 +9,10 @@ ghost use Rattle.chain_order.specs.Links.{places_below, links_of, leaders_of, li
 
 use crate::places::PlaceSet;
 use crate::ranks::{places_by_rank, ranks_over};
-use cm_document::{Checked, CtlDesc, IfaceName, Memory, Name, Seq};
+use cm_document::{Checked, CtlDesc};
+use fixed_num::Memory;
+use iface_names::{IfaceName, Name};
+use sequence::Seq;
 use std::alloc::Global;
 use std::marker::Model;
 

@@ -6,7 +6,8 @@ ghost use Rattle.chain_order.specs.Ways.{IsFirstBack};
 
 use crate::links::Links;
 use crate::search::leads_back;
-use cm_document::{Description, Memory};
+use cm_document::Description;
+use fixed_num::Memory;
 use std::alloc::Global;
 
 /// The least place of a controller that precedes itself at some distance, or None where there is none.

@@ -3,8 +3,8 @@
 ghost use Rattle.std.specs.Prelude.{◌≡◌, ℕ, ◌<◌, ◌&&◌, ◌||◌, not, Bool, true, false, length, replicate, IfOk, All};
 ghost use Rattle.cm_model.specs.Order.{set_of, with_one, places_of};
 
-use cm_document::Memory;
 use cm_model::Member;
+use fixed_num::Memory;
 use std::alloc::Global;
 use std::marker::Model;
 

@@ -6,7 +6,7 @@ ghost use Rattle.chain_order.specs.Search.{Searched, Spreads};
 ghost use Rattle.chain_order.specs.Ways.{Leads};
 
 use crate::links::Links;
-use cm_document::Memory;
+use fixed_num::Memory;
 use std::alloc::Global;
 use std::marker::Model;
 

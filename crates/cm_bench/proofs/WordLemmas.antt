@@ -2,7 +2,7 @@
 use Rattle.std.proofs.Common.{◌≡◌, ℕ, List, [], ◌∷◌, length, get_or, Option, None, Some, refl, subst, arith}
 use Rattle.std.specs.Prelude.{MatchOption}
 use Rattle.cm_bench.specs.Words.{AreOf, AreOfNone, IsPlan, IsNoPlan}
-use Rattle.cm_bench.specs.declared.plan.Plan.{Plan}
+use Rattle.cm_bench.specs.declared.plan.TurnsAsked.{TurnsAsked}
 
 -- a list of two is the one at each of its indexes
 pub list_of_two : {A : Type 0} (xs : List A) (x y : A) → length xs ≡ 2 → x ≡ get_or xs 0 x → y ≡ get_or xs 1 y → xs ≡ x ∷ y ∷ []
@@ -19,7 +19,7 @@ none_of_two turns seed none plan (first, second, same, are) =
     none plan (subst (λ w. AreOf turns w plan) seed_is (subst (λ w. AreOf w second plan) turns_are are))
 
 -- what two words are a plan of is their plan
-pub plan_of_two : (turns seed : List ℕ) (plan : Option Plan) → MatchOption plan (AreOfNone turns seed) (AreOf turns seed)
+pub plan_of_two : (turns seed : List ℕ) (plan : Option TurnsAsked) → MatchOption plan (AreOfNone turns seed) (AreOf turns seed)
     → MatchOption plan (IsNoPlan (turns ∷ seed ∷ [])) (IsPlan (turns ∷ seed ∷ []))
 plan_of_two turns seed None none = none_of_two turns seed none
 plan_of_two turns seed (Some plan) are = (turns, seed, refl, are)

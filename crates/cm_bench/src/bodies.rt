@@ -10,7 +10,7 @@ use fixed_num::Memory;
 use std::alloc::Global;
 
 /// One way to do a thing that is timed beside another way.
-pub trait Body<C> {
+pub trait Contender<C> {
     /// Does it once, and gives a number that hangs on its answer.
     fn turn(&mut self, case: &C) -> Result<i64, Memory>;
 }
@@ -19,7 +19,7 @@ pub trait Body<C> {
 #[derive(Clone, Copy)]
 pub struct PlainMul;
 
-impl Body<Case> for PlainMul {
+impl Contender<Case> for PlainMul {
     fn turn(&mut self, case: &Case) -> Result<i64, Memory>
         ensures { IfOk result (λ n. n ≡ multiplied case.now.left case.now.right) }
     {
@@ -31,7 +31,7 @@ impl Body<Case> for PlainMul {
 #[derive(Clone, Copy)]
 pub struct FastMul;
 
-impl Body<Case> for FastMul {
+impl Contender<Case> for FastMul {
     fn turn(&mut self, case: &Case) -> Result<i64, Memory>
         ensures { IfOk result (λ n. n ≡ multiplied case.now.left case.now.right) }
     {
@@ -43,7 +43,7 @@ impl Body<Case> for FastMul {
 #[derive(Clone, Copy)]
 pub struct PlainOver;
 
-impl Body<Case> for PlainOver {
+impl Contender<Case> for PlainOver {
     fn turn(&mut self, case: &Case) -> Result<i64, Memory>
         ensures { IfOk result (λ n. n ≡ ratio case.now.left case.now.right case.now.divisor) }
     {
@@ -55,7 +55,7 @@ impl Body<Case> for PlainOver {
 #[derive(Clone, Copy)]
 pub struct FastOver;
 
-impl Body<Case> for FastOver {
+impl Contender<Case> for FastOver {
     fn turn(&mut self, case: &Case) -> Result<i64, Memory>
         ensures { IfOk result (λ n. n ≡ ratio case.now.left case.now.right case.now.divisor) }
     {
@@ -77,7 +77,7 @@ impl PlainText {
     }
 }
 
-impl Body<Case> for PlainText {
+impl Contender<Case> for PlainText {
     fn turn(&mut self, case: &Case) -> Result<i64, Memory>
         ensures { OnOk result (string_bytes self.new.text ≡ spelled case.now.left) }
     {
@@ -101,7 +101,7 @@ impl FastText {
     }
 }
 
-impl Body<Case> for FastText {
+impl Contender<Case> for FastText {
     fn turn(&mut self, case: &Case) -> Result<i64, Memory>
         ensures { OnOk result (self.new.text.items ≡ spelled case.now.left) }
     {

@@ -29,7 +29,7 @@ pub struct Case {
 
 /// The cases of a seed.
 pub fn made(alloc: Global, seed: u64) -> Result<Vec<Case>, Memory> {
-    let mut source = Source::make(seed);
+    let mut source = SplitMix::make(seed);
     let mut cases = Vec::with_capacity(alloc, COUNT)?;
     for _ in 0..COUNT {
         cases.push(source.case())?;
@@ -49,7 +49,7 @@ pub struct Push {
 
 /// As many pushes, of a seed.
 pub fn pushes(alloc: Global, seed: u64) -> Result<Vec<Push>, Memory> {
-    let mut source = Source::make(seed);
+    let mut source = SplitMix::make(seed);
     let mut pushes = Vec::with_capacity(alloc, COUNT)?;
     for _ in 0..COUNT {
         pushes.push(source.push())?;
@@ -65,7 +65,7 @@ pub struct Moment {
 
 /// As many moments in the second that ends at a time, of a seed.
 pub fn moments(alloc: Global, seed: u64, end_us: u64) -> Result<Vec<Moment>, Memory> {
-    let mut source = Source::make(seed);
+    let mut source = SplitMix::make(seed);
     let mut moments = Vec::with_capacity(alloc, COUNT)?;
     for _ in 0..COUNT {
         moments.push(source.moment(end_us))?;
@@ -75,7 +75,7 @@ pub fn moments(alloc: Global, seed: u64, end_us: u64) -> Result<Vec<Moment>, Mem
 
 /// So many numbers of a seed.
 pub fn values(alloc: Global, seed: u64, count: usize) -> Result<Vec<Fx>, Memory> {
-    let mut source = Source::make(seed);
+    let mut source = SplitMix::make(seed);
     let mut values = Vec::new(alloc);
     for _ in 0..count {
         values.push(source.number())?;
@@ -85,7 +85,7 @@ pub fn values(alloc: Global, seed: u64, count: usize) -> Result<Vec<Fx>, Memory>
 
 /// So many numbers of a seed, of up to ten units either way.
 pub fn few_units(alloc: Global, seed: u64, count: usize) -> Result<Vec<Fx>, Memory> {
-    let mut source = Source::make(seed);
+    let mut source = SplitMix::make(seed);
     let mut numbers = Vec::new(alloc);
     for _ in 0..count {
         numbers.push(source.within(NEAR))?;
@@ -95,14 +95,14 @@ pub fn few_units(alloc: Global, seed: u64, count: usize) -> Result<Vec<Fx>, Memo
 
 /// Gives numbers without visible order: the generator known as SplitMix64.
 #[derive(Drop)]
-pub struct Source {
+pub struct SplitMix {
     state: u64,
 }
 
-impl Source {
+impl SplitMix {
     /// The numbers of a seed.
-    pub fn make(seed: u64) -> Source {
-        Source { state: seed }
+    pub fn make(seed: u64) -> SplitMix {
+        SplitMix { state: seed }
     }
 
     fn case(&mut self) -> Case {

@@ -7,14 +7,15 @@ ghost use Rattle.cm_model.specs.Items.{numbers_text};
 ghost use Rattle.cm_model.specs.Trace.{trace};
 ghost use Rattle.cm_bench.specs.Lines.{publishing, one_cycle};
 
-use crate::bodies::{Body, weight};
+use crate::bodies::{Contender, weight};
 use crate::cases::few_units;
-use cm_document::{Checked, Script, Seq};
+use cm_document::{Checked, Script};
 use cm_model::{CycleParts, CycleRecord, Done, Entry, KeptCall, RanRoom, Reply};
 use desc_check::check;
 use desc_text::read_description;
 use fixed_num::{Fx, Memory};
 use outside_io::{MemSink, Sink, write_whole};
+use sequence::Seq;
 use std::alloc::{AllocError, Global};
 use trace_text::{OutFault, write_trace};
 
@@ -107,7 +108,7 @@ impl PlainLine {
     }
 }
 
-impl Body<Line> for PlainLine {
+impl Contender<Line> for PlainLine {
     fn turn(&mut self, case: &Line) -> Result<i64, Memory>
         ensures { OnOk result (self.new.sink.taken
             ≡ trace case.now.checked case.now.script.sessions case.now.history.items) }
@@ -134,7 +135,7 @@ impl FastLine {
     }
 }
 
-impl Body<Line> for FastLine {
+impl Contender<Line> for FastLine {
     fn turn(&mut self, case: &Line) -> Result<i64, Memory>
         ensures { OnOk result (self.new.sink.taken
             ≡ trace case.now.checked case.now.script.sessions case.now.history.items) }

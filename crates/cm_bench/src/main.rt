@@ -5,7 +5,7 @@ use bodies::{FastMul, FastOver, FastText, PlainMul, PlainOver, PlainText};
 use cases::{Case, Moment};
 use cm_document::MOST_POINTS;
 use lines::{FastLine, PlainLine};
-use plan::Plan;
+use plan::TurnsAsked;
 use points::{SEGMENT_US, UnderWay};
 use ranks::{FastOrder, PlainOrder};
 use reading::{DescriptionChecker, DescriptionReader, ScriptReader, TomlReader};
@@ -17,7 +17,7 @@ use std::{env, io};
 use steps::{FastStep, PlainStep};
 use switches::{PlainPlan, RelatedPlan};
 use texts::Texts;
-use timing::{Course, Pair, Title};
+use timing::{Pair, Title, Trial};
 use turns::{LockTurn, MutexTurn};
 use words::plan_of;
 
@@ -51,7 +51,7 @@ fn main(rt: HostRuntime) -> anyhow::Result<ExitCode> {
 }
 
 /// Prints a line for each pair of bodies, and says whether all gave the same answers.
-fn compare_all<R>(rt: &R, plan: Plan) -> anyhow::Result<bool>
+fn compare_all<R>(rt: &R, plan: TurnsAsked) -> anyhow::Result<bool>
 where
     R: Clock + Print + AllocGlobal + Wait,
 {
@@ -62,7 +62,7 @@ where
 }
 
 /// Prints the lines of what a cycle does: numbers, steps and ways.
-fn compare_motions<R>(rt: &R, plan: Plan) -> anyhow::Result<bool>
+fn compare_motions<R>(rt: &R, plan: TurnsAsked) -> anyhow::Result<bool>
 where
     R: Clock + Print + AllocGlobal + Wait,
 {
@@ -73,7 +73,7 @@ where
 }
 
 /// Prints the lines of what is done with a description and a history: orders, traces, switches and checks.
-fn compare_requests<R>(rt: &R, plan: Plan) -> anyhow::Result<bool>
+fn compare_requests<R>(rt: &R, plan: TurnsAsked) -> anyhow::Result<bool>
 where
     R: Clock + Print + AllocGlobal,
 {
@@ -85,19 +85,19 @@ where
 }
 
 /// Prints the lines of a product, a ratio, a number's text and a turn at a lock, over the same cases.
-fn compare_numbers<R>(rt: &R, plan: Plan) -> anyhow::Result<bool>
+fn compare_numbers<R>(rt: &R, plan: TurnsAsked) -> anyhow::Result<bool>
 where
     R: Clock + Print + AllocGlobal + Wait,
 {
     let cases = cases::made(rt.alloc(), plan.seed)?;
-    let course = Course {
+    let course = Trial {
         cases: cases.as_slice(),
         turns: plan.turns,
     };
     compare_over(rt, &course)
 }
 
-fn compare_over<R>(rt: &R, course: &Course<'_, Case>) -> anyhow::Result<bool>
+fn compare_over<R>(rt: &R, course: &Trial<'_, Case>) -> anyhow::Result<bool>
 where
     R: Clock + Print + AllocGlobal + Wait,
 {
@@ -109,7 +109,7 @@ where
 }
 
 /// Prints the line of a number's text.
-fn compare_texts<R>(rt: &R, course: &Course<'_, Case>) -> anyhow::Result<bool>
+fn compare_texts<R>(rt: &R, course: &Trial<'_, Case>) -> anyhow::Result<bool>
 where
     R: Clock + Print + AllocGlobal,
 {
@@ -118,7 +118,7 @@ where
 }
 
 /// Prints the line of a turn at a lock.
-fn compare_locks<R>(rt: &R, course: &Course<'_, Case>) -> anyhow::Result<bool>
+fn compare_locks<R>(rt: &R, course: &Trial<'_, Case>) -> anyhow::Result<bool>
 where
     R: Clock + Print + AllocGlobal + Wait,
 {
@@ -127,12 +127,12 @@ where
 }
 
 /// Prints the line of a body's step.
-fn compare_steps<R>(rt: &R, plan: Plan) -> anyhow::Result<bool>
+fn compare_steps<R>(rt: &R, plan: TurnsAsked) -> anyhow::Result<bool>
 where
     R: Clock + Print + AllocGlobal,
 {
     let pushes = cases::pushes(rt.alloc(), plan.seed)?;
-    let course = Course {
+    let course = Trial {
         cases: pushes.as_slice(),
         turns: plan.turns,
     };
@@ -140,19 +140,19 @@ where
 }
 
 /// Prints the line of a trajectory: on the last of its segments, which it has alone, and behind all others that there may be.
-fn compare_ways<R>(rt: &R, plan: Plan) -> anyhow::Result<bool>
+fn compare_ways<R>(rt: &R, plan: TurnsAsked) -> anyhow::Result<bool>
 where
     R: Clock + Print + AllocGlobal,
 {
     let moments = cases::moments(rt.alloc(), plan.seed, LAST_US)?;
-    let course = Course {
+    let course = Trial {
         cases: moments.as_slice(),
         turns: plan.turns,
     };
     compare_points(rt, &course, plan.seed)
 }
 
-fn compare_points<R>(rt: &R, course: &Course<'_, Moment>, seed: u64) -> anyhow::Result<bool>
+fn compare_points<R>(rt: &R, course: &Trial<'_, Moment>, seed: u64) -> anyhow::Result<bool>
 where
     R: Clock + Print + AllocGlobal,
 {
@@ -171,13 +171,13 @@ fn way(alloc: Global, seed: u64, after_us: u64) -> anyhow::Result<UnderWay> {
 const LAST_US: u64 = MOST_POINTS as u64 * SEGMENT_US;
 
 /// Prints the line of an order by rank.
-fn compare_orders<R>(rt: &R, plan: Plan) -> anyhow::Result<bool>
+fn compare_orders<R>(rt: &R, plan: TurnsAsked) -> anyhow::Result<bool>
 where
     R: Clock + Print + AllocGlobal,
 {
     let alloc = rt.alloc();
     let cases = [ranks::made(alloc, plan.seed)?];
-    let course = Course {
+    let course = Trial {
         cases: cases.as_slice(),
         turns: plan.turns / ORDER_SHARE + 1,
     };
@@ -193,7 +193,7 @@ where
 const ORDER_SHARE: u64 = 20;
 
 /// Prints the line of the trace of a cycle.
-fn compare_lines<R>(rt: &R, plan: Plan) -> anyhow::Result<bool>
+fn compare_lines<R>(rt: &R, plan: TurnsAsked) -> anyhow::Result<bool>
 where
     R: Clock + Print + AllocGlobal,
 {
@@ -201,7 +201,7 @@ where
     let mut plain = PlainLine::make(alloc)?;
     let mut fast = FastLine::make(alloc)?;
     let cases = [lines::made(alloc, plan.seed)?];
-    let course = Course {
+    let course = Trial {
         cases: cases.as_slice(),
         turns: plan.turns / LINE_SHARE + 1,
     };
@@ -212,13 +212,13 @@ where
 const LINE_SHARE: u64 = 200;
 
 /// Prints the line of a switch.
-fn compare_switches<R>(rt: &R, plan: Plan) -> anyhow::Result<bool>
+fn compare_switches<R>(rt: &R, plan: TurnsAsked) -> anyhow::Result<bool>
 where
     R: Clock + Print + AllocGlobal,
 {
     let alloc = rt.alloc();
     let cases = [switches::made(alloc)?];
-    let course = Course {
+    let course = Trial {
         cases: cases.as_slice(),
         turns: plan.turns / SWITCH_SHARE + 1,
     };
@@ -234,20 +234,20 @@ where
 const SWITCH_SHARE: u64 = 200;
 
 /// Prints the line of the checks, over a description near every limit: what reading it takes, and what checking it takes besides.
-fn compare_checks<R>(rt: &R, plan: Plan) -> anyhow::Result<bool>
+fn compare_checks<R>(rt: &R, plan: TurnsAsked) -> anyhow::Result<bool>
 where
     R: Clock + Print + AllocGlobal,
 {
     let alloc = rt.alloc();
     let cases = [described::made(alloc)?];
-    let course = Course {
+    let course = Trial {
         cases: cases.as_slice(),
         turns: plan.turns / CHECK_SHARE + 1,
     };
     compare_checked(rt, &course)
 }
 
-fn compare_checked<R>(rt: &R, course: &Course<'_, String>) -> anyhow::Result<bool>
+fn compare_checked<R>(rt: &R, course: &Trial<'_, String>) -> anyhow::Result<bool>
 where
     R: Clock + Print + AllocGlobal,
 {
@@ -273,20 +273,20 @@ fn tell_checks<R: Print>(rt: &R, turns: u64, pair: &Pair) -> io::Result<()> {
 const CHECK_SHARE: u64 = 2_000;
 
 /// Prints the line of the readers, the kit's of TOML beside that of scripts over as many bytes, and says whether both read all.
-fn compare_readers<R>(rt: &R, plan: Plan) -> anyhow::Result<bool>
+fn compare_readers<R>(rt: &R, plan: TurnsAsked) -> anyhow::Result<bool>
 where
     R: Clock + Print + AllocGlobal,
 {
     let alloc = rt.alloc();
     let cases = [texts::made(alloc, plan.seed)?];
-    let course = Course {
+    let course = Trial {
         cases: cases.as_slice(),
         turns: plan.turns / READER_SHARE + 1,
     };
     compare_read(rt, &course, cases[0].script.len())
 }
 
-fn compare_read<R>(rt: &R, course: &Course<'_, Texts>, bytes: usize) -> anyhow::Result<bool>
+fn compare_read<R>(rt: &R, course: &Trial<'_, Texts>, bytes: usize) -> anyhow::Result<bool>
 where
     R: Clock + Print + AllocGlobal,
 {

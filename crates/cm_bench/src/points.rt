@@ -1,11 +1,13 @@
 //! An update of a trajectory on its last segment, with as many points as a script may send, beside one that has that segment alone.
 
-use crate::bodies::Body;
+use crate::bodies::Contender;
 use crate::cases::Moment;
-use cm_document::{Mail, Params, Point2, Seq};
-use ctl_trait::{Controller, Fx, Tick, Value, takes};
+use cm_document::{Mail, Params, Point2};
+use cm_model::Tick;
+use ctl_trait::{Controller, takes};
 use ctl_traj::TrajCtl;
-use fixed_num::Memory;
+use fixed_num::{Fx, Memory, Value};
+use sequence::Seq;
 use std::alloc::Global;
 use std::marker::Model;
 
@@ -70,7 +72,7 @@ impl UnderWay {
     }
 }
 
-impl Body<Moment> for UnderWay {
+impl Contender<Moment> for UnderWay {
     fn turn(&mut self, moment: &Moment) -> Result<i64, Memory> {
         match self.update(moment.time_us) {
             Value::Num(value) => Ok(value.micro()),

@@ -1,6 +1,6 @@
 //! The readers that are timed: each goes over a whole text and answers how many bytes it was, or -1 where it was refused.
 
-use crate::bodies::Body;
+use crate::bodies::Contender;
 use crate::texts::Texts;
 use cm_document::{CheckFault, DescFault, ScriptFault, whole_grammar};
 use desc_check::check;
@@ -15,7 +15,7 @@ pub struct TomlReader {
     pub alloc: Global,
 }
 
-impl Body<Texts> for TomlReader {
+impl Contender<Texts> for TomlReader {
     fn turn(&mut self, case: &Texts) -> Result<i64, Memory> {
         match toml::table_from_slice(self.alloc, case.toml.as_bytes()) {
             Ok(_table) => Ok(case.toml.len() as i64),
@@ -31,7 +31,7 @@ pub struct ScriptReader {
     pub alloc: Global,
 }
 
-impl Body<Texts> for ScriptReader {
+impl Contender<Texts> for ScriptReader {
     #[tactic(auto, using(cm_document::proofs::LineLemmas::raw_lines_within))]
     fn turn(&mut self, case: &Texts) -> Result<i64, Memory> {
         let text = case.script.as_bytes();
@@ -55,7 +55,7 @@ pub struct DescriptionReader {
     pub alloc: Global,
 }
 
-impl Body<String> for DescriptionReader {
+impl Contender<String> for DescriptionReader {
     fn turn(&mut self, case: &String) -> Result<i64, Memory> {
         match read_description(self.alloc, case.as_bytes()) {
             Ok(_description) => Ok(case.len() as i64),
@@ -71,7 +71,7 @@ pub struct DescriptionChecker {
     pub alloc: Global,
 }
 
-impl Body<String> for DescriptionChecker {
+impl Contender<String> for DescriptionChecker {
     fn turn(&mut self, case: &String) -> Result<i64, Memory> {
         let description = match read_description(self.alloc, case.as_bytes()) {
             Ok(description) => description,

@@ -8,7 +8,7 @@ ghost use Rattle.fixed_num.specs.declared.value.Value.TheVariants.{Num};
 ghost use Rattle.joint_body.specs.Simulated.{after};
 ghost use Rattle.cm_bench.specs.Steps.{after_push};
 
-use crate::bodies::Body;
+use crate::bodies::Contender;
 use crate::cases::Push;
 use crate::plain::{in_range, plain_mul, plain_over, quotient};
 use fixed_num::{BodyState, Fx, JointMode, LARGEST, MICRO, Memory, Value};
@@ -57,7 +57,7 @@ impl Model for FastStep {
     ghost view = { λ s. s.body };
 }
 
-impl Body<Push> for FastStep {
+impl Contender<Push> for FastStep {
     fn turn(&mut self, push: &Push) -> Result<i64, Memory>
         ensures { OnOk result (self.new ≡ after_push self.old push.now.mode push.now.command push.now.dt_us) }
     {
@@ -88,7 +88,7 @@ impl Model for PlainStep {
     ghost invariant = { λ s. pos 0 ≤ℤ s.vmax };
 }
 
-impl Body<Push> for PlainStep {
+impl Contender<Push> for PlainStep {
     fn turn(&mut self, push: &Push) -> Result<i64, Memory>
         ensures { OnOk result (self.new ≡ after_push self.old push.now.mode push.now.command push.now.dt_us) }
     {

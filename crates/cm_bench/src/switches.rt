@@ -3,15 +3,17 @@
 ghost use Rattle.std.specs.Prelude.{◌≡◌, ◌<◌, length, IfOk, All};
 ghost use Rattle.switch_plan.specs.Relations.{relations_of};
 
-use crate::bodies::Body;
+use crate::bodies::Contender;
 use crate::described::chained;
-use cm_document::{Checked, CtlDesc, Life, Name, Seq};
-use cm_model::{Outcome, Seen};
+use cm_document::{Checked, CtlDesc, Life, SwitchRequest};
+use cm_model::{Outcome, Planned, Seen};
 use desc_check::check;
 use desc_text::read_description;
 use fixed_num::Memory;
+use iface_names::Name;
+use sequence::Seq;
 use std::alloc::Global;
-use switch_plan::{Planned, Relations, SwitchRequest, View, plan, plan_with};
+use switch_plan::{Relations, View, plan, plan_with};
 
 /// What one turn is given: the description with its relations, its controllers, all of which are loaded, and a request.
 #[derive(Drop)]
@@ -128,7 +130,7 @@ pub struct PlainPlan {
     pub alloc: Global,
 }
 
-impl Body<Switching> for PlainPlan {
+impl Contender<Switching> for PlainPlan {
     fn turn(&mut self, case: &Switching) -> Result<i64, Memory> {
         let view = View {
             checked: &case.checked,
@@ -146,7 +148,7 @@ pub struct RelatedPlan {
     pub alloc: Global,
 }
 
-impl Body<Switching> for RelatedPlan {
+impl Contender<Switching> for RelatedPlan {
     fn turn(&mut self, case: &Switching) -> Result<i64, Memory> {
         let view = View {
             checked: &case.checked,

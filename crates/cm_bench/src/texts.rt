@@ -1,6 +1,6 @@
 //! The texts that the readers get: as many bytes of a script and of TOML.
 
-use crate::cases::Source;
+use crate::cases::SplitMix;
 use fixed_num::Memory;
 use std::alloc::Global;
 
@@ -19,13 +19,13 @@ pub struct Texts {
 
 /// The texts of a seed.
 pub fn made(alloc: Global, seed: u64) -> Result<Texts, Memory> {
-    let script = script(alloc, &mut Source::make(seed))?;
+    let script = script(alloc, &mut SplitMix::make(seed))?;
     let toml = toml(alloc, script.as_str())?;
     Ok(Texts { script, toml })
 }
 
 /// One session, each of whose calls sends values.
-fn script(alloc: Global, source: &mut Source) -> Result<String, Memory> {
+fn script(alloc: Global, source: &mut SplitMix) -> Result<String, Memory> {
     let mut text = String::from_str(alloc, "session a\n")?;
     for _ in 0..CALLS {
         text.push_str("send c")?;
@@ -35,7 +35,7 @@ fn script(alloc: Global, source: &mut Source) -> Result<String, Memory> {
     Ok(text)
 }
 
-fn push_values(text: &mut String, source: &mut Source) -> Result<(), Memory> {
+fn push_values(text: &mut String, source: &mut SplitMix) -> Result<(), Memory> {
     for _ in 0..VALUES {
         let value = source.number();
         write!(text, " {value}")?;

@@ -2,7 +2,7 @@
 
 ghost use Rattle.std.specs.Prelude.{◌<◌};
 
-use crate::bodies::Body;
+use crate::bodies::Contender;
 use fixed_num::Memory;
 use std::rt::Clock;
 use std::time::Instant;
@@ -10,7 +10,7 @@ use std::{fmt, io};
 
 /// What the bodies go over, and how many turns each is given.
 #[derive(Drop)]
-pub struct Course<'a, C> {
+pub struct Trial<'a, C> {
     pub cases: &'a [C],
     pub turns: u64,
     ghost some: { 0 < turns },
@@ -72,7 +72,7 @@ impl Pair {
     }
 }
 
-impl<C> Course<'_, C> {
+impl<C> Trial<'_, C> {
     /// Compares both bodies and prints their line. Says whether they gave the same answers.
     pub fn tell<R, P, F>(
         &self,
@@ -83,8 +83,8 @@ impl<C> Course<'_, C> {
     ) -> anyhow::Result<bool>
     where
         R: Clock + Print,
-        P: Body<C>,
-        F: Body<C>,
+        P: Contender<C>,
+        F: Contender<C>,
     {
         let pair = self.compare(rt, plain, fast)?;
         pair.tell(rt, self.turns, title)?;
@@ -95,8 +95,8 @@ impl<C> Course<'_, C> {
     pub fn compare<R, P, F>(&self, rt: &R, plain: &mut P, fast: &mut F) -> anyhow::Result<Pair>
     where
         R: Clock,
-        P: Body<C>,
-        F: Body<C>,
+        P: Contender<C>,
+        F: Contender<C>,
     {
         let agree = agree(self.cases, plain, fast)?;
         let (by_plain, plain) = self.timed(rt, plain)?;
@@ -109,7 +109,11 @@ impl<C> Course<'_, C> {
     }
 
     /// The sum of all turns of a body, and the time of one.
-    fn timed<R: Clock, B: Body<C>>(&self, rt: &R, body: &mut B) -> anyhow::Result<(i64, Tenths)> {
+    fn timed<R: Clock, B: Contender<C>>(
+        &self,
+        rt: &R,
+        body: &mut B,
+    ) -> anyhow::Result<(i64, Tenths)> {
         let start = Instant::now(rt)?;
         let sum = self.sum(body)?;
         let nanos = start.elapsed(rt)?.as_nanos();
@@ -117,7 +121,7 @@ impl<C> Course<'_, C> {
     }
 
     /// The sum of all turns: round after round over the cases, and at last over as many as are left.
-    fn sum<B: Body<C>>(&self, body: &mut B) -> Result<i64, Memory> {
+    fn sum<B: Contender<C>>(&self, body: &mut B) -> Result<i64, Memory> {
         let count = self.cases.len() as u64;
         let Some(rounds) = self.turns.checked_div(count) else {
             return Ok(0);
@@ -132,7 +136,7 @@ impl<C> Course<'_, C> {
 }
 
 /// Whether both give the same answer at each case.
-fn agree<C, P: Body<C>, F: Body<C>>(
+fn agree<C, P: Contender<C>, F: Contender<C>>(
     cases: &[C],
     plain: &mut P,
     fast: &mut F,
@@ -145,7 +149,7 @@ fn agree<C, P: Body<C>, F: Body<C>>(
     Ok(true)
 }
 
-fn agree_at<C, P: Body<C>, F: Body<C>>(
+fn agree_at<C, P: Contender<C>, F: Contender<C>>(
     case: &C,
     plain: &mut P,
     fast: &mut F,
@@ -155,7 +159,7 @@ fn agree_at<C, P: Body<C>, F: Body<C>>(
 }
 
 /// One turn at each case, the answers added to the sum so far: so no round is the same call as another, and none is left out.
-fn round<C, B: Body<C>>(cases: &[C], body: &mut B, mut sum: i64) -> Result<i64, Memory> {
+fn round<C, B: Contender<C>>(cases: &[C], body: &mut B, mut sum: i64) -> Result<i64, Memory> {
     for case in cases {
         sum = sum.wrapping_add(body.turn(case)?);
     }

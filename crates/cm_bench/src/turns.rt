@@ -2,7 +2,7 @@
 
 ghost use Rattle.turn_lock.specs.Passes.{IsReady};
 
-use crate::bodies::Body;
+use crate::bodies::Contender;
 use crate::cases::Case;
 use fixed_num::Memory;
 use std::alloc::Global;
@@ -59,7 +59,7 @@ impl<'a, R> MutexTurn<'a, R> {
     }
 }
 
-impl<R: Wait> Body<Case> for MutexTurn<'_, R> {
+impl<R: Wait> Contender<Case> for MutexTurn<'_, R> {
     fn turn(&mut self, case: &Case) -> Result<i64, Memory> {
         Ok(self.sum.lock(self.rt).add(case))
     }
@@ -84,7 +84,7 @@ impl<'a, R> LockTurn<'a, R> {
     }
 }
 
-impl<R: Wait> Body<Case> for LockTurn<'_, R> {
+impl<R: Wait> Contender<Case> for LockTurn<'_, R> {
     fn turn(&mut self, case: &Case) -> Result<i64, Memory> {
         let mut sum = self.lock.take(self.rt, &mut self.pass);
         let total = sum.add(case);

@@ -3,10 +3,10 @@
 ghost use Rattle.std.specs.Prelude.{map, string_bytes, MatchOption};
 ghost use Rattle.cm_bench.specs.Words.{AreOf, AreOfNone, IsPlan, IsNoPlan, StandsFor, StandsForNone};
 
-use crate::plan::Plan;
+use crate::plan::TurnsAsked;
 
 /// The plan of the words `TURNS SEED`, both decimal and the turns not 0. `None` for any others.
-pub fn plan_of(words: &[String]) -> Option<Plan>
+pub fn plan_of(words: &[String]) -> Option<TurnsAsked>
     ensures { MatchOption result (IsNoPlan (map string_bytes words.now)) (IsPlan (map string_bytes words.now)) }
 {
     if words.len() != 2 {
@@ -15,7 +15,7 @@ pub fn plan_of(words: &[String]) -> Option<Plan>
     plan_of_two(words[0].as_str(), words[1].as_str())
 }
 
-fn plan_of_two(turns: &str, seed: &str) -> Option<Plan>
+fn plan_of_two(turns: &str, seed: &str) -> Option<TurnsAsked>
     ensures { MatchOption result (AreOfNone turns.now seed.now) (AreOf turns.now seed.now) }
 {
     let turns = number_of(turns)?;
@@ -23,7 +23,7 @@ fn plan_of_two(turns: &str, seed: &str) -> Option<Plan>
     if turns == 0 {
         return None;
     }
-    Some(Plan { turns, seed })
+    Some(TurnsAsked { turns, seed })
 }
 
 /// The number that a word stands for.

@@ -1,5 +1,6 @@
 -- What a cycle works on, at home or aloft.
-use Rattle.std.specs.Prelude.{◌≡◌, ℕ, ◌≤◌, Bool, true, false, not, List, [], length, map, vec_capacity, is_some, Box, Option, None, Some, IfSome, IsSomeAnd}
+use Rattle.std.specs.Prelude.{◌≡◌, ℕ, ◌≤◌, Bool, true, false, not, List, [], length, map, vec_capacity, is_some, Box}
+use Rattle.std.specs.Prelude.{Option, None, Some, IfSome, IsSomeAnd}
 use Rattle.std.specs.List.{AllByRecursion}
 use Rattle.std.specs.declared.alloc.Global.{Global}
 use Rattle.cm_document.specs.Places.{interfaces_of}
@@ -24,9 +25,10 @@ use Rattle.cm_desk.specs.Supplies.{AreKept, AreStations, CanSupply, IsFittedOut,
 use Rattle.cm_desk.specs.declared.bay.Bay.{Bay}
 use Rattle.cm_desk.specs.declared.supplies.HardwareSize.{HardwareSize}
 
--- What is seen of it: what a cycle works on and the sets of its end, as they stand at home, or as they were when they left; what of it
--- is at home; the mail that is aloft; the stations that are at home, and who stands there; the lists that were written down, whether they are those of the
--- hardware, and room for the next; and for how many of those that run there is room for a box and for a station.
+-- What is seen of it: what a cycle works on and the sets of its end, as they stand at home, or as they were when they
+-- left; what of it is at home; the mail that is aloft; the stations that are at home, and who stands there; the lists
+-- that were written down, whether they are those of the hardware, and room for the next; and for how many of those that
+-- run there is room for a box and for a station.
 pub record Base : Type 0 where
   pub plant : Plant
   pub ending : Ending
@@ -60,7 +62,8 @@ base_of b berths = record {
   berths = berths;
 }
 
--- What is at home is this, with these who flew last and this room for lists; and in the room that it has for a record nothing is told.
+-- What is at home is this, with these who flew last and this room for lists; and in the room that it has for a record
+-- nothing is told.
 pub record IsHome (g : Plant) (e : Ending) (members : List Member) (lists : Lists) (h : Box Craft Global) : Type 0 where
   pub plant : h.value.plant ≡ g
   pub ending : h.value.ending ≡ e
@@ -90,9 +93,11 @@ pub record IsListing (b : Bay) : Type 0 where
   pub home : IfSome b.hangar (IsHome b.plant.value b.ending.value b.members.value.items b.spare_lists.value)
   pub shown : is_some b.hangar ≡ false → Shows b.plant.value.hardware b.lists
 
--- What is kept of it, while a cycle is aloft or not, whose controllers these are: what is at home is so, and between two cycles all of
--- it is; each station that is at home is fitted, and it is known who stands there; so is how much there can be to tell; there is room for the lists, which are written down while it is away, for the next
--- ones, while none is aloft, and for each box and each station that is away then. Where the lists are told, they are those of the hardware.
+-- What is kept of it, while a cycle is aloft or not, whose controllers these are: what is at home is so, and between
+-- two cycles all of it is; each station that is at home is fitted, and it is known who stands there; so is how much
+-- there can be to tell; there is room for the lists, which are written down while it is away, for the next ones, while
+-- none is aloft, and for each box and each station that is away then. Where the lists are told, they are those of the
+-- hardware.
 pub record IsBased (d : Description) (aloft : Bool) (order : List Member) (b : Base) : Type 0 where
   pub wide : b.room ≡ widest
   pub flags : HasFlags (length d.controllers) b.ending
@@ -108,7 +113,8 @@ pub record IsBased (d : Description) (aloft : Bool) (order : List Member) (b : B
   pub stands : aloft ≡ true → length order ≤ b.stands
   pub berths : aloft ≡ true → length order ≤ b.berths
 
--- Of a bay whose hardware changed, all else stays, and it is at home. The lists may not be those of the hardware any more.
+-- Of a bay whose hardware changed, all else stays, and it is at home. The lists may not be those of the hardware any
+-- more.
 pub record IsRewired (before after : Bay) : Type 0 where
   pub plant : after.plant.value ≡ record before.plant.value { hardware = after.plant.value.hardware }
   pub ending : after.ending.value ≡ before.ending.value
@@ -122,8 +128,8 @@ pub record IsRewired (before after : Bay) : Type 0 where
   pub size : after.size ≡ before.size
   pub room : after.room ≡ before.room
 
--- It was made ready for a cycle, or some of what was left over is lost: it is known still who stands at its stations, it is at home, and all
--- else stays.
+-- It was made ready for a cycle, or some of what was left over is lost: it is known still who stands at its stations,
+-- it is at home, and all else stays.
 pub record IsMadeReady (before after : Bay) : Type 0 where
   pub kept : AreKept before.plant.value.places after.spare.stations.items after.members.value.items
   pub home : IsAtHome after
@@ -136,12 +142,14 @@ pub record IsSupplied (d : Description) (order : List Member) (loaded : ℕ) (b 
   pub mails : loaded ≤ vec_capacity b.spare.mails
   pub craft : IsSomeAnd b.hangar (λ h. IsFittedOut d b.plant.value.places order h.value)
 
--- It can be supplied for these controllers: it is that of the description, each is described, and what was left over is kept.
+-- It can be supplied for these controllers: it is that of the description, each is described, and what was left over is
+-- kept.
 pub record CanBeSupplied (d : Description) (b : Bay) (order : List Member) : Type 0 where
   pub plant : CanSupply d b.plant.value.places b.size order
   pub kept : AreKept b.plant.value.places b.spare.stations.items b.members.value.items
 
--- What works in a cycle can leave: it is at home, and there is room for its lists, which are those of its hardware where they are told.
+-- What works in a cycle can leave: it is at home, and there is room for its lists, which are those of its hardware
+-- where they are told.
 pub record CanCastOff (b : Bay) : Type 0 where
   pub home : IsAtHome b
   pub lines : HasLinesFor b.plant.value.hardware b.lists
@@ -158,8 +166,8 @@ pub record HasCastOff (before after : Bay) (h : Box Craft Global) : Type 0 where
   pub components : vec_capacity after.lists.components ≡ vec_capacity before.lists.components
   pub interfaces : vec_capacity after.lists.interfaces ≡ vec_capacity before.lists.interfaces
 
--- This is at home, where the lists that it wrote down are told, which are those of its hardware where nothing failed; those of before are
--- room for the next; and no mail is aloft.
+-- This is at home, where the lists that it wrote down are told, which are those of its hardware where nothing failed;
+-- those of before are room for the next; and no mail is aloft.
 pub record HasMoored (before after : Bay) (k : Craft) : Type 0 where
   pub plant : after.plant.value ≡ k.plant
   pub ending : after.ending.value ≡ k.ending

@@ -1,5 +1,6 @@
 -- How a cycle begins: how the requests that wait are decided, and how it takes off.
-use Rattle.std.specs.Prelude.{◌≡◌, ℕ, ◌<◌, ◌≤◌, ◌==◌, Bool, true, false, List, [], ◌∷◌, length, drop, None, vec_capacity}
+use Rattle.std.specs.Prelude.{◌≡◌, ℕ, ◌<◌, ◌≤◌, ◌==◌, Bool, true, false, List, [], ◌∷◌, length, drop, None}
+use Rattle.std.specs.Prelude.{vec_capacity}
 use Rattle.std.specs.List.{All}
 use Rattle.cm_document.specs.Valid.{IsValid}
 use Rattle.cm_model.specs.Boundary.{waiting, begin_effect, begin_reply}
@@ -58,10 +59,12 @@ pub record HasBegun (before after : State) (flight : FlightFacts) (decisions : L
 
 -- ---- The take-off
 
--- With these a cycle of the state can take off, when all is decided: its controllers, none of which is away; the indices of those that
--- run, in the order of updates; what a cycle works on, which is at home and has all ready that the cycle needs; and room for a box of each
--- and an empty list for their cells. The state that comes of it is valid, steady and numbered, and all that is kept of controllers holds in it.
-pub record CanTakeOff (s : State) (slots : Slotted) (indices : List ℕ) (b : Bay) (boxes : List CtlData) (berth_room : ℕ) (cells : List Seat) (cell_room count : ℕ)
+-- With these a cycle of the state can take off, when all is decided: its controllers, none of which is away; the
+-- indices of those that run, in the order of updates; what a cycle works on, which is at home and has all ready that
+-- the cycle needs; and room for a box of each and an empty list for their cells. The state that comes of it is valid,
+-- steady and numbered, and all that is kept of controllers holds in it.
+pub record CanTakeOff (s : State) (slots : Slotted) (indices : List ℕ) (b : Bay) (boxes : List CtlData) (berth_room : ℕ)
+    (cells : List Seat) (cell_room count : ℕ)
     : Type 0 where
   pub valid : IsValid s.description
   pub steady : IsSteady (begun s)
@@ -88,8 +91,8 @@ pub record CanTakeOff (s : State) (slots : Slotted) (indices : List ℕ) (b : Ba
   pub no_cell : cells ≡ []
   pub places : length (members_in_order (begun s)) ≤ cell_room
 
--- It took off: the flight is that of the cycle that is aloft. The plant and the sets of the end are away, as they were; the lists are
--- written down; and there is room for the stations.
+-- It took off: the flight is that of the cycle that is aloft. The plant and the sets of the end are away, as they were;
+-- the lists are written down; and there is room for the stations.
 pub record HasTakenOff (s : State) (before after : Slotted) (b b' : Bay) (f : FlightFacts) : Type 0 where
   pub slots : after ≡ record before { loaded = (begun s).loaded; aloft = true }
   pub bay : b' ≡ record b { hangar = None; mails = b'.mails; spare = b'.spare; lists = b'.lists; told = b'.told }

@@ -16,17 +16,24 @@ divisor_of l = unwrap_or l.divisor 1
 
 -- the cell of this controller, with its station and its data, while these mails are aloft
 abbrev pub seat_of : List MailAloft → Loaded → Standing → CtlData → Seat
-seat_of mails l s ctl = record { station = record s { divisor = divisor_of l }; ctl = ctl; mail = mail_in mails s.serial; done = None }
+seat_of mails l s ctl = record {
+  station = record s { divisor = divisor_of l };
+  ctl = ctl;
+  mail = mail_in mails s.serial;
+  done = None;
+}
 
 -- the cells of those at these indices, each with the next station and the next data; the mail of each is taken
 abbrev pub boarded : List Loaded → List MailAloft → List ℕ → List Standing → List CtlData → List Seat
 boarded loaded mails (i ∷ is) (s ∷ ss) (c ∷ cs) =
-    option_map_or (λ l. seat_of mails l s c ∷ boarded loaded (without_mail s.serial mails) is ss cs) (slice_get loaded i) []
+    option_map_or (λ l. seat_of mails l s c ∷ boarded loaded (without_mail s.serial mails) is ss cs)
+    (slice_get loaded i) []
 boarded loaded mails _ _ _ = []
 
--- They can board: a controller stands at each index, there is a station and a box for each, each runs, and there is room in an empty
--- list for all.
-pub record CanBoard (loaded : List Loaded) (run : List ℕ) (ss : List Standing) (ctls : List CtlData) (cells : List Seat) (capacity : ℕ) : Type 0 where
+-- They can board: a controller stands at each index, there is a station and a box for each, each runs, and there is
+-- room in an empty list for all.
+pub record CanBoard (loaded : List Loaded) (run : List ℕ) (ss : List Standing) (ctls : List CtlData) (cells : List Seat)
+    (capacity : ℕ) : Type 0 where
   pub within : All (λ i. i < length loaded) run
   pub stations : length ss ≡ length run
   pub boxes : length ctls ≡ length run

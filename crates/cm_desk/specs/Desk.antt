@@ -1,7 +1,8 @@
 -- What contracts see of the desk, and what its type keeps.
-use Rattle.std.specs.Prelude.{◌≡◌, ℕ, ◌+◌, ◌<◌, ◌≤◌, Bool, true, false, not, List, [], ◌∷◌, length, Option, Some, None, is_some, IfSome, IsSomeAnd}
+use Rattle.std.specs.Prelude.{◌≡◌, ℕ, ◌+◌, ◌<◌, ◌≤◌, Bool, true, false, not, List, [], ◌∷◌, length, Option, Some, None}
+use Rattle.std.specs.Prelude.{is_some, IfSome, IsSomeAnd}
 use mathlib.Core.List.{IsPrefix}
-use Rattle.cm_desk.specs.declared.TheConstants.{TOO_MANY_ENTRIES}
+use Rattle.cm_desk.specs.declared.TheConstants.{TOO_MANY_FOR_A_BOOK}
 use Rattle.cm_document.specs.Valid.{IsValid}
 use Rattle.cm_document.specs.declared.call.Call.{Call}
 use Rattle.cm_document.specs.declared.call.Call.TheVariants.{Unload, ListControllers, ListInterfaces, ListComponents}
@@ -59,8 +60,8 @@ begun_among begun (moment ∷ moments) = begun_among (aloft_after begun moment m
 abbrev pub begun_of : History → Option State
 begun_of h = begun_among None (moments h.opening h.made)
 
--- The flight is out, and not computed yet: it is that of the cycle which the history has begun and not ended, whatever consoles have
--- called since.
+-- The flight is out, and not computed yet: it is that of the cycle which the history has begun and not ended, whatever
+-- consoles have called since.
 pub record IsOut (h : History) (f : FlightFacts) : Type 0 where
   pub aloft : IsSomeAnd (begun_of h) (λ begun. StaysAloft begun f)
   pub not_yet : f.outcome ≡ None
@@ -129,11 +130,11 @@ owed s = one_if s.aloft + one_if (not s.closed)
 
 -- The entries that were made, with those that are owed in this state, are fewer than are too many.
 abbrev pub AreFew : List Entry → State → Type 0
-AreFew made now = length made + owed now < TOO_MANY_ENTRIES
+AreFew made now = length made + owed now < TOO_MANY_FOR_A_BOOK
 
 -- With one entry more, and whatever is owed then, they are few enough still,
 abbrev pub LeavesFew : List Entry → Type 0
-LeavesFew made = (next : State) → length made + 1 + owed next < TOO_MANY_ENTRIES
+LeavesFew made = (next : State) → length made + 1 + owed next < TOO_MANY_FOR_A_BOOK
 
 -- and there is room for them.
 abbrev pub HasRoomFor : List Entry → ℕ → Type 0

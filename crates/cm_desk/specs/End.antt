@@ -1,4 +1,5 @@
--- The landing of a flight, in its parts: the boxes and what works in a cycle come home, and then those are stopped that failed.
+-- The landing of a flight, in its parts: the boxes and what works in a cycle come home, and then those are stopped that
+-- failed.
 use Rattle.std.specs.Prelude.{◌≡◌, ℕ, ◌≤◌, true, false, List, [], length, map, vec_capacity}
 use Rattle.std.specs.List.{All, AllByRecursion}
 use Rattle.cm_document.specs.Valid.{IsValid}
@@ -29,8 +30,8 @@ pub record CanLand (s : State) (flight : FlightFacts) : Type 0 where
   pub numbered : IsNumbered s
   pub computed : IsComputed s flight
 
--- The cycle of the state has landed with these, so it can be settled who stops and who stays: its controllers, its hardware, which may have
--- moved, and who was looked up as active.
+-- The cycle of the state has landed with these, so it can be settled who stops and who stays: its controllers, its
+-- hardware, which may have moved, and who was looked up as active.
 pub record HasLanded (s : State) (slots : List Loaded) (w : Wired) (width : ℕ) (looked : Listed) : Type 0 where
   pub valid : IsValid s.description
   pub steady : IsSteady s
@@ -61,9 +62,10 @@ pub record IsSettledIn (before after : Craft) : Type 0 where
 
 -- ---- All of it
 
--- The flight comes home to these: the controllers of the state, whose boxes are away; who was looked up as active; and a bay with room for
--- the lists, for the stations and for the boxes.
-pub record CanComeHome (s : State) (slots : Slotted) (looked : Listed) (b : Bay) (berth_room : ℕ) (flight : FlightFacts) : Type 0 where
+-- The flight comes home to these: the controllers of the state, whose boxes are away; who was looked up as active; and
+-- a bay with room for the lists, for the stations and for the boxes.
+pub record CanComeHome (s : State) (slots : Slotted) (looked : Listed) (b : Bay) (berth_room : ℕ) (flight : FlightFacts)
+    : Type 0 where
   pub lands : CanLand s flight
   pub valid : IsValid s.description
   pub described : All (IsAsDescribed s.description) s.loaded
@@ -77,7 +79,8 @@ pub record CanComeHome (s : State) (slots : Slotted) (looked : Listed) (b : Bay)
   pub berths : length looked.order ≤ berth_room
 
 -- It came home: all is as after the cycle, and at home; the lists, where they are told, are those of the hardware.
-pub record HasComeHome (s : State) (before after : Slotted) (looked : Listed) (b b' : Bay) (flight : FlightFacts) : Type 0 where
+pub record HasComeHome (s : State) (before after : Slotted) (looked : Listed) (b b' : Bay) (flight : FlightFacts) : Type
+    0 where
   pub settled : HasSettled s after.loaded b'.plant.value.hardware looked
   pub slots : after ≡ record before { loaded = after.loaded; aloft = false }
   pub plant : b'.plant.value ≡ record flight.plant { hardware = b'.plant.value.hardware }

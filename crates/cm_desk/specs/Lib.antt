@@ -1,5 +1,5 @@
--- In reading order: what a cycle takes along, what it works on, who is active, then all that the desk keeps, and how a cycle begins, how
--- controllers come to their cells, how it ends, and what calls ask and hand over.
+-- In reading order: what a cycle takes along, what it works on, who is active, then all that the desk keeps, and how a
+-- cycle begins, how controllers come to their cells, how it ends, and what calls ask and hand over.
 pub mod Supplies
 pub mod Bay
 pub mod Roster

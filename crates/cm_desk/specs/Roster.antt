@@ -1,5 +1,6 @@
 -- Who is active, as it is looked up: by place in the description, and in the order of updates.
-use Rattle.std.specs.Prelude.{◌≡◌, ℕ, ◌<◌, ◌==◌, ◌&&◌, Bool, true, if◌then◌else◌, List, [], ◌∷◌, length, map, filter, find, slice_get, slice_index_or, slice_set, is_none, Option, None, Some, option_map}
+use Rattle.std.specs.Prelude.{◌≡◌, ℕ, ◌<◌, ◌==◌, ◌&&◌, Bool, true, if◌then◌else◌, List, [], ◌∷◌, length, map, filter}
+use Rattle.std.specs.Prelude.{find, slice_get, slice_index_or, slice_set, is_none, Option, None, Some, option_map}
 pub use Rattle.cm_model.specs.Components.{is_listed}
 pub use Rattle.cm_model.specs.Serials.{serials_of}
 use Rattle.cm_model.specs.State.{State, Loaded, is_active}
@@ -10,8 +11,9 @@ use Rattle.stop_plan.specs.Ending.{member_of, members_in_order}
 abbrev pub serial_in : List Loaded → ℕ → Option ℕ
 serial_in loaded place = option_map (λ l. l.serial) (find (λ l. is_active l && l.place == place) loaded)
 
--- What is looked up: by place in the description the serial of the controller that is active there; the active controllers in the order of
--- their updates, by serial and place, and by index among the loaded ones; and whether that order is the one of now.
+-- What is looked up: by place in the description the serial of the controller that is active there; the active
+-- controllers in the order of their updates, by serial and place, and by index among the loaded ones; and whether that
+-- order is the one of now.
 pub record Listed : Type 0 where
   pub active : List (Option ℕ)
   pub order : List Member
@@ -46,7 +48,9 @@ pub record IsListedOf (s : State) (r : Listed) : Type 0 where
 
 -- the flags once a controller is noted at its place, where it is active and nobody is noted there
 abbrev pub noted : Loaded → List (Option ℕ) → List (Option ℕ)
-noted l active = if is_active l && is_none (slice_index_or active l.place None) then slice_set active l.place (Some l.serial) else active
+noted l active =
+    if is_active l && is_none (slice_index_or active l.place None) then slice_set active l.place (Some l.serial)
+    else active
 
 -- and once these are noted one after the other
 abbrev pub noted_all : List Loaded → List (Option ℕ) → List (Option ℕ)

@@ -1,5 +1,6 @@
 -- The memory that a cycle takes when it goes aloft.
-use Rattle.std.specs.Prelude.{◌≡◌, ℕ, ◌≤◌, ◌<◌, ◌+◌, if◌then◌else◌, List, [], ◌∷◌, length, map, sum_by, vec_capacity, IfSome, IsSomeAnd}
+use Rattle.std.specs.Prelude.{◌≡◌, ℕ, ◌≤◌, ◌<◌, ◌+◌, if◌then◌else◌, List, [], ◌∷◌, length, map, sum_by, vec_capacity}
+use Rattle.std.specs.Prelude.{IfSome, IsSomeAnd}
 use Rattle.std.specs.List.{All, AllByRecursion}
 use Rattle.cm_document.specs.Params.{kind_of}
 use Rattle.cm_document.specs.declared.description.CompDesc.{CompDesc}
@@ -39,7 +40,8 @@ abbrev pub outs_at : Placed → Member → ℕ
 outs_at placed m = length (linked placed.claims m.place)
 
 abbrev pub numbers_at : Description → Placed → Member → ℕ
-numbers_at d placed m = if publishes (kind_of (controller_at d.controllers m.place).params) then length (linked placed.reads m.place) else 0
+numbers_at d placed m =
+    if publishes (kind_of (controller_at d.controllers m.place).params) then length (linked placed.reads m.place) else 0
 
 -- Nothing is told yet in this record, and it has room for all that a cycle can tell when these controllers are active.
 pub record HasRoom (d : Description) (placed : Placed) (order : List Member) (r : RecordRoom) : Type 0 where
@@ -97,40 +99,44 @@ pub record IsSilent (s : HardwareSize) (order : List Member) : Type 0 where
   pub no_joints : s.joints ≡ 0
   pub nobody : order ≡ []
 
--- A cycle can be supplied in which these controllers are active: the places and the size are those of the description, and each is described.
+-- A cycle can be supplied in which these controllers are active: the places and the size are those of the description,
+-- and each is described.
 pub record CanSupply (d : Description) (placed : Placed) (s : HardwareSize) (order : List Member) : Type 0 where
   pub places : placed ≡ placed_of d
   pub size : IsSizeOf d s
   pub within : All (λ m. m.place < length d.controllers) order
 
--- There are the stations of these controllers; the same controllers once more, for the flight; room for the serials of those
--- that fail, and for the mail of so many that are loaded; and a record with room.
-pub record AreSupplies (d : Description) (placed : Placed) (members : List Member) (loaded : ℕ) (s : Supplies) : Type 0 where
-  pub stations : AreStations placed members s.stations.items
-  pub order : s.order.items ≡ members
-  pub none_erred : s.erred.items ≡ []
-  pub erred : length members ≤ vec_capacity s.erred
-  pub no_mail : s.mails.items ≡ []
-  pub mails : loaded ≤ vec_capacity s.mails
-  pub told : HasRoom d placed members s.room
+-- There are the stations of these controllers; the same controllers once more, for the flight; room for the serials of
+-- those that fail, and for the mail of so many that are loaded; and a record with room.
+pub record AreSupplies (d : Description) (placed : Placed) (members : List Member) (loaded : ℕ) (s : Supplies) : Type 0
+  where
+    pub stations : AreStations placed members s.stations.items
+    pub order : s.order.items ≡ members
+    pub none_erred : s.erred.items ≡ []
+    pub erred : length members ≤ vec_capacity s.erred
+    pub no_mail : s.mails.items ≡ []
+    pub mails : loaded ≤ vec_capacity s.mails
+    pub told : HasRoom d placed members s.room
 
--- This works in a cycle in which these controllers are active: it is known who they are; there is room for the serials of those that fail;
--- and to tell of all that can happen.
+-- This works in a cycle in which these controllers are active: it is known who they are; there is room for the serials
+-- of those that fail; and to tell of all that can happen.
 pub record IsFittedOut (d : Description) (placed : Placed) (members : List Member) (k : Craft) : Type 0 where
   pub order : k.order.items ≡ members
   pub none_erred : k.erred.items ≡ []
   pub erred : length members ≤ vec_capacity k.erred
   pub told : IsSomeAnd k.room (HasRoom d placed members)
 
--- So it can from what cycles left over and what works in a cycle: it is known who stands at the stations, which are fitted, and in the room
--- for a record nothing is told.
-pub record CanSupplyFrom (d : Description) (s : HardwareSize) (order : List Member) (spare : Spare) (k : Craft) : Type 0 where
-  pub plant : CanSupply d k.plant.places s order
-  pub kept : AreKept k.plant.places spare.stations.items k.order.items
-  pub told : IfSome k.room TellsNothing
+-- So it can from what cycles left over and what works in a cycle: it is known who stands at the stations, which are
+-- fitted, and in the room for a record nothing is told.
+pub record CanSupplyFrom (d : Description) (s : HardwareSize) (order : List Member) (spare : Spare) (k : Craft) : Type 0
+  where
+    pub plant : CanSupply d k.plant.places s order
+    pub kept : AreKept k.plant.places spare.stations.items k.order.items
+    pub told : IfSome k.room TellsNothing
 
 -- All of it is ready, in what cycles left over and in what works in a cycle.
-pub record HaveSupplies (d : Description) (placed : Placed) (members : List Member) (loaded : ℕ) (spare : Spare) (k : Craft) : Type 0 where
+pub record HaveSupplies (d : Description) (placed : Placed) (members : List Member) (loaded : ℕ) (spare : Spare)
+    (k : Craft) : Type 0 where
   pub stations : AreStations placed members spare.stations.items
   pub no_mail : spare.mails.items ≡ []
   pub mails : loaded ≤ vec_capacity spare.mails
@@ -138,5 +144,10 @@ pub record HaveSupplies (d : Description) (placed : Placed) (members : List Memb
 
 -- Of what works in a cycle this alone changed, and in the room for a record nothing is told.
 pub record IsRefitted (before after : Craft) : Type 0 where
-  pub craft : after ≡ record before { order = after.order; erred = after.erred; room = after.room; left_over = after.left_over }
+  pub craft : after ≡ record before {
+    order = after.order;
+    erred = after.erred;
+    room = after.room;
+    left_over = after.left_over;
+  }
   pub told : IfSome after.room TellsNothing

@@ -1,11 +1,13 @@
 -- What the desk keeps, and how it answers.
-use Rattle.std.specs.Prelude.{◌≡◌, ℕ, ◌+◌, ◌<◌, ◌≤◌, ◌^◌, Bool, true, false, List, [], length, map, slice_get, is_some, Some, option_map, Result, Ok, Err}
+use Rattle.std.specs.Prelude.{◌≡◌, ℕ, ◌+◌, ◌<◌, ◌≤◌, ◌^◌, Bool, true, false, List, [], length, map, slice_get, is_some}
+use Rattle.std.specs.Prelude.{Some, option_map, Result, Ok, Err}
 use Rattle.std.specs.List.{All}
 use Rattle.cm_document.specs.Params.{kind_of}
 use Rattle.cm_document.specs.Valid.{IsValid}
 use Rattle.cm_document.specs.declared.description.Description.{Description}
 use Rattle.cm_model.specs.Commit.{commit}
-use Rattle.cm_model.specs.Console.{unless_refused, place_of, reply_on, with_changed, configure_refusals, after_configure}
+use Rattle.cm_model.specs.Console.{unless_refused, place_of, reply_on, with_changed, configure_refusals}
+use Rattle.cm_model.specs.Console.{after_configure}
 use Rattle.cm_model.specs.Cycle.{period}
 use Rattle.cm_model.specs.Machine.{load_refusals}
 use Rattle.cm_model.specs.Order.{Places, set_of}
@@ -36,7 +38,8 @@ use Rattle.cm_desk.specs.declared.bay.Bay.{Bay}
 use Rattle.ctl_trait.specs.declared.fault.CfgFault.{CfgFault}
 use Rattle.ctl_trait.specs.declared.fault.CfgFault.TheVariants.{Refused, Memory}
 
--- The state with these controllers loaded, by so many loads, and these requests, over this base, when so many cycles have ended.
+-- The state with these controllers loaded, by so many loads, and these requests, over this base, when so many cycles
+-- have ended.
 abbrev pub state_with : Description → Blanks → ℕ → ℕ → Slotted → Asked → Base → ℕ → Bool → State
 state_with description blanks sessions loads slots asked base ended closed = with_hardware (record {
   description = description;
@@ -63,8 +66,8 @@ IsAsDescribed d l = option_map (λ c. kind_of c.params) (slice_get d.controllers
 abbrev pub IsDivided : Loaded → Type 0
 IsDivided l = is_some l.ctl.params ≡ true → is_some l.divisor ≡ true
 
--- What is worked out of the description once: the names of its controllers; and over this plant, whom and what each has to do with, where
--- their interfaces stand on the board, and the time from one cycle to the next.
+-- What is worked out of the description once: the names of its controllers; and over this plant, whom and what each has
+-- to do with, where their interfaces stand on the board, and the time from one cycle to the next.
 pub record IsWorkedOut (d : Description) (names : List (List ℕ)) (g : Plant) : Type 0 where
   pub valid : IsValid d
   pub named : names ≡ map (λ c. c.name) d.controllers
@@ -72,10 +75,10 @@ pub record IsWorkedOut (d : Description) (names : List (List ℕ)) (g : Plant) :
   pub placed : g.places ≡ placed_of d
   pub timed : g.period_us ≡ period d
 
--- What the desk keeps of its state. Each loaded controller is of its described kind, and has a divisor where it has parameters; the blanks
--- that are left are few enough that each can still get a serial; the hardware is that of the state; a cycle that is aloft is one of the
--- described ones, its order of updates is the one of now, and the loop is not closed; no mail is aloft between two cycles; and what is looked
--- up is so.
+-- What the desk keeps of its state. Each loaded controller is of its described kind, and has a divisor where it has
+-- parameters; the blanks that are left are few enough that each can still get a serial; the hardware is that of the
+-- state; a cycle that is aloft is one of the described ones, its order of updates is the one of now, and the loop is
+-- not closed; no mail is aloft between two cycles; and what is looked up is so.
 pub record IsKept (s : State) (names : List (List ℕ)) (base : Base) (looked : Listed) : Type 0 where
   pub worked_out : IsWorkedOut s.description names base.plant
   pub described : All (IsAsDescribed s.description) s.loaded
@@ -93,10 +96,11 @@ pub record IsKept (s : State) (names : List (List ℕ)) (base : Base) (looked : 
 
 -- ---- A commit
 
--- A commit of this state can be made with these: its controllers and its hardware, which may have moved, where nobody has what is not
--- available; the places of interfaces, room for each controller, and who was looked up as active. The flags tell the commit, after which
--- this set is active, with some restarted by name.
-pub record CanCommit (s : State) (set again : Places) (places : Placed) (room : ℕ) (slots : List Loaded) (w : Wired) (looked : Listed)
+-- A commit of this state can be made with these: its controllers and its hardware, which may have moved, where nobody
+-- has what is not available; the places of interfaces, room for each controller, and who was looked up as active. The
+-- flags tell the commit, after which this set is active, with some restarted by name.
+pub record CanCommit (s : State) (set again : Places) (places : Placed) (room : ℕ) (slots : List Loaded) (w : Wired)
+    (looked : Listed)
     (chains stops starts : List Bool) : Type 0 where
   pub valid : IsValid s.description
   pub placed : places ≡ placed_of s.description
@@ -112,13 +116,15 @@ pub record CanCommit (s : State) (set again : Places) (places : Placed) (room : 
   pub together : CanRunTogether s.description s.lives set
 
 -- it was made
-pub record HasCommitted (s : State) (set again : Places) (slots : List Loaded) (w : Wired) (looked : Listed) : Type 0 where
-  pub loaded : slots ≡ (commit s set again).loaded
-  pub hardware : IsHardwareOf (commit s set again) w
-  pub active : TellsActive (length s.description.controllers) slots looked.active
-  pub stale : looked.fresh ≡ false
+pub record HasCommitted (s : State) (set again : Places) (slots : List Loaded) (w : Wired) (looked : Listed) : Type 0
+  where
+    pub loaded : slots ≡ (commit s set again).loaded
+    pub hardware : IsHardwareOf (commit s set again) w
+    pub active : TellsActive (length s.description.controllers) slots looked.active
+    pub stale : looked.fresh ≡ false
 
--- and else nothing changed: of what is looked up, the order and the indices; the room; and of the slots, whether a cycle is aloft
+-- and else nothing changed: of what is looked up, the order and the indices; the room; and of the slots, whether a
+-- cycle is aloft
 pub record KeepsRest (before after : Listed) (m n : ℕ) (old new : Slotted) : Type 0 where
   pub order : after.order ≡ before.order
   pub run : after.run ≡ before.run
@@ -130,12 +136,14 @@ pub record CanSwitch (b : Bay) (slots : Slotted) (looked : Listed) (c : Switched
   pub home : IsAtHome b
   pub down : slots.aloft ≡ false
   pub can : (s : State) × (again : Places)
-      × CanCommit s (set_of c.set) again b.plant.value.places b.room slots.loaded b.plant.value.hardware looked c.chained c.stopped c.started
+      × CanCommit s (set_of c.set) again b.plant.value.places b.room slots.loaded b.plant.value.hardware looked
+      c.chained c.stopped c.started
 
 -- it was done
 abbrev pub HasSwitched : Bay → Bay → Slotted → Slotted → Listed → Listed → Switched → Type 0
 HasSwitched b b' slots slots' looked looked' c = (s : State) (again : Places)
-    → CanCommit s (set_of c.set) again b.plant.value.places b.room slots.loaded b.plant.value.hardware looked c.chained c.stopped c.started
+    → CanCommit s (set_of c.set) again b.plant.value.places b.room slots.loaded b.plant.value.hardware looked c.chained
+    c.stopped c.started
     → HasCommitted s (set_of c.set) again slots'.loaded b'.plant.value.hardware looked'
 
 -- ---- Answers
@@ -144,10 +152,12 @@ HasSwitched b b' slots slots' looked looked' c = (s : State) (again : Places)
 abbrev pub load_reply : State → List ℕ → Reply
 load_reply s name = unless_refused (load_refusals s (place_of s name)) (reply.Serial s.loads)
 
--- What a configure of the loaded controller that stands there comes to: done, with what that makes of the state; or, with a fault,
--- nothing, and it is the refusal only where that is the reply.
+-- What a configure of the loaded controller that stands there comes to: done, with what that makes of the state; or,
+-- with a fault, nothing, and it is the refusal only where that is the reply.
 abbrev pub IsConfigured : State → ℕ → State → Result (Unit {0}) CfgFault → Type 0
 IsConfigured old i new (Ok u) =
-    (reply_on (configure_refusals old) (slice_get old.loaded i) ≡ reply.Done) × (new ≡ with_changed (after_configure old) old (Some i))
-IsConfigured old i new (Err Refused) = (reply_on (configure_refusals old) (slice_get old.loaded i) ≡ reply.Not why.Refused) × (new ≡ old)
+    (reply_on (configure_refusals old) (slice_get old.loaded i) ≡ reply.Done)
+    × (new ≡ with_changed (after_configure old) old (Some i))
+IsConfigured old i new (Err Refused) =
+    (reply_on (configure_refusals old) (slice_get old.loaded i) ≡ reply.Not why.Refused) × (new ≡ old)
 IsConfigured old i new (Err Memory) = new ≡ old

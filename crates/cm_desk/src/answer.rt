@@ -8,8 +8,11 @@ ghost use Rattle.cm_desk.specs.Desk.{IsAnswerTo, is_list, IsShort};
 ghost use Rattle.cm_desk.specs.Works.{IsAnswered};
 
 use crate::works::Works;
-use cm_model::{Boxed, Call, Memory, Reply, Request};
+use cm_document::Call;
+use cm_model::{Reply, Request};
 use ctl_trait::Controller;
+use fixed_num::Memory;
+use sequence::Boxed;
 use std::alloc::Global;
 
 /// What a call came to: its reply, once for the caller and once for the history, and the box that it hands out.

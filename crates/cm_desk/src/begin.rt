@@ -16,11 +16,14 @@ use crate::boarding::board;
 use crate::roster::Roster;
 use crate::supplies::empty;
 use crate::works::{Works, described_at};
-use cm_model::{CtlDesc, Decision, Life, Memory, Rare, Seen};
+use cm_document::{CtlDesc, Life};
+use cm_model::{Decision, Seen};
 use ctl_slots::{Slot, Slots};
 use ctl_trait::Controller;
+use fixed_num::Memory;
 use request_plan::{Act, Conclusion, Plan, Requests, Stand, Switched};
 use rt_flight::{Cell, Flight, Payload};
+use sequence::Rare;
 use std::alloc::Global;
 use std::snapshot::Snapshot;
 

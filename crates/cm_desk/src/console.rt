@@ -10,9 +10,12 @@ ghost use Rattle.cm_desk.specs.Works.{IsAnswered, IsAsDescribed, IsConfigured};
 
 use crate::works::{Works, described_at};
 use chain_order::divisor;
-use cm_model::{Checked, CtlDesc, Mail, Memory, Name, Reply, Why};
+use cm_document::{Checked, CtlDesc, Mail};
+use cm_model::{Reply, Why};
 use ctl_slots::Slot;
 use ctl_trait::{CfgFault, Controller, takes, takes_none};
+use fixed_num::Memory;
+use iface_names::Name;
 use std::alloc::Global;
 
 impl<C: Controller> Works<C> {

@@ -7,8 +7,10 @@ ghost use Rattle.cm_model.specs.State.{interface_lines, component_lines};
 ghost use Rattle.cm_model.specs.declared.reply.Reply.TheVariants as reply;
 
 use crate::works::Works;
-use cm_model::{CompLine, Decision, IfaceLine, Memory, Outcome, Rare, Seq};
+use cm_model::{CompLine, Decision, IfaceLine, Outcome};
 use ctl_trait::Controller;
+use fixed_num::Memory;
+use sequence::{Rare, Seq};
 use std::alloc::Global;
 
 impl<C: Controller> Works<C> {

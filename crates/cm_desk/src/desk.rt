@@ -10,13 +10,16 @@ ghost use Rattle.cm_desk.specs.Calls.Answers.{MayCall, IsHandedOver};
 ghost use Rattle.cm_desk.specs.Desk.{now_of, Grows, Waits, GrowsWhere, hands_out, IsOut, MayLand};
 ghost use Rattle.cm_desk.specs.Desk.{AreFew, HasRoomFor, LeavesFew, IsRight};
 
-use crate::TOO_MANY_ENTRIES;
+use crate::TOO_MANY_FOR_A_BOOK;
 use crate::book::Book;
 use crate::works::Works;
-use cm_model::{Blanks, Boxed, Call, Checked, Entry, KeptCall, Memory, Outcome, Reply};
+use cm_document::{Call, Checked};
+use cm_model::{Blanks, Entry, KeptCall, Outcome, Reply};
 use ctl_rack::Stock;
 use ctl_trait::Controller;
+use fixed_num::Memory;
 use rt_flight::Flight;
+use sequence::Boxed;
 use std::alloc::Global;
 use std::marker::Model;
 
@@ -70,7 +73,7 @@ impl<C: Controller> Desk<C> {
     }
 
     /// Answers a call of a session, with the box that an unload hands out. Want of memory changes nothing; a history
-    /// that would have too many entries (`TOO_MANY_ENTRIES`) wants memory too.
+    /// that would have too many entries (`TOO_MANY_FOR_A_BOOK`) wants memory too.
     pub fn call(
         &mut self,
         alloc: Global,
@@ -278,7 +281,7 @@ fn make_room(history: &mut Vec<Entry>) -> Result<(), Memory>
     ensures history { (history.new.items ≡ history.old.items)
         × (vec_capacity history.old ≤ vec_capacity history.new) }
 {
-    if history.len() >= TOO_MANY_ENTRIES - ENTRIES_AHEAD {
+    if history.len() >= TOO_MANY_FOR_A_BOOK - ENTRIES_AHEAD {
         return Err(Memory);
     }
     history.reserve(ENTRIES_AHEAD)?;

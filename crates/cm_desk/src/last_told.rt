@@ -2,7 +2,9 @@
 
 ghost use Rattle.std.specs.Prelude.{◌≡◌, IfOk, IsTrue};
 
-use cm_model::{IfaceLine, Memory, Seq, Shared, StoredValue, Value};
+use cm_model::IfaceLine;
+use fixed_num::{Memory, StoredValue, Value};
+use sequence::{Seq, Shared};
 use std::alloc::Global;
 
 /// The list of interfaces that was told last, so that one that says the same is not kept once more.

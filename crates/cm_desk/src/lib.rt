@@ -3,15 +3,7 @@
 #![tactic(auto)]
 
 pub use book::Book;
-pub use cm_model::{
-    Blanks, Call, Checked, CompLine, CtlLine, CycleRecord, Entry, IfaceLine, Mail, Memory, Name,
-    Outcome, Reply, Why,
-};
-pub use ctl_rack::Stock;
-pub use ctl_slots::Slot;
-pub use ctl_trait::Controller;
 pub use desk::Desk;
-pub use rt_flight::Flight;
 
 mod answer;
 mod bay;
@@ -32,4 +24,4 @@ mod supplies;
 mod works;
 
 /// The entries of a book are fewer than this.
-pub const TOO_MANY_ENTRIES: usize = 1 << 32;
+pub const TOO_MANY_FOR_A_BOOK: usize = 1 << 32;

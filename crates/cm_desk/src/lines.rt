@@ -8,9 +8,12 @@ ghost use Rattle.chain_order.specs.Links.{leaders_of};
 
 use crate::works::Works;
 use chain_order::{Links, precedes};
-use cm_model::{CtlDesc, CtlLine, Memory, Seq};
+use cm_document::CtlDesc;
+use cm_model::CtlLine;
 use ctl_slots::Slot;
 use ctl_trait::Controller;
+use fixed_num::Memory;
+use sequence::Seq;
 use std::alloc::Global;
 
 impl<C: Controller> Works<C> {

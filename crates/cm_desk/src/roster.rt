@@ -5,9 +5,10 @@ ghost use Rattle.std.specs.List.{list_any};
 ghost use Rattle.cm_desk.specs.Calls.Rosters.{IsPut, IsIndexedAnew};
 ghost use Rattle.cm_desk.specs.Roster.{TellsActive, AreAt, serials_of, is_listed, noted};
 
-use cm_model::{Member, Memory};
+use cm_model::Member;
 use ctl_slots::Slot;
 use ctl_trait::Controller;
+use fixed_num::Memory;
 use std::alloc::Global;
 use std::marker::Model;
 

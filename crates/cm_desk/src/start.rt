@@ -6,7 +6,10 @@ ghost use Rattle.cm_desk.specs.Roster.{IsOfNobody};
 
 use crate::bay::Bay;
 use crate::roster::Roster;
-use cm_model::{Checked, CtlDesc, Memory, Name, Shared};
+use cm_document::{Checked, CtlDesc};
+use fixed_num::Memory;
+use iface_names::Name;
+use sequence::Shared;
 use std::alloc::Global;
 use stop_plan::Ending;
 

@@ -11,12 +11,16 @@ use crate::bay::Bay;
 use crate::last_told::LastTold;
 use crate::roster::Roster;
 use crate::start::{at_start, names_of};
-use cm_model::{Checked, CtlDesc, Memory, Name, Reply, Shared, Why};
+use cm_document::{Checked, CtlDesc};
+use cm_model::{Reply, Why};
 use ctl_rack::{Piles, Stock};
 use ctl_slots::{Slot, Slots};
 use ctl_trait::Controller;
+use fixed_num::Memory;
+use iface_names::Name;
 use request_plan::Requests;
 use rt_flight::Cell;
+use sequence::Shared;
 use std::alloc::Global;
 use std::marker::Model;
 

@@ -36,7 +36,9 @@ signed_text sign names = flat_map (λ name. codes " " ++ sign ++ name) names
 
 -- a switch: those to deactivate before those to activate
 abbrev pub switch_text : SwitchRequest → List ℕ
-switch_text r = verb_word verb.Switch ++ codes " " ++ strictness_word r.strict ++ signed_text (codes "-") r.off ++ signed_text (codes "+") r.on
+switch_text r =
+    verb_word verb.Switch ++ codes " " ++ strictness_word r.strict ++ signed_text (codes "-") r.off
+    ++ signed_text (codes "+") r.on
 
 -- a verb and what it is asked of, with a space between
 abbrev pub asked : Verb → List ℕ → List ℕ

@@ -1,5 +1,6 @@
 -- The tables of a description, one line a key, in the order in which the keys are visited, and the walk over the whole.
-use Rattle.std.specs.Prelude.{ℕ, ◌-◌, ◌^◌, min, ℤ, pos, Bool, false, if◌then◌else◌, List, [], ◌∷◌, ◌++◌, length, map, flat_map, codes, Option, Some, None, Result, Ok, Err}
+use Rattle.std.specs.Prelude.{ℕ, ◌-◌, ◌^◌, min, ℤ, pos, Bool, false, if◌then◌else◌, List, [], ◌∷◌, ◌++◌, length, map}
+use Rattle.std.specs.Prelude.{flat_map, codes, Option, Some, None, Result, Ok, Err}
 use Rattle.std.specs.Str.{is_utf8}
 use Rattle.toml.specs.Data.{Members, get_member}
 use Rattle.toml.specs.Parse.{parse_document}
@@ -10,13 +11,15 @@ use Rattle.iface_names.specs.declared.interface.IfaceName.TheVariants.{Joint}
 use Rattle.iface_names.specs.declared.kind.Kind.{Kind}
 use Rattle.cm_document.specs.Reading.{◌>>=◌}
 use Rattle.cm_document.specs.Vocabulary.{component_kinds, lives, lives_on_error, controller_kinds}
-use Rattle.cm_document.specs.Forms.{Form, one, list_of, list_after, tables_of, all_or_list, whole_in, quantity_in, boolean_in, name_in, word_in, interface_in, state_in, kind_in}
+use Rattle.cm_document.specs.Forms.{Form, one, list_of, list_after, tables_of, all_or_list, whole_in, quantity_in}
+use Rattle.cm_document.specs.Forms.{boolean_in, name_in, word_in, interface_in, state_in, kind_in}
 use Rattle.cm_document.specs.Tables.{Table, filled, required, required_read, defaulted, ◌&◌, walk}
 use Rattle.cm_document.specs.declared.description.CompDesc.{CompDesc}
 use Rattle.cm_document.specs.declared.description.CompKind.{CompKind}
 use Rattle.cm_document.specs.declared.description.CtlDesc.{CtlDesc}
 use Rattle.cm_document.specs.declared.description.CtlKind.{CtlKind}
-use Rattle.cm_document.specs.declared.description.CtlKind.TheVariants.{Forward, Passthrough, Pid, Trajectory, Broadcaster, Mock}
+use Rattle.cm_document.specs.declared.description.CtlKind.TheVariants.{Forward, Passthrough, Pid, Trajectory}
+use Rattle.cm_document.specs.declared.description.CtlKind.TheVariants.{Broadcaster, Mock}
 use Rattle.cm_document.specs.declared.description.Description.{Description}
 use Rattle.cm_document.specs.declared.description.JointDesc.{JointDesc}
 use Rattle.cm_document.specs.declared.description.Params.{Params}
@@ -100,7 +103,13 @@ count interfaces = min (length interfaces) (2 ^ 32 - 1)
 
 -- a controller of these values
 abbrev pub a_controller : List ℕ → ℕ → List IfaceName → List IfaceName → Params → CtlDesc
-a_controller name rate claims reads params = record { name = name; rate = rate; claims = claims; reads = reads; params = params }
+a_controller name rate claims reads params = record {
+  name = name;
+  rate = rate;
+  claims = claims;
+  reads = reads;
+  params = params;
+}
 
 -- the keys that a controller of every type has come first: its type says which others follow
 abbrev pub common : {A : Type 0} → (List ℕ → ℕ → A) → Table A
@@ -116,7 +125,9 @@ claiming_table make = common (λ name rate claims. a_controller name rate claims
 
 -- the keys of a pid
 abbrev pub pid_table : Table CtlDesc
-pid_table = common (λ name rate claims reads kp ki kd imax omax. a_controller name rate claims reads (params.Pid kp ki kd imax omax))
+pid_table =
+    common
+    (λ name rate claims reads kp ki kd imax omax. a_controller name rate claims reads (params.Pid kp ki kd imax omax))
     & required (codes "claims") (list_of interface_in)
     & required (codes "reads") (list_of state_in)
     & defaulted (codes "kp") (one quantity_in) (pos 0)
@@ -127,13 +138,15 @@ pid_table = common (λ name rate claims reads kp ki kd imax omax. a_controller n
 
 -- the keys of a trajectory
 abbrev pub trajectory_table : Table CtlDesc
-trajectory_table = common (λ name rate claims reads. a_controller name rate claims reads (params.Trajectory (count claims)))
+trajectory_table =
+    common (λ name rate claims reads. a_controller name rate claims reads (params.Trajectory (count claims)))
     & required (codes "claims") (list_of interface_in)
     & required (codes "reads") (list_of state_in)
 
 -- the keys of a broadcaster; `all` stands for these states
 abbrev pub broadcaster_table : List IfaceName → Table CtlDesc
-broadcaster_table states = common (λ name rate reads. a_controller name rate [] reads (params.Broadcaster (count reads)))
+broadcaster_table states =
+    common (λ name rate reads. a_controller name rate [] reads (params.Broadcaster (count reads)))
     & required (codes "reads") (all_or_list states)
 
 -- the keys of a mock
@@ -157,14 +170,17 @@ controller_table states Mock = mock_table
 
 -- the type of a controller, at its key
 abbrev pub type_of : List ℕ → Members → Result CtlKind DescFault
-type_of prefix ms = required_read (one (word_in controller_kinds)) (prefix ++ codes "type") (get_member (codes "type") ms)
+type_of prefix ms =
+    required_read (one (word_in controller_kinds)) (prefix ++ codes "type") (get_member (codes "type") ms)
 
--- Which keys a controller may have depends on its type, so that is looked at before all else: where it is missing or no listed
--- word, that is the controller's one fault.
+-- Which keys a controller may have depends on its type, so that is looked at before all else: where it is missing or no
+-- listed word, that is the controller's one fault.
 abbrev pub controller_form : List IfaceName → Form Members CtlDesc
 controller_form states = record {
   read = λ prefix ms. type_of prefix ms >>= λ kind. (walk (controller_table states kind)).read prefix ms;
-  faults = λ prefix ms. elim (type_of prefix ms) [ Ok kind ↦ (walk (controller_table states kind)).faults prefix ms | Err e ↦ e ∷ [] ];
+  faults =
+      λ prefix ms. elim (type_of prefix ms)
+      [ Ok kind ↦ (walk (controller_table states kind)).faults prefix ms | Err e ↦ e ∷ [] ];
   fits = λ ms. elim (type_of [] ms) [ Ok kind ↦ (walk (controller_table states kind)).fits ms | Err e ↦ false ];
 }
 
@@ -216,6 +232,7 @@ description_in (Some ms) = description_form.read [] ms
 abbrev pub all_faults : Members → List DescFault
 all_faults ms = description_form.faults [] ms
 
--- whether a tree has the form of a description: no unlisted key, each required key, and at every key a value of the form that is asked there
+-- whether a tree has the form of a description: no unlisted key, each required key, and at every key a value of the
+-- form that is asked there
 abbrev pub fits_description : Members → Bool
 fits_description ms = description_form.fits ms

@@ -18,7 +18,8 @@ use Rattle.cm_document.specs.declared.faults.DocumentFault.TheVariants as fault
 
 -- the description that these bytes are: read by the walk, and then checked
 unfoldable pub accepted_description : List ℕ → Result Description DescProblem
-accepted_description bytes = fault_as Text (description_in (tree_of bytes)) >>= λ described. fault_as Check (valid described)
+accepted_description bytes =
+    fault_as Text (description_in (tree_of bytes)) >>= λ described. fault_as Check (valid described)
 
 -- The script after so many lines and a separator, by a grammar. Without a separator the line after the last is bad.
 abbrev pub accepted_script : Grammar → ℕ → Option (List ℕ) → Result Script ScriptFault

@@ -1,7 +1,10 @@
--- The forms that a value of a description can be asked to have: how each is read, and what is wrong with a value of another form.
-use Rattle.std.specs.Prelude.{ℕ, ◌+◌, ◌^◌, ℤ, pos, Bool, true, false, ◌&&◌, nat_lt, if◌then◌else◌, List, [], ◌∷◌, ◌++◌, codes, decimal, Option, Some, None, Result, Ok, Err, is_ok}
+-- The forms that a value of a description can be asked to have: how each is read, and what is wrong with a value of
+-- another form.
+use Rattle.std.specs.Prelude.{ℕ, ◌+◌, ◌^◌, ℤ, pos, Bool, true, false, ◌&&◌, nat_lt, if◌then◌else◌, List, [], ◌∷◌, ◌++◌}
+use Rattle.std.specs.Prelude.{codes, decimal, Option, Some, None, Result, Ok, Err, is_ok}
 use Rattle.std.specs.List.{list_any}
-use Rattle.toml.specs.Data.{Data, string, integer, float, boolean, array, table, Items, no_items, item, Members, same_key}
+use Rattle.toml.specs.Data.{Data, string, integer, float, boolean, array, table, Items, no_items, item, Members}
+use Rattle.toml.specs.Data.{same_key}
 use Rattle.fixed_num.specs.Micro.{units}
 use Rattle.fixed_num.specs.Text.{number_of}
 use Rattle.iface_names.specs.Names.{is_name}
@@ -106,8 +109,8 @@ inside path = path ++ codes "."
 
 -- ---- Forms
 
--- What a value or a table is asked to be: how it is read at its path, to what it stands for or its first fault; all its faults,
--- in order; and whether it has none.
+-- What a value or a table is asked to be: how it is read at its path, to what it stands for or its first fault; all its
+-- faults, in order; and whether it has none.
 pub record Form (D A : Type 0) : Type 0 where
   pub read : List ℕ → D → Result A DescFault
   pub faults : List ℕ → D → List DescFault
@@ -120,12 +123,18 @@ fault_in (Err e) = e ∷ []
 
 -- one value, read by this rule
 abbrev pub one : {A : Type 0} → (Data → Result A Wrong) → Form Data A
-one rule = record { read = λ path d. placed path (rule d); faults = λ path d. fault_in (placed path (rule d)); fits = λ d. is_ok (rule d) }
+one rule = record {
+  read = λ path d. placed path (rule d);
+  faults = λ path d. fault_in (placed path (rule d));
+  fits = λ d. is_ok (rule d);
+}
 
 -- the items from the k-th on, after those found; the rule for an item may look at those before it
-abbrev pub items_from : {A : Type 0} → (List A → Data → Result A Wrong) → List ℕ → ℕ → Items → List A → Result (List A) DescFault
+abbrev pub items_from : {A : Type 0} → (List A → Data → Result A Wrong) → List ℕ → ℕ → Items → List A
+    → Result (List A) DescFault
 items_from rule path k no_items found = Ok found
-items_from rule path k (item d ds) found = placed (item_path path k) (rule found d) >>= λ x. items_from rule path (k + 1) ds (found ++ x ∷ [])
+items_from rule path k (item d ds) found =
+    placed (item_path path k) (rule found d) >>= λ x. items_from rule path (k + 1) ds (found ++ x ∷ [])
 
 -- all faults of the items; one that is faulty is not among those before the next
 abbrev pub item_faults : {A : Type 0} → (List A → Data → Result A Wrong) → List ℕ → ℕ → Items → List A → List DescFault
@@ -168,13 +177,15 @@ list_of rule = list_after (λ found. rule)
 -- the tables from the k-th on, after those found; an item that is no table is bad in its turn
 abbrev pub tables_from : {A : Type 0} → Form Members A → List ℕ → ℕ → Items → List A → Result (List A) DescFault
 tables_from form path k no_items found = Ok found
-tables_from form path k (item (table ms) ds) found = form.read (inside (item_path path k)) ms >>= λ x. tables_from form path (k + 1) ds (found ++ x ∷ [])
+tables_from form path k (item (table ms) ds) found =
+    form.read (inside (item_path path k)) ms >>= λ x. tables_from form path (k + 1) ds (found ++ x ∷ [])
 tables_from form path k (item _ ds) found = Err (BadValue (item_path path k))
 
 -- all their faults
 abbrev pub tables_faults : {A : Type 0} → Form Members A → List ℕ → ℕ → Items → List DescFault
 tables_faults form path k no_items = []
-tables_faults form path k (item (table ms) ds) = form.faults (inside (item_path path k)) ms ++ tables_faults form path (k + 1) ds
+tables_faults form path k (item (table ms) ds) =
+    form.faults (inside (item_path path k)) ms ++ tables_faults form path (k + 1) ds
 tables_faults form path k (item _ ds) = BadValue (item_path path k) ∷ tables_faults form path (k + 1) ds
 
 -- every item is a table of the form

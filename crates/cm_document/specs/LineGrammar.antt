@@ -1,5 +1,6 @@
 -- The grammar of a script's lines: what the words of a line say. Each verb has its equation of `said`.
-use Rattle.std.specs.Prelude.{ℕ, ℤ, Bool, false, ◌&&◌, ◌||◌, ◌==◌, nat_lt, nat_le, if◌then◌else◌, List, [], ◌∷◌, length, codes, Option, Some, None, option_map, is_some, filter_map, Ok, Err}
+use Rattle.std.specs.Prelude.{ℕ, ℤ, Bool, false, ◌&&◌, ◌||◌, ◌==◌, nat_lt, nat_le, if◌then◌else◌, List, [], ◌∷◌, length}
+use Rattle.std.specs.Prelude.{codes, Option, Some, None, option_map, is_some, filter_map, Ok, Err}
 use Rattle.std.specs.List.{list_all}
 use Rattle.std.specs.Option.{option_and_then}
 use Rattle.std.specs.Char.{is_ascii_digit}
@@ -7,7 +8,7 @@ use Rattle.std.specs.Str.Parse.{digits_value}
 use Rattle.fixed_num.specs.Text.{number_of}
 use Rattle.iface_names.specs.Names.{is_name}
 use Rattle.cm_document.specs.Vocabulary.{listed, verbs, lives, strictnesses}
-use Rattle.cm_document.specs.declared.limits.TheConstants.{HIGHEST_RATE, MOST_DIGITS}
+use Rattle.cm_document.specs.declared.limits.TheConstants.{HIGHEST_RATE, MOST_DIGITS_OF_WHOLE}
 use Rattle.cm_document.specs.declared.call.Call.{Call}
 use Rattle.cm_document.specs.declared.call.Call.TheVariants as call
 use Rattle.cm_document.specs.declared.call.Mail.{Mail}
@@ -28,7 +29,9 @@ name_word word = if is_name word then Some word else None
 
 -- a whole number has 1 to 9 digits
 abbrev pub whole_word : List ℕ → Option ℕ
-whole_word word = if (nat_le 1 (length word) && nat_le (length word) MOST_DIGITS) && list_all is_ascii_digit word then Some (digits_value 10 word) else None
+whole_word word =
+    if (nat_le 1 (length word) && nat_le (length word) MOST_DIGITS_OF_WHOLE) && list_all is_ascii_digit word
+    then Some (digits_value 10 word) else None
 
 -- a whole number of at most so much
 abbrev pub at_most : ℕ → Option ℕ → Option ℕ
@@ -90,7 +93,8 @@ later before (Some p) = if nat_lt before p.at_us then Some p else None
 abbrev pub points_after : ℕ → List (List ℕ × List (List ℕ)) → Option (List Point2)
 points_after before [] = Some []
 points_after before (group ∷ groups) =
-    option_and_then (λ p. option_map (λ ps. p ∷ ps) (points_after p.at_us groups)) (later before (point_at (time_word group.0) (values_in group.1)))
+    option_and_then (λ p. option_map (λ ps. p ∷ ps) (points_after p.at_us groups))
+    (later before (point_at (time_word group.0) (values_in group.1)))
 
 -- Values alone, or, where the first word is a time, points: the first is at 1 microsecond or later.
 abbrev pub mail_in : List (List ℕ) → Option Mail
@@ -114,7 +118,11 @@ is_signed word = is_some (behind 43 word) || is_some (behind 45 word)
 abbrev pub switch_in : Option Bool → List (List ℕ) → Option SwitchRequest
 switch_in None words = None
 switch_in (Some strict) words =
-    if list_all is_signed words then Some (record { on = filter_map (behind 43) words; off = filter_map (behind 45) words; strict = strict }) else None
+    if list_all is_signed words then Some (record {
+      on = filter_map (behind 43) words;
+      off = filter_map (behind 45) words;
+      strict = strict;
+    }) else None
 
 -- ---- Grammar
 
@@ -133,17 +141,21 @@ on_name make _ = None
 
 -- `rate NAME HZ`: at most 10,000 hertz
 abbrev pub rate_in : List (List ℕ) → Option Call
-rate_in (name ∷ hz ∷ []) = option_and_then (λ controller. option_map (call.Rate controller) (at_most HIGHEST_RATE (whole_word hz))) (name_word name)
+rate_in (name ∷ hz ∷ []) =
+    option_and_then (λ controller. option_map (call.Rate controller) (at_most HIGHEST_RATE (whole_word hz)))
+    (name_word name)
 rate_in _ = None
 
 -- `send NAME ..`
 abbrev pub send_in : List (List ℕ) → Option Call
-send_in (name ∷ words) = option_and_then (λ controller. option_map (call.Send controller) (mail_in words)) (name_word name)
+send_in (name ∷ words) =
+    option_and_then (λ controller. option_map (call.Send controller) (mail_in words)) (name_word name)
 send_in _ = None
 
 -- `hw NAME STATE`
 abbrev pub hardware_in : List (List ℕ) → Option Call
-hardware_in (name ∷ state ∷ []) = option_and_then (λ component. option_map (call.Hardware component) (listed lives state)) (name_word name)
+hardware_in (name ∷ state ∷ []) =
+    option_and_then (λ component. option_map (call.Hardware component) (listed lives state)) (name_word name)
 hardware_in _ = None
 
 -- the lists, each where the grammar has it
@@ -155,11 +167,12 @@ lists grammar =
 
 -- `list controllers`, `list interfaces`, `list components`
 abbrev pub list_in : Grammar → List (List ℕ) → Option ScriptLine
-list_in grammar (word ∷ []) = option_and_then (λ row. where_accepted row.0 (Some (line.Call row.1))) (listed (lists grammar) word)
+list_in grammar (word ∷ []) =
+    option_and_then (λ row. where_accepted row.0 (Some (line.Call row.1))) (listed (lists grammar) word)
 list_in grammar _ = None
 
--- What a line says that begins with this verb and goes on with these words. Whether a session's line is accepted depends on the
--- sessions before it, so that is asked later.
+-- What a line says that begins with this verb and goes on with these words. Whether a session's line is accepted
+-- depends on the sessions before it, so that is asked later.
 abbrev pub said : Grammar → Verb → List (List ℕ) → Option ScriptLine
 said grammar verb.Session (name ∷ []) = option_map line.Session (name_word name)
 said grammar verb.Load words = where_accepted grammar.load (on_name call.Load words)
@@ -168,9 +181,11 @@ said grammar verb.Cleanup words = where_accepted grammar.cleanup (on_name call.C
 said grammar verb.Unload words = where_accepted grammar.unload (on_name call.Unload words)
 said grammar verb.Rate words = where_accepted grammar.rate (a_call (rate_in words))
 said grammar verb.Send words = where_accepted grammar.send (a_call (send_in words))
-said grammar verb.Switch (strictness ∷ words) = where_accepted grammar.switch (a_call (option_map call.Switch (switch_in (listed strictnesses strictness) words)))
+said grammar verb.Switch (strictness ∷ words) =
+    where_accepted grammar.switch (a_call (option_map call.Switch (switch_in (listed strictnesses strictness) words)))
 said grammar verb.Hardware words = where_accepted grammar.hardware (a_call (hardware_in words))
-said grammar verb.Await (word ∷ []) = where_accepted grammar.await_cycles (a_call (option_map call.Await (whole_word word)))
+said grammar verb.Await (word ∷ []) =
+    where_accepted grammar.await_cycles (a_call (option_map call.Await (whole_word word)))
 said grammar verb.List words = list_in grammar words
 said grammar verb.Schedule [] = where_accepted grammar.schedule (Some line.Schedule)
 said grammar verb.Step (name ∷ []) = where_accepted grammar.schedule (option_map line.Step (name_word name))

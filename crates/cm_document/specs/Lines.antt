@@ -1,5 +1,6 @@
 -- The lines of a document, the separator, and the words of a line.
-use Rattle.std.specs.Prelude.{ℕ, ◌+◌, Bool, true, false, not, ◌||◌, ◌==◌, if◌then◌else◌, List, [], ◌∷◌, ◌++◌, length, filter, codes, Option, Some, None, nat_eq}
+use Rattle.std.specs.Prelude.{ℕ, ◌+◌, Bool, true, false, not, ◌||◌, ◌==◌, if◌then◌else◌, List, [], ◌∷◌, ◌++◌, length}
+use Rattle.std.specs.Prelude.{filter, codes, Option, Some, None, nat_eq}
 use Rattle.std.specs.List.{onto_first, slice_split}
 use Rattle.std.specs.Cmp.Lexicographic.{pointwise}
 
@@ -22,7 +23,8 @@ bare line = without_last 13 (without_last 10 line)
 abbrev pub is_separator : List ℕ → Bool
 is_separator line = pointwise nat_eq (bare line) (codes "--- script ---")
 
--- The parts of a document: the bytes before the separator, how many lines they are, and the bytes after it, where it stands.
+-- The parts of a document: the bytes before the separator, how many lines they are, and the bytes after it, where it
+-- stands.
 pub record Parts : Type 0 where
   pub description : List ℕ
   pub lines : ℕ
@@ -38,7 +40,11 @@ abbrev pub parts_of_lines : List (List ℕ) → Parts
 parts_of_lines [] = record { description = []; lines = 0; script = None }
 parts_of_lines (line ∷ lines) =
     if is_separator line then record { description = []; lines = 0; script = Some (joined lines) }
-    else (let rest = parts_of_lines lines in record { description = line ++ rest.description; lines = rest.lines + 1; script = rest.script })
+    else (let rest = parts_of_lines lines in record {
+      description = line ++ rest.description;
+      lines = rest.lines + 1;
+      script = rest.script;
+    })
 
 -- the parts of a document
 unfoldable pub parts_of : List ℕ → Parts

@@ -1,5 +1,6 @@
 -- How controllers are linked: what each claims, reads and exports, and which precedes which.
-use Rattle.std.specs.Prelude.{◌≡◌, ℕ, zero, suc, Bool, true, false, ◌||◌, ◌&&◌, List, [], ◌∷◌, length, map, flat_map, take, position, Option}
+use Rattle.std.specs.Prelude.{◌≡◌, ℕ, zero, suc, Bool, true, false, ◌||◌, ◌&&◌, List, [], ◌∷◌, length, map, flat_map}
+use Rattle.std.specs.Prelude.{take, position, Option}
 use Rattle.std.specs.List.{list_any}
 use Rattle.iface_names.specs.Interfaces.{same_interface}
 use Rattle.iface_names.specs.declared.interface.IfaceName.{IfaceName}
@@ -26,12 +27,14 @@ commands_of components = flat_map (λ c. flat_map commands_of_joint c.joints) co
 
 -- ---- References
 
--- the reference of a controller that stands for this interface: the controller's name, then the interface's joint and kind
+-- the reference of a controller that stands for this interface: the controller's name, then the interface's joint and
+-- kind
 abbrev pub reference_for : List ℕ → IfaceName → IfaceName
 reference_for controller (Joint joint kind) = Reference controller joint kind
 reference_for controller (Reference other joint kind) = Reference controller joint kind
 
--- The interfaces for which a controller of this kind exports references: a passthrough its claims, a pid what it reads first.
+-- The interfaces for which a controller of this kind exports references: a passthrough its claims, a pid what it reads
+-- first.
 abbrev pub exported_for : Params → CtlDesc → List IfaceName
 exported_for (Passthrough outs) c = c.claims
 exported_for (Pid kp ki kd imax omax) c = take 1 c.reads
@@ -60,7 +63,8 @@ precedes c d = list_any (λ i. is_among i (refs_of d)) c.claims
 -- c precedes d at a distance of at most n: it precedes it, or a controller that does at a distance of one less
 abbrev pub precedes_within : List CtlDesc → ℕ → CtlDesc → CtlDesc → Bool
 precedes_within controllers zero c d = false
-precedes_within controllers (suc n) c d = precedes c d || list_any (λ e. precedes c e && precedes_within controllers n e d) controllers
+precedes_within controllers (suc n) c d =
+    precedes c d || list_any (λ e. precedes c e && precedes_within controllers n e d) controllers
 
 -- c precedes d at some distance: among so many controllers none is longer than their number
 abbrev pub precedes_far : List CtlDesc → CtlDesc → CtlDesc → Bool

@@ -22,8 +22,9 @@ a_state name = record { is_command = false; name = name }
 abbrev pub a_command : IfaceName → Called
 a_command name = record { is_command = true; name = name }
 
--- Whose an interface is: a component's, at one of its joints, or the controller's that exports it. Components and controllers are
--- named by their places in the description, and a joint by its place among the joints of all components.
+-- Whose an interface is: a component's, at one of its joints, or the controller's that exports it. Components and
+-- controllers are named by their places in the description, and a joint by its place among the joints of all
+-- components.
 pub data Whose : Type 0 where
   of_joint : ℕ → ℕ → Whose
   of_controller : ℕ → Whose
@@ -42,30 +43,38 @@ kinds_of false j = j.states
 
 -- the interfaces of the joint at this place, of the component at that one: one of each of these kinds, in their order
 abbrev pub at_joint : (IfaceName → Called) → (JointDesc → List Kind) → ℕ → ℕ → JointDesc → List Interface
-at_joint call kinds component place j = map (λ kind. record { called = call (Joint j.name kind); whose = of_joint component place }) (kinds j)
+at_joint call kinds component place j = map (λ kind. record {
+  called = call (Joint j.name kind);
+  whose = of_joint component place;
+}) (kinds j)
 
 -- those of the joints of a component, the first of which stands at this place
 abbrev pub at_joints : (IfaceName → Called) → (JointDesc → List Kind) → ℕ → ℕ → List JointDesc → List Interface
 at_joints call kinds component place [] = []
-at_joints call kinds component place (j ∷ js) = at_joint call kinds component place j ++ at_joints call kinds component (place + 1) js
+at_joints call kinds component place (j ∷ js) =
+    at_joint call kinds component place j ++ at_joints call kinds component (place + 1) js
 
 -- those of components, the first of which stands at this place, and its first joint at that one
 abbrev pub at_components : (IfaceName → Called) → (JointDesc → List Kind) → ℕ → ℕ → List CompDesc → List Interface
 at_components call kinds component place [] = []
 at_components call kinds component place (c ∷ cs) =
-    at_joints call kinds component place c.joints ++ at_components call kinds (component + 1) (place + length c.joints) cs
+    at_joints call kinds component place c.joints
+    ++ at_components call kinds (component + 1) (place + length c.joints) cs
 
 -- ---- Of controllers
 
 -- the references of controllers, the first of which stands at this place
 abbrev pub at_controllers : ℕ → List CtlDesc → List Interface
 at_controllers place [] = []
-at_controllers place (c ∷ cs) = map (λ name. record { called = a_command name; whose = of_controller place }) (refs_of c) ++ at_controllers (place + 1) cs
+at_controllers place (c ∷ cs) = map (λ name. record {
+  called = a_command name;
+  whose = of_controller place;
+}) (refs_of c) ++ at_controllers (place + 1) cs
 
 -- ---- All
 
--- All interfaces, each at its place: the states of all joints as described, each joint's in the order of its list; then the commands
--- of all joints so; then the references of all controllers.
+-- All interfaces, each at its place: the states of all joints as described, each joint's in the order of its list; then
+-- the commands of all joints so; then the references of all controllers.
 abbrev pub interfaces_of : Description → List Interface
 interfaces_of d =
     at_components a_state (λ j. j.states) 0 0 d.components
@@ -77,4 +86,5 @@ called_in d = map (λ i. i.called) (interfaces_of d)
 
 -- Each interface stands at one place: two places at which stands what is called the same are one.
 abbrev pub EachStandsOnce : Description → Type 0
-EachStandsOnce d = (p q : ℕ) (c : Called) → slice_get (called_in d) p ≡ Some c → slice_get (called_in d) q ≡ Some c → p ≡ q
+EachStandsOnce d =
+    (p q : ℕ) (c : Called) → slice_get (called_in d) p ≡ Some c → slice_get (called_in d) q ≡ Some c → p ≡ q

@@ -3,7 +3,8 @@ use Rattle.std.specs.Prelude.{◌≡◌, ℕ, ℤ, ◌+◌, ◌<◌, ◌≤◌, 
 use Rattle.std.specs.List.{AllByRecursion}
 use Rattle.fixed_num.specs.Micro.{IsInRange}
 use Rattle.iface_names.specs.Names.{is_name, same_name}
-use Rattle.cm_document.specs.declared.limits.TheConstants.{HIGHEST_RATE, MOST_SESSIONS, MOST_CALLS, MOST_NAMES, MOST_POINTS, MOST_VALUES}
+use Rattle.cm_document.specs.declared.limits.TheConstants.{HIGHEST_RATE, MOST_SESSIONS, MOST_CALLS, MOST_NAMES}
+use Rattle.cm_document.specs.declared.limits.TheConstants.{MOST_POINTS, MOST_VALUES}
 use Rattle.cm_document.specs.ScriptRules.{calls_and_turns, script_with}
 use Rattle.cm_document.specs.declared.call.Call.{Call}
 use Rattle.cm_document.specs.declared.call.Call.TheVariants as call
@@ -92,8 +93,8 @@ IsTurnAmong sessions (turn.Step who) = who < sessions
 IsTurnAmong sessions turn.Begin = Unit {0}
 IsTurnAmong sessions turn.End = Unit {0}
 
--- A script has at most 8 sessions of different names, at most 10,000 calls and turns, calls that a line can say, and steps of
--- its own sessions.
+-- A script has at most 8 sessions of different names, at most 10,000 calls and turns, calls that a line can say, and
+-- steps of its own sessions.
 pub record MeetsRules (s : Script) : Type 0 where
   pub few_sessions : length s.sessions ≤ MOST_SESSIONS
   pub few_calls : calls_and_turns s ≤ MOST_CALLS
@@ -126,6 +127,9 @@ pub record UsesGrammar (grammar : Grammar) (s : Script) : Type 0 where
   pub calls : AllByRecursion (λ t. AllByRecursion (λ c. IsTrue (allows grammar c)) t.lines) s.sessions
   pub turns : 0 < length s.schedule → IsTrue grammar.schedule
 
--- A text reads back as the script, at whatever line it begins, where the script meets the rules and the grammar has its lines.
+-- A text reads back as the script, at whatever line it begins, where the script meets the rules and the grammar has its
+-- lines.
 abbrev pub ReadsBack : Script → List ℕ → Type 0
-ReadsBack s text = (grammar : Grammar) (first_line : ℕ) → MeetsRules s → UsesGrammar grammar s → script_with grammar first_line text ≡ Ok s
+ReadsBack s text =
+    (grammar : Grammar) (first_line : ℕ) → MeetsRules s → UsesGrammar grammar s
+    → script_with grammar first_line text ≡ Ok s

@@ -1,9 +1,12 @@
 -- The rules of a script, line by line, and its first bad line.
-use Rattle.std.specs.Prelude.{ℕ, ◌+◌, ◌==◌, Bool, true, not, ◌&&◌, nat_lt, nat_le, if◌then◌else◌, List, [], ◌∷◌, ◌++◌, length, sum_by, position, codes, Option, Some, None, is_some, option_map, unwrap_or, Result, Ok, Err}
+use Rattle.std.specs.Prelude.{ℕ, ◌+◌, ◌==◌, Bool, true, not, ◌&&◌, nat_lt, nat_le, if◌then◌else◌, List, [], ◌∷◌, ◌++◌}
+use Rattle.std.specs.Prelude.{length, sum_by, position, codes, Option, Some, None, is_some, option_map, unwrap_or}
+use Rattle.std.specs.Prelude.{Result, Ok, Err}
 use Rattle.std.specs.List.{list_any, list_all}
 use Rattle.sequence.specs.Last.{in_last}
 use Rattle.iface_names.specs.Names.{same_name}
-use Rattle.cm_document.specs.declared.limits.TheConstants.{LONGEST_LINE, MOST_SESSIONS, MOST_CALLS, MOST_NAMES, MOST_POINTS, MOST_VALUES}
+use Rattle.cm_document.specs.declared.limits.TheConstants.{LONGEST_LINE, MOST_SESSIONS, MOST_CALLS, MOST_NAMES}
+use Rattle.cm_document.specs.declared.limits.TheConstants.{MOST_POINTS, MOST_VALUES}
 use Rattle.cm_document.specs.Reading.{◌>>=◌}
 use Rattle.cm_document.specs.Lines.{raw_lines, bare, words, is_skipped}
 use Rattle.cm_document.specs.LineGrammar.{line_of}
@@ -55,7 +58,8 @@ session_accepted grammar w = if length w.sessions == 0 then grammar.first_sessio
 -- A session has a new name, which is not `loop`; it stands before the schedule.
 abbrev pub is_session_line : Grammar → Draft → List ℕ → Bool
 is_session_line grammar w name =
-    ((session_accepted grammar w && not (is_some w.turns)) && not (same_name name (codes "loop"))) && not (is_used name w)
+    ((session_accepted grammar w && not (is_some w.turns)) && not (same_name name (codes "loop")))
+    && not (is_used name w)
 
 -- a session begins, where there are not the most that there may be
 abbrev pub with_session : Grammar → ℕ → Draft → List ℕ → Result Draft ScriptFault
@@ -69,7 +73,8 @@ with_session grammar number w name =
 -- a plain list, and each point, has only so many values, and there are only so many points
 abbrev pub mail_fits : Mail → Bool
 mail_fits (Values values) = nat_le (length values) MOST_VALUES
-mail_fits (Points points) = nat_le (length points) MOST_POINTS && list_all (λ p. nat_le (length p.values) MOST_VALUES) points
+mail_fits (Points points) =
+    nat_le (length points) MOST_POINTS && list_all (λ p. nat_le (length p.values) MOST_VALUES) points
 
 -- a switch has only so many names
 abbrev pub call_fits : Call → Bool
@@ -124,7 +129,8 @@ with_said grammar number w (Some (line.Step name)) = with_step number w name
 with_said grammar number w (Some line.Begin) = with_turn number w turn.Begin
 with_said grammar number w (Some line.End) = with_turn number w turn.End
 
--- What stands after a line of this number: a skipped line changes nothing; one that is longer than a line may be is bad.
+-- What stands after a line of this number: a skipped line changes nothing; one that is longer than a line may be is
+-- bad.
 unfoldable pub with_line : Grammar → ℕ → Draft → List ℕ → Result Draft ScriptFault
 with_line grammar number w text =
     let said = words (bare text) in
@@ -135,7 +141,8 @@ with_line grammar number w text =
 -- what stands after all lines, of which the first has this number; the first bad one ends the reading
 abbrev pub with_lines : Grammar → ℕ → Draft → List (List ℕ) → Result Draft ScriptFault
 with_lines grammar number w [] = Ok w
-with_lines grammar number w (text ∷ texts) = with_line grammar number w text >>= λ more. with_lines grammar (number + 1) more texts
+with_lines grammar number w (text ∷ texts) =
+    with_line grammar number w text >>= λ more. with_lines grammar (number + 1) more texts
 
 -- the script that a text is, whose first line has this number in the document, or its first bad line
 unfoldable pub script_with : Grammar → ℕ → List ℕ → Result Script ScriptFault

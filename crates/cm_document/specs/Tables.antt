@@ -1,5 +1,7 @@
--- The tables of a description: each as one table of its keys, in the order in which they are visited, with what each key wants.
-use Rattle.std.specs.Prelude.{ℕ, Bool, true, false, ◌&&◌, if◌then◌else◌, List, [], ◌∷◌, ◌++◌, length, map, ◌==◌, Option, Some, None, Result, Ok, Err}
+-- The tables of a description: each as one table of its keys, in the order in which they are visited, with what each
+-- key wants.
+use Rattle.std.specs.Prelude.{ℕ, Bool, true, false, ◌&&◌, if◌then◌else◌, List, [], ◌∷◌, ◌++◌, length, map, ◌==◌, Option}
+use Rattle.std.specs.Prelude.{Some, None, Result, Ok, Err}
 use Rattle.std.specs.List.{list_any}
 use Rattle.toml.specs.Data.{Data, Members, no_members, member, get_member, same_key}
 use Rattle.cm_document.specs.Reading.{◌>>=◌}
@@ -9,8 +11,8 @@ use Rattle.cm_document.specs.declared.faults.DescFault.TheVariants.{BadKey}
 
 -- ---- What a table of keys says
 
--- The keys that a table may have, and the form of what stands at them. A key's path is the table's prefix with the key: `name` in
--- the table at `component[0].` stands at `component[0].name`.
+-- The keys that a table may have, and the form of what stands at them. A key's path is the table's prefix with the key:
+-- `name` in the table at `component[0].` stands at `component[0].name`.
 pub record Table (A : Type 0) : Type 0 where
   pub keys : List (List ℕ)
   pub form : Form Members A

@@ -1,11 +1,16 @@
--- What a description must meet besides its form, in the order in which a fault counts: counts, names, ranges, interfaces, loops.
-use Rattle.std.specs.Prelude.{◌≡◌, ℕ, ◌+◌, ℤ, pos, int_le, Bool, true, not, ◌&&◌, nat_lt, nat_le, ◌==◌, if◌then◌else◌, List, [], ◌∷◌, ◌++◌, length, sum_by, map, codes, slice_get, Option, Some, None, Result, Ok, Err}
+-- What a description must meet besides its form, in the order in which a fault counts: counts, names, ranges,
+-- interfaces, loops.
+use Rattle.std.specs.Prelude.{◌≡◌, ℕ, ◌+◌, ℤ, pos, int_le, Bool, true, not, ◌&&◌, nat_lt, nat_le, ◌==◌, if◌then◌else◌}
+use Rattle.std.specs.Prelude.{List, [], ◌∷◌, ◌++◌, length, sum_by, map, codes, slice_get, Option, Some, None, Result}
+use Rattle.std.specs.Prelude.{Ok, Err}
 use Rattle.std.specs.List.{list_any, find}
 use Rattle.toml.specs.Data.{Members}
 use Rattle.iface_names.specs.Names.{same_name}
 use Rattle.iface_names.specs.Interfaces.{same_interface, interface_text}
 use Rattle.iface_names.specs.declared.interface.IfaceName.{IfaceName}
-use Rattle.cm_document.specs.declared.limits.TheConstants.{VERSION, HIGHEST_RATE, MOST_CYCLES, MOST_COMPONENTS, MOST_JOINTS, MOST_STATES, MOST_COMMANDS, MOST_CONTROLLERS, MOST_REFERENCES, MOST_CLAIMS_OF_ONE, MOST_CLAIMS, MOST_READS}
+use Rattle.cm_document.specs.declared.limits.TheConstants.{VERSION, HIGHEST_RATE, MOST_CYCLES, MOST_COMPONENTS}
+use Rattle.cm_document.specs.declared.limits.TheConstants.{MOST_JOINTS, MOST_STATES, MOST_COMMANDS, MOST_CONTROLLERS}
+use Rattle.cm_document.specs.declared.limits.TheConstants.{MOST_REFERENCES, MOST_CLAIMS_OF_ONE, MOST_CLAIMS, MOST_READS}
 use Rattle.cm_document.specs.Reading.{◌>>=◌}
 use Rattle.cm_document.specs.Forms.{item_path, inside}
 use Rattle.cm_document.specs.Described.{states_of, description_form}
@@ -19,9 +24,11 @@ use Rattle.cm_document.specs.declared.description.JointDesc.{JointDesc}
 use Rattle.cm_document.specs.declared.description.Params.{Params}
 use Rattle.cm_document.specs.declared.description.Params.TheVariants.{Pid, Trajectory, Broadcaster, Mock}
 use Rattle.cm_document.specs.declared.faults.CheckFault.{CheckFault}
-use Rattle.cm_document.specs.declared.faults.CheckFault.TheVariants.{TooMany, NameTwice, BadRange, NoInterface, ChainLoop}
+use Rattle.cm_document.specs.declared.faults.CheckFault.TheVariants.{TooMany, NameTwice, BadRange, NoInterface}
+use Rattle.cm_document.specs.declared.faults.CheckFault.TheVariants.{ChainLoop}
 use Rattle.cm_document.specs.declared.faults.What.{What}
-use Rattle.cm_document.specs.declared.faults.What.TheVariants.{Components, Joints, States, Commands, Controllers, References, Claims, Reads}
+use Rattle.cm_document.specs.declared.faults.What.TheVariants.{Components, Joints, States, Commands, Controllers}
+use Rattle.cm_document.specs.declared.faults.What.TheVariants.{References, Claims, Reads}
 
 -- ---- Counts
 
@@ -65,7 +72,8 @@ abbrev pub links_apart : List CtlDesc → Result (Unit {0}) CheckFault
 links_apart [] = Ok tt
 links_apart (c ∷ cs) = interfaces_apart c.claims >>= λ _. interfaces_apart c.reads >>= λ _. links_apart cs
 
--- Components, joints and controllers are each named in a space of their own; references and the links of a controller differ too.
+-- Components, joints and controllers are each named in a space of their own; references and the links of a controller
+-- differ too.
 abbrev pub named_apart : Description → Result (Unit {0}) CheckFault
 named_apart d =
     names_apart (map (λ c. c.name) d.components) >>= λ _.
@@ -85,7 +93,8 @@ abbrev pub not_negative : ℤ → Bool
 not_negative z = int_le (pos 0) z
 
 -- the ranges of each item of a list, at its path
-abbrev pub each_ranged : {A : Type 0} → (List ℕ → A → Result (Unit {0}) CheckFault) → List ℕ → ℕ → List A → Result (Unit {0}) CheckFault
+abbrev pub each_ranged : {A : Type 0} → (List ℕ → A → Result (Unit {0}) CheckFault) → List ℕ → ℕ → List A
+    → Result (Unit {0}) CheckFault
 each_ranged rule key k [] = Ok tt
 each_ranged rule key k (x ∷ xs) = rule (inside (item_path key k)) x >>= λ _. each_ranged rule key (k + 1) xs
 
@@ -177,7 +186,8 @@ name_at controllers place = elim (slice_get controllers place) [ Some c ↦ c.na
 
 -- no controller precedes itself at some distance: else the first that does is told
 abbrev pub loop_free : List CtlDesc → Result (Unit {0}) CheckFault
-loop_free controllers = elim (first_in_loop controllers) [ None ↦ Ok tt | Some place ↦ Err (ChainLoop (name_at controllers place)) ]
+loop_free controllers =
+    elim (first_in_loop controllers) [ None ↦ Ok tt | Some place ↦ Err (ChainLoop (name_at controllers place)) ]
 
 -- ---- All of them
 

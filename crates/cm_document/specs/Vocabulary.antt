@@ -5,12 +5,14 @@ use Rattle.iface_names.specs.Names.{same_name}
 use Rattle.cm_document.specs.declared.description.CompKind.{CompKind}
 use Rattle.cm_document.specs.declared.description.CompKind.TheVariants.{Sensor, Actuator, System}
 use Rattle.cm_document.specs.declared.description.CtlKind.{CtlKind}
-use Rattle.cm_document.specs.declared.description.CtlKind.TheVariants.{Forward, Passthrough, Pid, Trajectory, Broadcaster, Mock}
+use Rattle.cm_document.specs.declared.description.CtlKind.TheVariants.{Forward, Passthrough, Pid, Trajectory}
+use Rattle.cm_document.specs.declared.description.CtlKind.TheVariants.{Broadcaster, Mock}
 use Rattle.cm_document.specs.declared.life.Life.{Life}
 use Rattle.cm_document.specs.declared.life.Life.TheVariants.{Unconfigured, Inactive, Active, Finalized}
 use Rattle.cm_document.specs.declared.script.Verb.{Verb}
 use Rattle.cm_document.specs.declared.script.Verb.TheVariants as verb
-use Rattle.cm_document.specs.declared.vocabulary.TheConstants.{COMPONENT_KINDS, LIVES, LIVES_ON_ERROR, CONTROLLER_KINDS, VERBS, STRICTNESSES}
+use Rattle.cm_document.specs.declared.vocabulary.TheConstants.{COMPONENT_KINDS, LIVES, LIVES_ON_ERROR, CONTROLLER_KINDS}
+use Rattle.cm_document.specs.declared.vocabulary.TheConstants.{VERBS, STRICTNESSES}
 
 -- ---- Looking up
 
@@ -70,7 +72,8 @@ same_controller_kind _ _ = false
 
 -- the word beside a kind of controller
 abbrev pub controller_word : CtlKind → List ℕ
-controller_word kind = option_map_or (λ row. row.0.now) (find (λ row. same_controller_kind row.1 kind) CONTROLLER_KINDS) []
+controller_word kind =
+    option_map_or (λ row. row.0.now) (find (λ row. same_controller_kind row.1 kind) CONTROLLER_KINDS) []
 
 -- the two states are one
 abbrev pub same_life : Life → Life → Bool

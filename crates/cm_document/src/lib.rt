@@ -8,17 +8,14 @@ pub use cycles::Cycles;
 pub use description::{CompDesc, CompKind, CtlDesc, CtlKind, Description, JointDesc, Params};
 pub use document::Document;
 pub use faults::{CheckFault, DescFault, DescProblem, DocumentFault, ScriptFault, What, Wrong};
-pub use fixed_num::{Fx, Memory};
-pub use iface_names::{IfaceName, Kind, Name, NameFault};
 pub use life::Life;
 pub use limits::{
     HIGHEST_RATE, LONGEST_DOCUMENT, LONGEST_LINE, MOST_CALLS, MOST_CLAIMS, MOST_CLAIMS_OF_ONE,
-    MOST_COMMANDS, MOST_COMPONENTS, MOST_CONTROLLERS, MOST_CYCLES, MOST_DIGITS, MOST_JOINTS,
-    MOST_NAMES, MOST_POINTS, MOST_READS, MOST_REFERENCES, MOST_SESSIONS, MOST_STATES, MOST_VALUES,
-    VERSION,
+    MOST_COMMANDS, MOST_COMPONENTS, MOST_CONTROLLERS, MOST_CYCLES, MOST_DIGITS_OF_WHOLE,
+    MOST_JOINTS, MOST_NAMES, MOST_POINTS, MOST_READS, MOST_REFERENCES, MOST_SESSIONS, MOST_STATES,
+    MOST_VALUES, VERSION,
 };
 pub use script::{Grammar, Script, ScriptLine, SessionText, Turn, Verb, whole_grammar};
-pub use sequence::{Seq, Shared};
 pub use text::Text;
 pub use vocabulary::{
     COMPONENT_KINDS, CONTROLLER_KINDS, LIVES, LIVES_ON_ERROR, STRICTNESSES, VERBS, meaning_of,

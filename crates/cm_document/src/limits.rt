@@ -43,7 +43,7 @@ pub const MOST_READS: usize = 256;
 pub const LONGEST_LINE: usize = 65_536;
 
 /// The digits of a whole number in a script.
-pub const MOST_DIGITS: usize = 9;
+pub const MOST_DIGITS_OF_WHOLE: usize = 9;
 
 /// The sessions of a script.
 pub const MOST_SESSIONS: usize = 8;

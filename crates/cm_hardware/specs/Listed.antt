@@ -11,8 +11,8 @@ use Rattle.cm_hardware.specs.Wiring.{Wired, all_bodies}
 abbrev pub held : Interface × Loan → InterfaceValue
 held p = record { interface = p.0; value = p.1.value }
 
--- A state with the lifecycle states and the bodies of these components, and with the interfaces that are described, each with what
--- the board holds at its place.
+-- A state with the lifecycle states and the bodies of these components, and with the interfaces that are described,
+-- each with what the board holds at its place.
 abbrev pub with_hardware : State → Wired → State
 with_hardware s w = record s {
   lives = map (λ m. m.hardware.life) w.components;
@@ -22,7 +22,13 @@ with_hardware s w = record s {
 
 -- the line of what the board keeps at a place
 abbrev pub loan_line : ℕ → Loan → IfaceLine
-loan_line place loan = record { value = loan.value; place = place; owner = loan.owner; command = loan.is_command; available = loan.is_available }
+loan_line place loan = record {
+  value = loan.value;
+  place = place;
+  owner = loan.owner;
+  command = loan.is_command;
+  available = loan.is_available;
+}
 
 -- those of all places, the first of which is this one
 abbrev pub loan_lines_from : ℕ → List Loan → List IfaceLine

@@ -9,7 +9,9 @@ use Rattle.cm_hardware.specs.Wiring.{Wired}
 
 -- The board holds these outputs at these places, one after the other.
 abbrev pub given_out : Wired → List ℕ → List Value → Wired
-given_out w (place ∷ places) (out ∷ outs) = given_out (record w { loans = with_loan w.loans place (set out) }) places outs
+given_out w (place ∷ places) (out ∷ outs) = given_out (record w {
+  loans = with_loan w.loans place (set out);
+}) places outs
 given_out w _ _ = w
 
 -- an interface stands at this place that is available

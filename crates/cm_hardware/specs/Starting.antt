@@ -1,5 +1,7 @@
--- Hardware at start: what is made of described components, and of the board of their interfaces, which are unavailable and Unset at first.
-use Rattle.std.specs.Prelude.{ℕ, ◌+◌, ◌-◌, Bool, true, false, if◌then◌else◌, List, [], ◌∷◌, ◌++◌, length, replicate, slice_get, Option, Some, None}
+-- Hardware at start: what is made of described components, and of the board of their interfaces, which are unavailable
+-- and Unset at first.
+use Rattle.std.specs.Prelude.{ℕ, ◌+◌, ◌-◌, Bool, true, false, if◌then◌else◌, List, [], ◌∷◌, ◌++◌, length, replicate}
+use Rattle.std.specs.Prelude.{slice_get, Option, Some, None}
 use Rattle.std.specs.Option.{option_map_or}
 use Rattle.cm_document.specs.declared.description.CompDesc.{CompDesc}
 use Rattle.cm_model.specs.Components.{is_available, measured_states}
@@ -34,16 +36,19 @@ abbrev pub is_up : List Mounted → Option ℕ → Bool
 is_up ms None = false
 is_up ms (Some place) = option_map_or (λ m. is_available m.hardware.life) (slice_get ms place) false
 
--- The interfaces of inactive and active components become available; these are the components of the places from this one on.
+-- The interfaces of inactive and active components become available; these are the components of the places from this
+-- one on.
 abbrev pub opened : List Mounted → ℕ → List (Option ℕ) → List Loan → List Loan
 opened ms at cs loans = changed_where (is_up ms) (made_available true) at cs loans
 
 -- ---- Measured
 
--- The state interfaces of a component, the first of which has this place, hold what they measure, where it is inactive or active.
+-- The state interfaces of a component, the first of which has this place, hold what they measure, where it is inactive
+-- or active.
 abbrev pub after_measure_of : ℕ → List Loan → Mounted → List Loan
 after_measure_of at loans m =
-    if is_available m.hardware.life then with_values loans at (measured_states m.hardware.description m.hardware.bodies) else loans
+    if is_available m.hardware.life then with_values loans at (measured_states m.hardware.description m.hardware.bodies)
+    else loans
 
 -- so those of components, one after the other
 abbrev pub after_measures_of : ℕ → List Loan → List Mounted → List Loan

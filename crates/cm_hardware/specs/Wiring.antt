@@ -1,5 +1,7 @@
 -- Components over a board: what the calls of a cycle make of them, one component after the other.
-use Rattle.std.specs.Prelude.{◌≡◌, ℕ, zero, suc, ◌+◌, ◌<◌, ◌≤◌, ◌^◌, ◌==◌, not, ◌&&◌, ◌||◌, Bool, true, false, if◌then◌else◌, List, [], ◌∷◌, ◌++◌, length, map, flat_map, take, slice_get, Option, None, Some, Result, Ok, Err}
+use Rattle.std.specs.Prelude.{◌≡◌, ℕ, zero, suc, ◌+◌, ◌<◌, ◌≤◌, ◌^◌, ◌==◌, not, ◌&&◌, ◌||◌, Bool, true, false}
+use Rattle.std.specs.Prelude.{if◌then◌else◌, List, [], ◌∷◌, ◌++◌, length, map, flat_map, take, slice_get, Option, None}
+use Rattle.std.specs.Prelude.{Some, Result, Ok, Err}
 use Rattle.std.specs.List.{AllByRecursion}
 use Rattle.std.specs.Option.{option_map_or}
 use Rattle.fixed_num.specs.declared.value.BodyState.{BodyState}
@@ -8,7 +10,8 @@ use Rattle.cm_document.specs.Places.{Interface, Whose, of_joint, of_controller, 
 use Rattle.cm_document.specs.declared.description.CompDesc.{CompDesc}
 use Rattle.cm_document.specs.declared.life.Life.{Life}
 use Rattle.cm_document.specs.declared.life.Life.TheVariants.{Unconfigured}
-use Rattle.cm_model.specs.Components.{write_runs, is_available, has_move, is_listed, read_succeeds, read_fails, measured_states, state_interfaces, command_interfaces}
+use Rattle.cm_model.specs.Components.{write_runs, is_available, has_move, is_listed, read_succeeds, read_fails}
+use Rattle.cm_model.specs.Components.{measured_states, state_interfaces, command_interfaces}
 use Rattle.cm_model.specs.State.{State}
 use Rattle.cm_model.specs.Values.{InterfaceValue}
 use Rattle.cm_model.specs.declared.record.FailedPart.{FailedPart}
@@ -20,7 +23,12 @@ use Rattle.loan_board.specs.declared.board.Loan.{Loan}
 
 -- what the board keeps of an interface, by who owns which and which are available
 abbrev pub loan_of : (Interface → Option ℕ) → (Interface → Bool) → InterfaceValue → Loan
-loan_of own there v = record { value = v.value; owner = own v.interface; is_command = v.interface.called.is_command; is_available = there v.interface }
+loan_of own there v = record {
+  value = v.value;
+  owner = own v.interface;
+  is_command = v.interface.called.is_command;
+  is_available = there v.interface;
+}
 
 -- a component at work, and whether its read or its write failed in the cycle that is aloft
 pub record Mounted : Type 0 where
@@ -59,12 +67,15 @@ read cycle m = record m { failed = fails_read cycle m }
 
 -- the board after the read of a component, whose state interfaces begin at this place
 abbrev pub after_read_of : ℕ → ℕ → List Loan → Hardware → List Loan
-after_read_of cycle at loans h = if read_succeeds h.description h.life cycle then with_values loans at (measured_states h.description h.bodies) else loans
+after_read_of cycle at loans h =
+    if read_succeeds h.description h.life cycle then with_values loans at (measured_states h.description h.bodies)
+    else loans
 
 -- and after the reads of components, one after the other
 abbrev pub after_reads_of : ℕ → ℕ → List Loan → List Mounted → List Loan
 after_reads_of cycle at loans [] = loans
-after_reads_of cycle at loans (m ∷ ms) = after_reads_of cycle (at + states_count m) (after_read_of cycle at loans m.hardware) ms
+after_reads_of cycle at loans (m ∷ ms) =
+    after_reads_of cycle (at + states_count m) (after_read_of cycle at loans m.hardware) ms
 
 -- what is told of a component at this place whose read failed, or else its write; nothing where none did
 abbrev pub failure : ℕ → Bool → Bool → List FailedPart
@@ -92,8 +103,8 @@ failed_reads cycle place ms = failures true (fails_read cycle) place ms
 
 -- ---- In a state
 
--- These components are those of the state: as described, in its lifecycle states and with its bodies; and its values are those of the
--- interfaces, each at its place.
+-- These components are those of the state: as described, in its lifecycle states and with its bodies; and its values
+-- are those of the interfaces, each at its place.
 pub record IsWired (s : State) (ms : List Mounted) : Type 0 where
   pub components : s.description.components ≡ map (λ m. m.hardware.description) ms
   pub lives : s.lives ≡ map (λ m. m.hardware.life) ms
@@ -128,7 +139,10 @@ fails_write cycle m = is_due m && is_listed m.hardware.description.fail_write cy
 -- a component after its write, with what the board holds from its first command interface on
 abbrev pub written : ℕ → ℕ → List Loan → Mounted → Mounted
 written cycle at loans m =
-    if is_due m then record { hardware = after_write m.hardware cycle (values_at loans at (commands_count m)); failed = is_listed m.hardware.description.fail_write cycle }
+    if is_due m then record {
+      hardware = after_write m.hardware cycle (values_at loans at (commands_count m));
+      failed = is_listed m.hardware.description.fail_write cycle;
+    }
     else m
 
 -- components after their writes, the first of which has its first command interface at this place
@@ -188,7 +202,10 @@ component_of (of_controller place) = None
 
 -- a component that failed goes to its state on error
 abbrev pub after_failure : Mounted → Mounted
-after_failure m = if m.failed then record { hardware = after_move m.hardware m.hardware.description.on_error; failed = false } else m
+after_failure m = if m.failed then record {
+  hardware = after_move m.hardware m.hardware.description.on_error;
+  failed = false;
+} else m
 
 -- it failed, and in its state on error its interfaces are not available
 abbrev pub leaves : Mounted → Bool
@@ -199,12 +216,15 @@ abbrev pub has_left : List Mounted → Option ℕ → Bool
 has_left ms None = false
 has_left ms (Some place) = option_map_or leaves (slice_get ms place) false
 
--- Places one after the other, the first of which is this one, each with its component: those that pass the test change so.
+-- Places one after the other, the first of which is this one, each with its component: those that pass the test change
+-- so.
 abbrev pub changed_where : (Option ℕ → Bool) → (Loan → Loan) → ℕ → List (Option ℕ) → List Loan → List Loan
 changed_where test change at [] loans = loans
-changed_where test change at (c ∷ cs) loans = changed_where test change (at + 1) cs (if test c then with_loan loans at change else loans)
+changed_where test change at (c ∷ cs) loans =
+    changed_where test change (at + 1) cs (if test c then with_loan loans at change else loans)
 
--- The interfaces of those that leave become free, unavailable and Unset; these are the components of the places from this one on.
+-- The interfaces of those that leave become free, unavailable and Unset; these are the components of the places from
+-- this one on.
 abbrev pub after_failures_of : List Mounted → ℕ → List (Option ℕ) → List Loan → List Loan
 after_failures_of ms at cs loans = changed_where (has_left ms) vacated at cs loans
 
@@ -231,14 +251,15 @@ is_of component (Some place) = place == component
 
 -- what the component at this place measures
 abbrev pub measured_in : ℕ → List Mounted → List Value
-measured_in place ms = option_map_or (λ m. measured_states m.hardware.description m.hardware.bodies) (slice_get ms place) []
+measured_in place ms =
+    option_map_or (λ m. measured_states m.hardware.description m.hardware.bodies) (slice_get ms place) []
 
 -- its state interfaces hold that
 abbrev pub measured_of : ℕ → List Mounted → List Loan → List Loan
 measured_of place ms loans = with_values loans (all_states (take place ms)) (measured_in place ms)
 
--- What the board holds after the move of a component, whose interfaces were available before or not: where they are not then, they are
--- free and Unset; where they were not and are then, the state interfaces hold what it measures.
+-- What the board holds after the move of a component, whose interfaces were available before or not: where they are not
+-- then, they are free and Unset; where they were not and are then, the state interfaces hold what it measures.
 abbrev pub settled : ℕ → Bool → List Mounted → List (Option ℕ) → List Loan → List Loan
 settled place had ms cs loans =
     if is_available (life_in place ms) then
@@ -250,7 +271,9 @@ abbrev pub after_move_at : ℕ → Life → Wired → Wired
 after_move_at place target w =
     if has_move (life_in place w.components) target then record w {
       components = moved_at place target w.components;
-      loans = settled place (is_available (life_in place w.components)) (moved_at place target w.components) w.places w.loans;
+      loans =
+          settled place (is_available (life_in place w.components)) (moved_at place target w.components) w.places
+          w.loans;
     } else w
 
 -- ---- A cycle
@@ -286,8 +309,9 @@ pub record IsSameBuild (before after : Wired) : Type 0 where
 
 -- ---- What is kept
 
--- The command interfaces of all components follow their state interfaces, the first of them at this place; the numbers of components
--- and of a component's joints have 32 bits; each place has its component told; and what is claimed is available.
+-- The command interfaces of all components follow their state interfaces, the first of them at this place; the numbers
+-- of components and of a component's joints have 32 bits; each place has its component told; and what is claimed is
+-- available.
 pub record IsManaged (first_command : ℕ) (w : Wired) : Type 0 where
   pub first : first_command ≡ all_states w.components
   pub fits : first_command + all_commands w.components ≤ length w.loans

@@ -12,8 +12,10 @@ use crate::hardware::{
     count_joints, fail_units, most_failures, read_units, step_units, write_units,
 };
 use crate::manager::ResourceManager;
-use cm_model::{BodyState, FailedPart, ListRoom, Value};
+use cm_model::FailedPart;
+use fixed_num::{BodyState, Value};
 use joint_body::LONGEST_STEP;
+use sequence::ListRoom;
 
 impl ResourceManager {
     /// How many failures a cycle can tell: one of each component that can fail.

@@ -8,8 +8,10 @@ ghost use Rattle.cm_hardware.specs.Shown.{HasLinesFor, Shows};
 
 use crate::hardware::Unit;
 use crate::manager::ResourceManager;
-use cm_model::{CompLine, IfaceLine, Memory, Seq};
+use cm_model::{CompLine, IfaceLine};
+use fixed_num::Memory;
 use loan_board::Board;
+use sequence::Seq;
 use std::alloc::Global;
 
 /// The lists of components and of interfaces, written down.

@@ -11,7 +11,7 @@ ghost use Rattle.cm_hardware.specs.Holding.{IsHardwareOf, MovesComponent};
 use crate::hardware::{Unit, is_available, vacate};
 use crate::manager::ResourceManager;
 use crate::start::count_states;
-use cm_model::Life;
+use cm_document::Life;
 use hw_component::HwFault;
 use loan_board::Board;
 

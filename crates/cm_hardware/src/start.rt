@@ -11,7 +11,8 @@ ghost use Rattle.cm_hardware.specs.Wiring.{states_count, commands_count, all_sta
 
 use crate::hardware::{Unit, is_available};
 use crate::manager::ResourceManager;
-use cm_model::{Checked, CompDesc, Memory, Value};
+use cm_document::{Checked, CompDesc};
+use fixed_num::{Memory, Value};
 use hw_component::Component;
 use hw_component::laws::described_components_can_be_made;
 use loan_board::Board;

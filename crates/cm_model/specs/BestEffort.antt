@@ -1,5 +1,6 @@
 -- How a switch is decided of which is done what can be done.
-use Rattle.std.specs.Prelude.{ℕ, zero, suc, not, ◌&&◌, ◌||◌, if◌then◌else◌, List, [], ◌∷◌, ◌++◌, length, filter_map, find, Option, Some, None, option_map}
+use Rattle.std.specs.Prelude.{ℕ, zero, suc, not, ◌&&◌, ◌||◌, if◌then◌else◌, List, [], ◌∷◌, ◌++◌, length, filter_map}
+use Rattle.std.specs.Prelude.{find, Option, Some, None, option_map}
 use Rattle.iface_names.specs.declared.interface.IfaceName.{IfaceName}
 use Rattle.cm_document.specs.Links.{refs_of}
 use Rattle.cm_document.specs.declared.call.SwitchRequest.{SwitchRequest}
@@ -37,8 +38,8 @@ faultless fault before (name ∷ names) = elim (fault before name) [
 abbrev pub stays_more : Scene → Places → Places
 stays_more scene staying p = staying p || (active scene p && is_chained_in (controllers_in scene) staying p)
 
--- Of the active controllers those stay that are not asked to leave, and each that one precedes which stays. This is told as far as
--- so many links lead.
+-- Of the active controllers those stay that are not asked to leave, and each that one precedes which stays. This is
+-- told as far as so many links lead.
 unfoldable pub stays_within : Scene → Places → ℕ → Places
 stays_within scene leaving zero p = active scene p && not (leaving p)
 stays_within scene leaving (suc n) p = stays_more scene (stays_within scene leaving n) p
@@ -47,7 +48,8 @@ stays_within scene leaving (suc n) p = stays_more scene (stays_within scene leav
 abbrev pub stays : Scene → Places → Places
 stays scene leaving = stays_within scene leaving (length (controllers_in scene))
 
--- What may leave of those that are asked to: the greatest subset in which each active controller is that precedes a member.
+-- What may leave of those that are asked to: the greatest subset in which each active controller is that precedes a
+-- member.
 abbrev pub reduced : Scene → Places → Places
 reduced scene leaving p = leaving p && not (stays scene leaving p)
 
@@ -58,7 +60,9 @@ needed_reference scene staying p = find (is_claimed_by (controllers_in scene) st
 -- a controller that was asked to leave and stays is dropped, because it would be missing
 abbrev pub kept_drop : Scene → Places → Member → Option Dropped
 kept_drop scene staying m =
-    if staying m.place then option_map (λ interface. with_name (described scene m.place).name (cause.MissingFollower interface)) (needed_reference scene staying m.place) else None
+    if staying m.place
+    then option_map (λ interface. with_name (described scene m.place).name (cause.MissingFollower interface))
+    (needed_reference scene staying m.place) else None
 
 -- ---- What can join
 
@@ -70,10 +74,14 @@ pub record Joined : Type 0 where
 -- it joins where it would have no fault, else it is dropped with that
 abbrev pub joined_with : ℕ → List ℕ → Joined → Option Cause → Joined
 joined_with p name joined None = record { set = with_one p joined.set; dropped = joined.dropped }
-joined_with p name joined (Some reason) = record { set = joined.set; dropped = joined.dropped ++ with_name name reason ∷ [] }
+joined_with p name joined (Some reason) = record {
+  set = joined.set;
+  dropped = joined.dropped ++ with_name name reason ∷ [];
+}
 
 abbrev pub join : Scene → Places → Joined → Member → Joined
-join scene on joined m = joined_with m.place (described scene m.place).name joined (fault scene (with_one m.place joined.set) on m.place)
+join scene on joined m =
+    joined_with m.place (described scene m.place).name joined (fault scene (with_one m.place joined.set) on m.place)
 
 -- these join one by one
 abbrev pub join_all : Scene → Places → Joined → List Member → Joined
@@ -86,10 +94,14 @@ by_height scene ms = by_rank (λ m. height (controllers_in scene) m.place) (suc 
 
 -- ---- As much as can be done
 
--- What comes of those that are to be activated and have no fault of the list, where these leave and these were dropped before.
+-- What comes of those that are to be activated and have no fault of the list, where these leave and these were dropped
+-- before.
 abbrev pub joining : Scene → Places → List Dropped → List Member → Joined
 joining scene leaving dropped ms =
-    join_all scene (places_of ms) (record { set = λ p. active scene p && not (leaving p); dropped = dropped }) (by_height scene ms)
+    join_all scene (places_of ms) (record {
+      set = λ p. active scene p && not (leaving p);
+      dropped = dropped;
+    }) (by_height scene ms)
 
 -- those that leave and join restart
 abbrev pub best_joined : Places → Joined → Decided
@@ -98,23 +110,29 @@ best_joined leaving joined = done joined.dropped joined.set (λ p. leaving p && 
 -- the decision, once it is known which leave
 abbrev pub best_leaving : Scene → Places → List Dropped → List (List ℕ) → Decided
 best_leaving scene leaving dropped on =
-    best_joined leaving (joining scene leaving (dropped ++ faulty (on_fault scene leaving) [] on) (loaded_all scene (faultless (on_fault scene leaving) [] on)))
+    best_joined leaving
+    (joining scene leaving (dropped ++ faulty (on_fault scene leaving) [] on)
+    (loaded_all scene (faultless (on_fault scene leaving) [] on)))
 
 -- the decision, once it is known which of those to deactivate have no fault of the list
 abbrev pub best_asked : Scene → List Member → List Dropped → List (List ℕ) → Decided
 best_asked scene ms dropped on =
-    best_leaving scene (reduced scene (places_of ms)) (dropped ++ filter_map (kept_drop scene (stays scene (places_of ms))) ms) on
+    best_leaving scene (reduced scene (places_of ms))
+    (dropped ++ filter_map (kept_drop scene (stays scene (places_of ms))) ms) on
 
--- What has a fault on the list to deactivate is dropped with it; of the others the greatest subset leaves. What has a fault on the
--- list to activate is dropped with it; the others join, by height and then as they stand. Those that leave and join restart.
+-- What has a fault on the list to deactivate is dropped with it; of the others the greatest subset leaves. What has a
+-- fault on the list to activate is dropped with it; the others join, by height and then as they stand. Those that leave
+-- and join restart.
 abbrev pub best : Scene → List (List ℕ) → List (List ℕ) → Decided
-best scene off on = best_asked scene (loaded_all scene (faultless (off_fault scene) [] off)) (faulty (off_fault scene) [] off) on
+best scene off on =
+    best_asked scene (loaded_all scene (faultless (off_fault scene) [] off)) (faulty (off_fault scene) [] off) on
 
 -- ---- Both
 
 -- what becomes of a request
 abbrev pub decided : Scene → SwitchRequest → Decided
-decided scene request = if request.strict then strict scene request.off request.on else best scene request.off request.on
+decided scene request =
+    if request.strict then strict scene request.off request.on else best scene request.off request.on
 
 -- the plan of a request
 abbrev pub plan_of : Scene → SwitchRequest → Planned

@@ -1,5 +1,8 @@
--- Between two cycles: the requests that wait are decided, one after the other, and mail goes aloft with the cycle that begins.
-use Rattle.std.specs.Prelude.{ℕ, ◌+◌, ◌==◌, nat_le, nat_lt, Bool, true, not, if◌then◌else◌, List, [], ◌∷◌, ◌++◌, length, map, drop, find, position, slice_get, slice_index_or, slice_set, Option, Some, None, option_map}
+-- Between two cycles: the requests that wait are decided, one after the other, and mail goes aloft with the cycle that
+-- begins.
+use Rattle.std.specs.Prelude.{ℕ, ◌+◌, ◌==◌, nat_le, nat_lt, Bool, true, not, if◌then◌else◌, List, [], ◌∷◌, ◌++◌, length}
+use Rattle.std.specs.Prelude.{map, drop, find, position, slice_get, slice_index_or, slice_set, Option, Some, None}
+use Rattle.std.specs.Prelude.{option_map}
 use Rattle.std.specs.Option.{option_or}
 use Rattle.iface_names.specs.Names.{same_name}
 use Rattle.cm_document.specs.declared.description.Description.{Description}
@@ -77,14 +80,15 @@ component_place d name = position (λ component. same_name component.name name) 
 -- the first active controller by order that uses the component, by its name
 abbrev pub user_of : State → ℕ → Option (List ℕ)
 user_of s component =
-    option_map (λ l. (described_of s l).name) (find (λ l. uses s.description.components (λ place. place == component) (described_of s l)) (active_order s))
+    option_map (λ l. (described_of s l).name)
+    (find (λ l. uses s.description.components (λ place. place == component) (described_of s l)) (active_order s))
 
 -- the lifecycle state of the component at this place
 abbrev pub life_at : State → ℕ → Life
 life_at s component = slice_index_or s.lives component Unconfigured
 
--- Why a component is not brought to a state: there is no such move; or an active controller uses it, and its interfaces would not
--- be available.
+-- Why a component is not brought to a state: there is no such move; or an active controller uses it, and its interfaces
+-- would not be available.
 abbrev pub move_fault : State → ℕ → Life → Option Cause
 move_fault s component target =
     option_or (cause_if (not (has_move (life_at s component) target)) cause.NoSuchMove)
@@ -93,7 +97,10 @@ move_fault s component target =
 -- the component comes to its target, where nothing speaks against it
 abbrev pub with_move_unless : State → List ℕ → ℕ → Life → Option Cause → Concluded
 with_move_unless s name component target (Some reason) = record { state = s; outcome = outcome.Refused name reason }
-with_move_unless s name component target None = record { state = moved s (slice_set s.lives component target); outcome = outcome.Done [] }
+with_move_unless s name component target None = record {
+  state = moved s (slice_set s.lives component target);
+  outcome = outcome.Done [];
+}
 
 -- a request of a component that is described, or of one that is not
 abbrev pub with_move : State → List ℕ → Life → Option ℕ → Concluded
@@ -123,7 +130,10 @@ boundary s = all_concluded s (waiting s)
 -- outcomes by ticket, the first of which has this one
 abbrev pub decisions_from : ℕ → List Outcome → List Decision
 decisions_from ticket [] = []
-decisions_from ticket (became ∷ later) = record { ticket = ticket; outcome = became } ∷ decisions_from (ticket + 1) later
+decisions_from ticket (became ∷ later) = record {
+  ticket = ticket;
+  outcome = became;
+} ∷ decisions_from (ticket + 1) later
 
 -- what was decided on the way from one state to another, by ticket
 abbrev pub decisions_between : State → State → List Decision

@@ -1,5 +1,6 @@
 -- When the cause is true that a refusal names. A cause is said of the name of a controller, or of a component.
-use Rattle.std.specs.Prelude.{◌≡◌, ◌≢◌, ◌⊎◌, ℕ, ◌<◌, ◌==◌, Bool, true, false, not, ◌&&◌, List, [], length, slice_index_or, Some, is_some, Contains}
+use Rattle.std.specs.Prelude.{◌≡◌, ◌≢◌, ◌⊎◌, ℕ, ◌<◌, ◌==◌, Bool, true, false, not, ◌&&◌, List, [], length}
+use Rattle.std.specs.Prelude.{slice_index_or, Some, is_some, Contains}
 use Rattle.std.specs.List.{list_any}
 use Rattle.std.specs.Option.{option_map_or}
 use Rattle.iface_names.specs.Names.{same_name}
@@ -39,7 +40,9 @@ OfLoaded scene name P = (seen : Seen) × IsCalled scene name seen × P seen
 
 -- a name stands at two places of a list
 abbrev pub StandsTwice : List (List ℕ) → List ℕ → Type 0
-StandsTwice names name = (i : ℕ) × (j : ℕ) × (i < j) × (j < length names) × (slice_index_or names i [] ≡ name) × (slice_index_or names j [] ≡ name)
+StandsTwice names name =
+    (i : ℕ) × (j : ℕ) × (i < j) × (j < length names) × (slice_index_or names i [] ≡ name)
+    × (slice_index_or names j [] ≡ name)
 
 -- the controller at a place is a member of the set and claims the interface
 pub record IsClaimant (scene : Scene) (set : Places) (interface : IfaceName) (p : ℕ) : Type 0 where
@@ -48,7 +51,9 @@ pub record IsClaimant (scene : Scene) (set : Places) (interface : IfaceName) (p 
 
 -- the interface is a component's that is neither inactive nor active
 abbrev pub IsDown : Scene → IfaceName → Type 0
-IsDown scene interface = (place : ℕ) × (component_with scene.description.components interface ≡ Some place) × (is_available (slice_index_or scene.components place Unconfigured) ≡ false)
+IsDown scene interface =
+    (place : ℕ) × (component_with scene.description.components interface ≡ Some place)
+    × (is_available (slice_index_or scene.components place Unconfigured) ≡ false)
 
 -- A cause is true of a name, where a strict switch leads to a set:
 abbrev pub IsTrueOf : Scene → List (List ℕ) → List (List ℕ) → List ℕ → Cause → Type 0
@@ -57,23 +62,34 @@ IsTrueOf scene off on name cause.Unknown = (seen : Seen) → ¬ IsCalled scene n
 -- it stands twice in one list;
 IsTrueOf scene off on name cause.Twice = StandsTwice off name ⊎ StandsTwice on name
 -- it is on the list to deactivate, and not active;
-IsTrueOf scene off on name cause.NotActive = Contains off name × OfLoaded scene name (λ seen. is_running seen.life ≡ false)
+IsTrueOf scene off on name cause.NotActive =
+    Contains off name × OfLoaded scene name (λ seen. is_running seen.life ≡ false)
 -- it is on the list to activate, and unconfigured;
-IsTrueOf scene off on name cause.NotConfigured = Contains on name × OfLoaded scene name (λ seen. is_configured seen.life ≡ false)
+IsTrueOf scene off on name cause.NotConfigured =
+    Contains on name × OfLoaded scene name (λ seen. is_configured seen.life ≡ false)
 -- it is on the list to activate and not on the other, and is active;
-IsTrueOf scene off on name cause.AlreadyActive = Contains on name × (¬ Contains off name) × OfLoaded scene name (λ seen. is_running seen.life ≡ true)
+IsTrueOf scene off on name cause.AlreadyActive =
+    Contains on name × (¬ Contains off name) × OfLoaded scene name (λ seen. is_running seen.life ≡ true)
 -- it is a member that claims the reference, and the exporter is none;
-IsTrueOf scene off on name (cause.MissingFollower interface) = OfLoaded scene name (λ seen. IsClaimant scene (strict_set scene off on) interface seen.place
+IsTrueOf scene off on name (cause.MissingFollower interface) =
+    OfLoaded scene name (λ seen. IsClaimant scene (strict_set scene off on) interface seen.place
     × ((q : ℕ) × (exporter (controllers_in scene) interface ≡ Some q) × (strict_set scene off on q ≡ false)))
 -- it is on the list to activate, and claims or reads the interface, which is not available;
 IsTrueOf scene off on name (cause.Unavailable interface) = Contains on name
-    × OfLoaded scene name (λ seen. (Contains (described scene seen.place).claims interface ⊎ Contains (described scene seen.place).reads interface) × IsDown scene interface)
+    × OfLoaded scene name
+    (λ seen.
+    (Contains (described scene seen.place).claims interface ⊎ Contains (described scene seen.place).reads interface)
+    × IsDown scene interface)
 -- it and the owner are two members that claim the interface;
-IsTrueOf scene off on name (cause.Conflict interface owner) = OfLoaded scene name (λ seen. OfLoaded scene owner (λ rival. (seen.place ≢ rival.place)
-    × IsClaimant scene (strict_set scene off on) interface seen.place × IsClaimant scene (strict_set scene off on) interface rival.place))
+IsTrueOf scene off on name (cause.Conflict interface owner) =
+    OfLoaded scene name (λ seen. OfLoaded scene owner (λ rival. (seen.place ≢ rival.place)
+    × IsClaimant scene (strict_set scene off on) interface seen.place
+    × IsClaimant scene (strict_set scene off on) interface rival.place))
 -- it is a member that claims an interface of the joint, and a member claims another one of it;
-IsTrueOf scene off on name (cause.ModeRefused joint) = OfLoaded scene name (λ seen. (rival : Seen) × (kind : Kind) × (other : Kind) × (kind ≢ other)
-    × IsClaimant scene (strict_set scene off on) (Joint joint kind) seen.place × IsClaimant scene (strict_set scene off on) (Joint joint other) rival.place)
+IsTrueOf scene off on name (cause.ModeRefused joint) =
+    OfLoaded scene name (λ seen. (rival : Seen) × (kind : Kind) × (other : Kind) × (kind ≢ other)
+    × IsClaimant scene (strict_set scene off on) (Joint joint kind) seen.place
+    × IsClaimant scene (strict_set scene off on) (Joint joint other) rival.place)
 -- it is on the list to activate, and not ready.
 IsTrueOf scene off on name cause.NotReady = Contains on name × OfLoaded scene name (λ seen. seen.ready ≡ false)
 -- The other causes are of requests to components.
@@ -85,16 +101,20 @@ IsTrueOf scene off on name (cause.InUse owner) = ⊥
 -- an active controller of this name uses the component
 abbrev pub is_used_by : State → ℕ → List ℕ → Bool
 is_used_by s component name =
-    list_any (λ l. (is_active l && same_name (described_of s l).name name) && uses s.description.components (λ place. place == component) (described_of s l)) s.loaded
+    list_any
+    (λ l. (is_active l && same_name (described_of s l).name name)
+    && uses s.description.components (λ place. place == component) (described_of s l)) s.loaded
 
 -- The cause is true of a component that is to come to a state:
 abbrev pub is_true_of_move : State → List ℕ → Life → Cause → Bool
 -- no such component is described;
 is_true_of_move s name target cause.Unknown = not (is_some (component_place s.description name))
 -- it has no such move;
-is_true_of_move s name target cause.NoSuchMove = option_map_or (λ place. not (has_move (life_at s place) target)) (component_place s.description name) false
+is_true_of_move s name target cause.NoSuchMove =
+    option_map_or (λ place. not (has_move (life_at s place) target)) (component_place s.description name) false
 -- its interfaces would not be available, and this active controller uses it.
 is_true_of_move s name target (cause.InUse controller) =
-    option_map_or (λ place. not (is_available target) && is_used_by s place controller) (component_place s.description name) false
+    option_map_or (λ place. not (is_available target) && is_used_by s place controller)
+    (component_place s.description name) false
 -- The others are said of controllers.
 is_true_of_move s name target _ = false

@@ -30,7 +30,8 @@ dropped_text dropped = dropped.name ++ codes " " ++ cause_text dropped.cause
 -- what was dropped, where anything was: each name with its cause, joined by `, `
 abbrev pub drops_text : List Dropped → List ℕ
 drops_text [] = []
-drops_text (dropped ∷ others) = codes " dropped " ++ dropped_text dropped ++ flat_map (λ other. codes ", " ++ dropped_text other) others
+drops_text (dropped ∷ others) =
+    codes " dropped " ++ dropped_text dropped ++ flat_map (λ other. codes ", " ++ dropped_text other) others
 
 -- what became of a request
 abbrev pub outcome_text : Outcome → List ℕ

@@ -1,5 +1,7 @@
--- What one controller has of the interfaces: the states that it reads, its references, what it gives out to its claims, and whose components it uses.
-use Rattle.std.specs.Prelude.{ℕ, ℤ, pos, Bool, false, not, ◌&&◌, if◌then◌else◌, List, [], ◌∷◌, ◌++◌, map, Option, Some, None, unwrap_or}
+-- What one controller has of the interfaces: the states that it reads, its references, what it gives out to its claims,
+-- and whose components it uses.
+use Rattle.std.specs.Prelude.{ℕ, ℤ, pos, Bool, false, not, ◌&&◌, if◌then◌else◌, List, [], ◌∷◌, ◌++◌, map, Option, Some}
+use Rattle.std.specs.Prelude.{None, unwrap_or}
 use Rattle.std.specs.List.{list_any}
 use Rattle.std.specs.Option.{option_map_or}
 use Rattle.fixed_num.specs.declared.value.Value.{Value}
@@ -47,13 +49,16 @@ refs_for values c = map (λ name. value_where (is_command_named name) values) (r
 
 -- what is given out to the interface of this name, where it is one of these claims: each has the output of its place
 abbrev pub output_for : List IfaceName → List Value → IfaceName → Option Value
-output_for (claim ∷ claims) (out ∷ outs) name = if same_interface claim name then Some out else output_for claims outs name
+output_for (claim ∷ claims) (out ∷ outs) name =
+    if same_interface claim name then Some out else output_for claims outs name
 output_for _ _ name = None
 
 -- one interface after these outputs
 abbrev pub given_of : List IfaceName → List Value → InterfaceValue → InterfaceValue
 given_of claims outs v =
-    if v.interface.called.is_command then record v { value = unwrap_or (output_for claims outs v.interface.called.name) v.value } else v
+    if v.interface.called.is_command then record v {
+      value = unwrap_or (output_for claims outs v.interface.called.name) v.value;
+    } else v
 
 -- The claims hold these outputs, and all else stays.
 abbrev pub given : List IfaceName → List Value → List InterfaceValue → List InterfaceValue
@@ -67,4 +72,5 @@ given_by claims step values = elim step.done [ done.Ok ↦ given claims step.out
 
 -- A controller uses a component where it claims or reads one of its interfaces: here one of those that pass the test.
 abbrev pub uses : List CompDesc → (ℕ → Bool) → CtlDesc → Bool
-uses components test c = list_any (λ name. option_map_or test (component_with components name) false) (c.claims ++ c.reads)
+uses components test c =
+    list_any (λ name. option_map_or test (component_with components name) false) (c.claims ++ c.reads)

@@ -36,7 +36,11 @@ scene_of s = record { description = s.description; loaded = map (seen s) s.loade
 -- it comes to run, with the states of this moment and chained as in the set
 abbrev pub coming : State → Places → Loaded → Loaded
 coming s set l =
-    record l { ctl = activated l.ctl (states_for s.values (described_of s l)) (is_chained_in s.description.controllers set l.place); mail = None }
+    record l {
+      ctl = activated l.ctl (states_for s.values (described_of s l))
+          (is_chained_in s.description.controllers set l.place);
+      mail = None;
+    }
 
 -- it does not run any more
 abbrev pub leaving : Loaded → Loaded
@@ -44,7 +48,8 @@ leaving l = record l { ctl = deactivated l.ctl; mail = None }
 
 -- One controller, where these are stopped and these started; one that is both restarts. Its mail is emptied.
 abbrev pub committed : State → Places → Places → Places → Loaded → Loaded
-committed s set stopped started l = if started l.place then coming s set l else (if stopped l.place then leaving l else l)
+committed s set stopped started l =
+    if started l.place then coming s set l else (if stopped l.place then leaving l else l)
 
 -- ---- Interfaces
 
@@ -55,7 +60,9 @@ is_exported_by set (of_controller place) = set place
 
 -- one of these claims the interface, or exports it
 abbrev pub is_freed : State → Places → Interface → Bool
-is_freed s stopped interface = interface.called.is_command && (is_claimed_by s.description.controllers stopped interface.called.name || is_exported_by stopped interface.whose)
+is_freed s stopped interface =
+    interface.called.is_command
+    && (is_claimed_by s.description.controllers stopped interface.called.name || is_exported_by stopped interface.whose)
 
 -- one interface after these were stopped
 abbrev pub freed_of : State → Places → InterfaceValue → InterfaceValue
@@ -70,8 +77,9 @@ changed s set stopped started = record s {
   values = map (freed_of s stopped) s.values;
 }
 
--- The set is active, with these restarted. Those that leave are deactivated; those that come are activated, with the states of this
--- moment; the restarted, and those that stay and whose chained mode changes, are deactivated and activated. What is claimed and
--- exported by those that leave or restart becomes Unset. The mail of each that leaves, comes or restarts is emptied. All else stays.
+-- The set is active, with these restarted. Those that leave are deactivated; those that come are activated, with the
+-- states of this moment; the restarted, and those that stay and whose chained mode changes, are deactivated and
+-- activated. What is claimed and exported by those that leave or restart becomes Unset. The mail of each that leaves,
+-- comes or restarts is emptied. All else stays.
 unfoldable pub commit : State → Places → Places → State
 commit s set again = changed s set (is_stopped (scene_of s) set again) (is_started (scene_of s) set again)

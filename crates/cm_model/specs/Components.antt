@@ -1,5 +1,8 @@
--- One hardware component: how it moves between its lifecycle states, how a cycle reads and writes it, how its joints are driven, and what its interfaces hold. The bodies of a component stand in the order of its joints, the values in the order of its interfaces, joint by joint; joints and interfaces are counted from 0 within the component.
-use Rattle.std.specs.Prelude.{ℕ, ◌+◌, ◌==◌, ℤ, pos, Bool, true, false, not, ◌&&◌, ◌||◌, if◌then◌else◌, List, [], ◌∷◌, ◌++◌, length, map, replicate, find, slice_get, Option, Some, None, unwrap_or}
+-- One hardware component: how it moves between its lifecycle states, how a cycle reads and writes it, how its joints
+-- are driven, and what its interfaces hold. The bodies of a component stand in the order of its joints, the values in
+-- the order of its interfaces, joint by joint; joints and interfaces are counted from 0 within the component.
+use Rattle.std.specs.Prelude.{ℕ, ◌+◌, ◌==◌, ℤ, pos, Bool, true, false, not, ◌&&◌, ◌||◌, if◌then◌else◌, List, [], ◌∷◌}
+use Rattle.std.specs.Prelude.{◌++◌, length, map, replicate, find, slice_get, Option, Some, None, unwrap_or}
 use Rattle.std.specs.List.{list_any, range_with_len}
 use Rattle.std.specs.Option.{option_map_or}
 use Rattle.fixed_num.specs.Bodies.{Plant, stopped, stepped}
@@ -36,7 +39,8 @@ abbrev pub write_runs : Life → Bool
 write_runs Active = true
 write_runs _ = false
 
--- It moves from unconfigured, inactive or active to any state, the same one included; from finalized to finalized alone.
+-- It moves from unconfigured, inactive or active to any state, the same one included; from finalized to finalized
+-- alone.
 abbrev pub has_move : Life → Life → Bool
 has_move Finalized Finalized = true
 has_move Finalized target = false
@@ -91,10 +95,14 @@ bodies_at_start component = map body_at_start component.joints
 
 -- ---- Interfaces
 
--- the interfaces of joints, the first of which has this number: of each joint one for each of these kinds, in their order
+-- the interfaces of joints, the first of which has this number: of each joint one for each of these kinds, in their
+-- order
 abbrev pub interfaces_from : (JointDesc → List Kind) → ℕ → List JointDesc → List JointInterface
 interfaces_from kinds number [] = []
-interfaces_from kinds number (joint ∷ joints) = map (λ kind. record { joint = number; kind = kind }) (kinds joint) ++ interfaces_from kinds (number + 1) joints
+interfaces_from kinds number (joint ∷ joints) = map (λ kind. record {
+  joint = number;
+  kind = kind;
+}) (kinds joint) ++ interfaces_from kinds (number + 1) joints
 
 -- the state interfaces of a component, each at its number
 abbrev pub state_interfaces : CompDesc → List JointInterface
@@ -118,7 +126,8 @@ measured Effort body = body.f
 
 -- what an interface measures of the body of its joint
 abbrev pub measured_at : List BodyState → JointInterface → Value
-measured_at bodies interface = option_map_or (λ body. Num (measured interface.kind body)) (slice_get bodies interface.joint) Unset
+measured_at bodies interface =
+    option_map_or (λ body. Num (measured interface.kind body)) (slice_get bodies interface.joint) Unset
 
 -- What the state interfaces of a component hold of its bodies.
 abbrev pub measured_states : CompDesc → List BodyState → List Value
@@ -126,7 +135,8 @@ measured_states component bodies = map (measured_at bodies) (state_interfaces co
 
 -- What they hold after a cycle's read: the numbers of the bodies where it succeeded, else what they held.
 abbrev pub states_after_read : CompDesc → Life → ℕ → List BodyState → List Value → List Value
-states_after_read component life cycle bodies values = if read_succeeds component life cycle then measured_states component bodies else values
+states_after_read component life cycle bodies values =
+    if read_succeeds component life cycle then measured_states component bodies else values
 
 -- ---- What command interfaces hold
 
@@ -134,7 +144,8 @@ states_after_read component life cycle bodies values = if read_succeeds componen
 abbrev pub commands_at_start : CompDesc → List Value
 commands_at_start component = replicate (length (command_interfaces component)) Unset
 
--- What they hold after a move to a state: nothing where the component becomes unconfigured or finalized, else what they held.
+-- What they hold after a move to a state: nothing where the component becomes unconfigured or finalized, else what they
+-- held.
 abbrev pub commands_after_move : Life → List Value → List Value
 commands_after_move target values = if is_available target then values else all_unset values
 
@@ -147,11 +158,14 @@ stands_on commands joint claim = option_map_or (λ interface. interface.joint ==
 -- two different ones of the claims stand on this joint
 abbrev pub is_contested : List JointInterface → List ℕ → ℕ → Bool
 is_contested commands claims joint =
-    list_any (λ claim. stands_on commands joint claim && list_any (λ other. stands_on commands joint other && not (claim == other)) claims) claims
+    list_any
+    (λ claim. stands_on commands joint claim
+    && list_any (λ other. stands_on commands joint other && not (claim == other)) claims) claims
 
 -- The least joint on which two different claimed command interfaces stand.
 abbrev pub mode_fault : CompDesc → List ℕ → Option ℕ
-mode_fault component claims = find (is_contested (command_interfaces component) claims) (range_with_len 0 (length component.joints))
+mode_fault component claims =
+    find (is_contested (command_interfaces component) claims) (range_with_len 0 (length component.joints))
 
 -- the claim that stands on this joint; the first, where several do
 abbrev pub claim_on : List JointInterface → List ℕ → ℕ → Option ℕ
@@ -159,7 +173,8 @@ claim_on commands claims joint = find (stands_on commands joint) claims
 
 -- the claimed command interface of each joint
 abbrev pub claimed_by : CompDesc → List ℕ → List (Option ℕ)
-claimed_by component claims = map (claim_on (command_interfaces component) claims) (range_with_len 0 (length component.joints))
+claimed_by component claims =
+    map (claim_on (command_interfaces component) claims) (range_with_len 0 (length component.joints))
 
 -- how an interface of this kind drives a joint
 abbrev pub mode_of_kind : Kind → JointMode
@@ -170,7 +185,8 @@ mode_of_kind Effort = mode.Effort
 -- The mode of a joint is the kind of its claimed command interface, else Idle.
 abbrev pub mode_of : List JointInterface → Option ℕ → JointMode
 mode_of commands None = mode.Idle
-mode_of commands (Some claim) = option_map_or (λ interface. mode_of_kind interface.kind) (slice_get commands claim) mode.Idle
+mode_of commands (Some claim) =
+    option_map_or (λ interface. mode_of_kind interface.kind) (slice_get commands claim) mode.Idle
 
 -- what the claimed command interface of a joint holds
 abbrev pub command_of : List Value → Option ℕ → Value
@@ -179,14 +195,17 @@ command_of values (Some claim) = unwrap_or (slice_get values claim) Unset
 
 -- ---- Steps of bodies
 
--- the bodies of joints after a step in which each joint is driven by its claimed interface, of those that hold these values
-abbrev pub driven_bodies : List JointInterface → List Value → ℕ → List JointDesc → List (Option ℕ) → List BodyState → List BodyState
+-- the bodies of joints after a step in which each joint is driven by its claimed interface, of those that hold these
+-- values
+abbrev pub driven_bodies : List JointInterface → List Value → ℕ → List JointDesc → List (Option ℕ) → List BodyState
+    → List BodyState
 driven_bodies commands values dt_us (joint ∷ joints) (claim ∷ claims) (body ∷ bodies) =
     stepped (plant_of joint) (mode_of commands claim) (command_of values claim) dt_us body
     ∷ driven_bodies commands values dt_us joints claims bodies
 driven_bodies commands values dt_us _ _ _ = []
 
--- The bodies of a component after a step: where it is active and was written in this cycle, each joint goes by its mode and by what its claimed interface holds; else nobody commands any.
+-- The bodies of a component after a step: where it is active and was written in this cycle, each joint goes by its mode
+-- and by what its claimed interface holds; else nobody commands any.
 abbrev pub bodies_after_step : CompDesc → Bool → List (Option ℕ) → List Value → ℕ → List BodyState → List BodyState
 bodies_after_step component is_commanded claimed values dt_us bodies =
     if is_commanded then driven_bodies (command_interfaces component) values dt_us component.joints claimed bodies

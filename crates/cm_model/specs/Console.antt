@@ -1,5 +1,7 @@
--- The console's calls on one loaded controller: to configure it, to clean it up, to unload it, to give it a rate, to send it mail. Of each: what refuses it, in order, and what it does where nothing does.
-use Rattle.std.specs.Prelude.{ℕ, ◌==◌, Bool, false, not, ◌&&◌, if◌then◌else◌, List, [], ◌∷◌, position, remove, slice_get, slice_set, Option, Some, None, option_map, is_some}
+-- The console's calls on one loaded controller: to configure it, to clean it up, to unload it, to give it a rate, to
+-- send it mail. Of each: what refuses it, in order, and what it does where nothing does.
+use Rattle.std.specs.Prelude.{ℕ, ◌==◌, Bool, false, not, ◌&&◌, if◌then◌else◌, List, [], ◌∷◌, position, remove}
+use Rattle.std.specs.Prelude.{slice_get, slice_set, Option, Some, None, option_map, is_some}
 use Rattle.std.specs.Option.{option_map_or}
 use Rattle.iface_names.specs.Names.{same_name}
 use Rattle.cm_document.specs.declared.call.Mail.{Mail}
@@ -111,7 +113,10 @@ send_reply s name mail = reply_on (send_refusals s mail) (controller_of s name)
 -- It has these parameters in place of any others, and its divisor is fixed by its rate.
 abbrev pub configured_with : State → Loaded → Option CtlDesc → Loaded
 configured_with s l None = l
-configured_with s l (Some c) = record l { ctl = configured l.ctl c.params; divisor = Some (divisor s.description.update_rate l.rate) }
+configured_with s l (Some c) = record l {
+  ctl = configured l.ctl c.params;
+  divisor = Some (divisor s.description.update_rate l.rate);
+}
 
 -- it has the described parameters
 abbrev pub after_configure : State → Loaded → Loaded
@@ -167,7 +172,8 @@ rate_effect s name hz r = where_done r (with_changed (after_rate hz) s (slot_of 
 abbrev pub send_effect : State → List ℕ → Mail → Reply → State
 send_effect s name mail r = where_done r (with_changed (after_send mail) s (slot_of s name)) s
 
--- The data of the box that moves out: an unload that was done gives out that of its controller, and nothing else gives one out.
+-- The data of the box that moves out: an unload that was done gives out that of its controller, and nothing else gives
+-- one out.
 abbrev pub moves_out : State → List ℕ → Reply → Option CtlData
 moves_out s name reply.Done = option_map (λ l. l.ctl) (controller_of s name)
 moves_out s name _ = None

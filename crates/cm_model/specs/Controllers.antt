@@ -1,5 +1,7 @@
--- The table of controllers: what each kind begins with when it is activated, what mail makes of it, and what an update gives.
-use Rattle.std.specs.Prelude.{◌≡◌, ℕ, ◌-◌, ◌≤◌, ℤ, pos, Bool, true, false, if◌then◌else◌, List, [], ◌∷◌, map, replicate, Option, Some, None, option_map, IsSomeAnd}
+-- The table of controllers: what each kind begins with when it is activated, what mail makes of it, and what an update
+-- gives.
+use Rattle.std.specs.Prelude.{◌≡◌, ℕ, ◌-◌, ◌≤◌, ℤ, pos, Bool, true, false, if◌then◌else◌, List, [], ◌∷◌, map, replicate}
+use Rattle.std.specs.Prelude.{Option, Some, None, option_map, IsSomeAnd}
 use Rattle.fixed_num.specs.declared.value.Value.{Value}
 use Rattle.fixed_num.specs.declared.value.Value.TheVariants.{Unset, Num}
 use Rattle.cm_document.specs.Params.{kind_of}
@@ -7,7 +9,8 @@ use Rattle.cm_document.specs.declared.call.Mail.{Mail}
 use Rattle.cm_document.specs.declared.call.Mail.TheVariants.{Values, Points}
 use Rattle.cm_document.specs.declared.call.Point2.{Point2}
 use Rattle.cm_document.specs.declared.description.Params.{Params}
-use Rattle.cm_document.specs.declared.description.Params.TheVariants.{Forward, Passthrough, Pid, Trajectory, Broadcaster, Mock}
+use Rattle.cm_document.specs.declared.description.Params.TheVariants.{Forward, Passthrough, Pid, Trajectory}
+use Rattle.cm_document.specs.declared.description.Params.TheVariants.{Broadcaster, Mock}
 use Rattle.cm_model.specs.State.{fresh}
 use Rattle.cm_model.specs.Kinds.{shape_of, AreItsReads, are_ranged, is_ready_in, fails_in, takes}
 use Rattle.cm_model.specs.Pids.{Tuning, error_of, integrated, derivative_of, corrected}
@@ -22,8 +25,8 @@ use Rattle.cm_model.specs.declared.tick.Tick.{Tick}
 
 -- ---- The running part
 
--- The running part at activation, with the states of that moment: no value set, nothing integrated, the states to hold or to publish.
--- A passthrough and a pid keep whether they are chained; the others have no references to take.
+-- The running part at activation, with the states of that moment: no value set, nothing integrated, the states to hold
+-- or to publish. A passthrough and a pid keep whether they are chained; the others have no references to take.
 abbrev pub started : Params → List ℤ → Bool → RunData
 started (Forward outs) states chained = run.Set false (replicate outs Unset)
 started (Passthrough outs) states chained = run.Set chained (replicate outs Unset)
@@ -47,7 +50,8 @@ with_mail part mail = part
 
 -- ---- An update
 
--- What an update gives: the running part after it, the outputs, one for each claim, the numbers that are published, and how it went.
+-- What an update gives: the running part after it, the outputs, one for each claim, the numbers that are published, and
+-- how it went.
 pub record Updated : Type 0 where
   pub run : RunData
   pub outs : List Value
@@ -66,13 +70,16 @@ fails part = record { run = part; outs = []; published = []; done = done.Error }
 abbrev pub wanted : Bool → List Value → List Value → List Value
 wanted chained refs set = if chained then refs else set
 
--- A pid is brought from the state towards what is wanted. Where that is unset it stays as it is, and its output is unset.
+-- A pid is brought from the state towards what is wanted. Where that is unset it stays as it is, and its output is
+-- unset.
 abbrev pub pid_update : Tuning → Bool → Value → ℤ → Option ℤ → ℕ → List Value → List ℤ → Updated
 pid_update tuning chained set integral last dt_us (Num target ∷ targets) (state ∷ states) =
     let error = error_of target state in
     let next = integrated tuning integral error dt_us in
-    gives (run.Pid chained set next (Some error)) (Num (corrected tuning error next (derivative_of last error dt_us)) ∷ [])
-pid_update tuning chained set integral last dt_us targets states = gives (run.Pid chained set integral last) (Unset ∷ [])
+    gives (run.Pid chained set next (Some error))
+    (Num (corrected tuning error next (derivative_of last error dt_us)) ∷ [])
+pid_update tuning chained set integral last dt_us targets states =
+    gives (run.Pid chained set integral last) (Unset ∷ [])
 
 -- Fresh points count from the tick's time, and lead from the states of that moment.
 abbrev pub trajectory_update : ℕ → List ℤ → List ℤ → Bool → ℕ → List ℤ → List Point2 → Updated
@@ -84,7 +91,8 @@ trajectory_update time_us states hold false start_us from points =
 -- The table, a row for each kind: by the running part and the tick, the states read and the references as they stand.
 abbrev pub updated : Params → RunData → Tick → List ℤ → List Value → Updated
 updated (Forward outs) (run.Set chained set) tick states refs = gives (run.Set chained set) set
-updated (Passthrough outs) (run.Set chained set) tick states refs = gives (run.Set chained set) (wanted chained refs set)
+updated (Passthrough outs) (run.Set chained set) tick states refs =
+    gives (run.Set chained set) (wanted chained refs set)
 updated (Pid kp ki kd imax omax) (run.Pid chained set integral last) tick states refs =
     pid_update (record { kp = kp; ki = ki; kd = kd; imax = imax; omax = omax }) chained set integral last tick.dt_us
     (wanted chained refs (set ∷ [])) states
@@ -93,7 +101,8 @@ updated (Trajectory outs) (run.Trajectory hold fresh start_us from points) tick 
 updated (Broadcaster ins) (run.Broadcaster last) tick states refs =
     record { run = run.Broadcaster states; outs = []; published = states; done = done.Ok }
 updated (Mock outs refuse_config not_ready fail_update) (run.Set chained set) tick states refs =
-    if fails_in (Mock outs refuse_config not_ready fail_update) tick.cycle then fails (run.Set chained set) else gives (run.Set chained set) set
+    if fails_in (Mock outs refuse_config not_ready fail_update) tick.cycle then fails (run.Set chained set)
+    else gives (run.Set chained set) set
 updated params part tick states refs = gives part []
 
 -- ---- The data of a controller
@@ -112,7 +121,12 @@ cleaned_up ctl = fresh ctl.kind
 
 -- where it is configured it runs
 abbrev pub activated : CtlData → List ℤ → Bool → CtlData
-activated ctl states chained = elim ctl.params [ None ↦ ctl | Some params ↦ record ctl { run = Some (started params states chained) } ]
+activated ctl states chained = elim ctl.params [
+  | None ↦ ctl
+  | Some params ↦ record ctl {
+    run = Some (started params states chained);
+  }
+]
 
 -- it does not run
 abbrev pub deactivated : CtlData → CtlData
@@ -135,7 +149,12 @@ pub record Stepped : Type 0 where
 
 -- the data with the running part that an update left
 abbrev pub stepped_to : CtlData → Updated → Stepped
-stepped_to ctl given = record { after = record ctl { run = Some given.run }; outs = given.outs; published = given.published; done = given.done }
+stepped_to ctl given = record {
+  after = record ctl { run = Some given.run };
+  outs = given.outs;
+  published = given.published;
+  done = given.done;
+}
 
 -- it does not run: nothing is done
 abbrev pub not_stepped : CtlData → Stepped

@@ -1,5 +1,8 @@
--- One cycle: the components are read, the controllers updated, the components written, and every body steps by one period; what follows at its end; and what goes aloft at its begin.
-use Rattle.std.specs.Prelude.{◌≡◌, ℕ, zero, suc, ◌+◌, ◌*◌, ◌/◌, ◌==◌, Bool, true, false, not, ◌&&◌, ◌||◌, if◌then◌else◌, List, [], ◌∷◌, ◌++◌, length, map, filter, filter_map, find, zip, take, drop, slice_get, Option, None, option_map, unwrap_or, is_some}
+-- One cycle: the components are read, the controllers updated, the components written, and every body steps by one
+-- period; what follows at its end; and what goes aloft at its begin.
+use Rattle.std.specs.Prelude.{◌≡◌, ℕ, zero, suc, ◌+◌, ◌*◌, ◌/◌, ◌==◌, Bool, true, false, not, ◌&&◌, ◌||◌, if◌then◌else◌}
+use Rattle.std.specs.Prelude.{List, [], ◌∷◌, ◌++◌, length, map, filter, filter_map, find, zip, take, drop, slice_get}
+use Rattle.std.specs.Prelude.{Option, None, option_map, unwrap_or, is_some}
 use Rattle.std.specs.List.{list_any, range_with_len}
 use Rattle.std.specs.Option.{option_map_or}
 use Rattle.fixed_num.specs.declared.value.BodyState.{BodyState}
@@ -9,7 +12,8 @@ use Rattle.cm_document.specs.declared.description.Description.{Description}
 use Rattle.cm_document.specs.declared.life.Life.{Life}
 use Rattle.cm_model.specs.Claims.{states_for, refs_for, given_by, uses}
 use Rattle.cm_model.specs.Commit.{described_of, commit}
-use Rattle.cm_model.specs.Components.{read_succeeds, read_fails, write_fails, has_failed, is_written, life_after, claimed_by, bodies_after_step}
+use Rattle.cm_model.specs.Components.{read_succeeds, read_fails, write_fails, has_failed, is_written, life_after}
+use Rattle.cm_model.specs.Components.{claimed_by, bodies_after_step}
 use Rattle.cm_model.specs.Controllers.{Stepped, ctl_step}
 use Rattle.cm_model.specs.Happened.{Happened}
 use Rattle.cm_model.specs.Order.{Places, precedes_at, some_below, by_rank, depth, is_due}
@@ -31,7 +35,8 @@ period d = SECOND_US / d.update_rate
 
 -- In the cycle that is aloft this holds of the component at a place, by its description and its lifecycle state.
 abbrev pub component_is : (CompDesc → Life → ℕ → Bool) → State → ℕ → Bool
-component_is test s place = option_map_or (λ each. test each.0 each.1 s.ended) (slice_get (zip s.description.components s.lives) place) false
+component_is test s place =
+    option_map_or (λ each. test each.0 each.1 s.ended) (slice_get (zip s.description.components s.lives) place) false
 
 -- the places of the components of which this holds, in order
 abbrev pub components_where : (ℕ → Bool) → State → List ℕ
@@ -48,7 +53,8 @@ failed_in s =
 -- the active controllers in the order of their updates: by depth among them, and those of one depth by serial
 abbrev pub active_order : State → List Loaded
 active_order s =
-    by_rank (λ l. depth s.description.controllers (active s) l.place) (suc (length s.description.controllers)) (filter is_active s.loaded)
+    by_rank (λ l. depth s.description.controllers (active s) l.place) (suc (length s.description.controllers))
+    (filter is_active s.loaded)
 
 -- a loaded controller by its serial and place
 abbrev pub member_of : Loaded → Member
@@ -72,7 +78,11 @@ updated_in s = filter (λ l. is_due_now s l && not (is_held_off s l)) (active_or
 
 -- when a controller is updated: the number and the time of the cycle, and its own time between two updates
 abbrev pub tick_of : State → Loaded → Tick
-tick_of s l = record { cycle = s.ended; time_us = s.ended * period s.description; dt_us = unwrap_or l.divisor 1 * period s.description }
+tick_of s l = record {
+  cycle = s.ended;
+  time_us = s.ended * period s.description;
+  dt_us = unwrap_or l.divisor 1 * period s.description;
+}
 
 -- the mail that went aloft for the controller of this serial, where there is some
 abbrev pub mail_for : State → ℕ → Option Mail
@@ -81,7 +91,8 @@ mail_for s serial = option_map (λ aloft. aloft.mail) (find (λ aloft. aloft.ser
 -- the step of a controller in the cycle, while the interfaces hold these values
 abbrev pub step_of : State → List InterfaceValue → Loaded → Stepped
 step_of s values l =
-    ctl_step l.ctl (tick_of s l) (states_for values (described_of s l)) (refs_for values (described_of s l)) (mail_for s l.serial)
+    ctl_step l.ctl (tick_of s l) (states_for values (described_of s l)) (refs_for values (described_of s l))
+    (mail_for s l.serial)
 
 -- a controller after the step of the one with this serial
 abbrev pub stepped_at : State → List InterfaceValue → ℕ → Loaded → Loaded
@@ -91,8 +102,8 @@ stepped_at s values serial l = if l.serial == serial then record l { ctl = (step
 abbrev pub ran_by : Loaded → Stepped → Ran
 ran_by l step = record { serial = l.serial; done = step.done; outs = step.outs; published = step.published }
 
--- What the updates of a cycle come to: the loaded controllers and the values after them, and what is told of each updated
--- controller, in order.
+-- What the updates of a cycle come to: the loaded controllers and the values after them, and what is told of each
+-- updated controller, in order.
 pub record Updates : Type 0 where
   pub loaded : List Loaded
   pub values : List InterfaceValue
@@ -119,18 +130,20 @@ updates s values = with_updates s (record { loaded = s.loaded; values = values; 
 
 -- the update of this controller failed
 abbrev pub has_erred : List Ran → ℕ → Bool
-has_erred ran serial = list_any (λ each. each.serial == serial && elim each.done [ done.Ok ↦ false | done.Error ↦ true ]) ran
+has_erred ran serial =
+    list_any (λ each. each.serial == serial && elim each.done [ done.Ok ↦ false | done.Error ↦ true ]) ran
 
 -- it uses a component whose read or write failed, or its update failed
 abbrev pub is_struck : State → List Ran → Loaded → Bool
-is_struck s ran l = uses s.description.components (component_is has_failed s) (described_of s l) || has_erred ran l.serial
+is_struck s ran l =
+    uses s.description.components (component_is has_failed s) (described_of s l) || has_erred ran l.serial
 
 -- as the active controllers of which that holds
 abbrev pub struck : State → List Ran → Places
 struck s ran p = list_any (λ l. is_active l && (l.place == p && is_struck s ran l)) s.loaded
 
--- A place comes to one that passes the test, over links among so many places: it passes itself, or is linked to a place that comes to
--- one. This is told as far as so many links lead.
+-- A place comes to one that passes the test, over links among so many places: it passes itself, or is linked to a place
+-- that comes to one. This is told as far as so many links lead.
 unfoldable pub reaches : (ℕ → ℕ → Bool) → (ℕ → Bool) → ℕ → ℕ → ℕ → Bool
 reaches linked hit count zero p = hit p
 reaches linked hit count (suc n) p = hit p || some_below (λ q. linked p q && reaches linked hit count n q) count
@@ -139,7 +152,8 @@ reaches linked hit count (suc n) p = hit p || some_below (λ q. linked p q && re
 abbrev pub must_stop : State → List Ran → Places
 must_stop s ran p =
     active s p
-    && reaches (λ p q. active s q && precedes_at s.description.controllers p q) (struck s ran) (length s.description.controllers) (length s.description.controllers) p
+    && reaches (λ p q. active s q && precedes_at s.description.controllers p q) (struck s ran)
+    (length s.description.controllers) (length s.description.controllers) p
 
 -- the others stay active
 abbrev pub stays_active : State → List Ran → Places
@@ -162,7 +176,8 @@ stops s ran = map (λ l. l.serial) (filter (λ l. must_stop s ran l.place) (acti
 
 -- the command interfaces of the component at this place, in order
 abbrev pub commands_at : ℕ → List InterfaceValue → List InterfaceValue
-commands_at component values = filter (λ v. v.interface.called.is_command && belongs_to (λ place. place == component) v.interface.whose) values
+commands_at component values =
+    filter (λ v. v.interface.called.is_command && belongs_to (λ place. place == component) v.interface.whose) values
 
 -- the command interface of this number is claimed
 abbrev pub is_claimed : State → List InterfaceValue → ℕ → Bool
@@ -175,7 +190,8 @@ claims_in s commands = filter (is_claimed s commands) (range_with_len 0 (length 
 -- the bodies of a component, the one at this place, after its step
 abbrev pub component_stepped : State → ℕ → CompDesc → List InterfaceValue → List BodyState → List BodyState
 component_stepped s component described commands bodies =
-    bodies_after_step described (component_is is_written s component) (claimed_by described (claims_in s commands)) (map (λ v. v.value) commands) (period s.description) bodies
+    bodies_after_step described (component_is is_written s component) (claimed_by described (claims_in s commands))
+    (map (λ v. v.value) commands) (period s.description) bodies
 
 -- the bodies of components, the first of which stands at this place, each component having as many as joints
 abbrev pub components_stepped : State → List InterfaceValue → ℕ → List CompDesc → List BodyState → List BodyState
@@ -186,7 +202,8 @@ components_stepped s values component (described ∷ others) bodies =
 
 -- ---- A cycle
 
--- What a cycle makes: the loaded controllers, what the interfaces hold and the bodies after it, and what its record tells.
+-- What a cycle makes: the loaded controllers, what the interfaces hold and the bodies after it, and what its record
+-- tells.
 pub record CycleResult : Type 0 where
   pub loaded : List Loaded
   pub values : List InterfaceValue
@@ -204,8 +221,9 @@ cycle_with s u =
       happened = record { cycle = s.ended; failed = failed_in s; ran = u.ran; bodies = bodies; stops = stops s u.ran };
     }
 
--- A cycle: the components are read that are inactive or active, and their state interfaces hold their bodies' numbers where the read
--- did not fail; the controllers are updated; the active components are written whose read did not fail; every body steps.
+-- A cycle: the components are read that are inactive or active, and their state interfaces hold their bodies' numbers
+-- where the read did not fail; the controllers are updated; the active components are written whose read did not fail;
+-- every body steps.
 unfoldable pub cycle : State → CycleResult
 cycle s = cycle_with s (updates s (after_reads (component_is read_succeeds s) s.bodies s.values))
 
@@ -219,14 +237,21 @@ moved s lives = record s { lives = lives; values = after_moves s.lives lives s.b
 abbrev pub lives_after : State → List Life
 lives_after s = map (λ each. life_after each.0 each.1 s.ended) (zip s.description.components s.lives)
 
--- The controllers, values and bodies are those after the cycle, the components that failed have moved, one cycle more has ended, and
--- nothing is aloft.
+-- The controllers, values and bodies are those after the cycle, the components that failed have moved, one cycle more
+-- has ended, and nothing is aloft.
 abbrev pub landed : State → CycleResult → State
 landed s cycled =
-    moved (record s { loaded = cycled.loaded; values = cycled.values; bodies = cycled.bodies; ended = s.ended + 1; aloft = false; mails = [] }) (lives_after s)
+    moved (record s {
+      loaded = cycled.loaded;
+      values = cycled.values;
+      bodies = cycled.bodies;
+      ended = s.ended + 1;
+      aloft = false;
+      mails = [];
+    }) (lives_after s)
 
--- At the end of a cycle that has landed the controllers are stopped that failed, that use a component that failed, or that precede
--- such a one. Those that stay and whose chained mode changes restart.
+-- At the end of a cycle that has landed the controllers are stopped that failed, that use a component that failed, or
+-- that precede such a one. Those that stay and whose chained mode changes restart.
 unfoldable pub after_cycle : State → CycleResult → State
 after_cycle s cycled = commit (landed s cycled) (stays_active s cycled.happened.ran) (λ p. false)
 
@@ -234,7 +259,10 @@ after_cycle s cycled = commit (landed s cycled) (stays_active s cycled.happened.
 
 -- the mail of a controller that goes aloft, where it is active and due
 abbrev pub mail_off : State → Loaded → Option MailAloft
-mail_off s l = if is_active l && is_due_now s l then option_map (λ mail. record { serial = l.serial; mail = mail }) l.mail else None
+mail_off s l = if is_active l && is_due_now s l then option_map (λ mail. record {
+  serial = l.serial;
+  mail = mail;
+}) l.mail else None
 
 -- the controller without it
 abbrev pub without_mail_off : State → Loaded → Loaded
@@ -242,7 +270,11 @@ without_mail_off s l = if is_active l && is_due_now s l then record l { mail = N
 
 -- A cycle begins: the mail of each active controller that is due goes aloft with it.
 abbrev pub begun : State → State
-begun s = record s { loaded = map (without_mail_off s) s.loaded; aloft = true; mails = filter_map (mail_off s) s.loaded }
+begun s = record s {
+  loaded = map (without_mail_off s) s.loaded;
+  aloft = true;
+  mails = filter_map (mail_off s) s.loaded;
+}
 
 -- ---- While no controller is active
 

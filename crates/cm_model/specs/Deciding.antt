@@ -1,5 +1,6 @@
 -- How a begin decides the requests that wait: one after the other, from one state that exists to the next.
-use Rattle.std.specs.Prelude.{◌≡◌, ◌≢◌, ℕ, ◌==◌, Bool, true, false, not, ◌&&◌, ◌||◌, List, [], ◌∷◌, ◌++◌, length, map, Some, None, option_map}
+use Rattle.std.specs.Prelude.{◌≡◌, ◌≢◌, ℕ, ◌==◌, Bool, true, false, not, ◌&&◌, ◌||◌, List, [], ◌∷◌, ◌++◌, length, map}
+use Rattle.std.specs.Prelude.{Some, None, option_map}
 use Rattle.fixed_num.specs.declared.value.Value.TheVariants.{Unset}
 use Rattle.cm_document.specs.Places.{Whose, of_joint, of_controller, Interface}
 use Rattle.cm_document.specs.declared.call.SwitchRequest.{SwitchRequest}

@@ -1,5 +1,6 @@
 -- What speaks against a member of a set of controllers that is to be active.
-use Rattle.std.specs.Prelude.{ℕ, Bool, true, false, not, ◌&&◌, ◌==◌, List, [], ◌∷◌, ◌++◌, position, find, slice_index_or, Option, Some, None, option_map}
+use Rattle.std.specs.Prelude.{ℕ, Bool, true, false, not, ◌&&◌, ◌==◌, List, [], ◌∷◌, ◌++◌, position, find}
+use Rattle.std.specs.Prelude.{slice_index_or, Option, Some, None, option_map}
 use Rattle.std.specs.List.{list_any}
 use Rattle.std.specs.Option.{option_map_or, option_or}
 use Rattle.iface_names.specs.Names.{same_name}
@@ -38,21 +39,25 @@ is_missing controllers set interface = option_map_or (λ q. not (set q)) (export
 
 -- the place of the component that has the interface; no component has a reference
 abbrev pub component_with : List CompDesc → IfaceName → Option ℕ
-component_with components (Joint joint kind) = position (λ component. list_any (λ each. same_name each.name joint) component.joints) components
+component_with components (Joint joint kind) =
+    position (λ component. list_any (λ each. same_name each.name joint) component.joints) components
 component_with components (Reference controller joint kind) = None
 
 -- it is a component's that is neither inactive nor active
 abbrev pub is_unavailable : Scene → IfaceName → Bool
 is_unavailable scene interface =
-    option_map_or (λ place. not (is_available (slice_index_or scene.components place Unconfigured))) (component_with scene.description.components interface) false
+    option_map_or (λ place. not (is_available (slice_index_or scene.components place Unconfigured)))
+    (component_with scene.description.components interface) false
 
 -- the first other member, by order, that claims it
 abbrev pub rival : Scene → Places → ℕ → IfaceName → Option Member
-rival scene set p interface = find (λ m. not (m.place == p) && claims_at (controllers_in scene) m.place interface) (order scene set)
+rival scene set p interface =
+    find (λ m. not (m.place == p) && claims_at (controllers_in scene) m.place interface) (order scene set)
 
 -- that another member claims it too, with the first such member
 abbrev pub conflict_over : Scene → Places → ℕ → IfaceName → Option Cause
-conflict_over scene set p interface = option_map (λ m. cause.Conflict interface (described scene m.place).name) (rival scene set p interface)
+conflict_over scene set p interface =
+    option_map (λ m. cause.Conflict interface (described scene m.place).name) (rival scene set p interface)
 
 -- the two are different command interfaces of one joint
 abbrev pub is_beside : IfaceName → IfaceName → Bool
@@ -61,7 +66,8 @@ is_beside _ _ = false
 
 -- a member claims another command interface of its joint
 abbrev pub is_mode_taken : Scene → Places → IfaceName → Bool
-is_mode_taken scene set interface = list_any (λ seen. set seen.place && list_any (is_beside interface) (described scene seen.place).claims) scene.loaded
+is_mode_taken scene set interface =
+    list_any (λ seen. set seen.place && list_any (is_beside interface) (described scene seen.place).claims) scene.loaded
 
 -- the joint that an interface is named with
 abbrev pub joint_name : IfaceName → List ℕ
@@ -74,16 +80,19 @@ joint_name (Reference controller joint kind) = joint
 abbrev pub fault_of_kind : Scene → Places → Places → FaultKind → ℕ → Option Cause
 -- the first reference that it claims whose exporter is not a member;
 fault_of_kind scene set on fault_kind.Follower p =
-    first_of (λ interface. cause_if (is_missing (controllers_in scene) set interface) (cause.MissingFollower interface)) (described scene p).claims
+    first_of (λ interface. cause_if (is_missing (controllers_in scene) set interface) (cause.MissingFollower interface))
+    (described scene p).claims
 -- the first interface that it claims, or else that it reads, whose component is neither inactive nor active;
 fault_of_kind scene set on fault_kind.Availability p =
-    first_of (λ interface. cause_if (is_unavailable scene interface) (cause.Unavailable interface)) ((described scene p).claims ++ (described scene p).reads)
+    first_of (λ interface. cause_if (is_unavailable scene interface) (cause.Unavailable interface))
+    ((described scene p).claims ++ (described scene p).reads)
 -- the first interface that it claims and another member too, with the first such member by order;
 fault_of_kind scene set on fault_kind.Conflict p =
     first_of (conflict_over scene set p) (described scene p).claims
 -- the first joint of which it claims a command interface and a member another one;
 fault_of_kind scene set on fault_kind.Mode p =
-    first_of (λ interface. cause_if (is_mode_taken scene set interface) (cause.ModeRefused (joint_name interface))) (described scene p).claims
+    first_of (λ interface. cause_if (is_mode_taken scene set interface) (cause.ModeRefused (joint_name interface)))
+    (described scene p).claims
 -- that it is to be activated and is not ready.
 fault_of_kind scene set on fault_kind.Readiness p = cause_if (on p && not (is_ready scene p)) cause.NotReady
 

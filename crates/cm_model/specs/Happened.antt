@@ -4,7 +4,8 @@ use Rattle.fixed_num.specs.declared.value.BodyState.{BodyState}
 use Rattle.cm_model.specs.Ran.{Ran}
 use Rattle.cm_model.specs.declared.record.FailedPart.{FailedPart}
 
--- The cycle's number; the components that failed, reads before writes; the controllers that were updated, in order; the bodies of the joints after it; and the serials of the controllers that were stopped.
+-- The cycle's number; the components that failed, reads before writes; the controllers that were updated, in order; the
+-- bodies of the joints after it; and the serials of the controllers that were stopped.
 pub record Happened : Type 0 where
   pub cycle : ℕ
   pub failed : List FailedPart

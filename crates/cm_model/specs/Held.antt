@@ -11,11 +11,19 @@ nothing_in cycle = record { cycle = cycle; failed = []; ran = []; bodies = []; s
 
 -- there is nothing to tell of a cycle but its number
 abbrev pub tells_nothing : Happened → Bool
-tells_nothing happened = ((length happened.failed == 0 && length happened.ran == 0) && length happened.bodies == 0) && length happened.stops == 0
+tells_nothing happened =
+    ((length happened.failed == 0 && length happened.ran == 0) && length happened.bodies == 0)
+    && length happened.stops == 0
 
 -- what these parts tell
 abbrev pub happened_in_parts : CycleParts → Happened
-happened_in_parts parts = record { cycle = parts.cycle; failed = parts.failed; ran = parts.ran; bodies = parts.bodies; stops = parts.stops }
+happened_in_parts parts = record {
+  cycle = parts.cycle;
+  failed = parts.failed;
+  ran = parts.ran;
+  bodies = parts.bodies;
+  stops = parts.stops;
+}
 
 -- what a record that is kept so tells
 abbrev pub happened : Held → Happened

@@ -1,4 +1,5 @@
--- What is read off a history: how many cycles have ended in it, and how many decisions it tells of. And the loop's part of a state.
+-- What is read off a history: how many cycles have ended in it, and how many decisions it tells of. And the loop's part
+-- of a state.
 use Rattle.std.specs.Prelude.{◌≡◌, ℕ, Bool, true, false, List, length, filter, sum_by}
 use Rattle.cm_document.specs.declared.call.Call.{Call}
 use Rattle.cm_document.specs.declared.call.Call.TheVariants.{End}
@@ -19,8 +20,8 @@ ends_in entries = length (filter (λ e. is_end e.call) entries)
 abbrev pub decided_in : List Entry → ℕ
 decided_in entries = sum_by (λ e. length (decisions_in e.reply)) entries
 
--- The loop's part of two states is the same: as many cycles have ended, one is aloft in both or in none, and both are open or closed;
--- with the description and the number of sessions, which no step changes.
+-- The loop's part of two states is the same: as many cycles have ended, one is aloft in both or in none, and both are
+-- open or closed; with the description and the number of sessions, which no step changes.
 pub record SameLoop (s after : State) : Type 0 where
   pub sessions : after.sessions ≡ s.sessions
   pub description : after.description ≡ s.description

@@ -1,18 +1,21 @@
--- The kinds of controllers, by their parameters: what each has, with which parameters it is configured, and which mail it takes.
+-- The kinds of controllers, by their parameters: what each has, with which parameters it is configured, and which mail
+-- it takes.
 use Rattle.std.specs.Prelude.{◌≡◌, ℕ, ℤ, Bool, true, false, not, ◌&&◌, ◌==◌, List, length, Option, Some, None}
 use Rattle.std.specs.List.{list_all}
 use Rattle.cm_document.specs.Valid.{not_negative, claims_fit}
 use Rattle.cm_document.specs.declared.call.Mail.{Mail}
 use Rattle.cm_document.specs.declared.call.Mail.TheVariants.{Values, Points}
 use Rattle.cm_document.specs.declared.description.Params.{Params}
-use Rattle.cm_document.specs.declared.description.Params.TheVariants.{Forward, Passthrough, Pid, Trajectory, Broadcaster, Mock}
+use Rattle.cm_document.specs.declared.description.Params.TheVariants.{Forward, Passthrough, Pid, Trajectory}
+use Rattle.cm_document.specs.declared.description.Params.TheVariants.{Broadcaster, Mock}
 use Rattle.cm_model.specs.Components.{is_listed}
 use Rattle.cm_model.specs.declared.shape.Shape.{Shape}
 
 -- ---- What a controller has
 
--- How many interfaces it claims, reads and exports. A pid closes a loop from one state to one claim, and has a reference for it. A passthrough has a reference for each claim, a
--- trajectory a state for each. A broadcaster claims nothing. A mock reads what it likes.
+-- How many interfaces it claims, reads and exports. A pid closes a loop from one state to one claim, and has a
+-- reference for it. A passthrough has a reference for each claim, a trajectory a state for each. A broadcaster claims
+-- nothing. A mock reads what it likes.
 abbrev pub shape_of : Params → Shape
 shape_of (Forward outs) = record { claims = outs; reads = Some 0; references = 0 }
 shape_of (Passthrough outs) = record { claims = outs; reads = Some 0; references = outs }
@@ -33,7 +36,8 @@ abbrev pub limits_fit : Params → Bool
 limits_fit (Pid kp ki kd imax omax) = not_negative imax && not_negative omax
 limits_fit _ = true
 
--- The parameters are in the ranges that a description keeps: as many claims as a controller of the kind may have, and the limits.
+-- The parameters are in the ranges that a description keeps: as many claims as a controller of the kind may have, and
+-- the limits.
 abbrev pub are_ranged : Params → Bool
 are_ranged params = claims_fit params (shape_of params).claims && limits_fit params
 
@@ -66,7 +70,8 @@ takes_none _ = false
 abbrev pub is_for_claims : Params → List ℤ → Bool
 is_for_claims params values = length values == (shape_of params).claims
 
--- Mail fits where it has a value for each claim: a trajectory takes points in time, of which each has them, every other kind a plain list.
+-- Mail fits where it has a value for each claim: a trajectory takes points in time, of which each has them, every other
+-- kind a plain list.
 abbrev pub takes : Params → Mail → Bool
 takes (Trajectory outs) (Points points) = list_all (λ point. is_for_claims (Trajectory outs) point.values) points
 takes (Trajectory outs) (Values values) = false

@@ -1,18 +1,24 @@
 -- The written manager as a machine: one call, one step. A history is legal where each of its entries is such a step.
-use Rattle.std.specs.Prelude.{◌≡◌, ℕ, ◌+◌, ◌==◌, nat_lt, Bool, false, not, ◌&&◌, ◌||◌, if◌then◌else◌, List, [], ◌∷◌, ◌++◌, slice_get, Option, Some, None, is_some, option_map, IsSomeAnd}
+use Rattle.std.specs.Prelude.{◌≡◌, ℕ, ◌+◌, ◌==◌, nat_lt, Bool, false, not, ◌&&◌, ◌||◌, if◌then◌else◌, List, [], ◌∷◌}
+use Rattle.std.specs.Prelude.{◌++◌, slice_get, Option, Some, None, is_some, option_map, IsSomeAnd}
 use Rattle.std.specs.List.{list_any}
 use Rattle.std.specs.Option.{option_map_or}
 use Rattle.cm_document.specs.Params.{kind_of}
 use Rattle.cm_document.specs.declared.call.Call.{Call}
-use Rattle.cm_document.specs.declared.call.Call.TheVariants.{Load, Configure, Cleanup, Unload, Rate, Send, Switch, Hardware, Told, Await, ListControllers, ListInterfaces, ListComponents, Begin, End, Close}
+use Rattle.cm_document.specs.declared.call.Call.TheVariants.{Load, Configure, Cleanup, Unload, Rate, Send, Switch}
+use Rattle.cm_document.specs.declared.call.Call.TheVariants.{Hardware, Told, Await, ListControllers, ListInterfaces}
+use Rattle.cm_document.specs.declared.call.Call.TheVariants.{ListComponents, Begin, End, Close}
 use Rattle.cm_document.specs.declared.description.CtlDesc.{CtlDesc}
 use Rattle.cm_document.specs.declared.description.Description.{Description}
 pub use Rattle.cm_model.specs.Boundary.{is_decided}
-use Rattle.cm_model.specs.Boundary.{request_reply, request_effect, told_reply, begin_reply, begin_effect, close_reply, close_effect}
+use Rattle.cm_model.specs.Boundary.{request_reply, request_effect, told_reply, begin_reply, begin_effect, close_reply}
+use Rattle.cm_model.specs.Boundary.{close_effect}
 pub use Rattle.cm_model.specs.Console.{unless_refused, place_of}
-use Rattle.cm_model.specs.Console.{configure_reply, configure_effect, cleanup_reply, cleanup_effect, unload_reply, unload_effect, rate_reply, rate_effect, send_reply, send_effect}
+use Rattle.cm_model.specs.Console.{configure_reply, configure_effect, cleanup_reply, cleanup_effect, unload_reply}
+use Rattle.cm_model.specs.Console.{unload_effect, rate_reply, rate_effect, send_reply, send_effect}
 use Rattle.cm_model.specs.Cycle.{cycle, after_cycle}
-use Rattle.cm_model.specs.State.{State, boot, blanks_of, with_one_less, newly_loaded, controller_lines, interface_lines, component_lines}
+use Rattle.cm_model.specs.State.{State, boot, blanks_of, with_one_less, newly_loaded, controller_lines, interface_lines}
+use Rattle.cm_model.specs.State.{component_lines}
 use Rattle.cm_model.specs.declared.entry.Entry.{Entry}
 use Rattle.cm_model.specs.declared.reply.Reply.{Reply}
 use Rattle.cm_model.specs.declared.reply.Reply.TheVariants as reply
@@ -63,7 +69,8 @@ is_loaded_at s place = list_any (λ l. l.place == place) s.loaded
 
 -- the stock has no blank of the kind of the controller at this place
 abbrev pub is_sold_out_at : State → ℕ → Bool
-is_sold_out_at s place = option_map_or (λ c. blanks_of s.blanks (kind_of c.params) == 0) (slice_get s.description.controllers place) false
+is_sold_out_at s place =
+    option_map_or (λ c. blanks_of s.blanks (kind_of c.params) == 0) (slice_get s.description.controllers place) false
 
 -- why a load of what stands at this place is refused, in order
 abbrev pub load_refusals : State → Option ℕ → List (Bool × Why)

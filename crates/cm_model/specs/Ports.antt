@@ -22,8 +22,9 @@ CanBeCalled _ = Unit {0}
 
 -- ---- A session's console
 
--- A session's console: the number of its session, the state in which the history behind it begins, the entries that it made, and how
--- often it answered that something is not so yet. It may tell the whole history behind it, or else one that it has seen.
+-- A session's console: the number of its session, the state in which the history behind it begins, the entries that it
+-- made, and how often it answered that something is not so yet. It may tell the whole history behind it, or else one
+-- that it has seen.
 pub record Console : Type 0 where
   pub who : ℕ
   pub opening : State
@@ -44,15 +45,16 @@ one_more count = min (count + 1) (2 ^ 64 - 1)
 abbrev pub Rose : ℕ → ℕ → Type 0
 Rose before now = one_more before ≤ now
 
--- The history behind a console grew by this entry, which is a step of the written manager. One that was not told is not told now.
+-- The history behind a console grew by this entry, which is a step of the written manager. One that was not told is not
+-- told now.
 abbrev pub GrowsBehind : State → ℕ → Call → Reply → Option (List Entry) → Option (List Entry) → Type 0
 GrowsBehind opening who call r None whole = whole ≡ None
 GrowsBehind opening who call r (Some h) whole =
     (whole ≡ Some (with_entry h who call r))
     × (step (state_after opening h) who call ≡ Some (state_after opening (with_entry h who call r), r))
 
--- It is the console that it was: of the same session, over a history of the same beginning, and its count of not-yet answers has not
--- fallen.
+-- It is the console that it was: of the same session, over a history of the same beginning, and its count of not-yet
+-- answers has not fallen.
 pub record IsSameConsole (old new : Console) : Type 0 where
   pub who : new.who ≡ old.who
   pub opening : new.opening ≡ old.opening
@@ -75,8 +77,8 @@ pub record MakesOpen (old new : Console) (call : Call) (r : Reply) : Type 0 wher
   pub made : Makes old new call r
   pub seen : IfSome new.seen (λ h. HasNoStep old.opening old.who call h → ⊥)
 
--- The call is not enabled yet: not after the history behind the console, where it tells that, nor in what it has then seen. No entry is
--- made, and the count of such answers rose.
+-- The call is not enabled yet: not after the history behind the console, where it tells that, nor in what it has then
+-- seen. No entry is made, and the count of such answers rose.
 pub record IsNotYet (old new : Console) (call : Call) : Type 0 where
   pub none : MakesNone old new
   pub rose : Rose old.waited new.waited
@@ -90,8 +92,8 @@ MakesWhere false old new call r = IsNotYet old new call
 
 -- ---- The loop's console
 
--- The loop's console: the number of the loop as a caller, the entries that it made, how many cycles are left, whether a flight is out, and
--- whether it closed.
+-- The loop's console: the number of the loop as a caller, the entries that it made, how many cycles are left, whether a
+-- flight is out, and whether it closed.
 pub record LoopConsole : Type 0 where
   pub who : ℕ
   pub made : List Entry

@@ -1,5 +1,6 @@
 -- What a switch is decided by.
-use Rattle.std.specs.Prelude.{ℕ, Bool, true, false, ◌&&◌, ◌==◌, List, length, map, filter, filter_map, find, Option, option_map}
+use Rattle.std.specs.Prelude.{ℕ, Bool, true, false, ◌&&◌, ◌==◌, List, length, map, filter, filter_map, find, Option}
+use Rattle.std.specs.Prelude.{option_map}
 use Rattle.std.specs.List.{list_any}
 use Rattle.iface_names.specs.Names.{same_name}
 use Rattle.iface_names.specs.Interfaces.{same_interface}
@@ -12,8 +13,8 @@ use Rattle.cm_model.specs.Order.{Places, places_of, controller_at, precedes_at, 
 use Rattle.cm_model.specs.declared.member.Member.{Member}
 use Rattle.cm_model.specs.declared.seen.Seen.{Seen}
 
--- A scene: the described controllers and components, the loaded controllers by serial, and the components' lifecycle states, each
--- at its component's place. A state of the manager is one, by a function that reads these parts off it.
+-- A scene: the described controllers and components, the loaded controllers by serial, and the components' lifecycle
+-- states, each at its component's place. A state of the manager is one, by a function that reads these parts off it.
 pub record Scene : Type 0 where
   pub description : Description
   pub loaded : List Seen
@@ -60,11 +61,13 @@ loaded_of scene name = find (λ seen. same_name (described scene seen.place).nam
 
 -- the controller at a place claims the interface
 abbrev pub claims_at : List CtlDesc → ℕ → IfaceName → Bool
-claims_at controllers p interface = list_any (λ claim. same_interface claim interface) (controller_at controllers p).claims
+claims_at controllers p interface =
+    list_any (λ claim. same_interface claim interface) (controller_at controllers p).claims
 
 -- a member of the set claims the interface
 abbrev pub is_claimed_by : List CtlDesc → Places → IfaceName → Bool
-is_claimed_by controllers set interface = some_below (λ q. set q && claims_at controllers q interface) (length controllers)
+is_claimed_by controllers set interface =
+    some_below (λ q. set q && claims_at controllers q interface) (length controllers)
 
 -- a controller is chained in a set where a member claims one of its references
 abbrev pub is_chained_in : List CtlDesc → Places → ℕ → Bool

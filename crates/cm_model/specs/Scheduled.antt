@@ -1,6 +1,7 @@
--- The order of the job `run`: sessions settle before each cycle, after the last, and once more after the close. And that of the job
--- `steps`: first the turns of the script's schedule, and then the rest so.
-use Rattle.std.specs.Prelude.{ℕ, zero, suc, ◌+◌, ◌-◌, List, [], ◌∷◌, ◌++◌, length, map, drop, slice_get, slice_set, Option, Some, None}
+-- The order of the job `run`: sessions settle before each cycle, after the last, and once more after the close. And
+-- that of the job `steps`: first the turns of the script's schedule, and then the rest so.
+use Rattle.std.specs.Prelude.{ℕ, zero, suc, ◌+◌, ◌-◌, List, [], ◌∷◌, ◌++◌, length, map, drop, slice_get, slice_set}
+use Rattle.std.specs.Prelude.{Option, Some, None}
 use Rattle.cm_document.specs.declared.call.Call.{Call}
 use Rattle.cm_document.specs.declared.call.Call.TheVariants.{Told, Begin, End, Close}
 use Rattle.cm_document.specs.declared.document.Document.{Document}
@@ -41,7 +42,8 @@ next_call (Some ticket) lines = Some (Told ticket)
 next_call None [] = None
 next_call None (call ∷ lines) = Some call
 
--- Where it stands after that call: without the ticket that it was told of, or one line further, with the ticket that it was given.
+-- Where it stands after that call: without the ticket that it was told of, or one line further, with the ticket that it
+-- was given.
 abbrev pub after_call : Option ℕ → List Call → Reply → Session
 after_call (Some ticket) lines r = record { lines = lines; ticket = None }
 after_call None lines r = record { lines = drop 1 lines; ticket = ticket_in r }
@@ -49,7 +51,11 @@ after_call None lines r = record { lines = drop 1 lines; ticket = ticket_in r }
 -- after a call that made this step
 abbrev pub stepped_on : ℕ → Advanced → Call → Option (State × Reply) → Option Advanced
 stepped_on who a call None = None
-stepped_on who a call (Some made) = Some (record { state = made.0; made = with_entry a.made who call made.1; session = after_call a.session.ticket a.session.lines made.1 })
+stepped_on who a call (Some made) = Some (record {
+  state = made.0;
+  made = with_entry a.made who call made.1;
+  session = after_call a.session.ticket a.session.lines made.1;
+})
 
 -- this call, where it is enabled
 abbrev pub called_on : ℕ → Advanced → Option Call → Option Advanced
@@ -85,7 +91,11 @@ pub record Progress : Type 0 where
 abbrev pub settle_from : ℕ → List Session → State → List Entry → List Session → Progress
 settle_from who [] s made settled = record { state = s; made = made; sessions = settled }
 settle_from who (session ∷ later) s made settled =
-    let a = settle who (record { state = s; made = made; session = session }) in settle_from (who + 1) later a.state a.made (settled ++ a.session ∷ [])
+    let a = settle who (record {
+      state = s;
+      made = made;
+      session = session;
+    }) in settle_from (who + 1) later a.state a.made (settled ++ a.session ∷ [])
 
 -- all sessions settle in order
 unfoldable pub settle_all : Progress → Progress
@@ -98,7 +108,10 @@ unfoldable pub looped : Call → Progress → Progress
 looped call progress =
     elim (step progress.state progress.state.sessions call) [
       | None ↦ progress
-      | Some made ↦ record progress { state = made.0; made = with_entry progress.made progress.state.sessions call made.1 }
+      | Some made ↦ record progress {
+        state = made.0;
+        made = with_entry progress.made progress.state.sessions call made.1;
+      }
     ]
 
 -- the sessions settle, and the n-th cycle begins and ends
@@ -136,14 +149,23 @@ scheduled document blanks = (finish (cycles document.description.cycles (start d
 -- where one session made this advance; without one nothing changes
 abbrev pub with_advance : ℕ → Progress → Option Advanced → Progress
 with_advance who progress None = progress
-with_advance who progress (Some a) = record { state = a.state; made = a.made; sessions = slice_set progress.sessions who a.session }
+with_advance who progress (Some a) = record {
+  state = a.state;
+  made = a.made;
+  sessions = slice_set progress.sessions who a.session;
+}
 
 -- the session of this number, which stands so, advances once, where it can
 abbrev pub advanced_once : ℕ → Progress → Option Session → Progress
 advanced_once who progress None = progress
-advanced_once who progress (Some x) = with_advance who progress (advance who (record { state = progress.state; made = progress.made; session = x }))
+advanced_once who progress (Some x) = with_advance who progress (advance who (record {
+  state = progress.state;
+  made = progress.made;
+  session = x;
+}))
 
--- A turn: a session advances once, the next cycle begins, or the cycle that is aloft ends. A turn that cannot be made does nothing.
+-- A turn: a session advances once, the next cycle begins, or the cycle that is aloft ends. A turn that cannot be made
+-- does nothing.
 abbrev pub turned : Turn → Progress → Progress
 turned (turn.Step who) progress = advanced_once who progress (slice_get progress.sessions who)
 turned turn.Begin progress = looped (Begin progress.state.ended) progress
@@ -165,4 +187,6 @@ cycles_left count progress = cycles_from progress.state.ended (count - progress.
 -- The history of the job `steps`.
 unfoldable pub scheduled_in_steps : Document → Blanks → List Entry
 scheduled_in_steps document blanks =
-    (finish (cycles_left document.description.cycles (landed (turns document.script.schedule (start document blanks))))).made
+    (finish
+    (cycles_left document.description.cycles
+    (landed (turns document.script.schedule (start document blanks))))).made

@@ -1,5 +1,6 @@
 -- What a history must hold of a document: every session's lines, each once and in order, and the requested cycles.
-use Rattle.std.specs.Prelude.{◌≡◌, ℕ, zero, suc, ◌≤◌, ◌==◌, Bool, true, false, not, List, [], ◌∷◌, ◌++◌, length, map, filter, flat_map, slice_get, Option, Some, None, IfSome}
+use Rattle.std.specs.Prelude.{◌≡◌, ℕ, zero, suc, ◌≤◌, ◌==◌, Bool, true, false, not, List, [], ◌∷◌, ◌++◌, length, map}
+use Rattle.std.specs.Prelude.{filter, flat_map, slice_get, Option, Some, None, IfSome}
 use Rattle.std.specs.List.{AllByRecursion}
 use Rattle.cm_document.specs.declared.call.Call.{Call}
 use Rattle.cm_document.specs.declared.call.Call.TheVariants.{Told, Begin, End, Close}
@@ -47,8 +48,8 @@ with_its_told e = e.call ∷ told_after e.reply
 abbrev pub asked : List Entry → List Entry
 asked entries = filter (λ e. not (is_told e.call)) entries
 
--- A session's entries follow its lines: without the Told entries they have these calls, each once and in order; directly after
--- each entry that gave a ticket stands the Told of that ticket; and there is no other Told.
+-- A session's entries follow its lines: without the Told entries they have these calls, each once and in order;
+-- directly after each entry that gave a ticket stands the Told of that ticket; and there is no other Told.
 pub record Follows (lines : List Call) (entries : List Entry) : Type 0 where
   pub in_order : calls_of (asked entries) ≡ lines
   pub each_told : calls_of entries ≡ flat_map with_its_told (asked entries)
@@ -67,6 +68,7 @@ loop_calls n = cycle_calls n ++ Close ∷ []
 -- A history is whole for a document where it has each session's lines, each once and in order, the begin and the end of
 -- each cycle and then the close, and nobody else's calls.
 pub record IsWhole (document : Document) (history : List Entry) : Type 0 where
-  pub sessions : (k : ℕ) → IfSome (slice_get document.script.sessions k) (λ session. Follows session.lines (entries_by k history))
+  pub sessions : (k : ℕ)
+      → IfSome (slice_get document.script.sessions k) (λ session. Follows session.lines (entries_by k history))
   pub cycles : calls_of (entries_by (length document.script.sessions) history) ≡ loop_calls document.description.cycles
   pub nobody_else : AllByRecursion (λ e. e.who ≤ length document.script.sessions) history

@@ -1,7 +1,8 @@
--- What is promised of every legal history, in five parts: loans are exclusive and present; each due controller runs once,
--- predecessors first; one configuration holds from a begin to its end; each request is decided once, and a strict switch whole or not
--- at all, with a cause that is true; an unload leaves nothing behind.
-use Rattle.std.specs.Prelude.{◌≡◌, ℕ, ◌==◌, Bool, true, false, not, ◌&&◌, ◌||◌, List, [], ◌∷◌, ◌++◌, map, find, Option, Some, None, option_map, IfSome}
+-- What is promised of every legal history, in five parts: loans are exclusive and present; each due controller runs
+-- once, predecessors first; one configuration holds from a begin to its end; each request is decided once, and a strict
+-- switch whole or not at all, with a cause that is true; an unload leaves nothing behind.
+use Rattle.std.specs.Prelude.{◌≡◌, ℕ, ◌==◌, Bool, true, false, not, ◌&&◌, ◌||◌, List, [], ◌∷◌, ◌++◌, map, find, Option}
+use Rattle.std.specs.Prelude.{Some, None, option_map, IfSome}
 use Rattle.std.specs.List.{list_any, AllByRecursion, IsDistinct}
 use Rattle.std.specs.Option.{option_map_or}
 use Rattle.fixed_num.specs.declared.value.BodyState.{BodyState}
@@ -14,7 +15,8 @@ use Rattle.cm_model.specs.Components.{is_listed}
 use Rattle.cm_model.specs.Console.{controller_of}
 use Rattle.cm_model.specs.Cycle.{active_order, is_due_now, is_held_off, cycle}
 use Rattle.cm_model.specs.Deciding.{AreDecided}
-pub use Rattle.cm_model.specs.Loans.{names_at, reads_at, is_there, CanRunTogether, is_number, IsEmptyUnless, IsUnsetUnlessClaimed, IsMarked, LoansHold}
+pub use Rattle.cm_model.specs.Loans.{names_at, reads_at, is_there, CanRunTogether, is_number, IsEmptyUnless}
+pub use Rattle.cm_model.specs.Loans.{IsUnsetUnlessClaimed, IsMarked, LoansHold}
 use Rattle.cm_model.specs.Machine.{step}
 use Rattle.cm_model.specs.Order.{precedes_at}
 use Rattle.cm_model.specs.State.{State, Loaded, MailAloft, boot, is_active}
@@ -59,7 +61,10 @@ is_to_run s l = (is_active l && is_due_now s l) && not (is_held_off s l)
 -- the loaded controller of the first serial precedes that of the second
 abbrev pub serial_precedes : State → ℕ → ℕ → Bool
 serial_precedes s first second =
-    list_any (λ l. l.serial == first && list_any (λ other. other.serial == second && precedes_at s.description.controllers l.place other.place) s.loaded) s.loaded
+    list_any
+    (λ l. l.serial == first
+    && list_any (λ other. other.serial == second && precedes_at s.description.controllers l.place other.place)
+    s.loaded) s.loaded
 
 -- of these serials none is followed, at whatever distance, by one that it clashes with
 abbrev pub NoneLater : (ℕ → ℕ → Bool) → List ℕ → Type 0
@@ -96,8 +101,8 @@ pub record Running : Type 0 where
 abbrev pub running_part : Loaded → Running
 running_part l = record { serial = l.serial; place = l.place; divisor = l.divisor; ctl = l.ctl }
 
--- What a cycle runs under: the active controllers in the order of their updates, with their running parts and divisors; the mail that
--- went aloft; the lifecycle states of the components; the bodies; what the interfaces hold.
+-- What a cycle runs under: the active controllers in the order of their updates, with their running parts and divisors;
+-- the mail that went aloft; the lifecycle states of the components; the bodies; what the interfaces hold.
 pub record Configuration : Type 0 where
   pub running : List Running
   pub mails : List MailAloft
@@ -114,8 +119,8 @@ configuration s = record {
   values = s.values;
 }
 
--- where a cycle has begun, and left this state: its end tells what the cycle of that state makes, and any other call leaves the
--- configuration as it is
+-- where a cycle has begun, and left this state: its end tells what the cycle of that state makes, and any other call
+-- leaves the configuration as it is
 abbrev pub IsAsBegun : State → Moment → Call → Type 0
 IsAsBegun begun moment (call.End _) = moment.reply ≡ reply.Cycle (cycle begun).happened
 IsAsBegun begun moment _ = configuration moment.after ≡ configuration begun
@@ -129,7 +134,9 @@ aloft_after begun moment _ = begun
 -- From a begin to its end the configuration stays, and the end tells of it.
 abbrev pub OneConfigurationFrom : Option State → List Moment → Type 0
 OneConfigurationFrom begun [] = Unit {0}
-OneConfigurationFrom begun (moment ∷ moments) = IfSome begun (λ s. IsAsBegun s moment moment.call) × OneConfigurationFrom (aloft_after begun moment moment.call) moments
+OneConfigurationFrom begun (moment ∷ moments) =
+    IfSome begun (λ s. IsAsBegun s moment moment.call)
+    × OneConfigurationFrom (aloft_after begun moment moment.call) moments
 
 abbrev pub OneConfigurationEach : List Moment → Type 0
 OneConfigurationEach moments = OneConfigurationFrom None moments
@@ -147,22 +154,25 @@ outcomes_in r = map (λ decision. decision.outcome) (decisions_in r)
 
 -- the outcome that was told of a ticket
 abbrev pub outcome_of : List Decision → ℕ → Option Outcome
-outcome_of decisions ticket = option_map (λ decision. decision.outcome) (find (λ decision. decision.ticket == ticket) decisions)
+outcome_of decisions ticket =
+    option_map (λ decision. decision.outcome) (find (λ decision. decision.ticket == ticket) decisions)
 
 -- who asks for a ticket is told the outcome that a begin or the close has told
 abbrev pub IsToldRightly : List Decision → Call → Reply → Type 0
-IsToldRightly so_far (call.Told ticket) r = option_map (λ became. reply.Outcome became) (outcome_of so_far ticket) ≡ Some r
+IsToldRightly so_far (call.Told ticket) r =
+    option_map (λ became. reply.Outcome became) (outcome_of so_far ticket) ≡ Some r
 IsToldRightly so_far _ r = Unit {0}
 
--- After these decisions were told: with those of this call they are, by ticket, the outcomes of all requests that have one; and who
--- asks is told so.
+-- After these decisions were told: with those of this call they are, by ticket, the outcomes of all requests that have
+-- one; and who asks is told so.
 pub record TicketsAreRight (so_far : List Decision) (moment : Moment) : Type 0 where
   pub each_once : so_far ++ decisions_in moment.reply ≡ decisions_from 0 moment.after.outcomes
   pub told : IsToldRightly so_far moment.call moment.reply
 
 abbrev pub TicketsFrom : List Decision → List Moment → Type 0
 TicketsFrom so_far [] = Unit {0}
-TicketsFrom so_far (moment ∷ moments) = TicketsAreRight so_far moment × TicketsFrom (so_far ++ decisions_in moment.reply) moments
+TicketsFrom so_far (moment ∷ moments) =
+    TicketsAreRight so_far moment × TicketsFrom (so_far ++ decisions_in moment.reply) moments
 
 -- A begin decides those that waited, one after the other, with the outcomes that it tells, and so comes to the state
 -- after it.
@@ -181,8 +191,10 @@ pub record RequestsAreDecidedOnce (moments : List Moment) : Type 0 where
 -- the reply names the controller of this serial
 abbrev pub mentions : ℕ → Reply → Bool
 mentions serial (reply.Controllers lines) = list_any (λ line. line.serial == serial) lines
-mentions serial (reply.Interfaces lines) = list_any (λ line. option_map_or (λ owner. owner == serial) line.owner false) lines
-mentions serial (reply.Cycle happened) = is_listed (map (λ ran. ran.serial) happened.ran) serial || is_listed happened.stops serial
+mentions serial (reply.Interfaces lines) =
+    list_any (λ line. option_map_or (λ owner. owner == serial) line.owner false) lines
+mentions serial (reply.Cycle happened) =
+    is_listed (map (λ ran. ran.serial) happened.ran) serial || is_listed happened.stops serial
 mentions serial _ = false
 
 -- no later reply names it

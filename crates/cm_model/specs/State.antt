@@ -1,5 +1,6 @@
 -- The state of the manager: all that it knows at one moment, its opening, and what is read off it.
-use Rattle.std.specs.Prelude.{◌≡◌, ℕ, ◌+◌, ◌-◌, ◌==◌, Bool, false, ◌&&◌, if◌then◌else◌, List, [], ◌∷◌, map, flat_map, find, slice_get, filter_map, Option, Some, None, option_map, is_some}
+use Rattle.std.specs.Prelude.{◌≡◌, ℕ, ◌+◌, ◌-◌, ◌==◌, Bool, false, ◌&&◌, if◌then◌else◌, List, [], ◌∷◌, map, flat_map}
+use Rattle.std.specs.Prelude.{find, slice_get, filter_map, Option, Some, None, option_map, is_some}
 use Rattle.std.specs.List.{AllByRecursion, list_any}
 use Rattle.std.specs.Option.{option_map_or}
 use Rattle.fixed_num.specs.declared.value.BodyState.{BodyState}
@@ -9,7 +10,8 @@ use Rattle.cm_document.specs.Links.{is_among, precedes}
 use Rattle.cm_document.specs.Places.{Whose, of_joint, of_controller, Interface, interfaces_of}
 use Rattle.cm_document.specs.declared.call.Mail.{Mail}
 use Rattle.cm_document.specs.declared.description.CtlKind.{CtlKind}
-use Rattle.cm_document.specs.declared.description.CtlKind.TheVariants.{Forward, Passthrough, Pid, Trajectory, Broadcaster, Mock}
+use Rattle.cm_document.specs.declared.description.CtlKind.TheVariants.{Forward, Passthrough, Pid, Trajectory}
+use Rattle.cm_document.specs.declared.description.CtlKind.TheVariants.{Broadcaster, Mock}
 use Rattle.cm_document.specs.declared.description.CtlDesc.{CtlDesc}
 use Rattle.cm_document.specs.declared.description.Description.{Description}
 use Rattle.cm_document.specs.declared.life.Life.{Life}
@@ -24,8 +26,8 @@ use Rattle.cm_model.specs.declared.lines.CtlLine.{CtlLine}
 use Rattle.cm_model.specs.declared.lines.IfaceLine.{IfaceLine}
 use Rattle.cm_model.specs.declared.blanks.Blanks.{Blanks}
 
--- A loaded controller: the number that its load gave, its place in the description, its update rate, in how many cycles it is
--- updated once where it is configured, its data, and the mail that waits for it.
+-- A loaded controller: the number that its load gave, its place in the description, its update rate, in how many cycles
+-- it is updated once where it is configured, its data, and the mail that waits for it.
 pub record Loaded : Type 0 where
   pub serial : ℕ
   pub place : ℕ
@@ -39,11 +41,11 @@ pub record MailAloft : Type 0 where
   pub serial : ℕ
   pub mail : Mail
 
--- The state: the description, which nothing changes; the number of sessions, which is also the loop's number as a caller; the
--- blanks that are left; how many loads were given a serial; the loaded controllers, by serial; the lifecycle states of the
--- components, the bodies of the joints, and the interfaces with what they hold, each by place; all requests by ticket, and the
--- outcomes of the first of them, for the others wait; how many cycles have ended; whether one has begun that has not ended, and the
--- mails that went aloft with it; whether the loop is closed.
+-- The state: the description, which nothing changes; the number of sessions, which is also the loop's number as a
+-- caller; the blanks that are left; how many loads were given a serial; the loaded controllers, by serial; the
+-- lifecycle states of the components, the bodies of the joints, and the interfaces with what they hold, each by place;
+-- all requests by ticket, and the outcomes of the first of them, for the others wait; how many cycles have ended;
+-- whether one has begun that has not ended, and the mails that went aloft with it; whether the loop is closed.
 pub record State : Type 0 where
   pub description : Description
   pub sessions : ℕ
@@ -67,7 +69,8 @@ lives_at_start d = map (λ component. component.initial) d.components
 abbrev pub all_bodies_at_start : Description → List BodyState
 all_bodies_at_start d = flat_map bodies_at_start d.components
 
--- The state interfaces of inactive and active components hold their bodies' numbers, and every other interface is Unset.
+-- The state interfaces of inactive and active components hold their bodies' numbers, and every other interface is
+-- Unset.
 abbrev pub values_at_start : Description → List InterfaceValue
 values_at_start d = after_reads (running (lives_at_start d)) (all_bodies_at_start d) (map unset (interfaces_of d))
 
@@ -118,11 +121,19 @@ fresh kind = record { kind = kind; params = None; run = None }
 
 -- a controller as its load leaves it
 abbrev pub newly_loaded : ℕ → ℕ → CtlDesc → Loaded
-newly_loaded serial place c = record { serial = serial; place = place; rate = c.rate; divisor = None; ctl = fresh (kind_of c.params); mail = None }
+newly_loaded serial place c = record {
+  serial = serial;
+  place = place;
+  rate = c.rate;
+  divisor = None;
+  ctl = fresh (kind_of c.params);
+  mail = None;
+}
 
 -- It is unconfigured without parameters, inactive with parameters and without a running part, active with both.
 abbrev pub life_of : CtlData → Life
-life_of ctl = elim ctl.params [ None ↦ Unconfigured | Some params ↦ elim ctl.run [ None ↦ Inactive | Some part ↦ Active ] ]
+life_of ctl =
+    elim ctl.params [ None ↦ Unconfigured | Some params ↦ elim ctl.run [ None ↦ Inactive | Some part ↦ Active ] ]
 
 -- it runs
 abbrev pub is_active : Loaded → Bool
@@ -146,8 +157,8 @@ active s place = list_any (λ l. is_active l && l.place == place) s.loaded
 
 -- ---- Interfaces
 
--- A component's interface is available where the component is inactive or active, a reference where the controller that exports it
--- is among these.
+-- A component's interface is available where the component is inactive or active, a reference where the controller that
+-- exports it is among these.
 abbrev pub available_in : List Life → (ℕ → Bool) → Whose → Bool
 available_in lives controllers (of_joint component joint) = running lives component
 available_in lives controllers (of_controller place) = controllers place
@@ -163,7 +174,9 @@ claims_name described name l = option_map_or (λ c. is_among name c.claims) (sli
 -- The owner of a command interface or a reference is the active controller that claims it. A state interface has none.
 abbrev pub owner : State → Interface → Option ℕ
 owner s interface =
-    if interface.called.is_command then option_map (λ l. l.serial) (find (λ l. is_active l && claims_name s.description.controllers interface.called.name l) s.loaded)
+    if interface.called.is_command
+    then option_map (λ l. l.serial)
+    (find (λ l. is_active l && claims_name s.description.controllers interface.called.name l) s.loaded)
     else None
 
 -- ---- Lists
@@ -205,7 +218,10 @@ interface_lines s = interface_lines_from s 0 s.values
 -- the lines of components, the first of which stands at this place
 abbrev pub component_lines_from : ℕ → List Life → List CompLine
 component_lines_from place [] = []
-component_lines_from place (life ∷ lives) = record { place = place; life = life } ∷ component_lines_from (place + 1) lives
+component_lines_from place (life ∷ lives) = record {
+  place = place;
+  life = life;
+} ∷ component_lines_from (place + 1) lives
 
 -- the list of components, by place
 abbrev pub component_lines : State → List CompLine

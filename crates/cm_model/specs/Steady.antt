@@ -1,4 +1,5 @@
--- What each state keeps that a legal history leads to: more than its soundness says, so that each step keeps it. Proofs alone need it.
+-- What each state keeps that a legal history leads to: more than its soundness says, so that each step keeps it. Proofs
+-- alone need it.
 use Rattle.std.specs.Prelude.{◌≡◌, ℕ, ◌<◌, ◌==◌, ◌&&◌, Bool, true, List, length, map, is_some, IfSome}
 use Rattle.std.specs.List.{list_any, AllByRecursion, IsDistinct}
 use Rattle.cm_document.specs.Places.{Whose, of_joint, of_controller, interfaces_of}
@@ -42,10 +43,11 @@ HasBody bodies (of_controller place) = Unit {0}
 
 -- What switches, moves and cycles keep, whichever controllers are active: each described controller is loaded once at
 -- most, with its own parameters; the active ones say rightly whether they are chained; each component has its lifecycle
--- state; the interfaces are the described ones, each of a joint with a body; each state interface that is available holds
--- a number; each interface that is not available holds nothing, and neither does a command interface or a reference that
--- no active controller claims.
-pub record AreInOrder (d : Description) (loaded : List Loaded) (lives : List Life) (bodies : ℕ) (values : List InterfaceValue) : Type 0 where
+-- state; the interfaces are the described ones, each of a joint with a body; each state interface that is available
+-- holds a number; each interface that is not available holds nothing, and neither does a command interface or a
+-- reference that no active controller claims.
+pub record AreInOrder (d : Description) (loaded : List Loaded) (lives : List Life) (bodies : ℕ)
+    (values : List InterfaceValue) : Type 0 where
   pub once : IsDistinct (λ p q. p == q) (map (λ l. l.place) loaded)
   pub own : AllByRecursion (IsOwn d.controllers) loaded
   pub marked : AllByRecursion (IsMarked d.controllers (has_loaded is_active loaded)) loaded

@@ -1,10 +1,12 @@
 -- How a switch is decided that is to be done whole or not at all, and what a decision changes.
-use Rattle.std.specs.Prelude.{ℕ, Bool, true, false, not, ◌&&◌, ◌||◌, if◌then◌else◌, List, [], ◌∷◌, ◌++◌, map, reverse, filter, Option, Some, None, option_map}
+use Rattle.std.specs.Prelude.{ℕ, Bool, true, false, not, ◌&&◌, ◌||◌, if◌then◌else◌, List, [], ◌∷◌, ◌++◌, map, reverse}
+use Rattle.std.specs.Prelude.{filter, Option, Some, None, option_map}
 use Rattle.std.specs.List.{list_any}
 use Rattle.std.specs.Option.{option_map_or, option_or}
 use Rattle.iface_names.specs.Names.{same_name}
 use Rattle.cm_model.specs.Order.{Places}
-use Rattle.cm_model.specs.Scene.{Scene, is_running, is_configured, controllers_in, described, active, loaded_of, named, is_chained_in, order}
+use Rattle.cm_model.specs.Scene.{Scene, is_running, is_configured, controllers_in, described, active, loaded_of, named}
+use Rattle.cm_model.specs.Scene.{is_chained_in, order}
 use Rattle.cm_model.specs.Faults.{first_of, fault_of_kind}
 use Rattle.cm_model.specs.declared.fault_kind.FaultKind.{FaultKind}
 use Rattle.cm_model.specs.declared.fault_kind.FaultKind.TheVariants as fault_kind
@@ -28,27 +30,31 @@ abbrev pub off_cause : Bool → Seen → Option Cause
 off_cause true seen = Some cause.Twice
 off_cause false seen = if is_running seen.life then None else Some cause.NotActive
 
--- What speaks against a name on the list to deactivate, behind those that stand before it: that no such controller is loaded, that
--- it stands there twice, that it is not active.
+-- What speaks against a name on the list to deactivate, behind those that stand before it: that no such controller is
+-- loaded, that it stands there twice, that it is not active.
 abbrev pub off_fault : Scene → List (List ℕ) → List ℕ → Option Cause
-off_fault scene before name = option_map_or (off_cause (list_any (same_name name) before)) (loaded_of scene name) (Some cause.Unknown)
+off_fault scene before name =
+    option_map_or (off_cause (list_any (same_name name) before)) (loaded_of scene name) (Some cause.Unknown)
 
 -- why a loaded controller cannot be activated, where these leave
 abbrev pub on_cause : Places → Bool → Seen → Option Cause
 on_cause leaving true seen = Some cause.Twice
 on_cause leaving false seen =
-    if is_configured seen.life then (if is_running seen.life && not (leaving seen.place) then Some cause.AlreadyActive else None)
+    if is_configured seen.life
+    then (if is_running seen.life && not (leaving seen.place) then Some cause.AlreadyActive else None)
     else Some cause.NotConfigured
 
--- What speaks against a name on the list to activate: that no such controller is loaded, that it stands there twice, that it is
--- unconfigured, that it is active and does not leave.
+-- What speaks against a name on the list to activate: that no such controller is loaded, that it stands there twice,
+-- that it is unconfigured, that it is active and does not leave.
 abbrev pub on_fault : Scene → Places → List (List ℕ) → List ℕ → Option Cause
-on_fault scene leaving before name = option_map_or (on_cause leaving (list_any (same_name name) before)) (loaded_of scene name) (Some cause.Unknown)
+on_fault scene leaving before name =
+    option_map_or (on_cause leaving (list_any (same_name name) before)) (loaded_of scene name) (Some cause.Unknown)
 
 -- the first name of a list that something speaks against, behind those before it
 abbrev pub first_fault : (List (List ℕ) → List ℕ → Option Cause) → List (List ℕ) → List (List ℕ) → Option Dropped
 first_fault fault before [] = None
-first_fault fault before (name ∷ names) = option_or (option_map (with_name name) (fault before name)) (first_fault fault (before ++ name ∷ []) names)
+first_fault fault before (name ∷ names) =
+    option_or (option_map (with_name name) (fault before name)) (first_fault fault (before ++ name ∷ []) names)
 
 -- ---- Whole or not at all
 
@@ -67,11 +73,13 @@ counted scene set on kind p = if counts_for_all kind || on p then fault_of_kind 
 
 -- the fault of this kind that counts of a member, with its name
 abbrev pub counted_of : Scene → Places → Places → FaultKind → Member → Option Dropped
-counted_of scene set on kind m = option_map (with_name (described scene m.place).name) (counted scene set on kind m.place)
+counted_of scene set on kind m =
+    option_map (with_name (described scene m.place).name) (counted scene set on kind m.place)
 
 -- the fault that counts and comes first by kind, and then by order
 abbrev pub first_member_fault : Scene → Places → Places → Option Dropped
-first_member_fault scene set on = first_of (λ kind. first_of (counted_of scene set on kind) (order scene set)) FAULT_KINDS
+first_member_fault scene set on =
+    first_of (λ kind. first_of (counted_of scene set on kind) (order scene set)) FAULT_KINDS
 
 -- A decision: refused because of a name; or done, without these names, so that the set is active, with these restarted.
 pub data Decided : Type 0 where
@@ -83,15 +91,15 @@ abbrev pub unless_because : Option Dropped → Decided → Decided
 unless_because None decided = decided
 unless_because (Some because) decided = refused because
 
--- the decision where nothing speaks against a name of the lists: refused because of the first member that a fault counts of; else
--- done whole, and those on both lists restart
+-- the decision where nothing speaks against a name of the lists: refused because of the first member that a fault
+-- counts of; else done whole, and those on both lists restart
 abbrev pub strict_between : Scene → Places → Places → Decided
 strict_between scene leaving coming =
     unless_because (first_member_fault scene (switched scene leaving coming) coming)
     (done [] (switched scene leaving coming) (λ p. leaving p && coming p))
 
--- A strict switch is refused because of the first name to deactivate that something speaks against, else the first to activate, else
--- the first member of the set that it leads to; and else it is done whole.
+-- A strict switch is refused because of the first name to deactivate that something speaks against, else the first to
+-- activate, else the first member of the set that it leads to; and else it is done whole.
 abbrev pub strict : Scene → List (List ℕ) → List (List ℕ) → Decided
 strict scene off on =
     unless_because (first_fault (off_fault scene) [] off)
@@ -105,10 +113,12 @@ abbrev pub differ : Bool → Bool → Bool
 differ true b = not b
 differ false b = b
 
--- An active member restarts where it is named for that, or where it is chained before and not after, or after and not before.
+-- An active member restarts where it is named for that, or where it is chained before and not after, or after and not
+-- before.
 abbrev pub restarts : Scene → Places → Places → ℕ → Bool
 restarts scene set again p =
-    again p || differ (is_chained_in (controllers_in scene) (active scene) p) (is_chained_in (controllers_in scene) set p)
+    again p
+    || differ (is_chained_in (controllers_in scene) (active scene) p) (is_chained_in (controllers_in scene) set p)
 
 -- it is deactivated: it is active, and no member or restarts
 abbrev pub is_stopped : Scene → Places → Places → Places
@@ -120,13 +130,19 @@ is_started scene set again p = set p && (not (active scene p) || restarts scene 
 
 -- the serials of those to deactivate, in the order of what was active: what commands a controller goes before it
 abbrev pub off_list : Scene → Places → Places → List ℕ
-off_list scene set again = map (λ m. m.serial) (filter (λ m. is_stopped scene set again m.place) (order scene (active scene)))
+off_list scene set again =
+    map (λ m. m.serial) (filter (λ m. is_stopped scene set again m.place) (order scene (active scene)))
 
 -- the serials of those to activate, against the order of the set: what commands a controller comes after it
 abbrev pub on_list : Scene → Places → Places → List ℕ
-on_list scene set again = reverse (map (λ m. m.serial) (filter (λ m. is_started scene set again m.place) (order scene set)))
+on_list scene set again =
+    reverse (map (λ m. m.serial) (filter (λ m. is_started scene set again m.place) (order scene set)))
 
 -- the plan of a decision
 abbrev pub planned : Scene → Decided → Planned
 planned scene (refused because) = record { outcome = outcome.Refused because.name because.cause; off = []; on = [] }
-planned scene (done dropped set again) = record { outcome = outcome.Done dropped; off = off_list scene set again; on = on_list scene set again }
+planned scene (done dropped set again) = record {
+  outcome = outcome.Done dropped;
+  off = off_list scene set again;
+  on = on_list scene set again;
+}

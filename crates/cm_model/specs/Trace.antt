@@ -1,5 +1,7 @@
--- The trace: one line for each entry of a history. It is a function of the description, the script's sessions and the history.
-use Rattle.std.specs.Prelude.{ℕ, List, [], ◌∷◌, ◌++◌, map, flat_map, filter_map, codes, decimal, slice_get, Option, Some, None, option_map, unwrap_or}
+-- The trace: one line for each entry of a history. It is a function of the description, the script's sessions and the
+-- history.
+use Rattle.std.specs.Prelude.{ℕ, List, [], ◌∷◌, ◌++◌, map, flat_map, filter_map, codes, decimal, slice_get, Option}
+use Rattle.std.specs.Prelude.{Some, None, option_map, unwrap_or}
 use Rattle.iface_names.specs.Interfaces.{interface_text}
 use Rattle.cm_document.specs.CallText.{call_text}
 use Rattle.cm_document.specs.Links.{joints_of}
@@ -86,7 +88,8 @@ caller_text sessions who = unwrap_or (option_map (λ session. session.name) (sli
 
 -- caller, call and reply: `a load mk: ok 0`
 abbrev pub line_text : List SessionText → Names → Entry → List ℕ
-line_text sessions names e = caller_text sessions e.who ++ codes " " ++ call_text e.call ++ codes ": " ++ reply_text names e.reply ++ codes "\n"
+line_text sessions names e =
+    caller_text sessions e.who ++ codes " " ++ call_text e.call ++ codes ": " ++ reply_text names e.reply ++ codes "\n"
 
 -- the trace of a history
 abbrev pub trace : Description → List SessionText → List Entry → List ℕ

@@ -1,4 +1,5 @@
--- What the interfaces hold, place by place: what a read of components sets, what becomes Unset, and what a move of components makes of it.
+-- What the interfaces hold, place by place: what a read of components sets, what becomes Unset, and what a move of
+-- components makes of it.
 use Rattle.std.specs.Prelude.{ℕ, Bool, false, not, ◌&&◌, if◌then◌else◌, List, map, slice_get}
 use Rattle.std.specs.Option.{option_map_or}
 use Rattle.fixed_num.specs.declared.value.BodyState.{BodyState}
@@ -50,7 +51,9 @@ shown bodies name (of_controller place) = Unset
 -- one interface after a read of these components
 abbrev pub read_of : (ℕ → Bool) → List BodyState → InterfaceValue → InterfaceValue
 read_of components bodies v =
-    if is_state_of components v.interface then record v { value = shown bodies v.interface.called.name v.interface.whose } else v
+    if is_state_of components v.interface then record v {
+      value = shown bodies v.interface.called.name v.interface.whose;
+    } else v
 
 -- These components are read: their state interfaces hold the numbers of the bodies, and all else stays.
 abbrev pub after_reads : (ℕ → Bool) → List BodyState → List InterfaceValue → List InterfaceValue
@@ -66,8 +69,9 @@ cleared_of components v = if belongs_to components v.interface.whose then unset 
 abbrev pub cleared : (ℕ → Bool) → List InterfaceValue → List InterfaceValue
 cleared components values = map (cleared_of components) values
 
--- Components come from lifecycle states to others. The interfaces of those that are not available then become Unset; the state
--- interfaces of those that were not available, and are then, hold the numbers of the bodies.
+-- Components come from lifecycle states to others. The interfaces of those that are not available then become Unset;
+-- the state interfaces of those that were not available, and are then, hold the numbers of the bodies.
 abbrev pub after_moves : List Life → List Life → List BodyState → List InterfaceValue → List InterfaceValue
 after_moves before after bodies values =
-    after_reads (λ component. running after component && not (running before component)) bodies (cleared (λ component. not (running after component)) values)
+    after_reads (λ component. running after component && not (running before component)) bodies
+    (cleared (λ component. not (running after component)) values)

@@ -13,17 +13,21 @@ on_segment t t0 t1 ends = clamped (ends.0 +ℤ floor_div ((ends.1 -ℤ ends.0) *
 abbrev pub towards : ℕ → ℕ → List ℤ → Point2 → List ℤ
 towards t t0 from point = map (on_segment t t0 point.at_us) (zip from point.values)
 
--- the values at the time t, on the way from where they were at t0 through these points: the first that is still to come is the one to go to
+-- the values at the time t, on the way from where they were at t0 through these points: the first that is still to come
+-- is the one to go to
 abbrev pub on_way : ℕ → ℕ → List ℤ → List Point2 → List ℤ
 on_way t t0 from [] = from
-on_way t t0 from (point ∷ later) = if nat_lt t point.at_us then towards t t0 from point else on_way t point.at_us point.values later
+on_way t t0 from (point ∷ later) =
+    if nat_lt t point.at_us then towards t t0 from point else on_way t point.at_us point.values later
 
 -- the last of these points, the first of which stands before the others
 abbrev pub last_point : Point2 → List Point2 → Point2
 last_point point [] = point
 last_point point (next ∷ later) = last_point next later
 
--- The values at the time t after the start: without points those to hold, from the last point's time on that point's, and before it those on the way.
+-- The values at the time t after the start: without points those to hold, from the last point's time on that point's,
+-- and before it those on the way.
 abbrev pub led : ℕ → List ℤ → List ℤ → List Point2 → List ℤ
 led t hold from [] = hold
-led t hold from (point ∷ later) = if nat_le (last_point point later).at_us t then (last_point point later).values else on_way t 0 from (point ∷ later)
+led t hold from (point ∷ later) =
+    if nat_le (last_point point later).at_us t then (last_point point later).values else on_way t 0 from (point ∷ later)

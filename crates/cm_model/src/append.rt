@@ -2,7 +2,7 @@
 
 ghost use Rattle.std.specs.Prelude.{◌≡◌, ◌++◌, OnOk, string_bytes, codes, decimal};
 
-use cm_document::Memory;
+use fixed_num::Memory;
 use itoa::Buffer;
 
 /// Appends a number.

@@ -1,6 +1,6 @@
 //! `JointInterface`: an interface of a component.
 
-use cm_document::Kind;
+use iface_names::Kind;
 
 /// A state or a command interface of a component, as it is numbered there.
 #[derive(Clone, Copy, Debug, PartialEq, Eq)]

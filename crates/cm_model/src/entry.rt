@@ -6,7 +6,8 @@ ghost use Rattle.cm_model.specs.Kept.{kept_call, is_of_cycle, call_of};
 
 use crate::append::push_numbered;
 use crate::reply::Reply;
-use cm_document::{Call, Memory};
+use cm_document::Call;
+use fixed_num::Memory;
 use iface_names::Name;
 use sequence::Boxed;
 use std::alloc::{AllocError, Global};

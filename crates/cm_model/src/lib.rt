@@ -5,17 +5,10 @@
 pub use append::{push_number, push_numbered};
 pub use blanks::Blanks;
 pub use cause::{Cause, Decision, Dropped, Outcome};
-pub use cm_document::{
-    Call, CheckFault, Checked, CompDesc, CompKind, CtlDesc, CtlKind, Cycles, DescFault,
-    DescProblem, Description, Document, DocumentFault, Fx, Grammar, IfaceName, JointDesc, Kind,
-    Life, Mail, Memory, Name, NameFault, Params, Point2, Script, ScriptFault, ScriptLine, Seq,
-    SessionText, Shared, SwitchRequest, Text, Turn, Verb, What, Wrong, whole_grammar,
-};
 pub use component::JointInterface;
 pub use data::{CtlData, RunData};
 pub use entry::{CycleCall, Entry, KeptCall};
 pub use fault_kind::{FAULT_KINDS, FaultKind};
-pub use fixed_num::{BodyState, JointMode, StoredValue, Value};
 pub use lines::{CompLine, CtlLine, IfaceLine};
 pub use member::Member;
 pub use planned::Planned;
@@ -27,7 +20,6 @@ pub use record_room::{RecordRoom, RecordSize};
 pub use reply::{Reply, Why};
 pub use request::Request;
 pub use seen::Seen;
-pub use sequence::{Boxed, ListRoom, Rare, SharedList};
 pub use shape::Shape;
 pub use tick::{LONGEST_PERIOD, Tick};
 

@@ -6,7 +6,8 @@ ghost use Rattle.cm_model.specs.Ports.{Console, LoopConsole, CanBeCalled, Makes,
 
 use crate::cause::Outcome;
 use crate::reply::Reply;
-use cm_document::{Call, Memory};
+use cm_document::Call;
+use fixed_num::Memory;
 
 /// One session's console.
 pub trait Port {

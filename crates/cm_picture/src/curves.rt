@@ -1,10 +1,11 @@
 //! Where each joint was over the cycles, and where it was commanded to be.
 
-use cm_model::{JointDesc, Memory};
-use cm_replay::{Course, Sample};
+use cm_document::JointDesc;
+use cm_replay::{JointCourse, Sample};
+use fixed_num::Memory;
 use run_picture::{Strip, draw_axis};
 use std::alloc::Global;
-use svg_text::{Area, MARGIN, Point, Px, Svg, short, shortened};
+use svg_text::{Area, MARGIN, PagePoint, Px, Svg, short, shortened};
 
 /// How high the curve of a joint is that moves, and of one that does not, in pixels.
 const MOVING_HEIGHT: u64 = 84;
@@ -28,7 +29,7 @@ struct Scale {
 
 impl Scale {
     /// Wide enough for all positions and commands of a joint.
-    fn of(course: &Course, top: Px) -> Scale {
+    fn of(course: &JointCourse, top: Px) -> Scale {
         let mut least = course.start;
         let mut most = course.start;
         for sample in course.samples().iter().flatten() {
@@ -73,13 +74,13 @@ pub struct Curves<'a> {
     /// The joints.
     pub joints: &'a [(usize, &'a JointDesc)],
     /// Their courses.
-    pub courses: &'a [Course],
+    pub courses: &'a [JointCourse],
     /// The letters of the longest number at the end of a range.
     pub values: usize,
 }
 
 /// The letters of the longest number at the end of a joint's range.
-pub fn longest_value(alloc: Global, courses: &[Course]) -> Result<usize, Memory> {
+pub fn longest_value(alloc: Global, courses: &[JointCourse]) -> Result<usize, Memory> {
     let mut longest = 1usize;
     for course in courses {
         let scale = Scale::of(course, Px::of(0));
@@ -121,7 +122,7 @@ pub fn draw_curves(
 }
 
 /// Where the curves end.
-fn bottom_of(top: Px, courses: &[Course]) -> Px {
+fn bottom_of(top: Px, courses: &[JointCourse]) -> Px {
     let mut bottom = top;
     for course in courses {
         bottom = Scale::of(course, bottom).end();
@@ -134,7 +135,7 @@ fn draw_joint(
     svg: &mut Svg,
     strip: &Strip,
     name: &str,
-    course: &Course,
+    course: &JointCourse,
     scale: Scale,
 ) -> Result<(), Memory> {
     draw_ends(alloc, svg, strip, scale)?;
@@ -155,7 +156,7 @@ fn draw_name(
     room: usize,
     scale: Scale,
 ) -> Result<(), Memory> {
-    let at = Point {
+    let at = PagePoint {
         x: Px::of(MARGIN),
         y: scale.top.plus(scale.height.half()).plus(Px::of(4)),
     };
@@ -183,8 +184,8 @@ fn draw_end(
     let y = scale.height_of(micro);
     let left = strip.left();
     let right = strip.right();
-    svg.line("rule", Point { x: left, y }, Point { x: right, y })?;
-    let at = Point {
+    svg.line("rule", PagePoint { x: left, y }, PagePoint { x: right, y })?;
+    let at = PagePoint {
         x: left.minus(Px::of(6)),
         y: y.plus(Px::of(4)),
     };
@@ -196,7 +197,7 @@ fn draw_end(
 fn position_steps(
     alloc: Global,
     strip: &Strip,
-    course: &Course,
+    course: &JointCourse,
     scale: Scale,
 ) -> Result<String, Memory> {
     let mut steps = String::new(alloc);
@@ -233,7 +234,7 @@ fn push_position(
 fn command_steps(
     alloc: Global,
     strip: &Strip,
-    course: &Course,
+    course: &JointCourse,
     scale: Scale,
 ) -> Result<String, Memory> {
     let mut steps = String::new(alloc);
@@ -271,7 +272,7 @@ fn draw_samples(
     svg: &mut Svg,
     strip: &Strip,
     name: &str,
-    course: &Course,
+    course: &JointCourse,
     scale: Scale,
 ) -> Result<(), Memory> {
     let has_dots = strip.each_width().reaches(Px::of(ROOM_FOR_A_DOT));
@@ -280,7 +281,7 @@ fn draw_samples(
             continue;
         };
         if has_dots {
-            let at = Point {
+            let at = PagePoint {
                 x: strip.left_of(column.saturating_add(1)),
                 y: scale.height_of(sample.last),
             };

@@ -1,15 +1,15 @@
 //! What the lines and marks stand for.
 
-use cm_model::Memory;
 use cm_replay::Event;
+use fixed_num::Memory;
 use link_picture::mark;
 use run_picture::draw_mark;
 use std::alloc::Global;
-use svg_text::{MARGIN, Point, Px, Svg};
+use svg_text::{MARGIN, PagePoint, Px, Svg};
 
 /// The key of who claims and reads what. Gives where it ends.
 pub fn draw_link_keys(svg: &mut Svg, top: Px) -> Result<Px, Memory> {
-    let at = Point {
+    let at = PagePoint {
         x: Px::of(MARGIN),
         y: top.plus(Px::of(10)),
     };
@@ -30,14 +30,14 @@ pub fn draw_link_keys(svg: &mut Svg, top: Px) -> Result<Px, Memory> {
     Ok(top.plus(Px::of(34)))
 }
 
-fn draw_line_key(svg: &mut Svg, at: Point, class: &str, words: &str) -> Result<(), Memory> {
+fn draw_line_key(svg: &mut Svg, at: PagePoint, class: &str, words: &str) -> Result<(), Memory> {
     svg.line(class, at, beside(at, 34))?;
     svg.words("key", at.beside(Px::of(42), Px::of(4)), words, "")
 }
 
 /// The key of what happens in a run. Gives where it ends.
 pub fn draw_run_keys(alloc: Global, svg: &mut Svg, top: Px) -> Result<Px, Memory> {
-    let at = Point {
+    let at = PagePoint {
         x: Px::of(MARGIN + 10),
         y: top.plus(Px::of(10)),
     };
@@ -59,14 +59,14 @@ pub fn draw_run_keys(alloc: Global, svg: &mut Svg, top: Px) -> Result<Px, Memory
 }
 
 /// So many pixels to the right.
-fn beside(at: Point, right: u64) -> Point {
+fn beside(at: PagePoint, right: u64) -> PagePoint {
     at.beside(Px::of(right), Px::of(0))
 }
 
 fn draw_event_key(
     alloc: Global,
     svg: &mut Svg,
-    at: Point,
+    at: PagePoint,
     event: Event,
     words: &str,
 ) -> Result<(), Memory> {
@@ -76,7 +76,7 @@ fn draw_event_key(
 
 /// The key of the joints' curves. Gives where it ends.
 pub fn draw_curve_keys(svg: &mut Svg, top: Px) -> Result<Px, Memory> {
-    let at = Point {
+    let at = PagePoint {
         x: Px::of(MARGIN),
         y: top.plus(Px::of(10)),
     };

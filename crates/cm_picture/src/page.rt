@@ -3,12 +3,14 @@
 use crate::curves::{Curves, draw_curves, longest_value};
 use crate::keys::{draw_curve_keys, draw_link_keys, draw_run_keys};
 use crate::style::STYLE;
-use cm_model::{Description, Entry, JointDesc, Memory, Script};
-use cm_replay::{Columns, Counts, Linked, Replay, joints_of, links_of};
+use cm_document::{Description, JointDesc, Script};
+use cm_model::Entry;
+use cm_replay::{Columns, Linked, Replay, RunCounts, joints_of, links_of};
+use fixed_num::Memory;
 use link_picture::draw_links;
 use run_picture::{Run, Strip, draw_log, draw_run};
 use std::alloc::Global;
-use svg_text::{MARGIN, PAGE_WIDTH, Point, Px, Svg, shortened};
+use svg_text::{MARGIN, PAGE_WIDTH, PagePoint, Px, Svg, shortened};
 
 /// The most letters that have room beside the columns.
 const MOST_LETTERS: usize = 40;
@@ -150,7 +152,7 @@ fn draw_curve_part(
 }
 
 fn draw_section(svg: &mut Svg, top: Px, words: &str) -> Result<Px, Memory> {
-    let at = Point {
+    let at = PagePoint {
         x: Px::of(MARGIN),
         y: top.plus(Px::of(18)),
     };
@@ -164,10 +166,10 @@ fn draw_head(
     svg: &mut Svg,
     name: &str,
     description: &Description,
-    counts: Counts,
+    counts: RunCounts,
 ) -> Result<Px, Memory> {
     let title = title_of(alloc, name, description)?;
-    let at = Point {
+    let at = PagePoint {
         x: Px::of(MARGIN),
         y: Px::of(40),
     };
@@ -190,8 +192,8 @@ fn title_of(alloc: Global, name: &str, description: &Description) -> Result<Stri
 }
 
 /// How often things happened.
-fn happened(alloc: Global, counts: Counts) -> Result<String, Memory> {
-    let Counts {
+fn happened(alloc: Global, counts: RunCounts) -> Result<String, Memory> {
+    let RunCounts {
         done,
         refused,
         ended,

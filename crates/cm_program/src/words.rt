@@ -5,8 +5,8 @@ ghost use Rattle.cm_top.specs.Calls.Run.{source_facts, sink_facts, MindsFaults};
 ghost use Rattle.cm_top.specs.Status.{ComesBeforeWriting};
 
 use crate::stock::run_stocked;
-use cm_model::Memory;
 use cm_top::Status;
+use fixed_num::Memory;
 use outside_io::{Sink, Source};
 use std::rt::Env;
 use std::sync::Wait;

@@ -1,7 +1,9 @@
 //! The course of a joint through a run: its position, and where it was commanded to be.
 
 use crate::links::Link;
-use cm_model::{Description, JointDesc, Kind, Memory, Value};
+use cm_document::{Description, JointDesc};
+use fixed_num::{Memory, Value};
+use iface_names::Kind;
 use std::alloc::Global;
 
 /// Where a joint was in a column, in micro-units.
@@ -28,7 +30,7 @@ struct Given {
 
 /// The course of a joint: a sample for each column that was reached.
 #[derive(Drop)]
-pub struct Course {
+pub struct JointCourse {
     /// Where it was before the first cycle, in micro-units.
     pub start: i64,
     samples: Vec<Option<Sample>>,
@@ -38,14 +40,14 @@ pub struct Course {
     reference: Option<Given>,
 }
 
-impl Course {
+impl JointCourse {
     /// Of a joint that has not moved yet.
-    fn blank(alloc: Global, joint: &JointDesc, columns: usize) -> Result<Course, Memory> {
+    fn blank(alloc: Global, joint: &JointDesc, columns: usize) -> Result<JointCourse, Memory> {
         let mut samples = Vec::new(alloc);
         for _column in 0..columns {
             samples.push(None)?;
         }
-        Ok(Course {
+        Ok(JointCourse {
             start: joint.position.micro(),
             samples,
             own: None,
@@ -117,7 +119,7 @@ pub fn blank_courses(
     alloc: Global,
     description: &Description,
     columns: usize,
-) -> Result<Vec<Course>, Memory> {
+) -> Result<Vec<JointCourse>, Memory> {
     let mut courses = Vec::new(alloc);
     for component in description.components.as_slice() {
         push_courses(alloc, &mut courses, component.joints.as_slice(), columns)?;
@@ -127,18 +129,18 @@ pub fn blank_courses(
 
 fn push_courses(
     alloc: Global,
-    courses: &mut Vec<Course>,
+    courses: &mut Vec<JointCourse>,
     joints: &[JointDesc],
     columns: usize,
 ) -> Result<(), Memory> {
     for joint in joints {
-        courses.push(Course::blank(alloc, joint, columns)?)?;
+        courses.push(JointCourse::blank(alloc, joint, columns)?)?;
     }
     Ok(())
 }
 
 /// What this controller gave out to any joint is gone.
-pub fn forget(courses: &mut Vec<Course>, by: usize) {
+pub fn forget(courses: &mut Vec<JointCourse>, by: usize) {
     for course in courses {
         course.forget(by);
     }

@@ -2,11 +2,11 @@
 #![tactic(auto)]
 
 pub use columns::{Columns, MOST_COLUMNS};
-pub use course::{Course, Sample};
-pub use links::{Link, Linked, Links, joints_of, links_of};
+pub use course::{JointCourse, Sample};
+pub use links::{ControllerLinks, Link, Linked, joints_of, links_of};
 pub use present::Asked;
-pub use replay::{Answered, Became, Counts, Replay, is_own};
-pub use rows::{Cell, Event, Row, Shown};
+pub use replay::{Answered, Became, Replay, RunCounts, is_own};
+pub use rows::{ColumnState, Event, Row, RowCell};
 
 mod columns;
 mod course;

@@ -1,6 +1,8 @@
 //! What each controller claims and reads, by places: joints and controllers are looked up by name once.
 
-use cm_model::{CtlDesc, Description, IfaceName, JointDesc, Kind, Memory, Name};
+use cm_document::{CtlDesc, Description, JointDesc};
+use fixed_num::Memory;
+use iface_names::{IfaceName, Kind, Name};
 use std::alloc::Global;
 
 /// What a claim or a read is of.
@@ -16,7 +18,7 @@ pub struct Link {
 
 /// What one controller claims and reads, in written order.
 #[derive(Drop)]
-pub struct Links {
+pub struct ControllerLinks {
     /// The command interfaces and references that it claims.
     pub claims: Vec<Link>,
     /// The state interfaces that it reads.
@@ -31,7 +33,7 @@ pub struct Linked<'a> {
     /// The joints of all components, each with the place of its component.
     pub joints: &'a [(usize, &'a JointDesc)],
     /// What each controller claims and reads, by place.
-    pub links: &'a [Links],
+    pub links: &'a [ControllerLinks],
 }
 
 /// The joints of all components, in their order, each with the place of its component.
@@ -62,11 +64,11 @@ pub fn links_of(
     alloc: Global,
     description: &Description,
     joints: &[(usize, &JointDesc)],
-) -> Result<Vec<Links>, Memory> {
+) -> Result<Vec<ControllerLinks>, Memory> {
     let controllers = description.controllers.as_slice();
     let mut links = Vec::new(alloc);
     for controller in controllers {
-        links.push(Links {
+        links.push(ControllerLinks {
             claims: resolved(alloc, controllers, joints, controller.claims.as_slice())?,
             reads: resolved(alloc, controllers, joints, controller.reads())?,
         })?;

@@ -1,7 +1,10 @@
 //! What stands while a history is read: who is loaded and in which lifecycle state, and what was asked.
 
-use crate::links::{Link, Linked, Links, component_place, controller_place};
-use cm_model::{Call, Description, FailedPart, Life, Memory, Name, Reply, Script, SessionText};
+use crate::links::{ControllerLinks, Link, Linked, component_place, controller_place};
+use cm_document::{Call, Description, Life, Script, SessionText};
+use cm_model::{FailedPart, Reply};
+use fixed_num::Memory;
+use iface_names::Name;
 use std::alloc::Global;
 
 /// A call as a session makes it.
@@ -19,7 +22,7 @@ pub struct Present<'a> {
     /// The description of the run.
     pub description: &'a Description,
     /// What each controller claims and reads, by place.
-    pub links: &'a [Links],
+    pub links: &'a [ControllerLinks],
     /// The lifecycle state of each controller that is loaded, by place.
     lives: Vec<Option<Life>>,
     /// Whether each is chained, by place.

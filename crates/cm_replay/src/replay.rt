@@ -2,14 +2,16 @@
 //! joint. Which call an entry is of is known from the script, as each session makes its lines once and in order.
 
 use crate::columns::Columns;
-use crate::course::{Course, blank_courses, forget};
+use crate::course::{JointCourse, blank_courses, forget};
 use crate::links::{Linked, component_place, controller_place};
 use crate::present::{Asked, Present};
-use crate::rows::{Event, Row, Shown, blank_rows, mark_row};
+use crate::rows::{ColumnState, Event, Row, blank_rows, mark_row};
+use cm_document::{Call, Script, SwitchRequest};
 use cm_model::{
-    Call, Cause, CycleRecord, Decision, Done, Dropped, Entry, FailedPart, IfaceName, Memory, Name,
-    Outcome, RanRef, Reply, Script, SwitchRequest, Why,
+    Cause, CycleRecord, Decision, Done, Dropped, Entry, FailedPart, Outcome, RanRef, Reply, Why,
 };
+use fixed_num::Memory;
+use iface_names::{IfaceName, Name};
 use std::alloc::Global;
 
 /// What became of a call that asked for something.
@@ -36,7 +38,7 @@ pub struct Answered<'a> {
 
 /// How often things happened in a run.
 #[derive(Clone, Copy)]
-pub struct Counts {
+pub struct RunCounts {
     /// Requests that were carried out, wholly or without some names.
     pub done: u64,
     /// Requests that were refused.
@@ -65,9 +67,9 @@ pub struct Replay<'a> {
     /// The rows of the components, by place.
     pub components: Vec<Row>,
     /// The courses of the joints, by place.
-    pub courses: Vec<Course>,
+    pub courses: Vec<JointCourse>,
     /// How often things happened.
-    pub counts: Counts,
+    pub counts: RunCounts,
     columns: Columns,
     present: Present<'a>,
 }
@@ -104,7 +106,7 @@ impl<'a> Replay<'a> {
             controllers: blank_rows(alloc, controllers, columns.count())?,
             components: blank_rows(alloc, components, columns.count())?,
             courses: blank_courses(alloc, description, columns.count())?,
-            counts: Counts {
+            counts: RunCounts {
                 done: 0,
                 refused: 0,
                 ended: 0,
@@ -364,7 +366,7 @@ impl<'a> Replay<'a> {
 fn show_controllers(rows: &mut Vec<Row>, present: &Present<'_>, column: usize) {
     for (place, row) in rows.iter_mut().enumerate() {
         if let Some(life) = present.life_at(place) {
-            row.show(column, Shown::of(life, present.is_chained(place)));
+            row.show(column, ColumnState::of(life, present.is_chained(place)));
         }
     }
 }
@@ -372,7 +374,7 @@ fn show_controllers(rows: &mut Vec<Row>, present: &Present<'_>, column: usize) {
 /// What each component was in this column.
 fn show_components(rows: &mut Vec<Row>, present: &Present<'_>, column: usize) {
     for (row, life) in rows.iter_mut().zip(&present.components) {
-        row.show(column, Shown::of(*life, false));
+        row.show(column, ColumnState::of(*life, false));
     }
 }
 

@@ -1,11 +1,12 @@
 //! The rows of a run: what each controller and component was in each column, and what happened to it there.
 
-use cm_model::{Life, Memory};
+use cm_document::Life;
+use fixed_num::Memory;
 use std::alloc::Global;
 
 /// What is shown of a controller or a component in a column, the least serious first.
 #[derive(Clone, Copy, PartialEq, Eq)]
-pub enum Shown {
+pub enum ColumnState {
     /// It is not loaded.
     Nothing,
     /// It is active.
@@ -20,27 +21,27 @@ pub enum Shown {
     Finalized,
 }
 
-impl Shown {
+impl ColumnState {
     /// What is shown of this lifecycle state.
-    pub fn of(life: Life, chained: bool) -> Shown {
+    pub fn of(life: Life, chained: bool) -> ColumnState {
         match life {
-            Life::Active if chained => Shown::Chained,
-            Life::Active => Shown::Active,
-            Life::Inactive => Shown::Inactive,
-            Life::Unconfigured => Shown::Unconfigured,
-            Life::Finalized => Shown::Finalized,
+            Life::Active if chained => ColumnState::Chained,
+            Life::Active => ColumnState::Active,
+            Life::Inactive => ColumnState::Inactive,
+            Life::Unconfigured => ColumnState::Unconfigured,
+            Life::Finalized => ColumnState::Finalized,
         }
     }
 
     /// The word for it; none where it is not loaded.
     pub fn word(self) -> &'static str {
         match self {
-            Shown::Nothing => "",
-            Shown::Active => "active",
-            Shown::Chained => "chained",
-            Shown::Inactive => "inactive",
-            Shown::Unconfigured => "unconfigured",
-            Shown::Finalized => "finalized",
+            ColumnState::Nothing => "",
+            ColumnState::Active => "active",
+            ColumnState::Chained => "chained",
+            ColumnState::Inactive => "inactive",
+            ColumnState::Unconfigured => "unconfigured",
+            ColumnState::Finalized => "finalized",
         }
     }
 }
@@ -70,9 +71,9 @@ pub enum Event {
 
 /// What a row has to show in a column.
 #[derive(Clone, Copy)]
-pub struct Cell {
+pub struct RowCell {
     /// The most serious that it was there.
-    pub shown: Shown,
+    pub shown: ColumnState,
     /// The most serious that happened there.
     pub event: Event,
     /// The first cycle in which that happened.
@@ -86,8 +87,8 @@ pub struct Cell {
 }
 
 /// A column in which nothing stands.
-const BLANK: Cell = Cell {
-    shown: Shown::Nothing,
+const BLANK: RowCell = RowCell {
+    shown: ColumnState::Nothing,
     event: Event::Nothing,
     cycle: 0,
     answered: 0,
@@ -98,7 +99,7 @@ const BLANK: Cell = Cell {
 /// A row: its columns.
 #[derive(Drop)]
 pub struct Row {
-    cells: Vec<Cell>,
+    cells: Vec<RowCell>,
 }
 
 impl Row {
@@ -112,12 +113,12 @@ impl Row {
     }
 
     /// The columns, from the left.
-    pub fn cells(&self) -> &[Cell] {
+    pub fn cells(&self) -> &[RowCell] {
         self.cells.as_slice()
     }
 
     /// It was this in a cycle of the column.
-    pub fn show(&mut self, column: usize, shown: Shown) {
+    pub fn show(&mut self, column: usize, shown: ColumnState) {
         if let Some(cell) = self.cells.get_mut(column) {
             if shown as u8 > cell.shown as u8 {
                 cell.shown = shown;

@@ -3,7 +3,8 @@ use Rattle.std.specs.Prelude.{◌≡◌, ℕ, ◌≤◌, List, length, map, Opti
 use Rattle.cm_document.specs.declared.document.Document.{Document}
 use Rattle.cm_document.specs.declared.limits.TheConstants.{LONGEST_DOCUMENT}
 use Rattle.cm_model.specs.Machine.{IsLegal, state_after}
-use Rattle.cm_model.specs.Scheduled.{Progress, start, cycles, turns, landed, cycles_left, finish, scheduled, scheduled_in_steps}
+use Rattle.cm_model.specs.Scheduled.{Progress, start, cycles, turns, landed, cycles_left, finish, scheduled}
+use Rattle.cm_model.specs.Scheduled.{scheduled_in_steps}
 use Rattle.cm_model.specs.Sessions.{IsWhole}
 use Rattle.cm_model.specs.Sound.{IsSound}
 use Rattle.cm_model.specs.State.{boot}
@@ -26,11 +27,12 @@ pub record BookFacts : Type 0 where
 abbrev pub book_facts : {C : Type 0} → (C → CtlData) → Book C → BookFacts
 book_facts meaning book = record { history = book.history.items; boxes = map meaning book.boxes.items }
 
--- How far a job of this kind comes with a document: before each cycle the sessions settle, and after the last one the loop closes;
--- with `steps` the turns of the schedule come first, and a cycle that is then aloft ends.
+-- How far a job of this kind comes with a document: before each cycle the sessions settle, and after the last one the
+-- loop closes; with `steps` the turns of the schedule come first, and a cycle that is then aloft ends.
 abbrev pub finished : JobKind → Document → Blanks → Progress
 finished kind.Run d blanks = finish (cycles d.description.cycles (start d blanks))
-finished kind.Steps d blanks = finish (cycles_left d.description.cycles (landed (turns d.script.schedule (start d blanks))))
+finished kind.Steps d blanks =
+    finish (cycles_left d.description.cycles (landed (turns d.script.schedule (start d blanks))))
 
 -- the history that a job makes of each document
 abbrev pub Histories : Type 0
@@ -59,11 +61,12 @@ task_of job blanks = record { history = made_by job.kind blanks; text = text_by 
 abbrev pub IsShort : List ℕ → Type 0
 IsShort bytes = length bytes ≤ LONGEST_DOCUMENT
 
--- The book of a run of this document: its history is the one that the job made of it, which is legal, sound and whole, and its boxes have
--- the data of the controllers that are loaded after it, by serial.
+-- The book of a run of this document: its history is the one that the job made of it, which is legal, sound and whole,
+-- and its boxes have the data of the controllers that are loaded after it, by serial.
 pub record IsBookOf (made : Histories) (blanks : Blanks) (d : Document) (book : BookFacts) : Type 0 where
   pub history : book.history ≡ made d
   pub legal : IsLegal d.description blanks (length d.script.sessions) book.history
   pub sound : IsSound d.description blanks (length d.script.sessions) book.history
   pub whole : IsWhole d book.history
-  pub boxes : book.boxes ≡ map (λ l. l.ctl) (state_after (boot d.description blanks (length d.script.sessions)) book.history).loaded
+  pub boxes : book.boxes
+      ≡ map (λ l. l.ctl) (state_after (boot d.description blanks (length d.script.sessions)) book.history).loaded

@@ -7,10 +7,17 @@ use Rattle.cm_model.specs.Ports.{Console}
 
 -- A desk's console tells the whole history of the desk; the entries that it made are those of its number.
 abbrev pub desk_console : ℕ → History → ℕ → Console
-desk_console who h waited = record { who = who; opening = h.opening; made = entries_by who h.made; waited = waited; whole = Some h.made; seen = None }
+desk_console who h waited = record {
+  who = who;
+  opening = h.opening;
+  made = entries_by who h.made;
+  waited = waited;
+  whole = Some h.made;
+  seen = None;
+}
 
--- What no call of it changes: which desk is lent to it, its number, the boot of the desk, and of the cycle that is aloft, where one is,
--- the state in which it began.
+-- What no call of it changes: which desk is lent to it, its number, the boot of the desk, and of the cycle that is
+-- aloft, where one is, the state in which it began.
 pub record DeskGround : Type 0 where
   pub lent : ℕ
   pub who : ℕ
@@ -20,4 +27,10 @@ pub record DeskGround : Type 0 where
 
 -- that of the console of this number over a desk
 abbrev pub ground_of : ℕ → ℕ → History → DeskGround
-ground_of lent who h = record { lent = lent; who = who; opening = h.opening; begun = begun_of h; aloft = (now_of h).aloft }
+ground_of lent who h = record {
+  lent = lent;
+  who = who;
+  opening = h.opening;
+  begun = begun_of h;
+  aloft = (now_of h).aloft;
+}

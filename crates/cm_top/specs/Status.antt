@@ -1,5 +1,6 @@
 -- The numbers of the statuses, and what each says of the run that ended so.
-use Rattle.std.specs.Prelude.{◌≡◌, ℕ, ◌<◌, List, Option, Some, None, Result, Ok, Err, length, nat_lt, if◌then◌else◌, IsSomeAnd}
+use Rattle.std.specs.Prelude.{◌≡◌, ℕ, ◌<◌, List, Option, Some, None, Result, Ok, Err, length, nat_lt, if◌then◌else◌}
+use Rattle.std.specs.Prelude.{IsSomeAnd}
 use Rattle.std.specs.Io.KnownBytes.{Keeps, Appends}
 use Rattle.outside_io.specs.Bytes.{AllFlushed, AppendsPrefix}
 use Rattle.cm_document.specs.declared.limits.TheConstants.{LONGEST_DOCUMENT}
@@ -34,8 +35,8 @@ pub record Written : Type 0 where
   pub new : Option (List ℕ)
   pub flushed : Option ℕ
 
--- A run that went well: the bytes are an accepted document; the book is that of its run; and the sink has grown by exactly the text
--- that the task has of the book's history, all of it flushed.
+-- A run that went well: the bytes are an accepted document; the book is that of its run; and the sink has grown by
+-- exactly the text that the task has of the book's history, all of it flushed.
 pub record Printed (task : Task) (bytes : List ℕ) (blanks : Blanks) (w : Written) (book : BookFacts) : Type 0 where
   pub document_is : Document
   pub short : IsShort bytes
@@ -57,20 +58,24 @@ abbrev pub WantsMemory : Task → List ℕ → Blanks → Written → Option Boo
 WantsMemory task bytes blanks w None = Keeps w.old w.new
 WantsMemory task bytes blanks w (Some book) = Cut task bytes blanks w book
 
--- What a run over these bytes says by its status, where this was the task. Each refusal names the document's first fault, exactly.
+-- What a run over these bytes says by its status, where this was the task. Each refusal names the document's first
+-- fault, exactly.
 abbrev pub EndedWith : Task → List ℕ → Blanks → Written → Status → Option BookFacts → Type 0
 EndedWith task bytes blanks w status.Ok book = IsSomeAnd book (Printed task bytes blanks w)
 EndedWith task bytes blanks w status.BadWords book = ⊥
-EndedWith task bytes blanks w (status.BadDescription p) book = IsShort bytes × (document whole_grammar bytes ≡ Err (fault.Description p))
-EndedWith task bytes blanks w (status.BadScript f) book = IsShort bytes × (document whole_grammar bytes ≡ Err (fault.Script f))
+EndedWith task bytes blanks w (status.BadDescription p) book =
+    IsShort bytes × (document whole_grammar bytes ≡ Err (fault.Description p))
+EndedWith task bytes blanks w (status.BadScript f) book =
+    IsShort bytes × (document whole_grammar bytes ≡ Err (fault.Script f))
 EndedWith task bytes blanks w status.ReadFault book = Unit {0}
 EndedWith task bytes blanks w status.TooLong book = LONGEST_DOCUMENT < length bytes
 EndedWith task bytes blanks w status.Memory book = WantsMemory task bytes blanks w book
 EndedWith task bytes blanks w status.WriteFault book = IsSomeAnd book (Cut task bytes blanks w)
 
--- What a run handed out and wrote by its status, whatever its source tells. Ok and a write fault come with a book, want of memory may, and
--- no other status does. A book is that of a run of an accepted document, and the sink has grown by all of the text of its history where the
--- run went well, else by a front of it. Where memory ran out and no book came, nothing was written.
+-- What a run handed out and wrote by its status, whatever its source tells. Ok and a write fault come with a book, want
+-- of memory may, and no other status does. A book is that of a run of an accepted document, and the sink has grown by
+-- all of the text of its history where the run went well, else by a front of it. Where memory ran out and no book came,
+-- nothing was written.
 abbrev pub HandsOut : Task → Blanks → Written → Status → Option BookFacts → Type 0
 HandsOut task blanks w status.Ok book = IsSomeAnd book (λ b. (bytes : List ℕ) × Printed task bytes blanks w b)
 HandsOut task blanks w status.WriteFault book = IsSomeAnd book (λ b. (bytes : List ℕ) × Cut task bytes blanks w b)
@@ -87,7 +92,8 @@ status_of_document (Err fault.Memory) = status.Memory
 
 -- The length comes first, then the description, then the script.
 abbrev pub status_of : List ℕ → Status
-status_of bytes = if nat_lt LONGEST_DOCUMENT (length bytes) then status.TooLong else status_of_document (document whole_grammar bytes)
+status_of bytes =
+    if nat_lt LONGEST_DOCUMENT (length bytes) then status.TooLong else status_of_document (document whole_grammar bytes)
 
 -- the statuses that come before anything is written
 abbrev pub ComesBeforeWriting : Status → Type 0
@@ -116,11 +122,12 @@ Wrote text w status.Memory = AppendsPrefix w.old w.new text
 Wrote text w status.WriteFault = AppendsPrefix w.old w.new text
 Wrote text w _ = ⊥
 
--- What a run of an accepted document came to: without a book memory ran out before anything was written; with one the text of its
--- history was written.
+-- What a run of an accepted document came to: without a book memory ran out before anything was written; with one the
+-- text of its history was written.
 abbrev pub RanDocument : Task → Document → Blanks → Written → Status → Option BookFacts → Type 0
 RanDocument task d blanks w ended None = (ended ≡ status.Memory) × Keeps w.old w.new
-RanDocument task d blanks w ended (Some book) = IsBookOf task.history blanks d book × Wrote (task.text d book.history) w ended
+RanDocument task d blanks w ended (Some book) =
+    IsBookOf task.history blanks d book × Wrote (task.text d book.history) w ended
 
 -- the statuses that a run can come to once its bytes are read
 abbrev pub ComesOfBytes : Status → Type 0

@@ -12,12 +12,14 @@ ghost use Rattle.cm_top.specs.Jobs.{progress_of};
 ghost use Rattle.cm_top.specs.Book.{book_facts, finished, task_of, text_by};
 ghost use Rattle.cm_top.specs.Status.{Wrote, RanDocument};
 
-use crate::jobs::{Job, run_in_steps, run_job};
+use crate::jobs::{RunningJob, run_in_steps, run_job};
 use crate::status::Status;
-use cm_desk::{Book, Stock};
-use cm_model::{Checked, Document, Memory, Script};
+use cm_desk::Book;
+use cm_document::{Checked, Document, Script};
 use cm_words::JobKind;
+use ctl_rack::Stock;
 use ctl_trait::Controller;
+use fixed_num::Memory;
 use outside_io::Sink;
 use std::alloc::Global;
 use summary_text::write_summary;
@@ -56,7 +58,7 @@ fn made<C: Controller>(
     checked: Checked,
     script: &Script,
     stock: Stock<C>,
-) -> Result<Job<C>, Memory>
+) -> Result<RunningJob<C>, Memory>
     requires few { length script.now.sessions < 2 ^ 32 }
     requires lines { All (λ s. AreLines s.lines) script.now.sessions }
     ensures opening { IfOk result
@@ -75,7 +77,7 @@ fn write<K: Sink, C: Controller>(
     alloc: Global,
     sink: &mut K,
     make: Option<u32>,
-    job: &Job<C>,
+    job: &RunningJob<C>,
     script: &Script,
 ) -> Status
     ensures wrote { Wrote (text_by make
@@ -96,7 +98,7 @@ fn write_text<K: Sink, C: Controller>(
     alloc: Global,
     sink: &mut K,
     make: Option<u32>,
-    job: &Job<C>,
+    job: &RunningJob<C>,
     script: &Script,
 ) -> Result<(), OutFault>
     ensures ok { OnOk result

@@ -10,7 +10,7 @@ ghost use Rattle.cm_document.specs.Valid.{valid, IsDescribed};
 ghost use Rattle.cm_top.specs.Status.{IsPlainFault};
 
 use crate::parts::divide;
-use cm_model::{
+use cm_document::{
     CheckFault, Checked, DescFault, DescProblem, Description, Document, DocumentFault, Script,
     ScriptFault,
 };

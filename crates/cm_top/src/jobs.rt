@@ -12,24 +12,28 @@ ghost use Rattle.console_session.specs.Sessions.{AreLines, left_of};
 ghost use Rattle.cm_top.specs.Jobs.{at, progress_of};
 
 use crate::port::DeskPort;
-use cm_desk::{Book, Desk, Flight, Stock};
-use cm_model::{Call, Checked, Entry, Memory, Script, SessionText, Turn};
+use cm_desk::{Book, Desk};
+use cm_document::{Call, Checked, Script, SessionText, Turn};
+use cm_model::Entry;
 use console_session::{Progress, Session};
+use ctl_rack::Stock;
 use ctl_trait::Controller;
+use fixed_num::Memory;
+use rt_flight::Flight;
 use sequence::Seq;
 use std::alloc::Global;
 use std::marker::Model;
 
 /// How far a run has come: its desk, with the history, where each session stands, and the flight of the cycle that is aloft, where one is.
 #[derive(Drop)]
-pub struct Job<C: Controller> {
+pub struct RunningJob<C: Controller> {
     desk: Desk<C>,
     sessions: Vec<Session>,
     /// It is computed as soon as it is out.
     flight: Option<Flight<C>>,
 }
 
-impl<C: Controller> Model for Job<C> {
+impl<C: Controller> Model for RunningJob<C> {
     ghost use Rattle.std.specs.Prelude.{◌≡◌, length};
     ghost use Rattle.cm_desk.specs.Desk.{IsFlown};
     ghost use Rattle.cm_top.specs.Jobs.{JobFacts};
@@ -41,7 +45,7 @@ impl<C: Controller> Model for Job<C> {
     ghost invariant = { λ j. (length j.sessions.items ≡ j.desk.opening.sessions) × IsFlown j.desk j.flight };
 }
 
-impl<C: Controller> Job<C> {
+impl<C: Controller> RunningJob<C> {
     ghost use Rattle.cm_model.specs.Machine.{can_begin, can_end, can_close};
     ghost use Rattle.cm_model.specs.Scheduled.{settle_all, looped, with_cycle};
     ghost use Rattle.cm_top.specs.Jobs.{GoesOn};
@@ -53,7 +57,7 @@ impl<C: Controller> Job<C> {
         checked: Checked,
         script: &Script,
         stock: Stock<C>,
-    ) -> Result<Job<C>, Memory>
+    ) -> Result<RunningJob<C>, Memory>
         requires few { length script.now.sessions < 2 ^ 32 }
         requires lines { All (λ s. AreLines s.lines) script.now.sessions }
         ensures opening { IfOk result
@@ -64,7 +68,7 @@ impl<C: Controller> Job<C> {
         let texts = script.sessions.as_slice();
         let sessions = waiting(alloc, texts)?;
         let desk = Desk::boot(alloc, checked, stock, texts.len() as u32)?;
-        Ok(Job {
+        Ok(RunningJob {
             desk,
             sessions,
             flight: None,
@@ -277,7 +281,7 @@ pub fn run_job<C: Controller>(
     checked: Checked,
     script: &Script,
     stock: Stock<C>,
-) -> Result<Job<C>, Memory>
+) -> Result<RunningJob<C>, Memory>
     requires few { length script.now.sessions < 2 ^ 32 }
     requires lines { All (λ s. AreLines s.lines) script.now.sessions }
     ensures opening { IfOk result
@@ -287,7 +291,7 @@ pub fn run_job<C: Controller>(
         (cycles checked.cycles (start (record { description = checked; script = script.now }) stock))) }
 {
     let count = checked.description().cycles;
-    let mut job = Job::start(alloc, checked, script, stock)?;
+    let mut job = RunningJob::start(alloc, checked, script, stock)?;
     match job.run(alloc, count) {
         Ok(()) => Ok(job),
         Err(Memory) => {
@@ -303,7 +307,7 @@ pub fn run_in_steps<C: Controller>(
     checked: Checked,
     script: &Script,
     stock: Stock<C>,
-) -> Result<Job<C>, Memory>
+) -> Result<RunningJob<C>, Memory>
     requires few { length script.now.sessions < 2 ^ 32 }
     requires lines { All (λ s. AreLines s.lines) script.now.sessions }
     ensures opening { IfOk result
@@ -313,7 +317,7 @@ pub fn run_in_steps<C: Controller>(
         (start (record { description = checked; script = script.now }) stock))))) }
 {
     let count = checked.description().cycles;
-    let mut job = Job::start(alloc, checked, script, stock)?;
+    let mut job = RunningJob::start(alloc, checked, script, stock)?;
     match job.run_in_steps(alloc, script.schedule.as_slice(), count) {
         Ok(()) => Ok(job),
         Err(Memory) => {

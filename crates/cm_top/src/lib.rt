@@ -3,8 +3,6 @@
 #![tactic(auto)]
 
 pub use accepted::run_document;
-pub use cm_desk::{Book, Stock};
-pub use cm_words::{Job, JobKind};
 pub use document::read_document;
 pub use status::Status;
 pub use top::{run, run_alone};

@@ -4,8 +4,10 @@ ghost use Rattle.std.specs.Prelude.{◌≡◌, ◌<◌};
 ghost use Rattle.cm_top.specs.Ports.{desk_console, ground_of, DeskGround};
 
 use cm_desk::Desk;
-use cm_model::{Call, Memory, Outcome, Port, Reply};
+use cm_document::Call;
+use cm_model::{Outcome, Port, Reply};
 use ctl_trait::Controller;
+use fixed_num::Memory;
 use std::alloc::Global;
 
 /// The console of one session over a desk, which is lent to it meanwhile. A box that an unload hands out is dropped.

@@ -1,6 +1,6 @@
 //! How a run ended.
 
-use cm_model::{DescProblem, ScriptFault};
+use cm_document::{DescProblem, ScriptFault};
 use thiserror::Error;
 
 /// How a run ended. Statuses 3 and 4 never carry a want of memory.

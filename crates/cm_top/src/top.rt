@@ -11,11 +11,12 @@ ghost use Rattle.cm_top.specs.Calls.Run.{source_facts, sink_facts, RefusesWords,
 use crate::accepted::run_document;
 use crate::document::read_document;
 use crate::status::Status;
-use cm_desk::{Book, Stock};
-use cm_document::LONGEST_DOCUMENT;
-use cm_model::{DocumentFault, Memory};
+use cm_desk::Book;
+use cm_document::{DocumentFault, LONGEST_DOCUMENT};
 use cm_words::{Job, WordsFault, asked};
+use ctl_rack::Stock;
 use ctl_trait::Controller;
+use fixed_num::Memory;
 use make_document::make_document;
 use outside_io::{Gate, Pace, ReadFault, Sink, Source, read_whole};
 use std::alloc::Global;

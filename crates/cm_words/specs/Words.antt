@@ -1,11 +1,12 @@
 -- The words after the program's name: which are accepted, and the job that they ask for.
-use Rattle.std.specs.Prelude.{ℕ, ◌&&◌, nat_le, true, if◌then◌else◌, List, [], ◌∷◌, codes, length, Option, Some, None, option_and_then, Result, Ok, Err}
+use Rattle.std.specs.Prelude.{ℕ, ◌&&◌, nat_le, true, if◌then◌else◌, List, [], ◌∷◌, codes, length, Option, Some, None}
+use Rattle.std.specs.Prelude.{option_and_then, Result, Ok, Err}
 use Rattle.std.specs.List.{list_all}
 use Rattle.std.specs.Char.{is_ascii_digit}
 use Rattle.std.specs.Str.{bytes_eq}
 use Rattle.std.specs.Str.Parse.{digits_value}
 use Rattle.clap.specs.Words.{App, Kinds, Rule, Text, fault_of, first_of, matches_of, new_app, new_rule, with_rule}
-use Rattle.cm_words.specs.declared.job.TheConstants.{MOST_DIGITS, MOST_ROUNDS}
+use Rattle.cm_words.specs.declared.job.TheConstants.{MOST_DIGITS_OF_ROUNDS, MOST_ROUNDS}
 use Rattle.cm_words.specs.declared.job.Job.{Job}
 use Rattle.cm_words.specs.declared.job.JobKind.{JobKind}
 use Rattle.cm_words.specs.declared.job.JobKind.TheVariants.{Run, Steps}
@@ -52,7 +53,8 @@ make_text line = given (codes "make") line
 
 -- the job that a word names
 abbrev pub kind_named : Text → Option JobKind
-kind_named word = if bytes_eq word (codes "run") then Some Run else (if bytes_eq word (codes "steps") then Some Steps else None)
+kind_named word =
+    if bytes_eq word (codes "run") then Some Run else (if bytes_eq word (codes "steps") then Some Steps else None)
 
 -- a number of rounds that can be asked for
 abbrev pub rounds_within : ℕ → Option ℕ
@@ -61,7 +63,8 @@ rounds_within n = if nat_le 1 n && nat_le n MOST_ROUNDS then Some n else None
 -- how many rounds a text asks for, in one to four digits
 abbrev pub rounds_in : Text → Option ℕ
 rounds_in text =
-    if (nat_le 1 (length text) && nat_le (length text) MOST_DIGITS) && list_all is_ascii_digit text then rounds_within (digits_value 10 text)
+    if (nat_le 1 (length text) && nat_le (length text) MOST_DIGITS_OF_ROUNDS) && list_all is_ascii_digit text
+    then rounds_within (digits_value 10 text)
     else None
 
 -- a job of this kind that makes its document, where the text says of how many rounds
@@ -78,7 +81,7 @@ abbrev pub job_of : Option JobKind → Option Text → Result Job WordsFault
 job_of None make = Err Usage
 job_of (Some kind) make = job_with kind make
 
--- The job that the words ask for. Words are refused that the command does not take, and those whose job is none of these or whose
--- number of rounds is none.
+-- The job that the words ask for. Words are refused that the command does not take, and those whose job is none of
+-- these or whose number of rounds is none.
 abbrev pub asked : List Text → Result Job WordsFault
 asked words = let line = codes "cm" ∷ words in job_of (option_and_then kind_named (job_word line)) (make_text line)

@@ -7,7 +7,7 @@ use thiserror::Error;
 pub const MOST_ROUNDS: u32 = 1_000;
 
 /// The most digits of a number of rounds; zeros may lead it.
-pub const MOST_DIGITS: usize = 4;
+pub const MOST_DIGITS_OF_ROUNDS: usize = 4;
 
 /// How a document is run.
 #[derive(Clone, Copy, Debug, PartialEq, Eq)]

@@ -8,7 +8,7 @@ ghost use Rattle.sequence.specs.Answers.{Answers};
 ghost use Rattle.cm_words.specs.declared.job.TheConstants.{MOST_ROUNDS};
 ghost use Rattle.cm_words.specs.Words.{asked, given, job_of, job_with, job_word, kind_named, make_text, rounds_in};
 
-use crate::job::{MOST_DIGITS, MOST_ROUNDS};
+use crate::job::{MOST_DIGITS_OF_ROUNDS, MOST_ROUNDS};
 use crate::{Job, JobKind, WordsFault};
 use clap::error::ErrorKind;
 use clap::{Arg, ArgMatches, Command, Error};
@@ -132,7 +132,7 @@ fn rounds_in(text: &str) -> Option<u32>
     ensures rounds { result ≡ rounds_in text.now }
     ensures within { IfSome result (λ rounds. (1 ≤ rounds) × (rounds ≤ MOST_ROUNDS)) }
 {
-    if text.is_empty() || text.len() > MOST_DIGITS || !are_digits(text) {
+    if text.is_empty() || text.len() > MOST_DIGITS_OF_ROUNDS || !are_digits(text) {
         return None;
     }
     match text.parse::<u32>() {

@@ -8,10 +8,11 @@ use case_calls::calls::{call_of, name_of};
 use case_calls::replies::push_reply;
 use case_pages::acts::{Player, hold_acts};
 use case_pages::pages::joined;
-use cm_model::{
-    Boxed, Call, Entry, KeptCall, Memory, Outcome, Port, Reply, Seq, SessionText, SharedList, Why,
-};
+use cm_document::{Call, SessionText};
+use cm_model::{Entry, KeptCall, Outcome, Port, Reply, Why};
 use console_session::{Progress, Session};
+use fixed_num::Memory;
+use sequence::{Boxed, Seq, SharedList};
 use std::alloc::Global;
 use std::test::Fail;
 

@@ -96,6 +96,9 @@ abbrev pub IsWritten : Progress → State → ℕ → List Entry → List Entry 
 IsWritten progress.Ran opening who h h' x x' = advance who (advanced opening h x) ≡ Some (advanced opening h' x')
 IsWritten _ opening who h h' x x' = (advance who (advanced opening h x) ≡ None) × (h' ≡ h)
 
--- Over a console that tells the whole history behind it, an advance is the written one of a session of the console's number.
+-- Over a console that tells the whole history behind it, an advance is the written one of a session of the console's
+-- number.
 abbrev pub AdvancesAsWritten : Progress → Console → Console → SessionState → SessionState → Type 0
-AdvancesAsWritten p old new x x' = (h : List Entry) → old.whole ≡ Some h → (h' : List Entry) × (new.whole ≡ Some h') × IsWritten p old.opening old.who h h' x x'
+AdvancesAsWritten p old new x x' =
+    (h : List Entry) → old.whole ≡ Some h
+    → (h' : List Entry) × (new.whole ≡ Some h') × IsWritten p old.opening old.who h h' x x'

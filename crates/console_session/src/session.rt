@@ -5,7 +5,9 @@ ghost use Rattle.cm_model.specs.Scheduled.{ticket_in};
 ghost use Rattle.cm_model.specs.Ports.{Makes, MakesNone, IsNotYet};
 ghost use Rattle.console_session.specs.Sessions.{IsLine, AreLines, SessionState, awaited, at_first, next_of, Advances, HasStopped, AdvancesAsWritten};
 
-use cm_model::{Call, Memory, Port, Reply, SessionText};
+use cm_document::{Call, SessionText};
+use cm_model::{Port, Reply};
+use fixed_num::Memory;
 use std::marker::Model;
 
 /// What an advance came to.

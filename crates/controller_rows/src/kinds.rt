@@ -12,13 +12,16 @@ use crate::kinds::pages::{FORWARDS, LIFECYCLE, MOCKS, PASSTHROUGHS};
 use crate::kinds::tried::Tried;
 use case_pages::pages::{Teller, hold, push_parted};
 use case_pages::words::number;
-use cm_model::{Cycles, Fx, Mail, Params, Point2, Seq};
+use cm_document::{Cycles, Mail, Params, Point2};
+use cm_model::Tick;
 use ctl_bcast::Broadcaster;
 use ctl_forward::{Forward, Passthrough};
 use ctl_mock::Mock;
 use ctl_pid::PidCtl;
-use ctl_trait::{Controller, Tick, Value};
+use ctl_trait::Controller;
 use ctl_traj::TrajCtl;
+use fixed_num::{Fx, Value};
+use sequence::Seq;
 use std::alloc::Global;
 use std::test::Fail;
 

@@ -4,7 +4,10 @@ ghost use Rattle.std.specs.Prelude.{◌≡◌};
 ghost use Rattle.cm_model.specs.State.{fresh};
 ghost use Rattle.cm_document.specs.declared.description.CtlKind.TheVariants as kind;
 
-use ctl_trait::{CfgFault, Controller, CtlKind, Done, Fx, Mail, Params, Tick, Value};
+use cm_document::{CtlKind, Mail, Params};
+use cm_model::{Done, Tick};
+use ctl_trait::{CfgFault, Controller};
+use fixed_num::{Fx, Value};
 use std::alloc::Global;
 
 /// A broadcaster: it publishes the states that it reads, and commands nothing.

@@ -4,7 +4,10 @@ ghost use Rattle.std.specs.Prelude.{◌≡◌};
 ghost use Rattle.cm_model.specs.State.{fresh};
 ghost use Rattle.cm_document.specs.declared.description.CtlKind.TheVariants as kind;
 
-use ctl_trait::{CfgFault, Controller, CtlKind, Done, Fx, Mail, Params, SetPart, Tick, Value};
+use cm_document::{CtlKind, Mail, Params};
+use cm_model::{Done, Tick};
+use ctl_trait::{CfgFault, Controller, SetPart};
+use fixed_num::{Fx, Value};
 use std::alloc::Global;
 
 /// A passthrough: where it is chained it gives its references, else the values that it was sent last; before any mail these are unset.

@@ -24,12 +24,17 @@ running_of r = run.Pid r.chained r.set r.integral r.last
 -- its data
 abbrev pub pid_data : Option Kept → CtlData
 pid_data None = fresh kind.Pid
-pid_data (Some kept) = record { kind = kind.Pid; params = Some (params_of kept.tuning); run = option_map running_of kept.run }
+pid_data (Some kept) = record {
+  kind = kind.Pid;
+  params = Some (params_of kept.tuning);
+  run = option_map running_of kept.run;
+}
 
 -- What an update gives: it goes to its reference where it is chained, else to the value that was set.
 abbrev pub loop_step : Tuning → Run → ℕ → ℤ → Value → Updated
 loop_step tuning r dt_us state reference =
-    pid_update tuning r.chained r.set r.integral r.last dt_us (wanted r.chained (reference ∷ []) (r.set ∷ [])) (state ∷ [])
+    pid_update tuning r.chained r.set r.integral r.last dt_us (wanted r.chained (reference ∷ []) (r.set ∷ []))
+    (state ∷ [])
 
 -- what it keeps after a step towards a number
 abbrev pub corrected_run : Tuning → Run → ℕ → ℤ → ℤ → Run

@@ -6,9 +6,10 @@ ghost use Rattle.cm_document.specs.declared.description.CtlKind.TheVariants as k
 ghost use Rattle.ctl_pid.specs.Loops.{running_of, loop_step, corrected_run, correction};
 
 use crate::tuning::{Tuning, derivative_of, error_of};
-use ctl_trait::{
-    CfgFault, Controller, CtlKind, Done, Fx, LONGEST_PERIOD, Mail, Params, Tick, Value,
-};
+use cm_document::{CtlKind, Mail, Params};
+use cm_model::{Done, LONGEST_PERIOD, Tick};
+use ctl_trait::{CfgFault, Controller};
+use fixed_num::{Fx, Value};
 use std::alloc::Global;
 
 /// A pid: it gives the output that brings its state to its reference where it is chained, else to the value that it was sent last.

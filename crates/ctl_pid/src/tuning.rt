@@ -6,7 +6,8 @@ ghost use Rattle.fixed_num.specs.Arithmetic.{change_at, within};
 ghost use Rattle.cm_document.specs.Valid.{not_negative};
 ghost use Rattle.cm_model.specs.Pids.{error_of, integrated, derivative_of, corrected};
 
-use ctl_trait::{Fx, LONGEST_PERIOD};
+use cm_model::LONGEST_PERIOD;
+use fixed_num::Fx;
 use std::marker::Model;
 
 /// How many micro-units a unit has, and microseconds a second.

@@ -18,13 +18,13 @@ use Rattle.cm_document.specs.declared.description.JointDesc.{JointDesc}
 use Rattle.loan_board.proofs.MakingLemmas.{interfaces_few}
 use Rattle.ctl_places.specs.Listing.{listed_of, listed_at, listed_joint, listed_joints, referring, listed_controllers, state_in, command_in, claimers_in}
 use Rattle.ctl_places.specs.Placed.{Placed, state_place, command_place, placed_of}
-use Rattle.ctl_places.specs.declared.listed.Listed.{Listed}
+use Rattle.ctl_places.specs.declared.listed.ListedInterface.{ListedInterface}
 use Rattle.ctl_places.proofs.FirstLemmas.{position-map}
 
 -- ---- Of joints
 
 -- what is called so is listed so, where no controller exports it
-abbrev listed_as : Called → Listed
+abbrev listed_as : Called → ListedInterface
 listed_as called = record { is_command = called.is_command; name = called.name; exporter = None }
 
 module _ (call : IfaceName → Called) (is_command : Bool) (sided : (name : IfaceName) → call name ≡ record { is_command = is_command; name = name }) where
@@ -73,13 +73,13 @@ all_listed d =
     ∙ ap₂ (λ xs ys. xs ++ ys) (of_components a_command true (λ name. refl) 0 0 d.components) (of_controllers 0 d.controllers)))
 
 -- what is listed of a valid description has numbers of 32 bits
-pub few_listed : (d : Description) (listed : List Listed) → IsValid d → listed ≡ map listed_of (interfaces_of d) → length listed < 2 ^ 32
+pub few_listed : (d : Description) (listed : List ListedInterface) → IsValid d → listed ≡ map listed_of (interfaces_of d) → length listed < 2 ^ 32
 few_listed d listed ok are = rw (are, length-map (interfaces_of d) listed_of) (interfaces_few d ok)
 
 -- ---- Looked up
 
 -- the places of what controllers read, export and claim, and of each interface its controllers, as they are looked up
-abbrev pub looked_up : List Listed → List CtlDesc → Placed
+abbrev pub looked_up : List ListedInterface → List CtlDesc → Placed
 looked_up listed controllers = record {
   reads = map (λ c. filter_map (state_in listed) c.reads) controllers;
   references = map (λ c. filter_map (command_in listed) (refs_of c)) controllers;
@@ -89,10 +89,10 @@ looked_up listed controllers = record {
 }
 
 states_in : (d : Description) → state_in (map listed_of (interfaces_of d)) ≡ state_place d
-states_in d = fun_ext (λ name. position-map (λ (each : Listed). not each.is_command && same_interface each.name name) listed_of (interfaces_of d))
+states_in d = fun_ext (λ name. position-map (λ (each : ListedInterface). not each.is_command && same_interface each.name name) listed_of (interfaces_of d))
 
 commands_in : (d : Description) → command_in (map listed_of (interfaces_of d)) ≡ command_place d
-commands_in d = fun_ext (λ name. position-map (λ (each : Listed). each.is_command && same_interface each.name name) listed_of (interfaces_of d))
+commands_in d = fun_ext (λ name. position-map (λ (each : ListedInterface). each.is_command && same_interface each.name name) listed_of (interfaces_of d))
 
 abbrev with_rows : List CtlDesc → (IfaceName → Option ℕ) → (IfaceName → Option ℕ) → List (List ℕ) → List (Option ℕ) → Placed
 with_rows controllers state command claimers exporters = record {
@@ -106,5 +106,5 @@ with_rows controllers state command claimers exporters = record {
 -- among all that is listed of a description they are the places of it
 pub looked_up-placed : (d : Description) → looked_up (map listed_of (interfaces_of d)) d.controllers ≡ placed_of d
 looked_up-placed d =
-    ap₂ (λ state command. with_rows d.controllers state command (map (claimers_in d.controllers) (map listed_of (interfaces_of d))) (map (λ (each : Listed). each.exporter) (map listed_of (interfaces_of d)))) (states_in d) (commands_in d)
-    ∙ ap₂ (with_rows d.controllers (state_place d) (command_place d)) (map-map (claimers_in d.controllers) listed_of (interfaces_of d)) (map-map (λ (each : Listed). each.exporter) listed_of (interfaces_of d))
+    ap₂ (λ state command. with_rows d.controllers state command (map (claimers_in d.controllers) (map listed_of (interfaces_of d))) (map (λ (each : ListedInterface). each.exporter) (map listed_of (interfaces_of d)))) (states_in d) (commands_in d)
+    ∙ ap₂ (with_rows d.controllers (state_place d) (command_place d)) (map-map (claimers_in d.controllers) listed_of (interfaces_of d)) (map-map (λ (each : ListedInterface). each.exporter) listed_of (interfaces_of d))

@@ -1,5 +1,6 @@
 -- Where the interfaces of each described controller stand on the board: by place in place of by name.
-use Rattle.std.specs.Prelude.{◌≡◌, ℕ, zero, suc, ◌<◌, true, if◌then◌else◌, List, [], ◌∷◌, length, map, filter_map, position, slice_get, All, Option, None, Some}
+use Rattle.std.specs.Prelude.{◌≡◌, ℕ, zero, suc, ◌<◌, true, if◌then◌else◌, List, [], ◌∷◌, length, map, filter_map}
+use Rattle.std.specs.Prelude.{position, slice_get, All, Option, None, Some}
 use Rattle.std.specs.Option.{option_map_or}
 use Rattle.fixed_num.specs.declared.value.Value.{Value}
 use Rattle.fixed_num.specs.declared.value.Value.TheVariants.{Unset}
@@ -22,17 +23,20 @@ state_place d name = position (λ i. is_state_named name i.called) (interfaces_o
 abbrev pub command_place : Description → IfaceName → Option ℕ
 command_place d name = position (λ i. is_command_named name i.called) (interfaces_of d)
 
--- the controllers that claim an interface, by their places in the description, ascending; nobody claims a state interface
+-- the controllers that claim an interface, by their places in the description, ascending; nobody claims a state
+-- interface
 abbrev pub claimers_of : List CtlDesc → Interface → List ℕ
-claimers_of controllers i = if i.called.is_command then places_below (λ p. claims_at controllers p i.called.name) (length controllers) else []
+claimers_of controllers i =
+    if i.called.is_command then places_below (λ p. claims_at controllers p i.called.name) (length controllers) else []
 
--- the controller that exports a reference, by its place in the description; no controller exports a component's interface
+-- the controller that exports a reference, by its place in the description; no controller exports a component's
+-- interface
 abbrev pub exporter_of : Whose → Option ℕ
 exporter_of (of_joint component joint) = None
 exporter_of (of_controller place) = Some place
 
--- For each described controller, by place, the places on the board of what it reads, of its references and of what it claims, each in
--- the order of its list; and for each place on the board, who claims it and who exports it.
+-- For each described controller, by place, the places on the board of what it reads, of its references and of what it
+-- claims, each in the order of its list; and for each place on the board, who claims it and who exports it.
 pub record Placed : Type 0 where
   pub reads : List (List ℕ)
   pub references : List (List ℕ)

@@ -4,19 +4,21 @@ ghost use Rattle.std.specs.Prelude.{◌≡◌, ◌<◌, ◌^◌, ◌++◌, map, 
 ghost use Rattle.cm_document.specs.Places.{interfaces_of, kinds_of};
 ghost use Rattle.ctl_places.specs.Listing.{listed_of, listed_at, listed_joint, listed_joints, listed_references, listed_controllers};
 
-use cm_model::{Checked, CompDesc, CtlDesc, IfaceName, JointDesc, Kind, Memory, Name};
+use cm_document::{Checked, CompDesc, CtlDesc, JointDesc};
+use fixed_num::Memory;
+use iface_names::{IfaceName, Kind, Name};
 use std::alloc::Global;
 
 /// An interface as it is listed, at its place: what it is called, and the controller that exports it.
 #[derive(Debug, Drop)]
-pub(crate) struct Listed {
+pub(crate) struct ListedInterface {
     pub(crate) is_command: bool,
     pub(crate) name: IfaceName,
     pub(crate) exporter: Option<u32>,
 }
 
 /// All interfaces of a description, each at its place.
-pub(crate) fn list(alloc: Global, checked: &Checked) -> Result<Vec<Listed>, Memory>
+pub(crate) fn list(alloc: Global, checked: &Checked) -> Result<Vec<ListedInterface>, Memory>
     ensures { IfOk result (λ listed. listed.items ≡ map listed_of (interfaces_of checked.now)) }
 {
     let description = checked.description();
@@ -30,7 +32,7 @@ pub(crate) fn list(alloc: Global, checked: &Checked) -> Result<Vec<Listed>, Memo
 
 /// The command interfaces of components, or else their state interfaces.
 fn push_components(
-    listed: &mut Vec<Listed>,
+    listed: &mut Vec<ListedInterface>,
     components: &[CompDesc],
     is_command: bool,
 ) -> Result<(), Memory>
@@ -44,7 +46,7 @@ fn push_components(
 
 /// The command interfaces of joints, or else their state interfaces.
 fn push_joints(
-    listed: &mut Vec<Listed>,
+    listed: &mut Vec<ListedInterface>,
     joints: &[JointDesc],
     is_command: bool,
 ) -> Result<(), Memory>
@@ -58,7 +60,7 @@ fn push_joints(
 
 /// An interface of each of these kinds, of the joint of this name.
 fn push_kinds(
-    listed: &mut Vec<Listed>,
+    listed: &mut Vec<ListedInterface>,
     joint: &Name,
     kinds: &[Kind],
     is_command: bool,
@@ -72,11 +74,11 @@ fn push_kinds(
 }
 
 /// An interface of this joint and kind.
-fn listed_at(joint: &Name, kind: Kind, is_command: bool) -> Result<Listed, Memory>
+fn listed_at(joint: &Name, kind: Kind, is_command: bool) -> Result<ListedInterface, Memory>
     ensures { IfOk result (λ listed. listed ≡ listed_at is_command joint.now kind) }
 {
     let joint = joint.clone()?;
-    Ok(Listed {
+    Ok(ListedInterface {
         is_command,
         name: IfaceName::Joint { joint, kind },
         exporter: None,
@@ -84,7 +86,10 @@ fn listed_at(joint: &Name, kind: Kind, is_command: bool) -> Result<Listed, Memor
 }
 
 /// The references of controllers.
-fn push_controllers(listed: &mut Vec<Listed>, controllers: &[CtlDesc]) -> Result<(), Memory>
+fn push_controllers(
+    listed: &mut Vec<ListedInterface>,
+    controllers: &[CtlDesc],
+) -> Result<(), Memory>
     requires { length controllers.now < 2 ^ 32 }
     ensures { OnOk result (listed.new.items ≡ listed.old.items ++ listed_controllers 0 controllers.now) }
 {
@@ -95,11 +100,15 @@ fn push_controllers(listed: &mut Vec<Listed>, controllers: &[CtlDesc]) -> Result
 }
 
 /// The references of the controller at this place.
-fn push_references(listed: &mut Vec<Listed>, controller: &CtlDesc, place: u32) -> Result<(), Memory>
+fn push_references(
+    listed: &mut Vec<ListedInterface>,
+    controller: &CtlDesc,
+    place: u32,
+) -> Result<(), Memory>
     ensures { OnOk result (listed.new.items ≡ listed.old.items ++ listed_references place controller.now) }
 {
     for interface in controller.exported_for() {
-        listed.push(Listed {
+        listed.push(ListedInterface {
             is_command: true,
             name: controller.reference_for(interface)?,
             exporter: Some(place),

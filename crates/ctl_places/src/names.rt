@@ -5,11 +5,12 @@ ghost use Rattle.std.specs.List.{list_any};
 ghost use Rattle.iface_names.specs.Interfaces.{same_interface};
 ghost use Rattle.ctl_places.specs.Listing.{state_in, command_in};
 
-use crate::listed::Listed;
-use cm_model::{CtlDesc, IfaceName};
+use crate::listed::ListedInterface;
+use cm_document::CtlDesc;
+use iface_names::IfaceName;
 
 /// The place of the state interface of this name.
-pub(crate) fn state_place(listed: &[Listed], name: &IfaceName) -> Option<u32>
+pub(crate) fn state_place(listed: &[ListedInterface], name: &IfaceName) -> Option<u32>
     requires { length listed.now < 2 ^ 32 }
     ensures { result ≡ state_in listed.now name.now }
 {
@@ -18,7 +19,7 @@ pub(crate) fn state_place(listed: &[Listed], name: &IfaceName) -> Option<u32>
 }
 
 /// The same, as an index.
-fn find_state(listed: &[Listed], name: &IfaceName) -> Option<usize>
+fn find_state(listed: &[ListedInterface], name: &IfaceName) -> Option<usize>
     ensures place { result ≡ state_in listed.now name.now }
     ensures within { IfSome result (λ place. place < length listed.now) }
 {
@@ -28,7 +29,7 @@ fn find_state(listed: &[Listed], name: &IfaceName) -> Option<usize>
 }
 
 /// The place of the command interface or reference of this name.
-pub(crate) fn command_place(listed: &[Listed], name: &IfaceName) -> Option<u32>
+pub(crate) fn command_place(listed: &[ListedInterface], name: &IfaceName) -> Option<u32>
     requires { length listed.now < 2 ^ 32 }
     ensures { result ≡ command_in listed.now name.now }
 {
@@ -37,7 +38,7 @@ pub(crate) fn command_place(listed: &[Listed], name: &IfaceName) -> Option<u32>
 }
 
 /// The same, as an index.
-fn find_command(listed: &[Listed], name: &IfaceName) -> Option<usize>
+fn find_command(listed: &[ListedInterface], name: &IfaceName) -> Option<usize>
     ensures place { result ≡ command_in listed.now name.now }
     ensures within { IfSome result (λ place. place < length listed.now) }
 {

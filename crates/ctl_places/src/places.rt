@@ -6,7 +6,9 @@ ghost use Rattle.ctl_places.specs.Placed.{placed_of};
 
 use crate::listed::list;
 use crate::rows;
-use cm_model::{Checked, Memory, Seq};
+use cm_document::Checked;
+use fixed_num::Memory;
+use sequence::Seq;
 use std::alloc::Global;
 use std::marker::Model;
 

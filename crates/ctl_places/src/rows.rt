@@ -7,9 +7,12 @@ ghost use Rattle.cm_model.specs.Scene.{claims_at};
 ghost use Rattle.chain_order.specs.Links.{places_below};
 ghost use Rattle.ctl_places.specs.Listing.{state_in, command_in, claimers_in};
 
-use crate::listed::Listed;
+use crate::listed::ListedInterface;
 use crate::names::{claims, command_place, state_place};
-use cm_model::{CtlDesc, IfaceName, Memory, Seq};
+use cm_document::CtlDesc;
+use fixed_num::Memory;
+use iface_names::IfaceName;
+use sequence::Seq;
 use std::alloc::Global;
 
 // ---- Of controllers
@@ -17,7 +20,7 @@ use std::alloc::Global;
 /// For each controller, the places of what it reads.
 pub(crate) fn reads(
     alloc: Global,
-    listed: &[Listed],
+    listed: &[ListedInterface],
     controllers: &[CtlDesc],
 ) -> Result<Seq<Seq<u32>>, Memory>
     requires { length listed.now < 2 ^ 32 }
@@ -31,7 +34,11 @@ pub(crate) fn reads(
 }
 
 /// The places of the state interfaces of these names.
-fn state_places(alloc: Global, listed: &[Listed], names: &[IfaceName]) -> Result<Seq<u32>, Memory>
+fn state_places(
+    alloc: Global,
+    listed: &[ListedInterface],
+    names: &[IfaceName],
+) -> Result<Seq<u32>, Memory>
     requires { length listed.now < 2 ^ 32 }
     ensures { IfOk result (λ places. places ≡ filter_map (state_in listed.now) names.now) }
 {
@@ -47,7 +54,7 @@ fn state_places(alloc: Global, listed: &[Listed], names: &[IfaceName]) -> Result
 /// For each controller, the places of its references.
 pub(crate) fn references(
     alloc: Global,
-    listed: &[Listed],
+    listed: &[ListedInterface],
     controllers: &[CtlDesc],
 ) -> Result<Seq<Seq<u32>>, Memory>
     requires { length listed.now < 2 ^ 32 }
@@ -64,7 +71,7 @@ pub(crate) fn references(
 /// The places of the references of a controller.
 fn reference_places(
     alloc: Global,
-    listed: &[Listed],
+    listed: &[ListedInterface],
     controller: &CtlDesc,
 ) -> Result<Seq<u32>, Memory>
     requires { length listed.now < 2 ^ 32 }
@@ -83,7 +90,7 @@ fn reference_places(
 /// For each controller, the places of what it claims.
 pub(crate) fn claims_of(
     alloc: Global,
-    listed: &[Listed],
+    listed: &[ListedInterface],
     controllers: &[CtlDesc],
 ) -> Result<Seq<Seq<u32>>, Memory>
     requires { length listed.now < 2 ^ 32 }
@@ -97,7 +104,11 @@ pub(crate) fn claims_of(
 }
 
 /// The places of the command interfaces and references of these names.
-fn command_places(alloc: Global, listed: &[Listed], names: &[IfaceName]) -> Result<Seq<u32>, Memory>
+fn command_places(
+    alloc: Global,
+    listed: &[ListedInterface],
+    names: &[IfaceName],
+) -> Result<Seq<u32>, Memory>
     requires { length listed.now < 2 ^ 32 }
     ensures { IfOk result (λ places. places ≡ filter_map (command_in listed.now) names.now) }
 {
@@ -115,7 +126,7 @@ fn command_places(alloc: Global, listed: &[Listed], names: &[IfaceName]) -> Resu
 /// For each interface, the controllers that claim it.
 pub(crate) fn claimers(
     alloc: Global,
-    listed: &[Listed],
+    listed: &[ListedInterface],
     controllers: &[CtlDesc],
 ) -> Result<Seq<Seq<u32>>, Memory>
     requires { length controllers.now < 2 ^ 32 }
@@ -129,7 +140,11 @@ pub(crate) fn claimers(
 }
 
 /// The controllers that claim a listed interface; nobody claims a state interface.
-fn claimers_in(alloc: Global, controllers: &[CtlDesc], listed: &Listed) -> Result<Seq<u32>, Memory>
+fn claimers_in(
+    alloc: Global,
+    controllers: &[CtlDesc],
+    listed: &ListedInterface,
+) -> Result<Seq<u32>, Memory>
     requires { length controllers.now < 2 ^ 32 }
     ensures { IfOk result (λ places. places ≡ claimers_in controllers.now listed.now) }
 {
@@ -164,7 +179,10 @@ fn claims_at(controllers: &[CtlDesc], place: u32, name: &IfaceName) -> bool
 }
 
 /// For each interface, the controller that exports it.
-pub(crate) fn exporters(alloc: Global, listed: &[Listed]) -> Result<Seq<Option<u32>>, Memory>
+pub(crate) fn exporters(
+    alloc: Global,
+    listed: &[ListedInterface],
+) -> Result<Seq<Option<u32>>, Memory>
     ensures { IfOk result (λ exporters. exporters ≡ map (λ each. each.exporter) listed.now) }
 {
     let mut exporters = Seq::new(alloc);

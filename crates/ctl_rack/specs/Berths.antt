@@ -1,5 +1,6 @@
 -- The rack: each loaded controller has a berth, by its serial.
-use Rattle.std.specs.Prelude.{◌≡◌, ℕ, suc, ◌≤◌, nat_lt, ◌==◌, not, if◌then◌else◌, List, [], ◌∷◌, ◌++◌, map, Option, Some, None, IsSome, IsNone, IsSomeAnd}
+use Rattle.std.specs.Prelude.{◌≡◌, ℕ, suc, ◌≤◌, nat_lt, ◌==◌, not, if◌then◌else◌, List, [], ◌∷◌, ◌++◌, map, Option}
+use Rattle.std.specs.Prelude.{Some, None, IsSome, IsNone, IsSomeAnd}
 use Rattle.std.specs.List.{find, filter}
 use Rattle.cm_document.specs.declared.description.CtlKind.{CtlKind}
 use Rattle.cm_model.specs.State.{fresh, with_one_less}
@@ -68,7 +69,10 @@ with_berth serial ctl berths =
 
 -- the rack once a blank of the kind was loaded under the serial
 abbrev pub after_load : ℕ → CtlKind → Racked → Racked
-after_load serial kind rack = record { berths = with_berth serial (fresh kind) rack.berths; blanks = with_one_less rack.blanks kind }
+after_load serial kind rack = record {
+  berths = with_berth serial (fresh kind) rack.berths;
+  blanks = with_one_less rack.blanks kind;
+}
 
 -- the serials rise from this number on
 abbrev pub Rises : ℕ → List Berth → Type 0

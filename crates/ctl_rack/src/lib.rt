@@ -2,8 +2,6 @@
 //! A box is lent to be called, and comes back to its berth.
 #![tactic(auto)]
 
-pub use cm_model::Blanks;
-pub use ctl_trait::{Controller, CtlKind};
 pub use fault::RackFault;
 pub use piles::Piles;
 pub use rack::{Rack, Whereabouts};

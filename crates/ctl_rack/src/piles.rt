@@ -5,8 +5,9 @@ ghost use Rattle.cm_model.specs.State.{blanks_of, with_one_less, fresh};
 ghost use Rattle.cm_model.specs.Controllers.{IsBlank};
 ghost use Rattle.ctl_rack.specs.Stocks.{no_blanks, with_one_more};
 
-use cm_model::Memory;
-use ctl_trait::{Controller, CtlKind};
+use cm_document::CtlKind;
+use ctl_trait::Controller;
+use fixed_num::Memory;
 use std::alloc::Global;
 use std::marker::Model;
 

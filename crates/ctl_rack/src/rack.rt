@@ -10,9 +10,9 @@ use crate::berth::Seat;
 use crate::fault::RackFault;
 use crate::piles::Piles;
 use crate::stock::Stock;
-use cm_document::MOST_CONTROLLERS;
-use cm_model::Memory;
-use ctl_trait::{Controller, CtlKind};
+use cm_document::{CtlKind, MOST_CONTROLLERS};
+use ctl_trait::Controller;
+use fixed_num::Memory;
 use std::alloc::Global;
 use std::marker::Model;
 

@@ -26,8 +26,8 @@ committed_at placed loans chained stopped started l =
     if set_of started l.place then come (numbers_at loans (linked placed.reads l.place)) (set_of chained l.place) l
     else (if set_of stopped l.place then leaving l else l)
 
--- So these flags tell a commit, after which this set is active, with these restarted: who is stopped, who is started, and who is
--- chained in the set.
+-- So these flags tell a commit, after which this set is active, with these restarted: who is stopped, who is started,
+-- and who is chained in the set.
 pub record TellCommit (s : State) (set again : Places) (chains stops starts : List Bool) : Type 0 where
   pub chained : set_of chains ≡ is_chained_in s.description.controllers set
   pub stopped : set_of stops ≡ is_stopped (scene_of s) set again

@@ -19,8 +19,8 @@ IsWaiting l = IfSome l.mail (λ mail. (is_active l ≡ true) × CanTake l.ctl ma
 abbrev pub IsFor : Loaded → MailAloft → Type 0
 IsFor l m = m.serial ≡ l.serial → (is_active l ≡ true) × CanTake l.ctl m.mail
 
--- Of a state: each loaded controller is in time; the mail that waits fits; and so does the mail that is aloft, which no controller to
--- come is for.
+-- Of a state: each loaded controller is in time; the mail that waits fits; and so does the mail that is aloft, which no
+-- controller to come is for.
 pub record AreFit (s : State) : Type 0 where
   pub timed : AllByRecursion (IsTimedIn s.description) s.loaded
   pub waiting : AllByRecursion IsWaiting s.loaded

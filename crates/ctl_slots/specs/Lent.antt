@@ -1,5 +1,6 @@
 -- What becomes of the boxes that leave their slots and come back, by place.
-use Rattle.std.specs.Prelude.{◌≡◌, ℕ, zero, suc, true, List, [], ◌∷◌, filter_map, slice_get, slice_set, Option, None, Some, option_map, IsSomeAnd}
+use Rattle.std.specs.Prelude.{◌≡◌, ℕ, zero, suc, true, List, [], ◌∷◌, filter_map, slice_get, slice_set, Option, None}
+use Rattle.std.specs.Prelude.{Some, option_map, IsSomeAnd}
 use Rattle.cm_model.specs.State.{Loaded, is_active}
 use Rattle.cm_model.specs.declared.data.CtlData.{CtlData}
 
@@ -18,7 +19,8 @@ ctls_at loaded ks = filter_map (λ k. option_map (λ l. l.ctl) (slice_get loaded
 abbrev pub CanLeave : List Loaded → List ℕ → List (Option CtlData) → Type 0
 CanLeave loaded [] boxes = Unit {0}
 CanLeave loaded (k ∷ ks) boxes =
-    IsSomeAnd (slice_get loaded k) (λ l. (is_active l ≡ true) × (slice_get boxes k ≡ Some (Some l.ctl))) × CanLeave loaded ks (slice_set boxes k None)
+    IsSomeAnd (slice_get loaded k) (λ l. (is_active l ≡ true) × (slice_get boxes k ≡ Some (Some l.ctl)))
+    × CanLeave loaded ks (slice_set boxes k None)
 
 -- ---- Boxes that come back
 

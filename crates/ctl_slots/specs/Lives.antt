@@ -1,5 +1,5 @@
--- What is kept of a loaded controller: its lifecycle state, and what its kind says of its parameters and of what runs; when it may be
--- updated with its mail; and what it publishes.
+-- What is kept of a loaded controller: its lifecycle state, and what its kind says of its parameters and of what runs;
+-- when it may be updated with its mail; and what it publishes.
 use Rattle.std.specs.Prelude.{◌≡◌, ℕ, ℤ, Bool, true, false, if◌then◌else◌, List, [], Option, Some, None, IfSome}
 use Rattle.cm_document.specs.Params.{kind_of}
 use Rattle.cm_document.specs.declared.call.Mail.{Mail}
@@ -16,8 +16,8 @@ use Rattle.ctl_trait.specs.Taking.{CanTake}
 
 -- ---- Lifecycle states
 
--- A controller with these data is in this state: unconfigured it has its kind alone, inactive parameters too, active also a running
--- part. No controller is finalized.
+-- A controller with these data is in this state: unconfigured it has its kind alone, inactive parameters too, active
+-- also a running part. No controller is finalized.
 abbrev pub IsIn : Life → CtlData → Type 0
 IsIn Unconfigured ctl = IsBlank ctl
 IsIn Inactive ctl = IsIdle ctl
@@ -43,7 +43,8 @@ abbrev pub once_taken : CtlData → Option Mail → CtlData
 once_taken ctl None = ctl
 once_taken ctl (Some mail) = mailed ctl mail
 
--- It may be updated at the tick with so many states, references and claims, and be handed the mail before, where there is some.
+-- It may be updated at the tick with so many states, references and claims, and be handed the mail before, where there
+-- is some.
 pub record CanBeStepped (ctl : CtlData) (tick : Tick) (states refs outs : ℕ) (mail : Option Mail) : Type 0 where
   pub counts : CanBeUpdated ctl tick states refs outs
   pub taking : IfSome mail (CanTake ctl)

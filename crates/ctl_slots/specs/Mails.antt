@@ -1,5 +1,6 @@
 -- The mail that waits for controllers, and that is aloft with a cycle.
-use Rattle.std.specs.Prelude.{◌≡◌, ℕ, Bool, false, ◌&&◌, ◌==◌, if◌then◌else◌, List, [], ◌∷◌, ◌++◌, option_to_list, find, Option, None, option_map, is_some}
+use Rattle.std.specs.Prelude.{◌≡◌, ℕ, Bool, false, ◌&&◌, ◌==◌, if◌then◌else◌, List, [], ◌∷◌, ◌++◌, option_to_list, find}
+use Rattle.std.specs.Prelude.{Option, None, option_map, is_some}
 use Rattle.std.specs.Option.{option_map_or}
 use Rattle.cm_document.specs.declared.call.Mail.{Mail}
 use Rattle.cm_model.specs.Order.{is_due}
@@ -36,7 +37,10 @@ goes_aloft cycle l = is_active l && is_due_in cycle l
 
 -- what then goes aloft, and the controller without it
 abbrev pub sent : ℕ → Loaded → Option MailAloft
-sent cycle l = if goes_aloft cycle l then option_map (λ mail. record { serial = l.serial; mail = mail }) l.mail else None
+sent cycle l = if goes_aloft cycle l then option_map (λ mail. record {
+  serial = l.serial;
+  mail = mail;
+}) l.mail else None
 
 abbrev pub without_sent : ℕ → Loaded → Loaded
 without_sent cycle l = if goes_aloft cycle l then record l { mail = None } else l

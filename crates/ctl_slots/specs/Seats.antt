@@ -30,8 +30,8 @@ pub record IsShownOn (loans : List Loan) (d : Description) (values : List Interf
 
 -- ---- Seats
 
--- It is one of the controllers whose interfaces have places, each on a board of so many; it claims and reads fewer than 256 each; and
--- where it is configured, it has as many of each as its parameters say.
+-- It is one of the controllers whose interfaces have places, each on a board of so many; it claims and reads fewer than
+-- 256 each; and where it is configured, it has as many of each as its parameters say.
 pub record IsSeated (placed : Placed) (board : ℕ) (l : Loaded) : Type 0 where
   pub few : l.place < 2 ^ 32
   pub few_reads : length (linked placed.reads l.place) < 2 ^ 8
@@ -43,7 +43,8 @@ pub record IsSeated (placed : Placed) (board : ℕ) (l : Loaded) : Type 0 where
   pub referred_there : All (λ place. place < board) (linked placed.references l.place)
   pub claimed_there : All (λ place. place < board) (linked placed.claims l.place)
   pub counts : IfSome l.ctl.params (λ params. AreItsCounts params
-      (length (linked placed.reads l.place)) (length (linked placed.references l.place)) (length (linked placed.claims l.place)))
+      (length (linked placed.reads l.place)) (length (linked placed.references l.place))
+      (length (linked placed.claims l.place)))
 
 -- how many states a controller of a valid description reads at most
 abbrev pub widest : ℕ

@@ -18,8 +18,8 @@ use Rattle.ctl_slots.specs.Seats.{held_at, numbers_at}
 
 -- ---- The cycle
 
--- What is the same for all updates of a cycle: its number, the time from one cycle to the next in microseconds, where controllers stand
--- to the board and to components, and the reads that failed.
+-- What is the same for all updates of a cycle: its number, the time from one cycle to the next in microseconds, where
+-- controllers stand to the board and to components, and the reads that failed.
 pub record Aloft : Type 0 where
   pub number : ℕ
   pub period_us : ℕ
@@ -41,14 +41,16 @@ tick_in a l = record { cycle = a.number; time_us = a.number * a.period_us; dt_us
 
 -- It is held off: a read of one of its components failed.
 abbrev pub is_held_in : Aloft → Loaded → Bool
-is_held_in a l = list_any (λ component. list_any (λ part. part.place == component) a.failed) (linked a.related.components l.place)
+is_held_in a l =
+    list_any (λ component. list_any (λ part. part.place == component) a.failed) (linked a.related.components l.place)
 
 -- ---- One update
 
 -- its step, while the board holds this, and this mail is aloft for it
 abbrev pub step_in : Aloft → List Loan → Option Mail → Loaded → Stepped
 step_in a loans mail l =
-    ctl_step l.ctl (tick_in a l) (numbers_at loans (linked a.placed.reads l.place)) (held_at loans (linked a.placed.references l.place)) mail
+    ctl_step l.ctl (tick_in a l) (numbers_at loans (linked a.placed.reads l.place))
+    (held_at loans (linked a.placed.references l.place)) mail
 
 -- these places of the board hold these values, one after the other
 abbrev pub put_on : List Loan → List ℕ → List Value → List Loan

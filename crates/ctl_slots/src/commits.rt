@@ -11,9 +11,9 @@ use crate::room::{Room, read_numbers};
 use crate::slot::Slot;
 use chain_order::PlaceSet;
 use cm_hardware::ResourceManager;
-use cm_model::Fx;
 use ctl_places::CtlPlaces;
 use ctl_trait::Controller;
+use fixed_num::Fx;
 
 /// A set of controllers becomes active, by place: each in its slot, with its box.
 pub(crate) fn commit_each<C: Controller>(

@@ -8,7 +8,7 @@ ghost use Rattle.ctl_slots.specs.Updates.{HasTime};
 
 use crate::slot::Slot;
 use chain_order::due;
-use cm_model::Mail;
+use cm_document::Mail;
 use ctl_trait::Controller;
 use std::marker::Model;
 

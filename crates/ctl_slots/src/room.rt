@@ -6,7 +6,7 @@ ghost use Rattle.ctl_slots.specs.Seats.{numbers_at, widest};
 
 use cm_document::MOST_STATES;
 use cm_hardware::ResourceManager;
-use cm_model::{Fx, Memory, Value};
+use fixed_num::{Fx, Memory, Value};
 use std::alloc::Global;
 use std::marker::Model;
 

@@ -12,8 +12,9 @@ ghost use Rattle.ctl_slots.specs.Commits.{come, CanCome};
 ghost use Rattle.ctl_slots.specs.Lives.{IsKept};
 ghost use Rattle.ctl_slots.specs.Mails.{has_mail};
 
-use cm_model::{CtlKind, Fx, Life, Mail, Params};
+use cm_document::{CtlKind, Life, Mail, Params};
 use ctl_trait::{CfgFault, Controller};
+use fixed_num::Fx;
 use std::alloc::Global;
 use std::marker::Model;
 use std::snapshot::Snapshot;

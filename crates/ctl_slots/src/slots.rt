@@ -23,10 +23,11 @@ use crate::mails::{MailAloft, send_each, some_mail_waits};
 use crate::room::Room;
 use crate::slot::Slot;
 use chain_order::PlaceSet;
+use cm_document::{Mail, Params};
 use cm_hardware::ResourceManager;
-use cm_model::{Mail, Memory, Params};
 use ctl_places::CtlPlaces;
 use ctl_trait::{CfgFault, Controller};
+use fixed_num::Memory;
 use std::alloc::Global;
 use std::marker::Model;
 

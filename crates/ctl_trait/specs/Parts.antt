@@ -21,7 +21,11 @@ running_of part = option_map (λ chained. Set chained part.set) part.chained
 -- its data: its kind alone, or with the parameters of so many claims and its running part
 abbrev pub data_of : CtlKind → (ℕ → Params) → Option Part → CtlData
 data_of kind params None = fresh kind
-data_of kind params (Some part) = record { kind = kind; params = Some (params (length part.set)); run = running_of part }
+data_of kind params (Some part) = record {
+  kind = kind;
+  params = Some (params (length part.set));
+  run = running_of part;
+}
 
 -- it runs chained
 abbrev pub is_chained_part : Part → Bool

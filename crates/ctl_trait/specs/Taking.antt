@@ -10,6 +10,7 @@ abbrev pub CanTakeAs : CtlKind → CtlData → Mail → Type 0
 CanTakeAs Broadcaster ctl mail = Unit {0}
 CanTakeAs _ ctl mail = CanBeMailed ctl mail
 
--- It may be handed mail that fits, where it runs unchained. A broadcaster, which has nothing to go for, may be handed any.
+-- It may be handed mail that fits, where it runs unchained. A broadcaster, which has nothing to go for, may be handed
+-- any.
 abbrev pub CanTake : CtlData → Mail → Type 0
 CanTake ctl mail = CanTakeAs ctl.kind ctl mail

@@ -7,7 +7,9 @@ ghost use Rattle.ctl_trait.specs.Taking.{CanTake};
 ghost use Rattle.cm_model.specs.declared.data.CtlData.{CtlData};
 
 use crate::fault::CfgFault;
-use cm_model::{CtlKind, Done, Fx, Mail, Params, Tick, Value};
+use cm_document::{CtlKind, Mail, Params};
+use cm_model::{Done, Tick};
+use fixed_num::{Fx, Value};
 use std::alloc::Global;
 
 /// A controller: what the manager loads, configures, activates and updates. Contracts see its data (`CtlData`), and each call does to

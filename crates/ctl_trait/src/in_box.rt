@@ -2,7 +2,9 @@
 
 use crate::controller::Controller;
 use crate::fault::CfgFault;
-use cm_model::{CtlKind, Done, Fx, Mail, Params, Tick, Value};
+use cm_document::{CtlKind, Mail, Params};
+use cm_model::{Done, Tick};
+use fixed_num::{Fx, Value};
 use std::alloc::Global;
 
 /// It is the controller in the box, which may go to another thread.

@@ -4,7 +4,9 @@ ghost use Rattle.std.specs.Prelude.{◌≡◌};
 ghost use Rattle.std.specs.List.{list_all};
 ghost use Rattle.cm_model.specs.Kinds.{shape_of, takes, takes_none, is_for_claims};
 
-use cm_model::{Fx, Mail, Params, Point2, Shape};
+use cm_document::{Mail, Params, Point2};
+use cm_model::Shape;
+use fixed_num::Fx;
 
 /// How many interfaces a controller with these parameters has.
 pub fn shape_of(params: &Params) -> Shape

@@ -2,9 +2,6 @@
 //! The data, and what each kind of controller makes of them, are the table of `cm_model`; the trait's clauses cite it.
 #![tactic(auto)]
 
-pub use cm_model::{
-    CtlData, CtlKind, Cycles, Done, Fx, LONGEST_PERIOD, Mail, Params, Seq, Shape, Tick, Value,
-};
 pub use controller::Controller;
 pub use fault::CfgFault;
 pub use kinds::{shape_of, takes, takes_none};

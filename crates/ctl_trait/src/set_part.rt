@@ -4,7 +4,7 @@ ghost use Rattle.std.specs.Prelude.{◌≡◌, length, map, replicate, Some, Non
 ghost use Rattle.fixed_num.specs.declared.value.Value.TheVariants.{Unset, Num};
 ghost use Rattle.ctl_trait.specs.Parts.{is_chained_part};
 
-use cm_model::{Fx, Value};
+use fixed_num::{Fx, Value};
 use std::alloc::{AllocError, Global};
 use std::marker::Model;
 

@@ -29,7 +29,8 @@ abbrev pub Follow : List Point2 → Point2 → Point2 → Type 0
 Follow (a ∷ b ∷ points) p q = ((a ≡ p) × (b ≡ q)) ⊎ Follow (b ∷ points) p q
 Follow points p q = ⊥
 
--- At the time t it is between two points that follow one another: the time of the one has come, that of the other is to come, and the outputs lie between their values.
+-- At the time t it is between two points that follow one another: the time of the one has come, that of the other is to
+-- come, and the outputs lie between their values.
 pub record GoesBetween (t : ℕ) (points : List Point2) (outs : List ℤ) : Type 0 where
   pub last : Point2
   pub next : Point2

@@ -1,5 +1,6 @@
 -- What a trajectory keeps, seen as the data of a controller.
-use Rattle.std.specs.Prelude.{◌≡◌, ℕ, ◌-◌, ◌==◌, ℤ, Bool, true, false, if◌then◌else◌, List, [], length, Option, Some, None}
+use Rattle.std.specs.Prelude.{◌≡◌, ℕ, ◌-◌, ◌==◌, ℤ, Bool, true, false, if◌then◌else◌, List, [], length, Option, Some}
+use Rattle.std.specs.Prelude.{None}
 use Rattle.std.specs.List.{list_all}
 use Rattle.cm_document.specs.declared.call.Point2.{Point2}
 use Rattle.cm_document.specs.declared.description.CtlKind.TheVariants as kind
@@ -10,7 +11,8 @@ use Rattle.cm_model.specs.declared.data.CtlData.{CtlData}
 use Rattle.cm_model.specs.declared.data.RunData.{RunData}
 use Rattle.cm_model.specs.declared.data.RunData.TheVariants as run
 
--- What a configured trajectory keeps: the values to hold; while it runs, the values at the start, the points, whether they are fresh, and the start.
+-- What a configured trajectory keeps: the values to hold; while it runs, the values at the start, the points, whether
+-- they are fresh, and the start.
 pub record Way : Type 0 where
   pub hold : List ℤ
   pub from : List ℤ
@@ -35,7 +37,11 @@ running_of way = if way.runs then Some (run.Trajectory way.hold way.fresh way.st
 -- its data
 abbrev pub trajectory_data : Option Way → CtlData
 trajectory_data None = fresh kind.Trajectory
-trajectory_data (Some way) = record { kind = kind.Trajectory; params = Some (params.Trajectory (length way.hold)); run = running_of way }
+trajectory_data (Some way) = record {
+  kind = kind.Trajectory;
+  params = Some (params.Trajectory (length way.hold));
+  run = running_of way;
+}
 
 -- as it begins to run: it holds the states
 abbrev pub started_way : List ℤ → Way
@@ -47,7 +53,11 @@ mailed_way way points = record way { points = points; fresh = true }
 
 -- after an update at the time: fresh points count from there, and lead from the states
 abbrev pub moved_way : Way → ℕ → List ℤ → Way
-moved_way way time_us states = if way.fresh then record way { from = states; start_us = time_us; fresh = false } else way
+moved_way way time_us states = if way.fresh then record way {
+  from = states;
+  start_us = time_us;
+  fresh = false;
+} else way
 
 -- the values that the update gives
 abbrev pub way_values : Way → ℕ → List ℤ → List ℤ

@@ -7,8 +7,9 @@ ghost use Rattle.ctl_traj.specs.Calls.Leads.{IsAhead};
 ghost use Rattle.ctl_traj.specs.Led.{all_have};
 
 use crate::segment::on_segment;
-use cm_model::Point2;
-use ctl_trait::{Fx, Value, set_numbers};
+use cm_document::Point2;
+use ctl_trait::set_numbers;
+use fixed_num::{Fx, Value};
 
 /// Puts the values at the time `t` after the start into the claims: without points those to hold, from the last point's time on that
 /// point's, and before it those on the way.

@@ -4,8 +4,7 @@ ghost use Rattle.std.specs.Prelude.{◌≡◌, ◌<◌, ◌≤◌, ◌*◌, ◌*
 ghost use Rattle.fixed_num.specs.Arithmetic.{floor_div};
 ghost use Rattle.cm_model.specs.Ways.{on_segment};
 
-use ctl_trait::Fx;
-use fixed_num::LARGEST;
+use fixed_num::{Fx, LARGEST};
 
 /// The value at the time `t`, on the segment from one at `t0` to one at `t1`.
 #[tactic(auto, using(crate::proofs::SegmentLemmas::sizes))]

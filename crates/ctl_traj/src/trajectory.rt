@@ -7,8 +7,11 @@ ghost use Rattle.cm_document.specs.declared.description.CtlKind.TheVariants as k
 ghost use Rattle.ctl_traj.specs.Led.{started_way, mailed_way, moved_way, way_values, all_have};
 
 use crate::lead::lead;
-use cm_model::Point2;
-use ctl_trait::{CfgFault, Controller, CtlKind, Done, Fx, Mail, Params, Seq, Tick, Value};
+use cm_document::{CtlKind, Mail, Params, Point2};
+use cm_model::{Done, Tick};
+use ctl_trait::{CfgFault, Controller};
+use fixed_num::{Fx, Value};
+use sequence::Seq;
 use std::alloc::{AllocError, Global};
 use std::marker::Model;
 

@@ -9,7 +9,8 @@ ghost use Rattle.cm_document.specs.Links.{commands_of, commands_of_joint, is_amo
 ghost use Rattle.cm_document.specs.Valid.{claimable, all_among, links_exist};
 
 use crate::references::references;
-use cm_document::{CheckFault, CompDesc, CtlDesc, Description, IfaceName, JointDesc, Kind, Name};
+use cm_document::{CheckFault, CompDesc, CtlDesc, Description, JointDesc};
+use iface_names::{IfaceName, Kind, Name};
 use std::alloc::{AllocError, Global};
 
 /// Each claim is a command interface of a component or a reference, and each read a state interface: else NoInterface of the

@@ -9,7 +9,8 @@ ghost use Rattle.cm_document.specs.Links.{joints_of};
 ghost use Rattle.cm_document.specs.Valid.{repeated_after, names_apart, interfaces_apart, links_apart, named_apart};
 
 use crate::references::references;
-use cm_document::{CheckFault, CompDesc, CtlDesc, Description, IfaceName, JointDesc, Name, Text};
+use cm_document::{CheckFault, CompDesc, CtlDesc, Description, JointDesc, Text};
+use iface_names::{IfaceName, Name};
 use std::alloc::{AllocError, Global};
 
 /// No name stands twice among the components, the joints, the controllers, the references, or the claims or reads of one

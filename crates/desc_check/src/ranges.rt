@@ -6,9 +6,10 @@ ghost use Rattle.cm_document.specs.Forms.{item_path, inside};
 ghost use Rattle.cm_document.specs.Valid.{ranged, not_negative, each_ranged, may_have, joint_ranged, joint_count_fits, component_ranged, claims_fit, reads_fit, limits_ranged, controller_ranged, in_range};
 
 use cm_document::{
-    CheckFault, CompDesc, CompKind, CtlDesc, Description, Fx, HIGHEST_RATE, JointDesc,
+    CheckFault, CompDesc, CompKind, CtlDesc, Description, HIGHEST_RATE, JointDesc,
     MOST_CLAIMS_OF_ONE, MOST_CYCLES, Params, Text, VERSION,
 };
+use fixed_num::Fx;
 use std::alloc::{AllocError, Global};
 
 /// Every number is within its range: else BadRange of the first that is not, with its path.

@@ -3,7 +3,9 @@
 ghost use Rattle.std.specs.Prelude.{◌≡◌, ◌++◌, IfOk, OnOk};
 ghost use Rattle.cm_document.specs.Links.{refs_of, references_of};
 
-use cm_document::{CtlDesc, IfaceName, Seq};
+use cm_document::CtlDesc;
+use iface_names::IfaceName;
+use sequence::Seq;
 use std::alloc::{AllocError, Global};
 
 /// Every reference, controller by controller.

@@ -24,9 +24,9 @@ const KEYS: [&str; 7] = [
 
 /// The table of a component.
 #[derive(Drop)]
-pub struct Component;
+pub struct ComponentTable;
 
-impl TableForm for Component {
+impl TableForm for ComponentTable {
     type Read = CompDesc;
 
     ghost table_form = { λ _. walk component_table };

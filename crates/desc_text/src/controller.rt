@@ -13,7 +13,10 @@ use crate::keys::Keys;
 use crate::states::{AllOrList, ReadList};
 use crate::values::{Boolean, Interface, Named, Quantity, Whole};
 use crate::words::{ControllerKinds, WordOf};
-use cm_document::{CtlDesc, CtlKind, Cycles, DescFault, Fx, IfaceName, Params, Seq, Shared};
+use cm_document::{CtlDesc, CtlKind, Cycles, DescFault, Params};
+use fixed_num::Fx;
+use iface_names::IfaceName;
+use sequence::{Seq, Shared};
 use std::alloc::{AllocError, Global};
 
 /// The keys that a forward or a passthrough may have.
@@ -53,12 +56,12 @@ const MOCK: [&str; 8] = [
 
 /// The table of a controller.
 #[derive(Drop)]
-pub struct Controller {
+pub struct ControllerTable {
     /// Every state that is described: `all` that can be read.
     pub all: Shared<Seq<IfaceName>>,
 }
 
-impl TableForm for Controller {
+impl TableForm for ControllerTable {
     type Read = CtlDesc;
 
     ghost table_form = { λ s. controller_form s.all };

@@ -3,7 +3,8 @@
 ghost use Rattle.std.specs.Prelude.{◌≡◌};
 ghost use Rattle.desc_text.specs.Refusals.{fault_at};
 
-use cm_document::{DescFault, NameFault, Text, Wrong};
+use cm_document::{DescFault, Text, Wrong};
+use iface_names::NameFault;
 use std::alloc::AllocError;
 
 /// Why a value was not read.

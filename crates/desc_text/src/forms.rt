@@ -12,7 +12,8 @@ ghost use Rattle.desc_text.specs.declared.faults.Refused.TheVariants as refused;
 use crate::faults::Refused;
 use crate::keys::Keys;
 use crate::paths::{item_path, item_prefix, text_of};
-use cm_document::{DescFault, Seq};
+use cm_document::DescFault;
+use sequence::Seq;
 use std::alloc::Global;
 use toml::Value;
 

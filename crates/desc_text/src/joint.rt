@@ -6,7 +6,9 @@ ghost use Rattle.cm_document.specs.Tables.{walk};
 use crate::forms::{ListOf, One, TableForm};
 use crate::keys::Keys;
 use crate::values::{Named, NewKind, Quantity};
-use cm_document::{DescFault, Fx, JointDesc, Seq};
+use cm_document::{DescFault, JointDesc};
+use fixed_num::Fx;
+use sequence::Seq;
 
 /// The keys that a joint may have.
 const KEYS: [&str; 8] = [

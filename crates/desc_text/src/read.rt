@@ -9,13 +9,14 @@ ghost use Rattle.cm_document.specs.Tables.{defaulted_read};
 ghost use Rattle.cm_document.specs.Valid.{IsDescribed};
 ghost use Rattle.toml.specs.Data.{get_member};
 
-use crate::component::Component;
-use crate::controller::Controller;
+use crate::component::ComponentTable;
+use crate::controller::ControllerTable;
 use crate::forms::{One, TablesOf};
 use crate::keys::Keys;
 use crate::states::every_state;
 use crate::values::{Cycle, Whole};
-use cm_document::{CompDesc, CtlDesc, DescFault, Description, Seq};
+use cm_document::{CompDesc, CtlDesc, DescFault, Description};
+use sequence::Seq;
 use std::alloc::Global;
 use toml::Table;
 
@@ -63,7 +64,7 @@ fn top(alloc: Global, table: &Table) -> Result<Description, DescFault>
     let version = keys.required("version", &One(Whole))?;
     let update_rate = keys.required("update_rate", &One(Whole))?;
     let cycles = keys.required("cycles", &One(Cycle))?;
-    let components = keys.defaulted("component", &TablesOf(Component), Seq::new(alloc))?;
+    let components = keys.defaulted("component", &TablesOf(ComponentTable), Seq::new(alloc))?;
     let controllers = controllers(&keys, components.as_slice())?;
     Ok(Description {
         version,
@@ -82,6 +83,6 @@ fn controllers(keys: &Keys<'_>, components: &[CompDesc]) -> Result<Seq<CtlDesc>,
         (get_member (codes "controller") (table_view keys.now.table.now))) result }
 {
     let all = every_state(keys.alloc, components)?;
-    let form = TablesOf(Controller { all });
+    let form = TablesOf(ControllerTable { all });
     keys.defaulted("controller", &form, Seq::new(keys.alloc))
 }

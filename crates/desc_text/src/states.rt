@@ -8,7 +8,9 @@ ghost use Rattle.iface_names.specs.declared.interface.IfaceName.TheVariants as i
 use crate::forms::{Form, ListOf};
 use crate::keys::same_key;
 use crate::values::State;
-use cm_document::{CompDesc, DescFault, IfaceName, Kind, Name, Seq, Shared};
+use cm_document::{CompDesc, DescFault};
+use iface_names::{IfaceName, Kind, Name};
+use sequence::{Seq, Shared};
 use std::alloc::{AllocError, Global};
 use toml::Value;
 

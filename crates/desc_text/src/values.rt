@@ -10,7 +10,9 @@ ghost use Rattle.iface_names.specs.Interfaces.{same_kind};
 
 use crate::faults::Refused;
 use crate::forms::Rule;
-use cm_document::{Fx, IfaceName, Kind, Name, Wrong};
+use cm_document::Wrong;
+use fixed_num::Fx;
+use iface_names::{IfaceName, Kind, Name};
 use std::alloc::Global;
 use toml::Value;
 

@@ -17,7 +17,7 @@ use std::alloc::Global;
 use toml::Value;
 
 /// A list of words, each with its meaning.
-pub trait Words {
+pub trait WordList {
     /// What a word stands for.
     type Meaning: Drop;
 
@@ -32,7 +32,7 @@ pub trait Words {
 #[derive(Drop)]
 pub struct WordOf<W>(pub W);
 
-impl<W: Words> Rule for WordOf<W> {
+impl<W: WordList> Rule for WordOf<W> {
     type Read = W::Meaning;
 
     ghost rule = { λ _. word_in W.words };
@@ -49,7 +49,7 @@ impl<W: Words> Rule for WordOf<W> {
 #[derive(Drop)]
 pub struct ComponentKinds;
 
-impl Words for ComponentKinds {
+impl WordList for ComponentKinds {
     type Meaning = CompKind;
 
     ghost words = { component_kinds };
@@ -63,7 +63,7 @@ impl Words for ComponentKinds {
 #[derive(Drop)]
 pub struct LivesAtStart;
 
-impl Words for LivesAtStart {
+impl WordList for LivesAtStart {
     type Meaning = Life;
 
     ghost words = { lives };
@@ -77,7 +77,7 @@ impl Words for LivesAtStart {
 #[derive(Drop)]
 pub struct LivesOnError;
 
-impl Words for LivesOnError {
+impl WordList for LivesOnError {
     type Meaning = Life;
 
     ghost words = { lives_on_error };
@@ -91,7 +91,7 @@ impl Words for LivesOnError {
 #[derive(Drop)]
 pub struct ControllerKinds;
 
-impl Words for ControllerKinds {
+impl WordList for ControllerKinds {
     type Meaning = CtlKind;
 
     ghost words = { controller_kinds };

@@ -5,9 +5,12 @@ ghost use Rattle.cm_desk.specs.Calls.Answers.{MayCall};
 ghost use Rattle.cm_model.specs.Ports.{CanBegin, CanClose};
 ghost use Rattle.desk_rows.specs.Loops.{loop_console, MakesCycle};
 
-use cm_desk::{Desk, Flight};
-use cm_model::{Call, Entry, LoopPort, Memory, Reply};
+use cm_desk::Desk;
+use cm_document::Call;
+use cm_model::{Entry, LoopPort, Reply};
 use ctl_trait::Controller;
+use fixed_num::Memory;
+use rt_flight::Flight;
 use std::alloc::Global;
 
 /// The console of the loop over a desk of its own. Whoever begins a cycle has its flight until that lands.

@@ -4,8 +4,10 @@ ghost use Rattle.std.specs.Prelude.{◌≡◌, IfOk};
 ghost use Rattle.std.specs.List.{All};
 ghost use Rattle.cm_model.specs.Controllers.{IsBlank};
 
-use cm_model::{CtlKind, Done, Fx, Mail, Params, Tick, Value};
+use cm_document::{CtlKind, Mail, Params};
+use cm_model::{Done, Tick};
 use ctl_trait::{CfgFault, Controller, shape_of};
+use fixed_num::{Fx, Value};
 use std::alloc::Global;
 use std::marker::Model;
 use std::test::Fail;

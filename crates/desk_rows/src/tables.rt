@@ -5,10 +5,13 @@ ghost use Rattle.cm_model.specs.State.{State};
 ghost use Rattle.cm_desk.specs.Desk.{now_of, CanBeCalled};
 ghost use Rattle.rt_flight.specs.Flights.{IsAloft, IsComputed};
 
-use cm_desk::{Desk, Flight};
-use cm_model::{Call, Checked, CycleRecord, Entry, Memory, Outcome, Reply};
+use cm_desk::Desk;
+use cm_document::{Call, Checked};
+use cm_model::{CycleRecord, Entry, Outcome, Reply};
 use ctl_rack::Stock;
 use ctl_trait::Controller;
+use fixed_num::Memory;
+use rt_flight::Flight;
 use std::alloc::Global;
 use std::marker::Model;
 use std::thread;

@@ -1,4 +1,5 @@
--- Exact arithmetic on micro-units: each result is the exact one, rounded down where it is a division, and then brought into the range.
+-- Exact arithmetic on micro-units: each result is the exact one, rounded down where it is a division, and then brought
+-- into the range.
 use Rattle.std.specs.Prelude.{ℕ, ℤ, pos, ◌+ℤ◌, ◌-ℤ◌, ◌*ℤ◌, ◌≤ℤ◌, ◌<ℤ◌, neg_ℤ}
 use Rattle.std.specs.Int.{int_min, int_max, int_div_euclid}
 use Rattle.fixed_num.specs.Micro.{clamped}

@@ -1,4 +1,5 @@
--- Bodies of joints: what one step makes of a body's position, velocity and effort. All is exact in whole micro-units, division rounds down, and a number is brought into the range or within a limit only where a formula says so.
+-- Bodies of joints: what one step makes of a body's position, velocity and effort. All is exact in whole micro-units,
+-- division rounds down, and a number is brought into the range or within a limit only where a formula says so.
 use Rattle.std.specs.Prelude.{ℕ, ℤ, pos, ◌+ℤ◌, ◌-ℤ◌, ◌≤ℤ◌}
 use Rattle.fixed_num.specs.Micro.{clamped}
 use Rattle.fixed_num.specs.Arithmetic.{multiplied, within, change_at, rate_of}
@@ -36,21 +37,28 @@ positioned plant command dt_us body =
 
 -- a body that has this velocity and effort goes on with the velocity
 abbrev pub moving : ℤ → ℤ → ℕ → BodyState → BodyState
-moving velocity effort dt_us body = record { x = clamped (body.x +ℤ change_at velocity dt_us); v = velocity; f = effort }
+moving velocity effort dt_us body = record {
+  x = clamped (body.x +ℤ change_at velocity dt_us);
+  v = velocity;
+  f = effort;
+}
 
 -- its velocity commanded: it has the command for its velocity, within the limit
 abbrev pub driven : Plant → ℤ → ℕ → BodyState → BodyState
 driven plant command dt_us body = moving (within plant.vmax command) (pos 0) dt_us body
 
--- The velocity that a commanded effort gives it, within the limit: the effort, by the gain, less the velocity, by the damping, is the acceleration.
+-- The velocity that a commanded effort gives it, within the limit: the effort, by the gain, less the velocity, by the
+-- damping, is the acceleration.
 abbrev pub accelerated : Plant → ℤ → ℕ → ℤ → ℤ
-accelerated plant command dt_us v = within plant.vmax (v +ℤ change_at (multiplied command plant.gain -ℤ multiplied plant.damping v) dt_us)
+accelerated plant command dt_us v =
+    within plant.vmax (v +ℤ change_at (multiplied command plant.gain -ℤ multiplied plant.damping v) dt_us)
 
 -- its effort commanded: it goes on with that velocity, and keeps the effort
 abbrev pub pushed : Plant → ℤ → ℕ → BodyState → BodyState
 pushed plant command dt_us body = moving (accelerated plant command dt_us body.v) command dt_us body
 
--- One step of a body: by how its joint is driven, what the claimed interface holds, and the time in microseconds. A joint is commanded where it is driven and a number is held.
+-- One step of a body: by how its joint is driven, what the claimed interface holds, and the time in microseconds. A
+-- joint is commanded where it is driven and a number is held.
 unfoldable pub stepped : Plant → JointMode → Value → ℕ → BodyState → BodyState
 stepped plant Position (Num command) dt_us body = positioned plant command dt_us body
 stepped plant Velocity (Num command) dt_us body = driven plant command dt_us body

@@ -1,5 +1,8 @@
--- Numbers as text: which texts are numbers, what is wrong with the others, and how a number is spelled. In bytes 45 is `-`, 46 `.`, 48 `0`.
-use Rattle.std.specs.Prelude.{ℕ, ◌+◌, ◌-◌, ◌*◌, ◌/◌, ◌%◌, ◌^◌, ℤ, pos, negsuc, neg_ℤ, nat_abs, Bool, true, false, ◌||◌, not, ◌==◌, nat_lt, if◌then◌else◌, List, [], ◌∷◌, ◌++◌, length, drop, replicate, codes, Option, Some, None, Result, Ok, Err}
+-- Numbers as text: which texts are numbers, what is wrong with the others, and how a number is spelled. In bytes 45 is
+-- `-`, 46 `.`, 48 `0`.
+use Rattle.std.specs.Prelude.{ℕ, ◌+◌, ◌-◌, ◌*◌, ◌/◌, ◌%◌, ◌^◌, ℤ, pos, negsuc, neg_ℤ, nat_abs, Bool, true, false, ◌||◌}
+use Rattle.std.specs.Prelude.{not, ◌==◌, nat_lt, if◌then◌else◌, List, [], ◌∷◌, ◌++◌, length, drop, replicate, codes}
+use Rattle.std.specs.Prelude.{Option, Some, None, Result, Ok, Err}
 use Rattle.std.specs.List.{prefix_len, take_while}
 use Rattle.std.specs.Char.{is_ascii_digit}
 use Rattle.std.specs.Fmt.{decimal}
@@ -8,7 +11,8 @@ use Rattle.fixed_num.specs.declared.TheConstants.{DECIMALS, MICRO, LARGEST}
 use Rattle.fixed_num.specs.declared.read.FxFault.{FxFault}
 use Rattle.fixed_num.specs.declared.read.FxFault.TheVariants.{Empty, BadByte, TooManyDecimals, TooLarge}
 
--- A text cut into the parts of a number: whether it begins with `-`, the digits of the whole part, the decimals where a point stands, and the rest, which a number can't have there.
+-- A text cut into the parts of a number: whether it begins with `-`, the digits of the whole part, the decimals where a
+-- point stands, and the rest, which a number can't have there.
 pub record Parts : Type 0 where
   pub negative : Bool
   pub whole : List ℕ
@@ -26,7 +30,12 @@ after_digits text = drop (prefix_len is_ascii_digit text) text
 -- A point belongs to a number where a digit stands before it; the digits behind it are the decimals.
 abbrev pub parts_from : Bool → List ℕ → List ℕ → Parts
 parts_from negative (d ∷ ds) (b ∷ bs) =
-    if b == 46 then record { negative = negative; whole = d ∷ ds; decimals = Some (front_digits bs); rest = after_digits bs }
+    if b == 46 then record {
+      negative = negative;
+      whole = d ∷ ds;
+      decimals = Some (front_digits bs);
+      rest = after_digits bs;
+    }
     else record { negative = negative; whole = d ∷ ds; decimals = None; rest = b ∷ bs }
 parts_from negative whole rest = record { negative = negative; whole = whole; decimals = None; rest = rest }
 
@@ -52,7 +61,8 @@ is_bare_point (Some ds) = is_empty ds
 abbrev pub is_broken : Parts → Bool
 is_broken p = (is_empty p.whole || is_bare_point p.decimals) || not (is_empty p.rest)
 
--- The place of the first byte that can't stand there, or the length where a digit is missing at the end: in both cases the rest begins there.
+-- The place of the first byte that can't stand there, or the length where a digit is missing at the end: in both cases
+-- the rest begins there.
 abbrev pub bad_place : List ℕ → Option ℕ
 bad_place text = let p = number_parts text in if is_broken p then Some (length text - length p.rest) else None
 
@@ -81,7 +91,8 @@ number_in_range p =
     else if nat_lt LARGEST (size_of p) then Err TooLarge
     else Ok (micro_of p)
 
--- The number that a text stands for, or the first fault: no bytes, a bad byte, seven or more decimals, outside the range.
+-- The number that a text stands for, or the first fault: no bytes, a bad byte, seven or more decimals, outside the
+-- range.
 unfoldable pub number_of : List ℕ → Result ℤ FxFault
 number_of [] = Err Empty
 number_of (b ∷ bs) = elim (bad_place (b ∷ bs)) [

@@ -30,4 +30,4 @@ pub const MOST_UNITS: u32 = 1_000_000_000;
 pub const LARGEST: u64 = MOST_UNITS as u64 * MICRO as u64;
 
 /// How many digits the whole part of a number's text has at most: those of the most units.
-pub const MOST_DIGITS: usize = 10;
+pub const MOST_DIGITS_OF_UNITS: usize = 10;

@@ -6,7 +6,7 @@ ghost use Rattle.fixed_num.specs.Text.{spelled, six_digits};
 
 use crate::fx::Fx;
 use crate::memory::Memory;
-use crate::{DECIMALS, MICRO, MOST_DIGITS, MOST_UNITS};
+use crate::{DECIMALS, MICRO, MOST_DIGITS_OF_UNITS, MOST_UNITS};
 use std::alloc::Global;
 use std::fmt;
 use std::fmt::{Display, Formatter, Write};
@@ -14,7 +14,7 @@ use std::marker::Model;
 
 impl Fx {
     /// No number's text is longer: a sign, ten digits, the point and six decimals.
-    pub const LONGEST_TEXT: usize = 1 + MOST_DIGITS + 1 + DECIMALS;
+    pub const LONGEST_TEXT: usize = 1 + MOST_DIGITS_OF_UNITS + 1 + DECIMALS;
 
     /// The number's text: `-` where negative, the whole part, a point and six decimals.
     #[tactic(auto, using(crate::proofs::SpellingLemmas::spelled_IsUtf8))]
@@ -135,9 +135,9 @@ impl Spelling {
     #[tactic(auto, using(crate::proofs::SpellingLemmas::decimal_put, crate::proofs::SpellingLemmas::decimal_shorter, std::proofs::lemmas::Fmt::decimal_digit, std::proofs::lemmas::Fmt::decimal_nonempty, crate::proofs::SpellingLemmas::ten_digits))]
     fn put_whole(&mut self, whole: u64)
         requires in_range { whole ≤ MOST_UNITS }
-        requires room { length self.old + MOST_DIGITS ≤ Fx.LONGEST_TEXT }
+        requires room { length self.old + MOST_DIGITS_OF_UNITS ≤ Fx.LONGEST_TEXT }
         ensures bytes { self.new ≡ decimal whole ++ self.old }
-        ensures longer { length self.new ≤ length self.old + MOST_DIGITS }
+        ensures longer { length self.new ≤ length self.old + MOST_DIGITS_OF_UNITS }
     {
         let mut left = whole;
         while left >= 10 {

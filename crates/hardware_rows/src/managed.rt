@@ -7,8 +7,11 @@ use crate::starts::{push_component_list, push_interface_list};
 use case_pages::acts::{Player, hold_acts};
 use case_pages::pages::{halves, joined, push_parted};
 use case_robots::described::described;
+use cm_document::{Checked, Description};
 use cm_hardware::ResourceManager;
-use cm_model::{BodyState, Checked, Description, FailedPart, ListRoom};
+use cm_model::FailedPart;
+use fixed_num::BodyState;
+use sequence::ListRoom;
 use std::alloc::Global;
 use std::test::Fail;
 

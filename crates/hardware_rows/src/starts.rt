@@ -3,11 +3,11 @@
 use case_pages::largest::AT_ALL_LIMITS;
 use case_pages::pages::{Teller, hold};
 use case_robots::described::described;
+use cm_document::{Checked, CompDesc, CtlDesc, Description, JointDesc};
 use cm_hardware::ResourceManager;
-use cm_model::{
-    Checked, CompDesc, CompLine, CtlDesc, Description, IfaceLine, IfaceName, JointDesc, Kind, Name,
-    Value,
-};
+use cm_model::{CompLine, IfaceLine};
+use fixed_num::Value;
+use iface_names::{IfaceName, Kind, Name};
 use std::alloc::Global;
 use std::test::Fail;
 

@@ -8,7 +8,8 @@ use Rattle.joint_body.specs.Simulated.{Simulated, after}
 use Rattle.cm_document.specs.declared.description.CompDesc.{CompDesc}
 use Rattle.cm_document.specs.declared.description.JointDesc.{JointDesc}
 use Rattle.cm_model.specs.declared.component.JointInterface.{JointInterface}
-use Rattle.cm_model.specs.Components.{plant_of, body_at_start, state_interfaces, command_interfaces, mode_of, command_of}
+use Rattle.cm_model.specs.Components.{plant_of, body_at_start, state_interfaces, command_interfaces, mode_of}
+use Rattle.cm_model.specs.Components.{command_of}
 
 -- the states of bodies
 abbrev pub states_in : List Simulated → List BodyState
@@ -28,7 +29,9 @@ body_made joint = record { plant = plant_of joint; state = body_at_start joint }
 
 -- a body that goes on by its joint's claimed interface
 abbrev pub driven : List JointInterface → List Value → ℕ → Option ℕ → Simulated → Simulated
-driven commands values dt_us claim body = record body { state = after body (mode_of commands claim) (command_of values claim) dt_us }
+driven commands values dt_us claim body = record body {
+  state = after body (mode_of commands claim) (command_of values claim) dt_us;
+}
 
 -- each body by the claim of its joint
 abbrev pub each_driven : List JointInterface → List Value → ℕ → List (Option ℕ) → List Simulated → List Simulated
@@ -39,12 +42,15 @@ abbrev pub at_rest : Simulated → Simulated
 at_rest body = record body { state = stopped body.state }
 
 -- each body after a step, commanded or not
-abbrev pub each_stepped : Bool → List JointInterface → List Value → ℕ → List (Option ℕ) → List Simulated → List Simulated
+abbrev pub each_stepped : Bool → List JointInterface → List Value → ℕ → List (Option ℕ) → List Simulated
+    → List Simulated
 each_stepped is_commanded commands values dt_us claimed bodies =
     if is_commanded then each_driven commands values dt_us claimed bodies else map at_rest bodies
 
--- What is kept fits the description: the bodies are those of the joints, each joint has a claim or none, the interfaces are those described, and a value is kept for each command interface.
-pub record FitsDescription (c : CompDesc) (bodies : List Simulated) (claimed : List (Option ℕ)) (states commands : List JointInterface) (applied : List Value) : Type 0 where
+-- What is kept fits the description: the bodies are those of the joints, each joint has a claim or none, the interfaces
+-- are those described, and a value is kept for each command interface.
+pub record FitsDescription (c : CompDesc) (bodies : List Simulated) (claimed : List (Option ℕ))
+    (states commands : List JointInterface) (applied : List Value) : Type 0 where
   pub few : length c.joints < 2 ^ 32
   pub each_body : length bodies ≡ length c.joints
   pub plants : plants_in bodies ≡ map plant_of c.joints

@@ -1,18 +1,22 @@
 -- A component as contracts see it, and what each of its calls makes of it.
-use Rattle.std.specs.Prelude.{◌≡◌, ℕ, ◌<◌, ◌^◌, Bool, false, true, ◌&&◌, if◌then◌else◌, List, [], length, map, Option, Some, None, Result, Ok, Err, MatchResult, All}
+use Rattle.std.specs.Prelude.{◌≡◌, ℕ, ◌<◌, ◌^◌, Bool, false, true, ◌&&◌, if◌then◌else◌, List, [], length, map, Option}
+use Rattle.std.specs.Prelude.{Some, None, Result, Ok, Err, MatchResult, All}
 use Rattle.fixed_num.specs.Bodies.{IsPlant}
 use Rattle.fixed_num.specs.declared.value.BodyState.{BodyState}
 use Rattle.fixed_num.specs.declared.value.JointMode.{JointMode}
 use Rattle.fixed_num.specs.declared.value.Value.{Value}
 use Rattle.cm_document.specs.declared.description.CompDesc.{CompDesc}
 use Rattle.cm_document.specs.declared.life.Life.{Life}
-use Rattle.cm_model.specs.Components.{write_runs, has_move, is_listed, plant_of, bodies_at_start, commands_at_start, commands_after_move, command_interfaces, mode_fault, claimed_by, mode_of, states_after_read, bodies_after_step}
+use Rattle.cm_model.specs.Components.{write_runs, has_move, is_listed, plant_of, bodies_at_start, commands_at_start}
+use Rattle.cm_model.specs.Components.{commands_after_move, command_interfaces, mode_fault, claimed_by, mode_of}
+use Rattle.cm_model.specs.Components.{states_after_read, bodies_after_step}
 use Rattle.hw_component.specs.declared.faults.HwFault.{HwFault}
 use Rattle.hw_component.specs.declared.faults.HwFault.TheVariants.{NoSuchMove}
 use Rattle.hw_component.specs.declared.faults.ModeFault.{ModeFault}
 
--- What is described of a component; its lifecycle state; the body of each joint; which of its command interfaces is claimed on each
--- joint; what its command interfaces held when it was written last; and whether it was written since the last step.
+-- What is described of a component; its lifecycle state; the body of each joint; which of its command interfaces is
+-- claimed on each joint; what its command interfaces held when it was written last; and whether it was written since
+-- the last step.
 pub record Hardware : Type 0 where
   pub description : CompDesc
   pub life : Life
@@ -57,7 +61,10 @@ after_read h cycle values = states_after_read h.description h.life cycle h.bodie
 
 -- What a write of these commands in a cycle leaves: one that succeeds is applied, one that fails changes nothing.
 abbrev pub after_write : Hardware → ℕ → List Value → Hardware
-after_write h cycle commands = if is_listed h.description.fail_write cycle then h else record h { commands = commands; written = true }
+after_write h cycle commands = if is_listed h.description.fail_write cycle then h else record h {
+  commands = commands;
+  written = true;
+}
 
 -- Its joints are commanded where it is active and was written since the last step.
 abbrev pub is_commanded : Hardware → Bool
@@ -75,7 +82,8 @@ after_step h dt_us = record h {
 -- That these claims can be together is told, or else the least joint on which they are at odds.
 abbrev pub Prepares : Hardware → List ℕ → Result (Unit {0}) ModeFault → Type 0
 Prepares h claims result =
-    MatchResult result (λ _. mode_fault h.description claims ≡ None) (λ fault. mode_fault h.description claims ≡ Some fault.joint)
+    MatchResult result (λ _. mode_fault h.description claims ≡ None)
+    (λ fault. mode_fault h.description claims ≡ Some fault.joint)
 
 -- the joints go by these claims from now on
 abbrev pub with_claims : Hardware → List ℕ → Hardware

@@ -16,4 +16,5 @@ hardware_of c = record {
 
 -- It fits the description.
 pub record IsKept (c : Inside) : Type 0 where
-  pub fits : FitsDescription c.description c.bodies.items c.claimed.items c.states.items c.commands.items c.applied.items
+  pub fits : FitsDescription c.description c.bodies.items c.claimed.items c.states.items c.commands.items
+      c.applied.items

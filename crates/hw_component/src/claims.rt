@@ -5,7 +5,9 @@ ghost use Rattle.std.specs.List.{list_any, range_with_len};
 ghost use Rattle.std.specs.Option.{option_copied};
 ghost use Rattle.cm_model.specs.Components.{stands_on, is_contested, claim_on, mode_of_kind, mode_of, command_of};
 
-use cm_model::{JointInterface, JointMode, Kind, Value};
+use cm_model::JointInterface;
+use fixed_num::{JointMode, Value};
+use iface_names::Kind;
 
 /// Whether a claim stands on the joint.
 pub(crate) fn stands_on(commands: &[JointInterface], joint: u32, claim: u32) -> bool

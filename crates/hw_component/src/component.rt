@@ -8,7 +8,9 @@ ghost use Rattle.hw_component.specs.Hardware.{IsHardware, Prepares, after_read, 
 use crate::claims::{claim_joints, is_contested};
 use crate::faults::{HwFault, ModeFault};
 use crate::joints::{measure, step_bodies};
-use cm_model::{BodyState, CompDesc, Done, JointInterface, Life, Value};
+use cm_document::{CompDesc, Life};
+use cm_model::{Done, JointInterface};
+use fixed_num::{BodyState, Value};
 use joint_body::{Body, LONGEST_STEP};
 use std::marker::Model;
 

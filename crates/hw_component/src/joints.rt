@@ -5,7 +5,9 @@ ghost use Rattle.cm_model.specs.Components.{measured, measured_at};
 ghost use Rattle.hw_component.specs.Drives.{states_in, each_driven, at_rest, each_stepped};
 
 use crate::claims::{command_of, mode_of};
-use cm_model::{BodyState, Fx, JointInterface, JointMode, Kind, Value};
+use cm_model::JointInterface;
+use fixed_num::{BodyState, Fx, JointMode, Value};
+use iface_names::Kind;
 use joint_body::{Body, LONGEST_STEP};
 
 /// Which number of a body an interface of this kind measures.

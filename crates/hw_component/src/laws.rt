@@ -5,7 +5,7 @@ ghost use Rattle.fixed_num.specs.Bodies.{stopped};
 ghost use Rattle.cm_model.specs.Components.{write_runs};
 ghost use Rattle.hw_component.specs.Hardware.{Hardware, CanBeMade, after_step};
 
-use cm_model::Checked;
+use cm_document::Checked;
 
 /// Each component of a valid description can be made, and has a number of 32 bits.
 #[tactic(auto, using(crate::proofs::MakingLemmas::valid_can_be_made, cm_document::proofs::ValidParts::few_components))]

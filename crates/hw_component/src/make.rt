@@ -7,7 +7,10 @@ ghost use Rattle.hw_component.specs.Hardware.{CanBeMade, at_start};
 ghost use Rattle.hw_component.specs.Drives.{body_made, of_joint};
 
 use crate::component::Component;
-use cm_model::{BodyState, CompDesc, Fx, JointDesc, JointInterface, Kind, Memory, Value};
+use cm_document::{CompDesc, JointDesc};
+use cm_model::JointInterface;
+use fixed_num::{BodyState, Fx, Memory, Value};
+use iface_names::Kind;
 use joint_body::Body;
 use std::alloc::Global;
 

@@ -1,4 +1,5 @@
--- What a reader's result says: the value, or the first fault. The same word stands in `sequence`, which this crate does without.
+-- What a reader's result says: the value, or the first fault. The same word stands in `sequence`, which this crate does
+-- without.
 use Rattle.std.specs.Prelude.{◌≡◌, ◌⊎◌, Result, Ok, Err, MatchResult}
 
 -- The call answers what it is defined to, unless memory runs out: `memory` is the fault that says so.

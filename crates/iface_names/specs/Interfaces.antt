@@ -1,5 +1,6 @@
 -- Names of interfaces: a joint's, or a controller's reference.
-use Rattle.std.specs.Prelude.{ℕ, Bool, true, false, ◌&&◌, ◌==◌, if◌then◌else◌, List, [], ◌∷◌, ◌++◌, codes, find, Option, Some, None, Result, Ok, Err}
+use Rattle.std.specs.Prelude.{ℕ, Bool, true, false, ◌&&◌, ◌==◌, if◌then◌else◌, List, [], ◌∷◌, ◌++◌, codes, find, Option}
+use Rattle.std.specs.Prelude.{Some, None, Result, Ok, Err}
 use Rattle.std.specs.List.{slice_split}
 use Rattle.std.specs.Option.{option_map, option_map_or}
 use Rattle.iface_names.specs.Names.{is_name, same_name}
@@ -42,9 +43,11 @@ joint_of joint (Some kind) = if is_name joint then Ok (Joint joint kind) else Er
 -- the reference of this controller, joint and kind, where both names are names and there is such a kind
 abbrev pub reference_of : List ℕ → List ℕ → Option Kind → Result IfaceName NameFault
 reference_of controller joint None = Err BadName
-reference_of controller joint (Some kind) = if is_name controller && is_name joint then Ok (Reference controller joint kind) else Err BadName
+reference_of controller joint (Some kind) =
+    if is_name controller && is_name joint then Ok (Reference controller joint kind) else Err BadName
 
--- Two parts are a joint and a kind, three are a controller, a joint and a kind. Any other number of parts is no interface.
+-- Two parts are a joint and a kind, three are a controller, a joint and a kind. Any other number of parts is no
+-- interface.
 abbrev pub interface_of_parts : List (List ℕ) → Result IfaceName NameFault
 interface_of_parts (joint ∷ kind ∷ []) = joint_of joint (kind_named kind)
 interface_of_parts (controller ∷ joint ∷ kind ∷ []) = reference_of controller joint (kind_named kind)
@@ -64,5 +67,6 @@ interface_text (Reference controller joint kind) = controller ++ codes "/" ++ jo
 -- the two interfaces are of one form, and have the same names and the same kind
 abbrev pub same_interface : IfaceName → IfaceName → Bool
 same_interface (Joint joint kind) (Joint joint' kind') = same_name joint joint' && same_kind kind kind'
-same_interface (Reference controller joint kind) (Reference controller' joint' kind') = (same_name controller controller' && same_name joint joint') && same_kind kind kind'
+same_interface (Reference controller joint kind) (Reference controller' joint' kind') =
+    (same_name controller controller' && same_name joint joint') && same_kind kind kind'
 same_interface _ _ = false

@@ -1,4 +1,5 @@
--- In reading order: what readers answer, names, the interfaces that are named with them, and how interfaces are numbered.
+-- In reading order: what readers answer, names, the interfaces that are named with them, and how interfaces are
+-- numbered.
 pub mod Answers
 pub mod Names
 pub mod Interfaces

@@ -29,7 +29,8 @@ same_interface-Decides (Joint j k) (Joint j' k') =
     let both = Decides-and _ _ (bytes_eq-Decides j j') (same_kind-Decides k k') in
     (λ e. let p = both.0 e in cc, λ e. both.1 (cc, cc))
 same_interface-Decides (Reference c j k) (Reference c' j' k') =
-    let both = Decides-and _ _ (Decides-and _ _ (bytes_eq-Decides c c') (bytes_eq-Decides j j')) (same_kind-Decides k k') in
+    let both =
+    Decides-and _ _ (Decides-and _ _ (bytes_eq-Decides c c') (bytes_eq-Decides j j')) (same_kind-Decides k k') in
     (λ e. let p = both.0 e in cc, λ e. both.1 ((cc, cc), cc))
 same_interface-Decides (Joint j k) (Reference c' j' k') = (λ e. cc, λ e. cc)
 same_interface-Decides (Reference c j k) (Joint j' k') = (λ e. cc, λ e. cc)

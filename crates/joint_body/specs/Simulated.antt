@@ -40,4 +40,5 @@ IsHeld (Num number) = IsInRange number
 -- a step keeps a body in the range of numbers: one whose highest velocity is in it, and a command too
 abbrev pub KeepsState : Simulated → JointMode → Value → ℕ → Type 0
 KeepsState body mode command dt_us =
-    IsPlant body.plant → IsInRange body.plant.vmax → IsState body.state → IsHeld command → IsState (after body mode command dt_us)
+    IsPlant body.plant → IsInRange body.plant.vmax → IsState body.state → IsHeld command
+    → IsState (after body mode command dt_us)

@@ -5,10 +5,12 @@ ghost use Rattle.iface_names.specs.Interfaces.{interface_text};
 ghost use Rattle.cm_document.specs.Links.{reference_for};
 
 use crate::levels::levels;
-use cm_model::{CtlDesc, Description, IfaceName, Memory};
+use cm_document::{CtlDesc, Description};
 use cm_replay::Linked;
+use fixed_num::Memory;
+use iface_names::IfaceName;
 use std::alloc::Global;
-use svg_text::{Area, MARGIN, Point, Px, Svg, shortened};
+use svg_text::{Area, MARGIN, PagePoint, Px, Svg, shortened};
 
 /// The widest box of a controller, in pixels.
 const WIDEST_BOX: u64 = 232;
@@ -94,7 +96,7 @@ fn draw_name(
     controller: &CtlDesc,
     title: &str,
 ) -> Result<(), Memory> {
-    let at = Point {
+    let at = PagePoint {
         x: area.x.plus(Px::of(12)),
         y: area.y.plus(Px::of(20)),
     };
@@ -153,8 +155,8 @@ fn draw_reference(
 }
 
 /// Where the reference of this number stands: at the left of the box.
-pub fn reference_at(area: Area, number: usize) -> Point {
-    Point {
+pub fn reference_at(area: Area, number: usize) -> PagePoint {
+    PagePoint {
         x: area.x,
         y: area
             .y
@@ -164,7 +166,7 @@ pub fn reference_at(area: Area, number: usize) -> Point {
 }
 
 /// The square that marks a command interface or a reference.
-pub fn mark(at: Point) -> Area {
+pub fn mark(at: PagePoint) -> Area {
     Area {
         x: at.x.minus(Px::of(4)),
         y: at.y.minus(Px::of(4)),

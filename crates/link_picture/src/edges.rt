@@ -3,10 +3,11 @@
 use crate::boxes::reference_at;
 use crate::levels::Below;
 use crate::ports::{Group, Ports};
-use cm_model::{CtlDesc, CtlKind, Description, Memory};
-use cm_replay::{Link, Linked, Links};
+use cm_document::{CtlDesc, CtlKind, Description};
+use cm_replay::{ControllerLinks, Link, Linked};
+use fixed_num::Memory;
 use std::alloc::Global;
-use svg_text::{Area, Point, Px, Svg};
+use svg_text::{Area, PagePoint, Px, Svg};
 
 /// Half of the blank that a line needs to go down beside a box, in pixels.
 const AROUND: u64 = 14;
@@ -28,7 +29,7 @@ enum Edge {
 #[derive(Clone, Copy)]
 struct Ended {
     edge: Edge,
-    to: Point,
+    to: PagePoint,
     /// The place of the interface among the ports, or of the component.
     place: usize,
     /// The place of the controller that is led.
@@ -37,7 +38,7 @@ struct Ended {
 
 /// What is drawn, with where it stands.
 #[derive(Clone, Copy)]
-pub struct Placed<'a> {
+pub struct PlacedBox<'a> {
     /// The description, its joints and links.
     pub linked: Linked<'a>,
     /// How far down what each controller reads passes below the boxes, where it does, by place.
@@ -49,7 +50,7 @@ pub struct Placed<'a> {
 }
 
 /// Draws the lines of all controllers.
-pub fn draw_edges(alloc: Global, svg: &mut Svg, placed: Placed<'_>) -> Result<(), Memory> {
+pub fn draw_edges(alloc: Global, svg: &mut Svg, placed: PlacedBox<'_>) -> Result<(), Memory> {
     for (place, own) in placed.linked.links.iter().enumerate() {
         let ended = ends(alloc, placed, own)?;
         draw_ended(alloc, svg, placed, place, ended.as_slice())?;
@@ -61,7 +62,7 @@ pub fn draw_edges(alloc: Global, svg: &mut Svg, placed: Placed<'_>) -> Result<()
 fn draw_ended(
     alloc: Global,
     svg: &mut Svg,
-    placed: Placed<'_>,
+    placed: PlacedBox<'_>,
     place: usize,
     ended: &[Ended],
 ) -> Result<(), Memory> {
@@ -83,16 +84,16 @@ fn draw_ended(
 }
 
 /// Where a line begins: so far down the right of a controller's box.
-fn begin_of(boxes: &[Area], place: usize, part: usize, parts: usize) -> Option<Point> {
+fn begin_of(boxes: &[Area], place: usize, part: usize, parts: usize) -> Option<PagePoint> {
     let area = boxes.get(place)?;
-    Some(Point {
+    Some(PagePoint {
         x: area.x.plus(area.width),
         y: area.y.plus(area.height.share(part as u64, parts as u64)),
     })
 }
 
 /// The ends of a controller's lines: those to references first, then from the uppermost interface down.
-fn ends(alloc: Global, placed: Placed<'_>, own: &Links) -> Result<Vec<Ended>, Memory> {
+fn ends(alloc: Global, placed: PlacedBox<'_>, own: &ControllerLinks) -> Result<Vec<Ended>, Memory> {
     let mut ended = Vec::new(alloc);
     push_followers(
         &mut ended,
@@ -109,10 +110,10 @@ fn ends(alloc: Global, placed: Placed<'_>, own: &Links) -> Result<Vec<Ended>, Me
 /// The lines to a component, or to its interfaces one by one.
 fn push_component(
     ended: &mut Vec<Ended>,
-    placed: Placed<'_>,
+    placed: PlacedBox<'_>,
     component: usize,
     group: &Group,
-    own: &Links,
+    own: &ControllerLinks,
 ) -> Result<(), Memory> {
     let reads_all = group.reads_all(own.reads.as_slice(), placed.linked.joints, component);
     if reads_all {
@@ -144,7 +145,12 @@ fn push_followers(
 }
 
 /// Where the claimed reference of a follower stands.
-fn followed_at(linked: Linked<'_>, boxes: &[Area], follower: usize, claim: &Link) -> Option<Point> {
+fn followed_at(
+    linked: Linked<'_>,
+    boxes: &[Area],
+    follower: usize,
+    claim: &Link,
+) -> Option<PagePoint> {
     let area = boxes.get(follower)?;
     let links = linked.links.get(follower)?;
     let exported = match linked
@@ -169,7 +175,7 @@ fn push_ports(
     ended: &mut Vec<Ended>,
     ports: &Ports,
     component: usize,
-    own: &Links,
+    own: &ControllerLinks,
     reads_all: bool,
 ) -> Result<(), Memory> {
     for (place, port) in ports.all().iter().enumerate() {
@@ -190,7 +196,7 @@ fn push_ports(
     Ok(())
 }
 
-fn end_at(edge: Edge, to: Point, place: usize) -> Ended {
+fn end_at(edge: Edge, to: PagePoint, place: usize) -> Ended {
     Ended {
         edge,
         to,
@@ -202,7 +208,7 @@ fn end_at(edge: Edge, to: Point, place: usize) -> Ended {
 fn draw_edge(
     alloc: Global,
     svg: &mut Svg,
-    from: Point,
+    from: PagePoint,
     below: Option<Px>,
     ended: Ended,
     title: &str,
@@ -223,14 +229,14 @@ fn draw_edge(
 }
 
 /// A line from point to point that begins and ends level.
-fn across(alloc: Global, from: Point, to: Point) -> Result<String, Memory> {
+fn across(alloc: Global, from: PagePoint, to: PagePoint) -> Result<String, Memory> {
     let middle = from.x.plus(to.x).half();
     let (x, y, end_x, end_y) = (from.x, from.y, to.x, to.y);
     Ok(format!(in alloc; "M{x} {y}C{middle} {y} {middle} {end_y} {end_x} {end_y}")?)
 }
 
 /// A line that goes down right behind its begin, and passes the boxes at this height.
-fn under(alloc: Global, from: Point, low: Px, to: Point) -> Result<String, Memory> {
+fn under(alloc: Global, from: PagePoint, low: Px, to: PagePoint) -> Result<String, Memory> {
     let (x, y, end_x, end_y) = (from.x, from.y, to.x, to.y);
     let down = x.plus(Px::of(2 * AROUND));
     let up = end_x.minus(Px::of(2 * AROUND));
@@ -240,11 +246,11 @@ fn under(alloc: Global, from: Point, low: Px, to: Point) -> Result<String, Memor
 
 fn edge_title(
     alloc: Global,
-    placed: Placed<'_>,
+    placed: PlacedBox<'_>,
     place: usize,
     ended: Ended,
 ) -> Result<String, Memory> {
-    let Placed { linked, ports, .. } = placed;
+    let PlacedBox { linked, ports, .. } = placed;
     let controllers = linked.description.controllers.as_slice();
     let who = name_at(controllers, place);
     let text = match ended.edge {

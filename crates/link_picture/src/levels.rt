@@ -1,12 +1,12 @@
 //! In which column of the picture each controller stands: those that lead at the left of those that follow.
 
-use cm_model::Memory;
-use cm_replay::{Link, Links};
+use cm_replay::{ControllerLinks, Link};
+use fixed_num::Memory;
 use std::alloc::Global;
 use svg_text::Px;
 
 /// How long the chains are that lead on from each controller, by place: 0 of one that leads nobody.
-pub fn heights(alloc: Global, links: &[Links]) -> Result<Vec<usize>, Memory> {
+pub fn heights(alloc: Global, links: &[ControllerLinks]) -> Result<Vec<usize>, Memory> {
     let mut heights = Vec::new(alloc);
     for _controller in links {
         heights.push(0usize)?;
@@ -19,7 +19,7 @@ pub fn heights(alloc: Global, links: &[Links]) -> Result<Vec<usize>, Memory> {
 }
 
 /// Each controller stands above those that it leads.
-fn raise(heights: &mut Vec<usize>, links: &[Links]) {
+fn raise(heights: &mut Vec<usize>, links: &[ControllerLinks]) {
     for (place, own) in links.iter().enumerate() {
         let least = above(heights.as_slice(), own.claims.as_slice());
         if let Some(height) = heights.get_mut(place) {
@@ -63,7 +63,7 @@ impl Below {
     pub fn of(
         alloc: Global,
         heights: &[usize],
-        links: &[Links],
+        links: &[ControllerLinks],
         bottom: Px,
     ) -> Result<Below, Memory> {
         let mut below = Below {

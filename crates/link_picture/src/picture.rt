@@ -2,11 +2,11 @@
 //! hardware at the right.
 
 use crate::boxes::{boxes_of, draw_boxes};
-use crate::edges::{Placed, draw_edges};
+use crate::edges::{PlacedBox, draw_edges};
 use crate::levels::{Below, heights, levels};
 use crate::ports::Ports;
-use cm_model::Memory;
 use cm_replay::Linked;
+use fixed_num::Memory;
 use std::alloc::Global;
 use svg_text::{Area, Px, Svg};
 
@@ -39,7 +39,7 @@ fn draw_placed(
     ports: &Ports,
 ) -> Result<Px, Memory> {
     let below = Below::of(alloc, heights, linked.links, bottom(boxes))?;
-    let placed = Placed {
+    let placed = PlacedBox {
         linked,
         below: &below,
         boxes,

@@ -1,10 +1,12 @@
 //! The interfaces of the hardware at the right of the picture, by component and joint.
 
 use crate::boxes::mark;
-use cm_model::{CompDesc, Description, JointDesc, Kind, Memory};
+use cm_document::{CompDesc, Description, JointDesc};
 use cm_replay::{Link, Linked};
+use fixed_num::Memory;
+use iface_names::Kind;
 use std::alloc::Global;
-use svg_text::{Area, MARGIN, PAGE_WIDTH, Point, Px, Svg, shortened};
+use svg_text::{Area, MARGIN, PAGE_WIDTH, PagePoint, Px, Svg, shortened};
 
 /// How high the line of an interface is, in pixels.
 const PORT_HEIGHT: u64 = 24;
@@ -25,32 +27,32 @@ const FEWEST_TOGETHER: usize = 4;
 
 /// An interface of a joint: its command, its state, or both.
 #[derive(Clone, Copy)]
-pub struct Port {
+pub struct JointPort {
     /// The place of its component.
     pub component: usize,
     joint: usize,
     kind: Kind,
     has_command: bool,
     has_state: bool,
-    at: Point,
+    at: PagePoint,
 }
 
-impl Port {
+impl JointPort {
     /// Whether a link is to this interface of a joint.
     pub fn is_of(&self, link: &Link) -> bool {
         self.joint == link.joint && self.kind == link.kind
     }
 
     /// Where its command is claimed.
-    pub fn command_at(&self) -> Point {
-        Point {
+    pub fn command_at(&self) -> PagePoint {
+        PagePoint {
             x: self.at.x,
             y: self.at.y.minus(Px::of(5)),
         }
     }
 
     /// Where its state is read.
-    pub fn state_at(&self) -> Point {
+    pub fn state_at(&self) -> PagePoint {
         self.at.beside(Px::of(0), Px::of(6))
     }
 }
@@ -59,7 +61,7 @@ impl Port {
 #[derive(Clone, Copy)]
 pub struct Group {
     /// Where those read that read all of it.
-    pub at: Point,
+    pub at: PagePoint,
     states: usize,
     height: Px,
 }
@@ -85,7 +87,7 @@ impl Group {
 /// All components with their interfaces.
 #[derive(Drop)]
 pub struct Ports {
-    ports: Vec<Port>,
+    ports: Vec<JointPort>,
     groups: Vec<Group>,
     left: Px,
     width: Px,
@@ -120,7 +122,7 @@ impl Ports {
     /// One component more, whose joints stand from this place on.
     fn push_component(&mut self, component: &CompDesc, joints: usize) -> Result<(), Memory> {
         let top = self.bottom;
-        let at = Point {
+        let at = PagePoint {
             x: self.left,
             y: top.plus(Px::of(HEAD_HEIGHT / 2)),
         };
@@ -163,12 +165,12 @@ impl Ports {
         if !has_command && !has_state {
             return Ok(());
         }
-        let at = Point {
+        let at = PagePoint {
             x: self.left,
             y: self.bottom.plus(Px::of(PORT_HEIGHT / 2)),
         };
         self.bottom = self.bottom.plus(Px::of(PORT_HEIGHT));
-        self.ports.push(Port {
+        self.ports.push(JointPort {
             component,
             joint,
             kind,
@@ -180,7 +182,7 @@ impl Ports {
     }
 
     /// The interfaces, from the uppermost down.
-    pub fn all(&self) -> &[Port] {
+    pub fn all(&self) -> &[JointPort] {
         self.ports.as_slice()
     }
 
@@ -273,7 +275,7 @@ fn draw_group(
     )
 }
 
-fn draw_port(alloc: Global, svg: &mut Svg, port: &Port, text: &str) -> Result<(), Memory> {
+fn draw_port(alloc: Global, svg: &mut Svg, port: &JointPort, text: &str) -> Result<(), Memory> {
     if port.has_command {
         let title = format!(in alloc; "command {text}")?;
         svg.rect("command", mark(port.command_at()), title.as_str())?;

@@ -1,5 +1,6 @@
 -- A board: what is kept of each interface, and what its calls make of one place.
-use Rattle.std.specs.Prelude.{◌≡◌, ℕ, ◌<◌, ◌^◌, Bool, true, false, if◌then◌else◌, List, length, Option, Some, None, is_some, slice_index_or, slice_set}
+use Rattle.std.specs.Prelude.{◌≡◌, ℕ, ◌<◌, ◌^◌, Bool, true, false, if◌then◌else◌, List, length, Option, Some, None}
+use Rattle.std.specs.Prelude.{is_some, slice_index_or, slice_set}
 use Rattle.std.specs.List.{AllByRecursion}
 use Rattle.fixed_num.specs.declared.value.Value.{Value}
 use Rattle.fixed_num.specs.declared.value.Value.TheVariants.{Unset}
@@ -50,12 +51,20 @@ released loan = record loan { owner = None; value = Unset }
 
 -- It becomes available, or else unavailable and Unset.
 abbrev pub made_available : Bool → Loan → Loan
-made_available is_available loan = record loan { is_available = is_available; value = if is_available then loan.value else Unset }
+made_available is_available loan = record loan {
+  is_available = is_available;
+  value = if is_available then loan.value else Unset;
+}
 
 -- This controller has it, or nobody; it is available or not; and it keeps what it holds, or becomes Unset.
 abbrev pub lent : Option ℕ → Bool → Bool → Loan → Loan
 lent owner is_available keeps loan =
-    record { value = if keeps then loan.value else Unset; owner = owner; is_command = loan.is_command; is_available = is_available }
+    record {
+      value = if keeps then loan.value else Unset;
+      owner = owner;
+      is_command = loan.is_command;
+      is_available = is_available;
+    }
 
 -- One place changes so, and every other place stays as it was.
 abbrev pub with_loan : List Loan → ℕ → (Loan → Loan) → List Loan

@@ -6,8 +6,9 @@ ghost use Rattle.cm_document.specs.Places.{interfaces_of, kinds_of};
 ghost use Rattle.loan_board.specs.Loans.{idle, idle_of};
 
 use crate::board::{Board, Loan};
-use cm_document::{Checked, CompDesc, CtlDesc, IfaceName, JointDesc, Kind, Memory};
-use fixed_num::{StoredValue, Value};
+use cm_document::{Checked, CompDesc, CtlDesc, JointDesc};
+use fixed_num::{Memory, StoredValue, Value};
+use iface_names::{IfaceName, Kind};
 use std::alloc::Global;
 
 impl Board {

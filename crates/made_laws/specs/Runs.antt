@@ -23,13 +23,18 @@ summed_up rounds = summary (made_document rounds).description (run_of rounds)
 
 -- the summaries of the runs of one round and of two, as they were written down by hand
 abbrev pub summary_of_one : List ℕ
-summary_of_one = codes "cycles 10\nentries 45\nupdates 79\nasks 3 done 3 refused 0 ended 0\njoint j0 0.000000\njoint j1 0.090000\njoint j2 0.000000\njoint j3 0.000000\njoint j4 0.000000\njoint j5 0.000000\njoint j6 0.000000\njoint j7 0.000000\n"
+summary_of_one =
+    codes
+    "cycles 10\nentries 45\nupdates 79\nasks 3 done 3 refused 0 ended 0\njoint j0 0.000000\njoint j1 0.090000\njoint j2 0.000000\njoint j3 0.000000\njoint j4 0.000000\njoint j5 0.000000\njoint j6 0.000000\njoint j7 0.000000\n"
 
 abbrev pub summary_of_two : List ℕ
-summary_of_two = codes "cycles 20\nentries 71\nupdates 158\nasks 5 done 5 refused 0 ended 0\njoint j0 0.000000\njoint j1 0.190000\njoint j2 0.100000\njoint j3 0.000000\njoint j4 0.000000\njoint j5 0.000000\njoint j6 0.000000\njoint j7 0.000000\n"
+summary_of_two =
+    codes
+    "cycles 20\nentries 71\nupdates 158\nasks 5 done 5 refused 0 ended 0\njoint j0 0.000000\njoint j1 0.190000\njoint j2 0.100000\njoint j3 0.000000\njoint j4 0.000000\njoint j5 0.000000\njoint j6 0.000000\njoint j7 0.000000\n"
 
--- The counts of so many rounds: ten cycles a round; 26 entries a round, and 19 besides; in a round eight controllers are updated in each
--- cycle but one, and in that seven; and two requests a round with one besides, which are all carried out.
+-- The counts of so many rounds: ten cycles a round; 26 entries a round, and 19 besides; in a round eight controllers
+-- are updated in each cycle but one, and in that seven; and two requests a round with one besides, which are all
+-- carried out.
 pub record AreCounts (rounds : ℕ) (c : Counted) : Type 0 where
   pub cycles : c.cycles ≡ 10 * rounds
   pub entries : c.entries ≡ 19 + 26 * rounds

@@ -1,5 +1,5 @@
--- The text of a made document, of so many rounds: a robot of eight joints with a controller for each, and a script that in each round
--- sends to one controller and starts the next one anew.
+-- The text of a made document, of so many rounds: a robot of eight joints with a controller for each, and a script that
+-- in each round sends to one controller and starts the next one anew.
 use Rattle.std.specs.Prelude.{ℕ, zero, suc, ◌+◌, ◌*◌, ◌/◌, ◌%◌, List, [], ◌++◌, codes, decimal}
 use Rattle.make_document.specs.declared.TheConstants.{JOINTS, CYCLES_A_ROUND, VALUE_STEP}
 
@@ -24,15 +24,20 @@ controller_name i = codes "f" ++ decimal i
 
 -- a joint, which is commanded and measured by its position
 abbrev pub joint_lines : ℕ → List ℕ
-joint_lines i = codes "[[component.joint]]\nname = \"" ++ joint_name i ++ codes "\"\nvmax = 1\ncommand = [\"position\"]\nstate = [\"position\"]\n"
+joint_lines i =
+    codes
+    "[[component.joint]]\nname = \"" ++ joint_name i ++ codes "\"\nvmax = 1\ncommand = [\"position\"]\nstate = [\"position\"]\n"
 
 -- a controller, which claims the position of its joint
 abbrev pub controller_lines : ℕ → List ℕ
-controller_lines i = codes "[[controller]]\nname = \"" ++ controller_name i ++ codes "\"\ntype = \"forward\"\nclaims = [\"" ++ joint_name i ++ codes "/position\"]\n"
+controller_lines i =
+    codes
+    "[[controller]]\nname = \"" ++ controller_name i ++ codes "\"\ntype = \"forward\"\nclaims = [\"" ++ joint_name i ++ codes "/position\"]\n"
 
 -- one component with all joints, and the controllers
 unfoldable pub robot_lines : List ℕ
-robot_lines = codes "[[component]]\nname = \"sys\"\nkind = \"system\"\n" ++ of_each joint_lines ++ of_each controller_lines
+robot_lines =
+    codes "[[component]]\nname = \"sys\"\nkind = \"system\"\n" ++ of_each joint_lines ++ of_each controller_lines
 
 -- the description that runs for so many cycles
 abbrev pub running : ℕ → List ℕ
@@ -90,7 +95,8 @@ await_line k = codes "await " ++ decimal (CYCLES_A_ROUND * k) ++ codes "\n"
 
 -- A round: a value is sent to a controller, the next one is stopped and started, and the cycles are awaited.
 abbrev pub round_lines : ℕ → List ℕ
-round_lines k = send_line k ++ switch_line (codes "-") (restarted k) ++ switch_line (codes "+") (restarted k) ++ await_line k
+round_lines k =
+    send_line k ++ switch_line (codes "-") (restarted k) ++ switch_line (codes "+") (restarted k) ++ await_line k
 
 -- so many rounds, of which the first has the number 1
 abbrev pub rounds_lines : ℕ → List ℕ

@@ -32,7 +32,8 @@ controller_meant i = a_controller (controller_name i) 0 (Joint (joint_name i) Po
 
 -- the one component
 abbrev pub component_meant : CompDesc
-component_meant = a_component (codes "sys") System Active Unconfigured [] [] (all_below (λ i. joint_meant i ∷ []) JOINTS)
+component_meant =
+    a_component (codes "sys") System Active Unconfigured [] [] (all_below (λ i. joint_meant i ∷ []) JOINTS)
 
 -- the robot that runs for so many cycles
 abbrev pub robot_meant : ℕ → Description
@@ -47,7 +48,8 @@ strictly off on = record { on = on; off = off; strict = true }
 -- all controllers are loaded, configured and started
 unfoldable pub opening_calls : List Call
 opening_calls =
-    all_below (λ i. call.Load (controller_name i) ∷ []) JOINTS ++ all_below (λ i. call.Configure (controller_name i) ∷ []) JOINTS
+    all_below (λ i. call.Load (controller_name i) ∷ []) JOINTS
+    ++ all_below (λ i. call.Configure (controller_name i) ∷ []) JOINTS
     ++ call.Switch (strictly [] (all_below (λ i. controller_name i ∷ []) JOINTS)) ∷ []
 
 -- what is sent in a round, in micro-units
@@ -68,7 +70,10 @@ rounds_calls rounds = all_below (λ done. round_calls (done + 1)) rounds
 
 -- one session, `a`, and no turns
 abbrev pub script_meant : ℕ → Script
-script_meant rounds = record { sessions = record { name = codes "a"; lines = opening_calls ++ rounds_calls rounds } ∷ []; schedule = [] }
+script_meant rounds = record {
+  sessions = record { name = codes "a"; lines = opening_calls ++ rounds_calls rounds } ∷ [];
+  schedule = [];
+}
 
 -- ---- The document
 

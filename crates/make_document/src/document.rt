@@ -8,7 +8,7 @@ ghost use Rattle.make_document.specs.Made.{script_lines, opening_lines, line_eac
 ghost use Rattle.make_document.specs.Made.{rounds_lines, round_lines, send_line, switch_line, await_line};
 
 use crate::{CYCLES_A_ROUND, JOINTS, VALUE_STEP};
-use cm_document::Memory;
+use fixed_num::Memory;
 use std::alloc::Global;
 
 /// The made document of so many rounds.

@@ -9,10 +9,12 @@ use case_pages::pages::{halves, push_parted};
 use case_robots::described::described;
 use case_robots::robots::{ARM_AND_LEG, SEVEN};
 use chain_order::{PlaceSet, in_order};
-use cm_model::Checked;
+use cm_document::Checked;
+use cm_model::{FailedPart, Member};
+use sequence::ListRoom;
 use std::alloc::Global;
 use std::test::Fail;
-use stop_plan::{Ending, FailedPart, ListRoom, Member, Report};
+use stop_plan::{Ending, Report};
 use switch_plan::Relations;
 
 #[test]

@@ -7,8 +7,9 @@ use case_pages::acts::{Player, hold_acts};
 use case_pages::pages::{halves, push_parted};
 use case_robots::described::{described, place_of};
 use case_robots::robots::{ARM_AND_LEG, RISING, SEVEN, SINKING};
-use chain_order::{Member, heights, run_list};
-use cm_model::Checked;
+use chain_order::{heights, run_list};
+use cm_document::Checked;
+use cm_model::Member;
 use std::alloc::Global;
 use std::test::Fail;
 

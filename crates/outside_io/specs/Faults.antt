@@ -15,8 +15,8 @@ pub record HasCause {T E : Type 0} (before now : ℕ) (result : Result T E) : Ty
   pub counted : OnErr result (now ≡ one_more before)
   pub uncounted : OnOk result (now ≡ before)
 
--- How a call of many reads or writes ended, where one end of it stands for their failure: it came to that end exactly where one of
--- them failed, which is then counted once. The count never falls.
+-- How a call of many reads or writes ended, where one end of it stands for their failure: it came to that end exactly
+-- where one of them failed, which is then counted once. The count never falls.
 pub record IsToldAs {A : Type 0} (fault ended : A) (before now : ℕ) : Type 0 where
   pub later : before ≤ now
   pub counted : ended ≡ fault → now ≡ one_more before

@@ -3,8 +3,8 @@
 use case_calls::stocks::blanks;
 use case_runs::runs::{IN_STOCK, OF_PROGRAM, ample_sink, run_over};
 use cm_desk::Book;
-use cm_document::LONGEST_DOCUMENT;
-use cm_model::{Document, Entry};
+use cm_document::{Document, LONGEST_DOCUMENT};
+use cm_model::Entry;
 use cm_picture::page_of;
 use cm_top::read_document;
 use std::alloc::Global;

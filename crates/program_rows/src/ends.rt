@@ -1,9 +1,10 @@
 //! What the program tells of each status: the number that it ends with, and the line on standard error, with `Ok` none.
 
 use case_pages::pages::hold_told;
-use cm_model::{CheckFault, DescFault, DescProblem, IfaceName, Name, ScriptFault, Text, What};
+use cm_document::{CheckFault, DescFault, DescProblem, ScriptFault, Text, What};
 use cm_program::report;
 use cm_top::Status;
+use iface_names::{IfaceName, Name};
 use std::alloc::Global;
 use std::cell::RefCell;
 use std::fmt::Display;

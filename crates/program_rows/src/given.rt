@@ -6,13 +6,13 @@ use std::rt::Env;
 
 /// A runtime that only has words, each as its bytes; the program's name is the first.
 #[derive(Drop)]
-pub struct Words {
+pub struct GivenWords {
     words: Vec<Vec<u8>>,
 }
 
-impl Words {
+impl GivenWords {
     /// The words of a row, behind the program's name. A word that ends with `\xFF` has that byte there, so it is not UTF-8.
-    pub fn of(alloc: Global, row: &str) -> Result<Words, AllocError> {
+    pub fn of(alloc: Global, row: &str) -> Result<GivenWords, AllocError> {
         let mut words = vec![in alloc; b"cm".as_slice().to_vec(alloc)?]?;
         for word in row.split_whitespace() {
             let mut bytes = word.trim_end_matches(r"\xFF").as_bytes().to_vec(alloc)?;
@@ -21,11 +21,11 @@ impl Words {
             }
             words.push(bytes)?;
         }
-        Ok(Words { words })
+        Ok(GivenWords { words })
     }
 }
 
-impl Env for Words {
+impl Env for GivenWords {
     fn arg(&self, i: usize, buf: &mut [u8]) -> Result<usize, FillError> {
         let Some(word) = self.words.get(i) else {
             return Err(FillError::NotPresent);

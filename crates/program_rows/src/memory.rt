@@ -1,9 +1,9 @@
 //! Runs of the program where one allocation may be refused.
 
-use crate::given::Words;
-use cm_model::Memory;
+use crate::given::GivenWords;
 use cm_program::run_words;
 use cm_top::Status;
+use fixed_num::Memory;
 use outside_io::{MemSink, MemSource};
 use std::alloc::{AllocError, Global};
 use std::process::Abort;
@@ -84,7 +84,7 @@ fn wants_memory<R>(rt: &R, alloc: Global) -> bool
 where
     R: Abort + Threads + Wait + Sync + AllocGlobal,
 {
-    let Ok(words) = Words::of(alloc, "run") else {
+    let Ok(words) = GivenWords::of(alloc, "run") else {
         return true;
     };
     let (Ok(mut source), Ok(mut sink)) = (source(alloc), sink(alloc)) else {

@@ -1,7 +1,7 @@
 //! What becomes of the program's words, over the least document.
 
 use crate::ends::end;
-use crate::given::Words;
+use crate::given::GivenWords;
 use case_pages::pages::{halves, hold_told};
 use cm_program::run_words;
 use cm_top::Status;
@@ -82,7 +82,7 @@ fn status_of<R>(rt: &R, alloc: Global, given: &str, sink: &mut MemSink) -> Resul
 where
     R: Threads + Wait + Sync + AllocGlobal,
 {
-    let words = (Words::of(alloc, given)?, alloc);
+    let words = (GivenWords::of(alloc, given)?, alloc);
     let document = LEAST.as_bytes().to_vec(alloc)?;
     let mut source = MemSource::make(document, 100, vec![in alloc]?);
     Ok(run_words(&words, rt, &mut source, sink))

@@ -6,11 +6,11 @@ ghost use Rattle.std.specs.List.{All};
 ghost use Rattle.cm_model.specs.Controllers.{IsBlank};
 
 use case_pages::pages::{Teller, halves, hold, push_parted};
-use cm_document::{CONTROLLER_KINDS, MOST_CONTROLLERS, meaning_of};
-use cm_model::CtlKind;
+use cm_document::{CONTROLLER_KINDS, CtlKind, MOST_CONTROLLERS, meaning_of};
 use ctl_forward::{Forward, Passthrough};
 use ctl_mock::Mock;
-use ctl_rack::{Controller, Rack, RackFault, Stock, Whereabouts};
+use ctl_rack::{Rack, RackFault, Stock, Whereabouts};
+use ctl_trait::Controller;
 use std::alloc::Global;
 use std::test::Fail;
 

@@ -1,5 +1,6 @@
 -- What is done for a request.
-use Rattle.std.specs.Prelude.{◌≡◌, ℕ, ◌<◌, Bool, true, false, not, ◌&&◌, ◌||◌, if◌then◌else◌, List, length, map, slice_set}
+use Rattle.std.specs.Prelude.{◌≡◌, ℕ, ◌<◌, Bool, true, false, not, ◌&&◌, ◌||◌, if◌then◌else◌, List, length, map}
+use Rattle.std.specs.Prelude.{slice_set}
 use Rattle.cm_document.specs.declared.description.Description.{Description}
 use Rattle.cm_document.specs.declared.life.Life.{Life}
 use Rattle.cm_document.specs.declared.life.Life.TheVariants.{Inactive, Active}
@@ -33,7 +34,8 @@ pub record HaveFlags (count : ℕ) (c : Switched) : Type 0 where
   pub started : length c.started ≡ count
   pub chained : length c.chained ≡ count
 
--- The four sets of a plan with these lists of serials: who is stopped, who is started, who is active then, and who is chained.
+-- The four sets of a plan with these lists of serials: who is stopped, who is started, who is active then, and who is
+-- chained.
 pub record AreSetsOf (loaded : List Seen) (off on : List ℕ) (c : Switched) : Type 0 where
   pub stopped : set_of c.stopped ≡ of_serials loaded off
   pub started : set_of c.started ≡ of_serials loaded on
@@ -46,8 +48,8 @@ abbrev pub is_carried_out : Outcome → Bool
 is_carried_out (outcome.Done dropped) = true
 is_carried_out _ = false
 
--- A switch is done so, which leads from one state to another: the set is active after it, with some restarted by name; each of the set
--- is loaded and has parameters, and they can run together.
+-- A switch is done so, which leads from one state to another: the set is active after it, with some restarted by name;
+-- each of the set is loaded and has parameters, and they can run together.
 pub record IsSwitchOf (s after : State) (c : Switched) : Type 0 where
   pub again : Places
   pub is : after ≡ commit s (set_of c.set) again
@@ -68,7 +70,8 @@ pub record IsMoveOf (s after : State) (component : ℕ) (target : Life) : Type 0
 -- This is done for the plan of a switch: nothing where it is refused, and else its sets.
 abbrev pub IsPlannedAct : Description → List Seen → Planned → Act → Type 0
 IsPlannedAct d loaded plan act.Nothing = is_carried_out plan.outcome ≡ false
-IsPlannedAct d loaded plan (act.Switch c) = (is_carried_out plan.outcome ≡ true) × HaveFlags (length d.controllers) c × AreSetsOf loaded plan.off plan.on c
+IsPlannedAct d loaded plan (act.Switch c) =
+    (is_carried_out plan.outcome ≡ true) × HaveFlags (length d.controllers) c × AreSetsOf loaded plan.off plan.on c
     × (set_of c.chained ≡ is_chained_in d.controllers (set_of c.set))
 IsPlannedAct d loaded plan (act.Move component target) = ⊥
 

@@ -1,5 +1,5 @@
--- In reading order: the requests as they are kept, why a component is not moved, what a decision rests on, what is done for a request,
--- the plan for all that wait, and what calls ask and promise.
+-- In reading order: the requests as they are kept, why a component is not moved, what a decision rests on, what is done
+-- for a request, the plan for all that wait, and what calls ask and promise.
 pub mod Requests
 pub mod Moves
 pub mod Stands

@@ -16,16 +16,18 @@ abbrev pub AreConclusionsOf : State → List Request → List Conclusion → Typ
 AreConclusionsOf s [] [] = Unit {0}
 AreConclusionsOf s [] (c ∷ cs) = ⊥
 AreConclusionsOf s (asked ∷ later) [] = ⊥
-AreConclusionsOf s (asked ∷ later) (c ∷ cs) = IsConclusionOf s asked c × AreConclusionsOf (with_outcome (concluded s asked)) later cs
+AreConclusionsOf s (asked ∷ later) (c ∷ cs) =
+    IsConclusionOf s asked c × AreConclusionsOf (with_outcome (concluded s asked)) later cs
 
--- This is planned for requests in a state: what is concluded of each; then the active controllers in the order of their updates, by
--- serial and place; and what was decided, by ticket.
+-- This is planned for requests in a state: what is concluded of each; then the active controllers in the order of their
+-- updates, by serial and place; and what was decided, by ticket.
 pub record IsPlanOf (s : State) (asked : List Request) (plan : Plan) : Type 0 where
   pub conclusions : AreConclusionsOf s asked plan.conclusions.items
   pub order : plan.order.items ≡ members_in_order (all_concluded s asked)
   pub decisions : plan.decisions ≡ decisions_between s (all_concluded s asked)
 
 -- These are concluded of requests in a state, and this is seen of the state after all of them.
-pub record AreConcluded (s : State) (asked : List Request) (conclusions : List Conclusion) (d : Description) (stand : Stand) : Type 0 where
+pub record AreConcluded (s : State) (asked : List Request) (conclusions : List Conclusion) (d : Description)
+    (stand : Stand) : Type 0 where
   pub each : AreConclusionsOf s asked conclusions
   pub seen : IsSeenOf (all_concluded s asked) d stand

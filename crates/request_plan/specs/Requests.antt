@@ -1,5 +1,6 @@
 -- The requests, as they are kept.
-use Rattle.std.specs.Prelude.{◌≡◌, ℕ, ◌+◌, ◌<◌, ◌≤◌, ◌^◌, Bool, List, [], length, vec_capacity, Option, Some, None, Box, Vec}
+use Rattle.std.specs.Prelude.{◌≡◌, ℕ, ◌+◌, ◌<◌, ◌≤◌, ◌^◌, Bool, List, [], length, vec_capacity, Option, Some, None, Box}
+use Rattle.std.specs.Prelude.{Vec}
 use Rattle.std.specs.declared.alloc.Global.{Global}
 use Rattle.cm_model.specs.State.{State}
 use Rattle.cm_model.specs.declared.TheConstants.{MOST_WAITING}
@@ -26,7 +27,8 @@ pub record AreAskedIn (s : State) (asked : Asked) : Type 0 where
 abbrev pub IsAnswered : Reply → (Reply → State) → State → Reply → Type 0
 IsAnswered expected effect new reply = (reply ≡ expected) × (new ≡ effect reply)
 
--- No more are decided than were asked, no more wait than can, their number has 32 bits, and there is room for an outcome of each.
+-- No more are decided than were asked, no more wait than can, their number has 32 bits, and there is room for an
+-- outcome of each.
 pub record HaveRoom (requests : List Request) (outcomes : List Outcome) (places : ℕ) : Type 0 where
   pub decided : length outcomes ≤ length requests
   pub few_wait : length requests ≤ length outcomes + MOST_WAITING

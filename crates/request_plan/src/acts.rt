@@ -1,7 +1,8 @@
 //! What is done for a request.
 
 use chain_order::PlaceSet;
-use cm_model::{Life, Outcome};
+use cm_document::Life;
+use cm_model::Outcome;
 
 /// A switch that is done, as sets of described controllers.
 #[derive(Debug, Drop)]

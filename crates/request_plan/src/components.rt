@@ -11,7 +11,11 @@ ghost use Rattle.request_plan.specs.Stands.{IsSeenOf};
 use crate::acts::{Act, Conclusion};
 use crate::moves::move_fault;
 use crate::stand::{Stand, order};
-use cm_model::{Cause, Checked, CompDesc, Life, Member, Memory, Name, Outcome, Shared, SharedList};
+use cm_document::{Checked, CompDesc, Life};
+use cm_model::{Cause, Member, Outcome};
+use fixed_num::Memory;
+use iface_names::Name;
+use sequence::{Shared, SharedList};
 use std::alloc::Global;
 use switch_plan::Relations;
 

@@ -3,9 +3,6 @@
 #![tactic(auto)]
 
 pub use acts::{Act, Conclusion, Switched};
-pub use cm_model::{
-    Cause, Checked, Decision, Life, Member, Memory, Outcome, Rare, Reply, Request, Seen, Why,
-};
 pub use plans::Plan;
 pub use requests::Requests;
 pub use stand::Stand;

@@ -7,7 +7,9 @@ ghost use Rattle.chain_order.specs.Links.{linked};
 ghost use Rattle.switch_plan.specs.Relations.{relations_of};
 ghost use Rattle.request_plan.specs.Moves.{IsMoveFault};
 
-use cm_model::{Cause, Checked, CtlDesc, Life, Memory};
+use cm_document::{Checked, CtlDesc, Life};
+use cm_model::Cause;
+use fixed_num::Memory;
 use switch_plan::Relations;
 
 /// Why the component at a place, which is in this lifecycle state, is not brought to the target, where something speaks against it:

@@ -11,7 +11,10 @@ use crate::acts::Conclusion;
 use crate::components::conclude_move;
 use crate::stand::{Stand, order};
 use crate::switches::conclude_switch;
-use cm_model::{Checked, Decision, Member, Memory, Outcome, Rare, Request};
+use cm_document::Checked;
+use cm_model::{Decision, Member, Outcome, Request};
+use fixed_num::Memory;
+use sequence::Rare;
 use std::alloc::Global;
 use switch_plan::Relations;
 

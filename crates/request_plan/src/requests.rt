@@ -11,7 +11,10 @@ ghost use Rattle.request_plan.specs.Stands.{IsStand, IsSeenOf};
 
 use crate::plans::{Plan, plan_all};
 use crate::stand::Stand;
-use cm_model::{Checked, Decision, MOST_WAITING, Memory, Outcome, Rare, Reply, Request, Why};
+use cm_document::Checked;
+use cm_model::{Decision, MOST_WAITING, Outcome, Reply, Request, Why};
+use fixed_num::Memory;
+use sequence::Rare;
 use std::alloc::Global;
 use std::marker::Model;
 use switch_plan::Relations;

@@ -10,7 +10,9 @@ ghost use Rattle.request_plan.specs.Acts.{seen_after, loaded_after, lives_after,
 
 use crate::acts::{Act, Switched};
 use chain_order::{PlaceSet, in_order};
-use cm_model::{Checked, Life, Member, Memory, Seen};
+use cm_document::{Checked, Life};
+use cm_model::{Member, Seen};
+use fixed_num::Memory;
 use std::alloc::Global;
 use switch_plan::{Relations, View};
 

@@ -13,7 +13,9 @@ ghost use Rattle.request_plan.specs.Acts.{is_carried_out, HaveFlags, AreSetsOf, 
 use crate::acts::{Act, Conclusion, Switched};
 use crate::stand::{Stand, as_set, member, running};
 use chain_order::{Links, PlaceSet, is_chained};
-use cm_model::{Checked, Member, Memory, Outcome, Planned, Seen, SwitchRequest};
+use cm_document::{Checked, SwitchRequest};
+use cm_model::{Member, Outcome, Planned, Seen};
+use fixed_num::Memory;
 use std::alloc::Global;
 use switch_plan::{Relations, plan_with};
 

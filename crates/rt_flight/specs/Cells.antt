@@ -1,5 +1,6 @@
 -- What stands in a cell, and what the updates of a cycle make of the cells and of the board.
-use Rattle.std.specs.Prelude.{◌≡◌, ℕ, ◌+◌, ◌<◌, ◌≤◌, ◌^◌, Bool, false, if◌then◌else◌, List, [], ◌∷◌, ◌++◌, length, Option, None, Some, IfSome}
+use Rattle.std.specs.Prelude.{◌≡◌, ℕ, ◌+◌, ◌<◌, ◌≤◌, ◌^◌, Bool, false, if◌then◌else◌, List, [], ◌∷◌, ◌++◌, length}
+use Rattle.std.specs.Prelude.{Option, None, Some, IfSome}
 use Rattle.std.specs.List.{AllByRecursion}
 use Rattle.cm_document.specs.declared.call.Mail.{Mail}
 use Rattle.cm_document.specs.declared.description.CtlKind.{CtlKind}
@@ -20,8 +21,8 @@ use Rattle.ctl_trait.specs.Taking.{CanTake}
 use Rattle.switch_plan.specs.Relations.{Related}
 use Rattle.rt_flight.specs.Stations.{Standing, gathered, flies, tick_at, step_from, told_of, IsSeatedOn, IsInTime}
 
--- A controller that runs, in its cell: where it stands, its data, and the mail that went aloft for it; and how its update went, while what
--- it gave out is not yet put into its claims.
+-- A controller that runs, in its cell: where it stands, its data, and the mail that went aloft for it; and how its
+-- update went, while what it gave out is not yet put into its claims.
 pub record Seat : Type 0 where
   pub station : Standing
   pub ctl : CtlData
@@ -40,7 +41,12 @@ step_of a c = step_from c.ctl (tick_at a c.station) c.station c.mail
 
 -- the cell after this step: it took its mail, and what it gave out stands in it unless it failed
 abbrev pub seat_stepped : Stepped → Seat → Seat
-seat_stepped step c = record { station = record c.station { outs = put_out step c.station.outs }; ctl = step.after; mail = None; done = None }
+seat_stepped step c = record {
+  station = record c.station { outs = put_out step c.station.outs };
+  ctl = step.after;
+  mail = None;
+  done = None;
+}
 
 -- the cell after its turn, while the board holds this: where it is not updated its mail is lost
 abbrev pub seat_after : Aloft → List Loan → Seat → Seat
@@ -72,7 +78,8 @@ with_step a c step f = record {
 
 -- after the turn of this cell
 abbrev pub flying_after : Aloft → Seat → Flying → Flying
-flying_after a c f = if flies a c.station then with_step a c (step_of a (seat_gathered a.placed f.hardware.loans c)) f else f
+flying_after a c f =
+    if flies a c.station then with_step a c (step_of a (seat_gathered a.placed f.hardware.loans c)) f else f
 
 -- ---- All of them
 
@@ -104,7 +111,8 @@ seat_put c = record c { done = None }
 
 -- what its claims then hold
 abbrev pub board_put : Placed → Done → Standing → List Loan → List Loan
-board_put placed answer s loans = elim answer [ done.Ok ↦ put_on loans (linked placed.claims s.place) s.outs | done.Error ↦ loans ]
+board_put placed answer s loans =
+    elim answer [ done.Ok ↦ put_on loans (linked placed.claims s.place) s.outs | done.Error ↦ loans ]
 
 -- and what is told
 abbrev pub serials_put : Done → ℕ → List ℕ → List ℕ
@@ -169,10 +177,12 @@ post_of c = record {
 
 -- ---- When that may be done
 
--- Its data are kept as those of a controller that runs; it is in time, has just the room for what it is given and gives out, and can take its mail.
+-- Its data are kept as those of a controller that runs; it is in time, has just the room for what it is given and gives
+-- out, and can take its mail.
 pub record CanStep (relations : Related) (period_us : ℕ) (c : Seat) : Type 0 where
   pub kept : IsKept Active c.ctl
-  pub counts : IfSome c.ctl.params (λ params. AreItsCounts params (length c.station.states) (length c.station.references) (length c.station.outs))
+  pub counts : IfSome c.ctl.params
+      (λ params. AreItsCounts params (length c.station.states) (length c.station.references) (length c.station.outs))
   pub related : c.station.place < length relations.components
   pub led : c.station.place < length relations.leaders
   pub in_time : IsInTime period_us c.station

@@ -1,5 +1,6 @@
 -- A flight: one cycle that has left the desk. What it is of a state, and what it makes of it.
-use Rattle.std.specs.Prelude.{◌≡◌, ℕ, ◌<◌, ◌≤◌, ◌==◌, Bool, true, false, List, [], ◌∷◌, length, map, is_some, vec_capacity, Option, None, Some, IfSome, IsSomeAnd}
+use Rattle.std.specs.Prelude.{◌≡◌, ℕ, ◌<◌, ◌≤◌, ◌==◌, Bool, true, false, List, [], ◌∷◌, length, map, is_some}
+use Rattle.std.specs.Prelude.{vec_capacity, Option, None, Some, IfSome, IsSomeAnd}
 use Rattle.std.specs.List.{All, AllByRecursion, IsDistinct}
 use Rattle.joint_body.specs.declared.TheConstants.{LONGEST_STEP}
 use Rattle.cm_document.specs.Valid.{IsValid}
@@ -27,9 +28,9 @@ use Rattle.rt_flight.specs.Cells.{Seat, CanFly, CanTell}
 use Rattle.rt_flight.specs.declared.craft.Craft.{Craft}
 use Rattle.rt_flight.specs.declared.plant.Plant.{Plant}
 
--- What is seen of a flight: the number of its cycle; its cells in the order of updates; the hardware, with what is worked out of the
--- description; the sets of the end, and whether something failed; the lists of the hardware, which are written down as it is computed; and
--- the record of the cycle, once it is.
+-- What is seen of a flight: the number of its cycle; its cells in the order of updates; the hardware, with what is
+-- worked out of the description; the sets of the end, and whether something failed; the lists of the hardware, which
+-- are written down as it is computed; and the record of the cycle, once it is.
 pub record FlightFacts : Type 0 where
   pub number : ℕ
   pub cells : List Seat
@@ -59,8 +60,9 @@ AreSeatsOf mails [] [] = Unit {0}
 AreSeatsOf mails (r ∷ rs) (c ∷ cs) = IsSeatOf mails r c × AreSeatsOf mails rs cs
 AreSeatsOf mails _ _ = ⊥
 
--- Over this plant the cycle of this number is aloft in the state, which is one of a valid description, steady and with serials that
--- differ: the cells are those of its active controllers, in the order of updates, and the hardware is that of the state.
+-- Over this plant the cycle of this number is aloft in the state, which is one of a valid description, steady and with
+-- serials that differ: the cells are those of its active controllers, in the order of updates, and the hardware is that
+-- of the state.
 pub record IsAloftOver (s : State) (count : ℕ) (seats : List Seat) (g : Plant) : Type 0 where
   pub valid : IsValid s.description
   pub steady : IsSteady s
@@ -77,8 +79,8 @@ pub record IsAloft (s : State) (f : FlightFacts) : Type 0 where
   pub over : IsAloftOver s f.number f.cells f.plant
   pub not_yet : f.outcome ≡ None
 
--- Another state of the same cycle: steady, with serials that differ, and with the same core. A call of a console between a begin and its
--- end leads to such a one.
+-- Another state of the same cycle: steady, with serials that differ, and with the same core. A call of a console
+-- between a begin and its end leads to such a one.
 pub record IsAlike (s begun : State) : Type 0 where
   pub steady : IsSteady s
   pub once : IsDistinct (λ m n. m == n) (map (λ l. l.serial) s.loaded)
@@ -88,7 +90,8 @@ pub record IsAlike (s begun : State) : Type 0 where
 abbrev pub StaysAloft : State → FlightFacts → Type 0
 StaysAloft begun f = (s : State) → IsAlike s begun → IsAloft s f
 
--- After a cycle the cell is that of this running controller, with the data that it has among these, and no mail any more.
+-- After a cycle the cell is that of this running controller, with the data that it has among these, and no mail any
+-- more.
 pub record IsSeatAfter (loaded : List Loaded) (r : Running) (c : Seat) : Type 0 where
   pub station : IsStationOf r c.station
   pub ctl : Some c.ctl ≡ data_under r.serial loaded
@@ -100,9 +103,9 @@ AreSeatsAfter loaded [] [] = Unit {0}
 AreSeatsAfter loaded (r ∷ rs) (c ∷ cs) = IsSeatAfter loaded r c × AreSeatsAfter loaded rs cs
 AreSeatsAfter loaded _ _ = ⊥
 
--- The flight is computed: its record is that of the cycle of the state; the cells are those of the active controllers, in the order of
--- updates, with the data after the cycle; and the hardware is that of the state when the cycle has landed, before it is settled who
--- stops: the lists show it. The sets say who does, where something failed.
+-- The flight is computed: its record is that of the cycle of the state; the cells are those of the active controllers,
+-- in the order of updates, with the data after the cycle; and the hardware is that of the state when the cycle has
+-- landed, before it is settled who stops: the lists show it. The sets say who does, where something failed.
 pub record IsComputed (s : State) (f : FlightFacts) : Type 0 where
   pub number : f.number ≡ s.ended
   pub outcome : f.outcome ≡ Some (cycle s).happened
@@ -126,9 +129,11 @@ StaysComputed begun f = (s : State) → IsAlike s begun → IsComputed s f
 abbrev pub member_in : Seat → Member
 member_in c = record { serial = c.station.serial; place = c.station.place }
 
--- Computed or not, it is known who flies; each station is fitted; the sets of the end have a flag for each described controller; there is
--- room for the lists of its hardware; and for the serial of each controller that flies, of which none stands there.
-pub record IsEquipped (cells : List Seat) (members : List Member) (g : Plant) (ending : Ending) (lists : Lists) (serials : List ℕ) (capacity : ℕ) : Type 0 where
+-- Computed or not, it is known who flies; each station is fitted; the sets of the end have a flag for each described
+-- controller; there is room for the lists of its hardware; and for the serial of each controller that flies, of which
+-- none stands there.
+pub record IsEquipped (cells : List Seat) (members : List Member) (g : Plant) (ending : Ending) (lists : Lists)
+    (serials : List ℕ) (capacity : ℕ) : Type 0 where
   pub order : members ≡ map member_in cells
   pub fitted : AllByRecursion (λ c. IsFitted g.places c.station) cells
   pub flags : HasFlags (length g.relations.leaders) ending
@@ -138,9 +143,16 @@ pub record IsEquipped (cells : List Seat) (members : List Member) (g : Plant) (e
 
 -- what is the same for all its updates, before a read failed
 abbrev pub round_over : ℕ → Plant → Aloft
-round_over number g = record { number = number; period_us = g.period_us; placed = g.places; related = g.relations; failed = [] }
+round_over number g = record {
+  number = number;
+  period_us = g.period_us;
+  placed = g.places;
+  related = g.relations;
+  failed = [];
+}
 
--- Over this plant the cycle of a state can be made of these cells: each can be updated, and there is room to tell of all that can happen.
+-- Over this plant the cycle of a state can be made of these cells: each can be updated, and there is room to tell of
+-- all that can happen.
 pub record CanMake (number : ℕ) (cells : List Seat) (g : Plant) (r : RecordRoom) : Type 0 where
   pub aloft : (s : State) × IsAloftOver s number cells g
   pub timely : IsTimely (round_over number g)
@@ -176,7 +188,8 @@ pub record IsReady (number : ℕ) (cells : List Seat) (members : List Member) (g
   pub settles : CanSettle g.relations members r
   pub empty : TellsNothing r
 
--- With this craft, a flight has room to tell of its cycle until it has the record of it. Room that is left then tells nothing.
+-- With this craft, a flight has room to tell of its cycle until it has the record of it. Room that is left then tells
+-- nothing.
 pub record IsFlight (number : ℕ) (cells : List Seat) (k : Craft) : Type 0 where
   pub equipped : IsEquipped cells k.order.items k.plant k.ending k.lists k.erred.items (vec_capacity k.erred)
   pub ready : is_some k.record ≡ false → IsSomeAnd k.room (IsReady number cells k.order.items k.plant)
@@ -194,8 +207,8 @@ facts_with number cells k = record {
   outcome = k.record;
 }
 
--- What a flight brings home: all that it took along as it is then, the record of its cycle, and whether something failed; and room that is
--- left tells nothing.
+-- What a flight brings home: all that it took along as it is then, the record of its cycle, and whether something
+-- failed; and room that is left tells nothing.
 pub record ComesHome (f : FlightFacts) (seats : List Seat) (k : Craft) (happened : Happened) : Type 0 where
   pub cells : seats ≡ f.cells
   pub plant : k.plant ≡ f.plant

@@ -1,4 +1,5 @@
--- In reading order: where a controller stands, what stands in a cell and what the updates make of all cells, then the flight, and what calls ask and leave.
+-- In reading order: where a controller stands, what stands in a cell and what the updates make of all cells, then the
+-- flight, and what calls ask and leave.
 pub mod Stations
 pub mod Cells
 pub mod Flights

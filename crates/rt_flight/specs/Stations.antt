@@ -1,5 +1,6 @@
 -- Where a controller stands while it is updated, and what it reads there.
-use Rattle.std.specs.Prelude.{◌≡◌, ℕ, ℤ, ◌*◌, ◌<◌, ◌≤◌, ◌==◌, Bool, not, ◌&&◌, if◌then◌else◌, List, [], length, All, Option}
+use Rattle.std.specs.Prelude.{◌≡◌, ℕ, ℤ, ◌*◌, ◌<◌, ◌≤◌, ◌==◌, Bool, not, ◌&&◌, if◌then◌else◌, List, [], length, All}
+use Rattle.std.specs.Prelude.{Option}
 use Rattle.std.specs.List.{list_any}
 use Rattle.fixed_num.specs.declared.value.Value.{Value}
 use Rattle.cm_document.specs.declared.call.Mail.{Mail}
@@ -17,8 +18,8 @@ use Rattle.ctl_places.specs.Placed.{Placed}
 use Rattle.ctl_slots.specs.Seats.{numbers_at, held_at}
 use Rattle.ctl_slots.specs.Updates.{Aloft}
 
--- A controller by the number of its load and its place in the description; in how many cycles it is updated once; and what was last read
--- for it, of states and of references, and what it last gave out.
+-- A controller by the number of its load and its place in the description; in how many cycles it is updated once; and
+-- what was last read for it, of states and of references, and what it last gave out.
 pub record Standing : Type 0 where
   pub serial : ℕ
   pub place : ℕ
@@ -73,7 +74,8 @@ step_from ctl tick s mail = ctl_step ctl tick s.states s.references mail
 
 -- the controller at this place is held off: a read of one of its components failed
 abbrev pub is_held_at : Aloft → ℕ → Bool
-is_held_at a place = list_any (λ component. list_any (λ part. part.place == component) a.failed) (linked a.related.components place)
+is_held_at a place =
+    list_any (λ component. list_any (λ part. part.place == component) a.failed) (linked a.related.components place)
 
 -- it is updated in the cycle: it is due, and not held off
 abbrev pub flies : Aloft → Standing → Bool

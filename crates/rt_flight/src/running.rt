@@ -7,8 +7,10 @@ ghost use Rattle.ctl_slots.specs.Lives.{once_taken, publishes, CanBeStepped, IsK
 ghost use Rattle.ctl_trait.specs.Taking.{CanTake};
 ghost use Rattle.rt_flight.specs.Calls.Stations.{TakesStep};
 
-use cm_model::{CtlKind, Done, Fx, Mail, Tick, Value};
+use cm_document::{CtlKind, Mail};
+use cm_model::{Done, Tick};
 use ctl_trait::Controller;
+use fixed_num::{Fx, Value};
 use std::marker::Model;
 
 /// A box whose controller runs. Contracts see its data.

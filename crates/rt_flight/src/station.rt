@@ -10,10 +10,12 @@ ghost use Rattle.rt_flight.specs.Stations.{gathered, step_from, told_of, HasRows
 ghost use Rattle.rt_flight.specs.Calls.Stations.{IsMadeFor, TakesStep, CanTellOf, LeavesRoom};
 
 use crate::running::Running;
+use cm_document::Mail;
 use cm_hardware::ResourceManager;
-use cm_model::{Done, Fx, Mail, Member, Memory, RanRoom, Tick, Value};
+use cm_model::{Done, Member, RanRoom, Tick};
 use ctl_places::CtlPlaces;
 use ctl_trait::Controller;
+use fixed_num::{Fx, Memory, Value};
 use std::alloc::Global;
 use std::marker::Model;
 

@@ -1,9 +1,9 @@
 //! The axis of the cycles: numbers below, and a thin line up from each.
 
 use crate::strip::Strip;
-use cm_model::Memory;
+use fixed_num::Memory;
 use std::alloc::Global;
-use svg_text::{MARGIN, Point, Px, Svg};
+use svg_text::{MARGIN, PagePoint, Px, Svg};
 
 /// Draws the lines of the numbered cycles between two heights, and the numbers below.
 pub fn draw_axis(
@@ -19,8 +19,8 @@ pub fn draw_axis(
         draw_number(alloc, svg, strip, top, bottom, cycle)?;
     }
     let x = strip.right();
-    svg.line("grid", Point { x, y: top }, Point { x, y: bottom })?;
-    let at = Point {
+    svg.line("grid", PagePoint { x, y: top }, PagePoint { x, y: bottom })?;
+    let at = PagePoint {
         x: Px::of(MARGIN),
         y: bottom.plus(Px::of(15)),
     };
@@ -37,9 +37,9 @@ fn draw_number(
 ) -> Result<(), Memory> {
     let column = strip.columns.of_cycle(cycle);
     let x = strip.left_of(column);
-    svg.line("grid", Point { x, y: top }, Point { x, y: bottom })?;
+    svg.line("grid", PagePoint { x, y: top }, PagePoint { x, y: bottom })?;
     let text = format!(in alloc; "{cycle}")?;
-    let at = Point {
+    let at = PagePoint {
         x: strip.middle_of(column),
         y: bottom.plus(Px::of(15)),
     };

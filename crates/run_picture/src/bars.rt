@@ -2,10 +2,10 @@
 
 use crate::placed::Placed;
 use crate::strip::Strip;
-use cm_model::Memory;
-use cm_replay::{Row, Shown};
+use cm_replay::{ColumnState, Row};
+use fixed_num::Memory;
 use std::alloc::Global;
-use svg_text::{Area, Point, Px, Svg, push_cycles};
+use svg_text::{Area, PagePoint, Px, Svg, push_cycles};
 
 /// The blank between the end of a bar and its word, in pixels.
 const BESIDE: u64 = 8;
@@ -30,7 +30,7 @@ pub struct Barred<'a> {
 struct Stretch {
     from: usize,
     to: usize,
-    shown: Shown,
+    shown: ColumnState,
 }
 
 /// From where to where something stands.
@@ -60,7 +60,7 @@ pub fn draw_bars(alloc: Global, svg: &mut Svg, barred: Barred<'_>) -> Result<(),
     let mut stretch = Stretch {
         from: 0,
         to: 0,
-        shown: Shown::Nothing,
+        shown: ColumnState::Nothing,
     };
     for (column, cell) in barred.row.cells().iter().enumerate() {
         if cell.shown != stretch.shown {
@@ -94,7 +94,7 @@ fn draw_stretch(
         height: Px::of(height),
     };
     svg.rect(word, area, title.as_str())?;
-    if stretch.shown == Shown::Chained {
+    if stretch.shown == ColumnState::Chained {
         draw_link(svg, area)?;
     }
     let gap = widest_gap(barred.marks, Gap { from: x, to: end });
@@ -102,12 +102,18 @@ fn draw_stretch(
 }
 
 /// The word of a bar, in the middle of what no mark covers, where it has room there.
-fn draw_word(svg: &mut Svg, top: Px, shown: Shown, gap: Gap, title: &str) -> Result<(), Memory> {
+fn draw_word(
+    svg: &mut Svg,
+    top: Px,
+    shown: ColumnState,
+    gap: Gap,
+    title: &str,
+) -> Result<(), Memory> {
     let word = shown.word();
     if Px::letters(word.len()).reaches(gap.width()) {
         return Ok(());
     }
-    let at = Point {
+    let at = PagePoint {
         x: gap.from.plus(gap.width().half()),
         y: top.plus(Px::of(18)),
     };
@@ -145,22 +151,22 @@ fn stretch_title(alloc: Global, barred: Barred<'_>, stretch: Stretch) -> Result<
 fn draw_link(svg: &mut Svg, area: Area) -> Result<(), Memory> {
     let y = area.y.plus(Px::of(19));
     let end = area.x.plus(area.width);
-    svg.line("link", Point { x: area.x, y }, Point { x: end, y })
+    svg.line("link", PagePoint { x: area.x, y }, PagePoint { x: end, y })
 }
 
 /// How far below a row's top its bar begins, and how high it is: who is active stands out.
-fn band(shown: Shown) -> (u64, u64) {
+fn band(shown: ColumnState) -> (u64, u64) {
     match shown {
-        Shown::Active | Shown::Chained => (3, 22),
-        Shown::Finalized => (3, 22),
+        ColumnState::Active | ColumnState::Chained => (3, 22),
+        ColumnState::Finalized => (3, 22),
         _ => (7, 14),
     }
 }
 
 /// The class of a word on its bar.
-fn on_band(shown: Shown) -> &'static str {
+fn on_band(shown: ColumnState) -> &'static str {
     match shown {
-        Shown::Active | Shown::Chained | Shown::Finalized => "on-dark",
+        ColumnState::Active | ColumnState::Chained | ColumnState::Finalized => "on-dark",
         _ => "on-light",
     }
 }

@@ -1,7 +1,9 @@
 //! What became of requests and calls, and why, in plain words.
 
-use cm_model::{Cause, Dropped, Memory, Name, Outcome, Why};
+use cm_model::{Cause, Dropped, Outcome, Why};
 use cm_replay::{Answered, Became, is_own};
+use fixed_num::Memory;
+use iface_names::Name;
 use std::alloc::Global;
 
 /// When a request was decided, or a call did nothing, who asked, what, and what became of it; behind that the trace's own words.

@@ -2,10 +2,11 @@
 
 use crate::causes::{answered_title, push_answered};
 use crate::marks::draw_mark;
-use cm_model::{Memory, Outcome};
+use cm_model::Outcome;
 use cm_replay::{Answered, Became, Event};
+use fixed_num::Memory;
 use std::alloc::Global;
-use svg_text::{MARGIN, PAGE_WIDTH, Point, Px, Svg, shortened, wrapped};
+use svg_text::{MARGIN, PAGE_WIDTH, PagePoint, Px, Svg, shortened, wrapped};
 
 /// How high a line is, and the blank behind what was asked, in pixels.
 const LINE_HEIGHT: u64 = 16;
@@ -70,8 +71,8 @@ fn draw_heads(svg: &mut Svg, top: Px) -> Result<(), Memory> {
     Ok(())
 }
 
-fn at(left: u64, y: Px) -> Point {
-    Point { x: Px::of(left), y }
+fn at(left: u64, y: Px) -> PagePoint {
+    PagePoint { x: Px::of(left), y }
 }
 
 /// The lines of one. Where it has too many, the last one says how many are left out.

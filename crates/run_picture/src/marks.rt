@@ -1,15 +1,15 @@
 //! The marks of what happened: a shape of its own for each, so that nobody has to tell colours apart.
 
-use cm_model::Memory;
 use cm_replay::Event;
+use fixed_num::Memory;
 use std::alloc::Global;
-use svg_text::{Point, Px, Svg};
+use svg_text::{PagePoint, Px, Svg};
 
 /// Draws the mark of an event round a point.
 pub fn draw_mark(
     alloc: Global,
     svg: &mut Svg,
-    at: Point,
+    at: PagePoint,
     event: Event,
     title: &str,
 ) -> Result<(), Memory> {
@@ -44,7 +44,7 @@ pub fn draw_mark(
 
 fn draw_disc(
     svg: &mut Svg,
-    at: Point,
+    at: PagePoint,
     disc: &str,
     sign: &str,
     steps: &str,
@@ -58,7 +58,7 @@ fn draw_disc(
 fn draw_failure(
     alloc: Global,
     svg: &mut Svg,
-    at: Point,
+    at: PagePoint,
     letter: &str,
     title: &str,
 ) -> Result<(), Memory> {

@@ -1,8 +1,8 @@
 //! Where the marks of a row stand: from the left, and none on another.
 
 use crate::strip::Strip;
-use cm_model::Memory;
-use cm_replay::{Cell, Event, Row};
+use cm_replay::{Event, Row, RowCell};
+use fixed_num::Memory;
 use std::alloc::Global;
 use svg_text::{PAGE_WIDTH, Px};
 
@@ -79,7 +79,7 @@ fn push_cell(
     marks: &mut Vec<Placed>,
     strip: &Strip,
     column: usize,
-    cell: &Cell,
+    cell: &RowCell,
 ) -> Result<(), Memory> {
     if cell.event != Event::Nothing {
         push_mark(marks, mark_in(strip, column, cell.event, cell.count))?;

@@ -6,10 +6,11 @@ use crate::causes::answered_title;
 use crate::marks::draw_mark;
 use crate::placed::{Placed, marks_of};
 use crate::strip::Strip;
-use cm_model::{Description, Memory};
-use cm_replay::{Cell, Event, Replay, Row};
+use cm_document::Description;
+use cm_replay::{Event, Replay, Row, RowCell};
+use fixed_num::Memory;
 use std::alloc::Global;
-use svg_text::{MARGIN, Point, Px, Svg, push_cycles, shortened};
+use svg_text::{MARGIN, PagePoint, Px, Svg, push_cycles, shortened};
 
 /// How high a row is, and a heading above some, in pixels.
 const ROW_HEIGHT: u64 = 28;
@@ -77,7 +78,7 @@ fn draw_components(alloc: Global, svg: &mut Svg, top: Px, run: Run<'_>) -> Resul
 }
 
 fn draw_heading(svg: &mut Svg, top: Px, words: &str) -> Result<(), Memory> {
-    let at = Point {
+    let at = PagePoint {
         x: Px::of(MARGIN),
         y: top.plus(Px::of(15)),
     };
@@ -95,7 +96,7 @@ fn draw_row(
 ) -> Result<(), Memory> {
     let room = run.strip.left().minus(Px::of(MARGIN + 8)).room();
     let text = shortened(alloc, name, room)?;
-    let at = Point {
+    let at = PagePoint {
         x: Px::of(MARGIN),
         y: top.plus(Px::of(18)),
     };
@@ -130,7 +131,7 @@ fn draw_placed(
         return Ok(());
     };
     let title = mark_title(alloc, run, name, mark, cell)?;
-    let at = Point {
+    let at = PagePoint {
         x: mark.x,
         y: middle_of(top),
     };
@@ -148,7 +149,7 @@ fn mark_title(
     run: Run<'_>,
     name: &str,
     mark: &Placed,
-    cell: &Cell,
+    cell: &RowCell,
 ) -> Result<String, Memory> {
     let mut title = event_title(alloc, run, name, mark.event, cell)?;
     if mark.count > 1 {
@@ -167,7 +168,7 @@ fn event_title(
     run: Run<'_>,
     name: &str,
     event: Event,
-    cell: &Cell,
+    cell: &RowCell,
 ) -> Result<String, Memory> {
     let cycle = cell.cycle;
     let title = match (event, cell.stopped) {
@@ -209,7 +210,7 @@ fn draw_ticket(
     top: Px,
     run: Run<'_>,
     mark: &Placed,
-    cell: &Cell,
+    cell: &RowCell,
 ) -> Result<(), Memory> {
     let ticket = run
         .replay
@@ -222,7 +223,7 @@ fn draw_ticket(
         None if count == 1 => return Ok(()),
         _ => format!(in alloc; "×{count}")?,
     };
-    let at = Point {
+    let at = PagePoint {
         x: mark.right(),
         y: top.plus(Px::of(18)),
     };

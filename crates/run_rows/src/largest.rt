@@ -5,7 +5,7 @@
 use case_pages::largest::{AT_ALL_LIMITS, Summed};
 use case_pages::pages::hold;
 use case_runs::runs::Runs;
-use cm_top::JobKind;
+use cm_words::JobKind;
 use std::test::Fail;
 
 /// Tells how long what a run prints is.

@@ -1,6 +1,6 @@
 //! Made documents: small ones whole, the largest one by its first and last lines, its length and its checksum, and what is read of them.
 
-use crate::scripts::Counts;
+use crate::scripts::CountsOfScript;
 use case_pages::largest::Summed;
 use case_pages::pages::{Teller, halves, hold, hold_lines};
 use case_robots::described::described;
@@ -56,7 +56,7 @@ impl Teller for Reads {
         let made = Makes.told(alloc, text)?;
         let (description, script) = halves(made.as_str(), "--- script ---\n")?;
         hold_valid(alloc, description)?;
-        let counted = Counts.told(alloc, script)?;
+        let counted = CountsOfScript.told(alloc, script)?;
         Ok(format!(in alloc; "valid, {counted}")?)
     }
 }

@@ -124,9 +124,9 @@ fn each_line_is_a_call_or_bad(rt: HostRuntime) -> Result<(), Fail> {
 #[test]
 fn scripts_are_read_up_to_their_limits(rt: HostRuntime) -> Result<(), Fail> {
     let alloc = rt.alloc();
-    hold(alloc, &Counts, "", CALLS_AND_TURNS)?;
-    hold(alloc, &Counts, "", SIZES_OF_CALLS)?;
-    hold(alloc, &Counts, "", LONG_LINES)
+    hold(alloc, &CountsOfScript, "", CALLS_AND_TURNS)?;
+    hold(alloc, &CountsOfScript, "", SIZES_OF_CALLS)?;
+    hold(alloc, &CountsOfScript, "", LONG_LINES)
 }
 
 /// Tells the one call of the session `a`, as it prints; or `none`, or the first bad line.
@@ -150,9 +150,9 @@ fn one_call(told: &str) -> &str {
 /// Tells how many sessions a script has where every form is accepted, and how many calls and turns; or the first bad
 /// line.
 #[derive(Clone, Copy)]
-pub struct Counts;
+pub struct CountsOfScript;
 
-impl Teller for Counts {
+impl Teller for CountsOfScript {
     fn told(&self, alloc: Global, text: &str) -> Result<String, Fail> {
         match read_every_form(alloc, text)? {
             Ok(script) => sizes(alloc, &script),

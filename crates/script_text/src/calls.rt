@@ -14,7 +14,8 @@ use crate::numbers::{whole, whole_up_to};
 use crate::switches::{name, switch};
 use crate::verbs::{life, strictness};
 use crate::words::{next_word, only_word, two_words};
-use cm_document::{Call, HIGHEST_RATE, Name, ScriptFault};
+use cm_document::{Call, HIGHEST_RATE, ScriptFault};
+use iface_names::Name;
 use std::alloc::Global;
 
 /// The one name of a line like `load NAME`.

@@ -8,7 +8,9 @@ ghost use Rattle.script_text.specs.FewWords.{one_or_more};
 
 use crate::numbers::{is_time, time, value};
 use crate::words::next_word;
-use cm_document::{Fx, Mail, Point2, ScriptFault, Seq};
+use cm_document::{Mail, Point2, ScriptFault};
+use fixed_num::Fx;
+use sequence::Seq;
 use std::alloc::Global;
 
 /// Values alone, or, where the first word is a time, points.

@@ -4,16 +4,17 @@ ghost use Rattle.std.specs.Prelude.{◌≡◌, ◌≤◌, ◌<◌, length, IfSom
 ghost use Rattle.std.specs.List.{list_all};
 ghost use Rattle.std.specs.Char.{is_ascii_digit};
 ghost use Rattle.std.specs.Str.Parse.{digits_value};
-ghost use Rattle.cm_document.specs.declared.limits.TheConstants.{MOST_DIGITS};
+ghost use Rattle.cm_document.specs.declared.limits.TheConstants.{MOST_DIGITS_OF_WHOLE};
 ghost use Rattle.cm_document.specs.LineGrammar.{whole_word, at_most, value_word, is_time, time_word};
 
-use cm_document::{Fx, MOST_DIGITS};
+use cm_document::MOST_DIGITS_OF_WHOLE;
+use fixed_num::Fx;
 
 /// The whole number that a word writes, of one digit at least and no more than there may be.
 pub fn whole(word: &[u8]) -> Option<u32>
     ensures { result ≡ whole_word word.now }
 {
-    if word.is_empty() || word.len() > MOST_DIGITS || !are_digits(word) {
+    if word.is_empty() || word.len() > MOST_DIGITS_OF_WHOLE || !are_digits(word) {
         return None;
     }
     Some(digits(word))
@@ -68,7 +69,7 @@ fn are_digits(word: &[u8]) -> bool
 /// The number that some digits write.
 #[tactic(auto, using(crate::proofs::NumberLemmas::digits_so_far))]
 fn digits(digits: &[u8]) -> u32
-    requires short { length digits.now ≤ MOST_DIGITS }
+    requires short { length digits.now ≤ MOST_DIGITS_OF_WHOLE }
     requires digits { IsTrue (list_all is_ascii_digit digits.now) }
     ensures { result ≡ digits_value 10 digits.now }
 {

@@ -4,7 +4,8 @@ ghost use Rattle.std.specs.Prelude.{◌≡◌, ◌++◌, OnOk, IfOk, flat_map, c
 ghost use Rattle.cm_document.specs.CallText.{call_text, session_text, session_name, turn_text, schedule_text, script_text};
 ghost use Rattle.cm_document.specs.ScriptLaws.{ReadsBack};
 
-use cm_document::{Call, Memory, Script, SessionText, Turn, Verb};
+use cm_document::{Call, Script, SessionText, Turn, Verb};
+use fixed_num::Memory;
 use std::alloc::Global;
 
 /// The text of a script: each session's line with its calls behind it, and `schedule` with the turns where there are some.

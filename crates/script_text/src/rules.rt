@@ -10,9 +10,10 @@ ghost use Rattle.cm_document.specs.ScriptRules.{nothing, script_in, with_session
 use crate::limits::call_fits;
 use crate::rules::sessions::calling_last;
 use cm_document::{
-    Call, Grammar, MOST_CALLS, MOST_SESSIONS, Name, Script, ScriptFault, ScriptLine, Seq,
-    SessionText, Turn,
+    Call, Grammar, MOST_CALLS, MOST_SESSIONS, Script, ScriptFault, ScriptLine, SessionText, Turn,
 };
+use iface_names::Name;
+use sequence::Seq;
 use std::alloc::Global;
 use std::marker::Model;
 

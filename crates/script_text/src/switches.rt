@@ -6,7 +6,9 @@ ghost use Rattle.cm_document.specs.Lines.{words};
 ghost use Rattle.cm_document.specs.LineGrammar.{name_word, behind, switch_in};
 
 use crate::words::next_word;
-use cm_document::{Name, NameFault, ScriptFault, Seq, SwitchRequest};
+use cm_document::{ScriptFault, SwitchRequest};
+use iface_names::{Name, NameFault};
+use sequence::Seq;
 use std::alloc::Global;
 
 /// A switch of a text's words, each a signed name; each list keeps its order.

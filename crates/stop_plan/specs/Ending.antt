@@ -20,8 +20,8 @@ use Rattle.stop_plan.specs.declared.report.Report.{Report}
 abbrev pub told_in : State → List Ran
 told_in s = (cycle s).happened.ran
 
--- A report is that of the cycle which is aloft in this state: the relations are those of the description, the active controllers stand
--- in the order of their updates, and it names the components and the updates that failed.
+-- A report is that of the cycle which is aloft in this state: the relations are those of the description, the active
+-- controllers stand in the order of their updates, and it names the components and the updates that failed.
 pub record IsReportOf (s : State) (r : Report) : Type 0 where
   pub relations : r.relations.now ≡ relations_of s.description
   pub order : r.order.now ≡ members_in_order s
@@ -34,15 +34,16 @@ pub record IsReportOf (s : State) (r : Report) : Type 0 where
 abbrev pub nobody_again : Places
 nobody_again p = false
 
--- The sets are those of the commit at the end of the cycle: who stays active; who is stopped, and who is started, in the state that the
--- cycle leaves; and who is chained in the set of those that stay.
+-- The sets are those of the commit at the end of the cycle: who stays active; who is stopped, and who is started, in
+-- the state that the cycle leaves; and who is chained in the set of those that stay.
 pub record IsEndingOf (s : State) (e : Ending) : Type 0 where
   pub set : set_of e.set ≡ stays_active s (told_in s)
   pub stopped : set_of e.stopped ≡ is_stopped (scene_of (landed s (cycle s))) (stays_active s (told_in s)) nobody_again
   pub started : set_of e.started ≡ is_started (scene_of (landed s (cycle s))) (stays_active s (told_in s)) nobody_again
   pub chained : set_of e.chained ≡ is_chained_in s.description.controllers (stays_active s (told_in s))
 
--- A set can be committed in a state: the state is in order, and each of the set is loaded and configured, and can run beside the others.
+-- A set can be committed in a state: the state is in order, and each of the set is loaded and configured, and can run
+-- beside the others.
 pub record CanBeCommitted (s : State) (set : Places) : Type 0 where
   pub in_order : IsInOrder s
   pub loaded : AreLoaded s.loaded set

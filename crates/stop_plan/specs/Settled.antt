@@ -9,7 +9,8 @@ use Rattle.stop_plan.specs.declared.ending.Ending.{Ending}
 abbrev pub staying : List Member → Places → Places
 staying order fallen = places_where (λ m. not (fallen m.place)) order
 
--- It is stopped where one set of active controllers comes after another, if it was active: it is not after, or its chained mode changes.
+-- It is stopped where one set of active controllers comes after another, if it was active: it is not after, or its
+-- chained mode changes.
 abbrev pub is_stopped_by : List (List ℕ) → Places → Places → ℕ → Bool
 is_stopped_by leaders before after p = not (after p) || changes_mode leaders before after p
 
@@ -17,12 +18,13 @@ is_stopped_by leaders before after p = not (after p) || changes_mode leaders bef
 abbrev pub is_started_by : List (List ℕ) → Places → Places → ℕ → Bool
 is_started_by leaders before after p = after p && changes_mode leaders before after p
 
--- Of the controllers that were active, in the order of updates, these fall and the others stay; the sets of those to stop and to start,
--- and of those that are chained after it, are worked out by who precedes whom.
-pub record IsSettled (leaders : List (List ℕ)) (order : List Member) (was falling : List Bool) (e : Ending) : Type 0 where
-  pub active : e.active ≡ was
-  pub fallen : e.fallen ≡ falling
-  pub set : set_of e.set ≡ staying order (set_of falling)
-  pub stopped : set_of e.stopped ≡ places_where (λ m. is_stopped_by leaders (set_of was) (set_of e.set) m.place) order
-  pub started : set_of e.started ≡ places_where (λ m. is_started_by leaders (set_of was) (set_of e.set) m.place) order
-  pub chained : set_of e.chained ≡ is_chained_by leaders (set_of e.set)
+-- Of the controllers that were active, in the order of updates, these fall and the others stay; the sets of those to
+-- stop and to start, and of those that are chained after it, are worked out by who precedes whom.
+pub record IsSettled (leaders : List (List ℕ)) (order : List Member) (was falling : List Bool) (e : Ending) : Type 0
+  where
+    pub active : e.active ≡ was
+    pub fallen : e.fallen ≡ falling
+    pub set : set_of e.set ≡ staying order (set_of falling)
+    pub stopped : set_of e.stopped ≡ places_where (λ m. is_stopped_by leaders (set_of was) (set_of e.set) m.place) order
+    pub started : set_of e.started ≡ places_where (λ m. is_started_by leaders (set_of was) (set_of e.set) m.place) order
+    pub chained : set_of e.chained ≡ is_chained_by leaders (set_of e.set)

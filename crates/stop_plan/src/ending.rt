@@ -12,8 +12,9 @@ use crate::sets::{
     gather_struck, spread, tell,
 };
 use chain_order::{Links, PlaceSet};
-use cm_document::Memory;
-use cm_model::{ListRoom, Member};
+use cm_model::Member;
+use fixed_num::Memory;
+use sequence::ListRoom;
 use std::alloc::Global;
 
 /// What the end of a cycle changes: sets of described controllers, which are made once and told anew at each end.

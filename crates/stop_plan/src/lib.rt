@@ -2,7 +2,6 @@
 //! against the order of their updates. Nothing here takes memory but the sets when they are made.
 #![tactic(auto)]
 
-pub use cm_model::{FailedPart, ListRoom, Member};
 pub use ending::Ending;
 pub use report::Report;
 

@@ -10,7 +10,8 @@ ghost use Rattle.stop_plan.specs.Spread.{spread};
 
 use crate::report::{Report, is_struck};
 use chain_order::{Links, PlaceSet, has_any};
-use cm_model::{ListRoom, Member};
+use cm_model::Member;
+use sequence::ListRoom;
 
 /// The members become the controllers at the places of these.
 pub(crate) fn gather(set: &mut PlaceSet, members: &[Member])

@@ -9,8 +9,8 @@ use Rattle.cm_model.specs.declared.entry.Entry.{Entry}
 use Rattle.cm_model.specs.declared.reply.Reply.{Reply}
 use Rattle.cm_model.specs.declared.reply.Reply.TheVariants as reply
 
--- The cycles that ended, the entries, the updates in these cycles; the requests that were done, were refused, or waited at the close; and
--- the bodies after the last cycle, which are none before the first.
+-- The cycles that ended, the entries, the updates in these cycles; the requests that were done, were refused, or waited
+-- at the close; and the bodies after the last cycle, which are none before the first.
 pub record Counted : Type 0 where
   pub cycles : ℕ
   pub entries : ℕ
@@ -37,7 +37,11 @@ with_decisions (d ∷ ds) c = with_decisions ds (with_outcome d.outcome c)
 
 -- a cycle more, with as many updates as its record tells of; the bodies are those after it
 abbrev pub with_cycle : Happened → Counted → Counted
-with_cycle happened c = record c { cycles = c.cycles + 1; updates = c.updates + length happened.ran; bodies = happened.bodies }
+with_cycle happened c = record c {
+  cycles = c.cycles + 1;
+  updates = c.updates + length happened.ran;
+  bodies = happened.bodies;
+}
 
 -- What a reply adds: that of an end is the record of its cycle; a begin and the close tell what they decided.
 abbrev pub with_reply : Reply → Counted → Counted

@@ -1,4 +1,5 @@
--- Why no count grows too large: an entry adds one to what counts entries or cycles, and as many items as a list can have to the others.
+-- Why no count grows too large: an entry adds one to what counts entries or cycles, and as many items as a list can
+-- have to the others.
 use Rattle.std.specs.Prelude.{ℕ, ◌+◌, ◌*◌, ◌≤◌, ◌^◌}
 use Rattle.summary_text.specs.Counted.{Counted}
 

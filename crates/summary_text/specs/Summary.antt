@@ -1,5 +1,6 @@
 -- The summary of a history: a function of the description and the history alone.
-use Rattle.std.specs.Prelude.{ℕ, ℤ, suc, ◌+◌, List, [], ◌∷◌, ◌++◌, flat_map, codes, decimal, slice_get, option_map, unwrap_or}
+use Rattle.std.specs.Prelude.{ℕ, ℤ, suc, ◌+◌, List, [], ◌∷◌, ◌++◌, flat_map, codes, decimal, slice_get, option_map}
+use Rattle.std.specs.Prelude.{unwrap_or}
 use Rattle.fixed_num.specs.Text.{spelled}
 use Rattle.fixed_num.specs.declared.value.BodyState.{BodyState}
 use Rattle.cm_document.specs.Links.{joints_of}
@@ -36,7 +37,8 @@ position_at bodies place joint = unwrap_or (option_map (λ body. body.x) (slice_
 
 -- a joint and where it is
 abbrev pub joint_line : List BodyState → ℕ → JointDesc → List ℕ
-joint_line bodies place joint = codes "joint " ++ joint.name ++ codes " " ++ spelled (position_at bodies place joint) ++ codes "\n"
+joint_line bodies place joint =
+    codes "joint " ++ joint.name ++ codes " " ++ spelled (position_at bodies place joint) ++ codes "\n"
 
 -- the joints from this place on
 abbrev pub joint_lines : List BodyState → ℕ → List JointDesc → List (List ℕ)

@@ -6,7 +6,8 @@ ghost use Rattle.summary_text.specs.Few.{outcomes};
 ghost use Rattle.summary_text.specs.Summary.{number_line, asks_line, count_lines, position_at, joint_line, joint_lines, lines_of};
 
 use crate::tally::Tally;
-use cm_model::{BodyState, CompDesc, Description, Fx, JointDesc, Memory};
+use cm_document::{CompDesc, Description, JointDesc};
+use fixed_num::{BodyState, Fx, Memory};
 use std::alloc::Global;
 
 /// The lines of the summary of what was counted.

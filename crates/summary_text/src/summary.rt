@@ -8,7 +8,8 @@ ghost use Rattle.summary_text.specs.Summary.{summary};
 
 use crate::lines::summary_lines;
 use crate::tally::Tally;
-use cm_model::{Checked, Entry};
+use cm_document::Checked;
+use cm_model::Entry;
 use outside_io::{Sink, write_whole};
 use std::alloc::Global;
 use trace_text::OutFault;

@@ -5,7 +5,8 @@ ghost use Rattle.summary_text.specs.Calls.Count.{CanCount};
 ghost use Rattle.summary_text.specs.Counted.{Counted, nothing, counted, with_entry, with_cycle, with_decisions, with_outcome};
 ghost use Rattle.summary_text.specs.Few.{AreFew, outcomes};
 
-use cm_model::{BodyState, CycleRecord, Decision, Entry, Outcome, Reply};
+use cm_model::{CycleRecord, Decision, Entry, Outcome, Reply};
+use fixed_num::BodyState;
 use std::marker::Model;
 
 /// What is counted of some entries, and where the bodies are after the last cycle among them. Each count has 128 bits: an entry may

@@ -90,17 +90,17 @@ impl Display for Px {
 
 /// A point of the page.
 #[derive(Clone, Copy)]
-pub struct Point {
+pub struct PagePoint {
     /// From the left.
     pub x: Px,
     /// From the top.
     pub y: Px,
 }
 
-impl Point {
+impl PagePoint {
     /// The point that is so far to the right and down.
-    pub fn beside(self, right: Px, down: Px) -> Point {
-        Point {
+    pub fn beside(self, right: Px, down: Px) -> PagePoint {
+        PagePoint {
             x: self.x.plus(right),
             y: self.y.plus(down),
         }

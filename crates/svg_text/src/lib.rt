@@ -1,7 +1,7 @@
 //! The text of a page of SVG: lengths and areas, shapes and titles, and numbers as they are printed there.
 #![tactic(auto)]
 
-pub use layout::{Area, MARGIN, PAGE_WIDTH, Point, Px};
+pub use layout::{Area, MARGIN, PAGE_WIDTH, PagePoint, Px};
 pub use lines::wrapped;
 pub use numbers::{push_cycles, short};
 pub use svg::{Svg, shortened};

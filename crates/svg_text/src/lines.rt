@@ -1,6 +1,6 @@
 //! A text on several lines.
 
-use cm_model::Memory;
+use fixed_num::Memory;
 use std::alloc::Global;
 use std::mem;
 

@@ -1,6 +1,6 @@
 //! Numbers as the picture prints them: without the zeros behind their last decimal.
 
-use cm_model::Memory;
+use fixed_num::Memory;
 use std::alloc::Global;
 
 /// How many micro-units a unit is.

@@ -1,7 +1,7 @@
 //! The text of a page of SVG: shapes and text, each with its title.
 
-use crate::layout::{Area, Point};
-use cm_model::Memory;
+use crate::layout::{Area, PagePoint};
+use fixed_num::Memory;
 use std::alloc::Global;
 
 /// The elements of a page so far. What is drawn later lies above.
@@ -37,7 +37,7 @@ impl Svg {
     }
 
     /// A straight line.
-    pub fn line(&mut self, class: &str, from: Point, to: Point) -> Result<(), Memory> {
+    pub fn line(&mut self, class: &str, from: PagePoint, to: PagePoint) -> Result<(), Memory> {
         let (x, y) = (from.x, from.y);
         write!(self.text, "<line class=\"{class}\" x1=\"{x}\" y1=\"{y}\"")?;
         let (x, y) = (to.x, to.y);
@@ -55,7 +55,7 @@ impl Svg {
     pub fn circle(
         &mut self,
         class: &str,
-        centre: Point,
+        centre: PagePoint,
         radius: u64,
         title: &str,
     ) -> Result<(), Memory> {
@@ -71,7 +71,7 @@ impl Svg {
     pub fn words(
         &mut self,
         class: &str,
-        at: Point,
+        at: PagePoint,
         words: &str,
         title: &str,
     ) -> Result<(), Memory> {

@@ -21,7 +21,9 @@ fault_met leaving met None = Some cause.Unknown
 fault_met None met (Some seen) = off_cause (met seen.place) seen
 fault_met (Some leaving) met (Some seen) = on_cause (set_of leaving) (met seen.place) seen
 
--- a list was looked through: nothing speaks against its names, and these are its controllers; or this comes first of what does
+-- a list was looked through: nothing speaks against its names, and these are its controllers; or this comes first of
+-- what does
 abbrev pub IsListed : Scene → (List (List ℕ) → List ℕ → Option Cause) → List (List ℕ) → Listed → Type 0
-IsListed scene fault names (Faultless members) = (first_fault fault [] names ≡ None) × (members.items ≡ loaded_all scene names) × HavePlaces scene members.items
+IsListed scene fault names (Faultless members) =
+    (first_fault fault [] names ≡ None) × (members.items ≡ loaded_all scene names) × HavePlaces scene members.items
 IsListed scene fault names (Faulty because) = first_fault fault [] names ≡ Some because

@@ -11,11 +11,13 @@ use Rattle.cm_model.specs.Scene.{Scene, claims_at, is_ready}
 use Rattle.cm_model.specs.Faults.{component_with, is_beside}
 use Rattle.chain_order.specs.Links.{each_below, rows_of, links_of, leaders_of, linked}
 
--- Two controllers are at odds: both claim one interface, or they claim different command interfaces of one joint. A controller is at
--- odds with itself in the latter way alone.
+-- Two controllers are at odds: both claim one interface, or they claim different command interfaces of one joint. A
+-- controller is at odds with itself in the latter way alone.
 abbrev pub at_odds : List CtlDesc → ℕ → ℕ → Bool
 at_odds controllers p q =
-    list_any (λ i. (not (q == p) && claims_at controllers q i) || list_any (is_beside i) (controller_at controllers q).claims) (controller_at controllers p).claims
+    list_any
+    (λ i. (not (q == p) && claims_at controllers q i)
+    || list_any (is_beside i) (controller_at controllers q).claims) (controller_at controllers p).claims
 
 -- for each controller, by place, the places of those that it is at odds with
 abbrev pub odds_of : List CtlDesc → List (List ℕ)
@@ -24,10 +26,11 @@ odds_of controllers = rows_of (λ q p. at_odds controllers p q) (length controll
 -- the components of what a controller claims and reads
 abbrev pub components_at : Description → ℕ → List ℕ
 components_at d p =
-    filter_map (component_with d.components) (controller_at d.controllers p).claims ++ filter_map (component_with d.components) (controller_at d.controllers p).reads
+    filter_map (component_with d.components) (controller_at d.controllers p).claims
+    ++ filter_map (component_with d.components) (controller_at d.controllers p).reads
 
--- for each controller, by place: those that precede it, those that it precedes, those that it is at odds with, its components, and its
--- height
+-- for each controller, by place: those that precede it, those that it precedes, those that it is at odds with, its
+-- components, and its height
 pub record Related : Type 0 where
   pub leaders : List (List ℕ)
   pub followers : List (List ℕ)
@@ -51,9 +54,12 @@ is_down components k = not (is_available (slice_index_or components k Unconfigur
 
 -- a controller could start beside a set: it is at odds with no member, its components are available, and it is ready
 abbrev pub may_start : Scene → Related → Places → ℕ → Bool
-may_start scene w set p = not (list_any set (linked w.odds p)) && (not (list_any (is_down scene.components) (linked w.components p)) && is_ready scene p)
+may_start scene w set p =
+    not (list_any set (linked w.odds p))
+    && (not (list_any (is_down scene.components) (linked w.components p)) && is_ready scene p)
 
--- It is seen at once that nothing counts against a controller: it is no member; or all that it precedes are members, and it could start
--- if it is to.
+-- It is seen at once that nothing counts against a controller: it is no member; or all that it precedes are members,
+-- and it could start if it is to.
 abbrev pub is_clear : Scene → Related → Places → Places → ℕ → Bool
-is_clear scene w set on p = not (set p) || (not (list_any (λ q. not (set q)) (linked w.followers p)) && (not (on p) || may_start scene w set p))
+is_clear scene w set on p =
+    not (set p) || (not (list_any (λ q. not (set q)) (linked w.followers p)) && (not (on p) || may_start scene w set p))

@@ -18,8 +18,11 @@ use crate::lists::sifted;
 use crate::setting::{Setting, order};
 use crate::view::{View, controllers, described};
 use chain_order::{PlaceSet, by_rank, heights, is_chained};
-use cm_document::{CtlDesc, IfaceName, Memory, Name};
-use cm_model::{Boxed, Cause, Dropped, Member, Planned};
+use cm_document::CtlDesc;
+use cm_model::{Cause, Dropped, Member, Planned};
+use fixed_num::Memory;
+use iface_names::{IfaceName, Name};
+use sequence::Boxed;
 use std::alloc::Global;
 
 /// The plan of a switch of best effort.

@@ -11,8 +11,9 @@ ghost use Rattle.switch_plan.specs.Changes.{change_scene, after, again, IsChange
 use crate::members::member;
 use crate::setting::{Setting, in_order_of};
 use chain_order::{PlaceSet, is_chained, serials};
-use cm_document::Memory;
-use cm_model::{Dropped, Member, Outcome, Planned, Seq, Shared, SharedList};
+use cm_model::{Dropped, Member, Outcome, Planned};
+use fixed_num::Memory;
+use sequence::{Seq, Shared, SharedList};
 use std::alloc::Global;
 
 /// A decision that is done: the controllers that will be active, and those of them that restart because they are named for it.

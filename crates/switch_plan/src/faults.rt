@@ -15,8 +15,11 @@ use crate::interfaces;
 use crate::members::is_ready;
 use crate::view::{View, controllers, described};
 use chain_order::PlaceSet;
-use cm_document::{IfaceName, Life, Memory};
-use cm_model::{Boxed, Cause, FAULT_KINDS, FaultKind, Member};
+use cm_document::Life;
+use cm_model::{Cause, FAULT_KINDS, FaultKind, Member};
+use fixed_num::Memory;
+use iface_names::IfaceName;
+use sequence::Boxed;
 use std::alloc::Global;
 
 /// A set of controllers that is proposed to be active, with what is asked of its members: which of them are to be activated, and the

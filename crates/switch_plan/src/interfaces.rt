@@ -11,7 +11,8 @@ ghost use Rattle.cm_model.specs.Components.{is_available};
 ghost use Rattle.cm_model.specs.Faults.{is_missing, component_with, is_beside, joint_name};
 
 use chain_order::{PlaceSet, exports};
-use cm_document::{CompDesc, CtlDesc, IfaceName, Life, Name};
+use cm_document::{CompDesc, CtlDesc, Life};
+use iface_names::{IfaceName, Name};
 
 /// The place of the controller that exports a reference.
 pub fn exporter(controllers: &[CtlDesc], interface: &IfaceName) -> Option<usize>

@@ -2,7 +2,6 @@
 //! A plan is exactly the one of the written rules; nothing is done here.
 #![tactic(auto)]
 
-pub use cm_model::{Dropped, Outcome, Planned, Seen, SwitchRequest};
 pub use relations::Relations;
 pub use requests::{plan, plan_with};
 pub use view::View;

@@ -12,8 +12,9 @@ ghost use Rattle.switch_plan.specs.Lists.{list_fault, fault_met, IsListed};
 use crate::members::{is_configured, is_running, loaded_of, push_seen};
 use crate::view::{View, controllers};
 use chain_order::PlaceSet;
-use cm_document::{Memory, Name};
 use cm_model::{Cause, Dropped, Member, Seen};
+use fixed_num::Memory;
+use iface_names::Name;
 use std::alloc::Global;
 
 /// A list of names that was looked through.

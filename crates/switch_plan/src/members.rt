@@ -7,8 +7,10 @@ ghost use Rattle.switch_plan.specs.Calls.Members.{IsLoadedAs};
 ghost use Rattle.switch_plan.specs.View.{scene_of, IsView, IsPlace, HavePlaces};
 
 use crate::view::{View, described};
-use cm_document::{Life, Memory, Name};
+use cm_document::Life;
 use cm_model::{Member, Seen};
+use fixed_num::Memory;
+use iface_names::Name;
 
 /// Whether a controller in this state is active.
 pub fn is_running(life: Life) -> bool

@@ -9,7 +9,10 @@ ghost use Rattle.switch_plan.specs.Relations.{at_odds, odds_of, components_at, r
 
 use crate::interfaces::{claims, claims_beside, component_with};
 use chain_order::{Links, heights};
-use cm_document::{Checked, CompDesc, CtlDesc, Description, IfaceName, Memory, Seq};
+use cm_document::{Checked, CompDesc, CtlDesc, Description};
+use fixed_num::Memory;
+use iface_names::IfaceName;
+use sequence::Seq;
 use std::alloc::Global;
 use std::marker::Model;
 

@@ -13,8 +13,9 @@ use crate::setting::{Setting, active};
 use crate::strict::strict;
 use crate::view::View;
 use chain_order::Links;
-use cm_document::{Memory, SwitchRequest};
+use cm_document::SwitchRequest;
 use cm_model::Planned;
+use fixed_num::Memory;
 use std::alloc::Global;
 
 /// What becomes of a switch request, and which controllers are deactivated and activated for it, in which order: the switch rules,

@@ -11,8 +11,8 @@ use crate::members::{is_running, member};
 use crate::relations::Relations;
 use crate::view::{View, controllers};
 use chain_order::{Links, PlaceSet, in_order};
-use cm_document::Memory;
 use cm_model::Member;
+use fixed_num::Memory;
 use std::alloc::Global;
 
 /// What a decision rests on: the view, with what is worked out of it once.

@@ -16,8 +16,9 @@ use crate::lists::{Listed, look_through};
 use crate::setting::{Setting, order};
 use crate::view::{View, controllers, described};
 use chain_order::PlaceSet;
-use cm_document::{Memory, Name};
 use cm_model::{Dropped, FAULT_KINDS, FaultKind, Member, Planned};
+use fixed_num::Memory;
+use iface_names::Name;
 use std::alloc::Global;
 
 /// The plan of a strict switch.

@@ -12,10 +12,13 @@ use case_pages::acts::{Player, hold_acts};
 use case_pages::pages::halves;
 use case_robots::described::{described, place_of};
 use case_robots::robots::{ARM_AND_LEG, RISING, SEVEN, SINKING};
-use cm_model::{Checked, Life, Name, Seen, Seq};
+use cm_document::{Checked, Life, SwitchRequest};
+use cm_model::{Planned, Seen};
+use iface_names::Name;
+use sequence::Seq;
 use std::alloc::Global;
 use std::test::Fail;
-use switch_plan::{Planned, Relations, SwitchRequest, View, plan, plan_with};
+use switch_plan::{Relations, View, plan, plan_with};
 
 #[test]
 fn requests_have_their_plans(rt: HostRuntime) -> Result<(), Fail> {

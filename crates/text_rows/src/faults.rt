@@ -2,9 +2,8 @@
 //! the program.
 
 use case_pages::pages::hold_told;
-use cm_model::{
-    CheckFault, DescFault, DescProblem, DocumentFault, IfaceName, Name, ScriptFault, Text, What,
-};
+use cm_document::{CheckFault, DescFault, DescProblem, DocumentFault, ScriptFault, Text, What};
+use iface_names::{IfaceName, Name};
 use std::alloc::Global;
 use std::test::Fail;
 

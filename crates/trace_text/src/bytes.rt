@@ -4,8 +4,7 @@ ghost use Rattle.std.specs.Prelude.{◌≡◌, ◌+◌, ◌*◌, ◌/◌, ◌%�
 ghost use Rattle.fixed_num.specs.Text.{spelled, sign_text, six_digits};
 ghost use Rattle.fixed_num.specs.declared.TheConstants.{MICRO};
 
-use cm_model::{Fx, Memory};
-use fixed_num::MICRO;
+use fixed_num::{Fx, MICRO, Memory};
 use itoa::Buffer;
 
 /// Appends a word.

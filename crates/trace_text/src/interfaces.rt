@@ -7,7 +7,9 @@ ghost use Rattle.cm_document.specs.Links.{references_of, refs_of, reference_for}
 ghost use Rattle.cm_document.specs.Places.{interfaces_of, kinds_of};
 ghost use Rattle.trace_text.specs.Sides.{names_on, names_in};
 
-use cm_model::{CompDesc, CtlDesc, Description, IfaceName, JointDesc, Kind, Memory, Name};
+use cm_document::{CompDesc, CtlDesc, Description, JointDesc};
+use fixed_num::Memory;
+use iface_names::{IfaceName, Kind, Name};
 use std::alloc::Global;
 
 /// The texts of all interfaces: the states of all joints, then the commands of all joints, then the references of all controllers.

@@ -6,9 +6,8 @@ ghost use Rattle.cm_model.specs.Trace.{joined, reply_text};
 ghost use Rattle.trace_text.specs.Replies.{is_in_words};
 
 use crate::names::Names;
-use cm_model::{
-    CompLine, CtlLine, Decision, IfaceLine, Memory, Reply, StoredValue, Value, push_numbered,
-};
+use cm_model::{CompLine, CtlLine, Decision, IfaceLine, Reply, push_numbered};
+use fixed_num::{Memory, StoredValue, Value};
 
 /// Appends the text of a reply that is no record.
 pub(crate) fn push_in_words(

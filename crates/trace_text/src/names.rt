@@ -6,7 +6,10 @@ ghost use Rattle.cm_model.specs.Trace.{names_of, names_in, loaded_by};
 ghost use Rattle.trace_text.specs.Heads.{run_head, body_head};
 
 use crate::interfaces::interface_texts;
-use cm_model::{CompDesc, Description, Entry, JointDesc, Memory, Name, Reply};
+use cm_document::{CompDesc, Description, JointDesc};
+use cm_model::{Entry, Reply};
+use fixed_num::Memory;
+use iface_names::Name;
 use std::alloc::Global;
 use std::marker::Model;
 

@@ -7,7 +7,8 @@ ghost use Rattle.cm_model.specs.Kept.{call_of};
 ghost use Rattle.trace_text.specs.Quiet.{quiet_text, DifferAtPair, IsNextWith};
 
 use crate::bytes::{push_counted, push_word};
-use cm_model::{CycleCall, Memory};
+use cm_model::CycleCall;
+use fixed_num::Memory;
 use std::alloc::Global;
 use std::marker::Model;
 

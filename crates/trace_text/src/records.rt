@@ -9,9 +9,8 @@ ghost use Rattle.trace_text.specs.Joined.{before_item, Adds};
 
 use crate::bytes::{push_number, push_word};
 use crate::names::Names;
-use cm_model::{
-    BodyState, CycleRecord, Done, FailedPart, Fx, Memory, RanRef, Rans, StoredValue, Value,
-};
+use cm_model::{CycleRecord, Done, FailedPart, RanRef, Rans};
+use fixed_num::{BodyState, Fx, Memory, StoredValue, Value};
 
 /// Appends the items of a record, joined by `; `, or `none`.
 pub(crate) fn push_record(

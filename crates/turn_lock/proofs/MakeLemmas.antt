@@ -8,7 +8,7 @@ use Rattle.turn_lock.specs.declared.kept.Kept.{Ghosts}
 use Rattle.turn_lock.specs.declared.lock.TurnLock.{TurnLock}
 use Rattle.turn_lock.specs.declared.pass.TurnPass.{TurnPass}
 use Rattle.turn_lock.specs.declared.table.Spot.{Spot}
-use Rattle.turn_lock.specs.declared.view.View.{View}
+use Rattle.turn_lock.specs.declared.view.SeatView.{SeatView}
 use Rattle.turn_lock.specs.Passes.{view, IsPassOf}
 use Rattle.turn_lock.specs.Rule.{Ruled}
 use Rattle.turn_lock.specs.Stands.{stands}
@@ -55,13 +55,13 @@ module _ {K E G : Type 0} {g : Ghosts K E G} where
   }
 
 module _ {E G : Type 0} where
-  pub fresh_dealer : (footing : Option G) (v w : View E G) → w ≡ dealer v → IsFresh footing v → IsFresh footing w
+  pub fresh_dealer : (footing : Option G) (v w : SeatView E G) → w ≡ dealer v → IsFresh footing v → IsFresh footing w
   fresh_dealer footing v w is f = subst (IsFresh footing) (sym is) (record { idle = f.idle; seen = f.seen; turns = f.turns; loads = f.loads; cycles = f.cycles; tickets = f.tickets; footing_is = f.footing_is })
 
-  pub fresh_dealt : (footing : Option G) (v w : View E G) → w ≡ dealt v → IsFresh footing v → IsFresh footing w
+  pub fresh_dealt : (footing : Option G) (v w : SeatView E G) → w ≡ dealt v → IsFresh footing v → IsFresh footing w
   fresh_dealt footing v w is f = subst (IsFresh footing) (sym is) (record { idle = f.idle; seen = f.seen; turns = refl; loads = refl; cycles = f.cycles; tickets = f.tickets; footing_is = f.footing_is })
 
 module _ {K E G : Type 0} (m : Ghosts K E G) (footing : G) (seats : ℕ) where
-  pub deals_idle : (i : ℕ) (me : Me (Spot K) (View E G)) (k : ℕ) → me.0.given ≡ Some k → k < seats → me.0.alive ≡ true → me.0.holds ≡ false → stands me ≡ true
+  pub deals_idle : (i : ℕ) (me : Me (Spot K) (SeatView E G)) (k : ℕ) → me.0.given ≡ Some k → k < seats → me.0.alive ≡ true → me.0.holds ≡ false → stands me ≡ true
       → Splits (Ruled m footing seats) i me.0 (dealer me.0) (dealt me.0)
   deals_idle i me k keeps room alive waits right = let r = idle me right waits in deals m footing seats i me.0 k keeps room alive r.number waits (paid_both me.0 r.cycles r.tickets)

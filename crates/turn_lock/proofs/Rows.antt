@@ -8,13 +8,13 @@ use Rattle.atomic_table.specs.Table.{State}
 use Rattle.turn_lock.specs.declared.kept.Kept.{Ghosts}
 use Rattle.turn_lock.specs.declared.kept.Shown.TheVariants.{Cycles, Tickets}
 use Rattle.turn_lock.specs.declared.table.Spot.{Spot}
-use Rattle.turn_lock.specs.declared.view.View.{View}
+use Rattle.turn_lock.specs.declared.view.SeatView.{SeatView}
 use Rattle.turn_lock.specs.Entries.{of}
 use Rattle.turn_lock.specs.Rule.{atomic_words, Ruled}
 use Rattle.turn_lock.specs.Views.{first_view, dealer, dealt, waiting, at_turn, counted, published, loaded, passed_on, joined}
 
 -- a pass that was just made, of this number
-fresh : ℕ → View ℕ ℕ
+fresh : ℕ → SeatView ℕ ℕ
 fresh number = record {
   alive = true;
   number = None;
@@ -70,7 +70,7 @@ wrapped : atomic_words {E = ℕ} (record { ticket = 18446744073709551619; servin
 wrapped = refl
 
 -- no two seats hold the turn
-pub one_turn_at_a_time : {K E G : Type 0} (m : Ghosts K E G) (footing : G) (seats : ℕ) (s : State (Spot K) (View E G)) → Ruled m footing seats s
-    → (i j : ℕ) (v w : View E G) → get_elem? s.views i ≡ some v → get_elem? s.views j ≡ some w → v.holds ≡ true → w.holds ≡ true → i ≡ j
+pub one_turn_at_a_time : {K E G : Type 0} (m : Ghosts K E G) (footing : G) (seats : ℕ) (s : State (Spot K) (SeatView E G)) → Ruled m footing seats s
+    → (i j : ℕ) (v w : SeatView E G) → get_elem? s.views i ≡ some v → get_elem? s.views j ≡ some w → v.holds ≡ true → w.holds ≡ true → i ≡ j
 one_turn_at_a_time m footing seats s r i j v w at there holds holds' = dite (ℕ_discrete i j) (λ same. same) (λ apart.
     absurd ((r.apart i j v w apart at there).tickets r.at.serving ((r.fits i v at).turn holds).0 ((r.fits j w there).turn holds').0))

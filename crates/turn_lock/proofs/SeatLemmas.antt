@@ -14,7 +14,7 @@ use Rattle.turn_lock.specs.declared.kept.Shown.TheVariants.{Cycles, Tickets}
 use Rattle.turn_lock.specs.declared.table.Spot.{Spot}
 use Rattle.turn_lock.specs.declared.table.Spot.TheVariants.{Home}
 use Rattle.turn_lock.specs.declared.view.Known.{Known}
-use Rattle.turn_lock.specs.declared.view.View.{View}
+use Rattle.turn_lock.specs.declared.view.SeatView.{SeatView}
 use Rattle.turn_lock.specs.declared.kept.Kept.{Ghosts}
 use Rattle.turn_lock.specs.Entries.{of, pick}
 use Rattle.turn_lock.specs.Views.{known, first_view, dealer, dealt, joined, spent, better, longer, either_count}
@@ -60,11 +60,11 @@ module _ {K E G : Type 0} (m : Ghosts K E G) where
       fresh Cycles shown z = record { knows = omega arith; current = λ _. omega arith; owes = λ e. e }
       fresh Tickets shown z = record { knows = omega arith; current = λ _. omega arith; owes = λ e. e }
 
-      first : (i : ℕ) (u : View E G) → get_elem? (first_view (m.footing kept) ∷ []) i ≡ some u → i ≡ 0
+      first : (i : ℕ) (u : SeatView E G) → get_elem? (first_view (m.footing kept) ∷ []) i ≡ some u → i ≡ 0
       first zero u e = refl
       first (suc i) u e = absurd (some-ne-none u (sym e))
 
-      alone : (P : View E G → Type 0) → P (first_view (m.footing kept)) → (i : ℕ) (u : View E G) → get_elem? (first_view (m.footing kept) ∷ []) i ≡ some u → P u
+      alone : (P : SeatView E G → Type 0) → P (first_view (m.footing kept)) → (i : ℕ) (u : SeatView E G) → get_elem? (first_view (m.footing kept) ∷ []) i ≡ some u → P u
       alone P p zero u e = subst P (some-injective _ u e) p
       alone P p (suc i) u e = absurd (some-ne-none u (sym e))
 
@@ -76,7 +76,7 @@ module _ {K E G : Type 0} (m : Ghosts K E G) where
 module _ {K E G : Type 0} (m : Ghosts K E G) (footing : G) (seats : ℕ) where
   -- ---- A seat is cut in two
 
-  pub deals : (i : ℕ) (v : View E G) (k : ℕ) → v.given ≡ Some k → k < seats → v.alive ≡ true → v.number ≡ None → v.holds ≡ false → ((which : Shown) → (known which v).owes ≡ false)
+  pub deals : (i : ℕ) (v : SeatView E G) (k : ℕ) → v.given ≡ Some k → k < seats → v.alive ≡ true → v.number ≡ None → v.holds ≡ false → ((which : Shown) → (known which v).owes ≡ false)
       → Splits (Ruled m footing seats) i v (dealer v) (dealt v)
   unfolding change
   deals i v k keeps room alive idle waits paid s r at =
@@ -168,7 +168,7 @@ module _ {K E G : Type 0} (m : Ghosts K E G) (footing : G) (seats : ℕ) where
   own_longer' : (n : ℕ) (xs ys log : List E) → IsPrefix xs log → IsPrefix ys log → of m.caller n ys ≡ of m.caller n log → of m.caller n (longer xs ys) ≡ of m.caller n log
   own_longer' n xs ys log p q all = longer_is (λ l. of m.caller n l ≡ of m.caller n log) xs ys (λ le. of_between m.caller n ys xs log q p le all) (λ _. all)
 
-  better_posted : (which : Shown) (v w : View E G) (there : Shown → ℕ) → v.holds ≡ false → w.holds ≡ false
+  better_posted : (which : Shown) (v w : SeatView E G) (there : Shown → ℕ) → v.holds ≡ false → w.holds ≡ false
       → ((each : Shown) → Posted (there each) (m.shown each) (known each v) v.holds v.seen)
       → ((each : Shown) → Posted (there each) (m.shown each) (known each w) w.holds w.seen)
       → Posted (there which) (m.shown which) (known which (joined v w)) false (longer v.seen w.seen)
@@ -182,7 +182,7 @@ module _ {K E G : Type 0} (m : Ghosts K E G) (footing : G) (seats : ℕ) where
         owes = λ e. e;
       }
 
-      no_debt : (each : Shown) (u : View E G) (k : Known) → u.holds ≡ false → Posted (there each) (m.shown each) k u.holds u.seen → (b : Bool) → k.owes ≡ b → k.owes ≡ false
+      no_debt : (each : Shown) (u : SeatView E G) (k : Known) → u.holds ≡ false → Posted (there each) (m.shown each) k u.holds u.seen → (b : Bool) → k.owes ≡ b → k.owes ≡ false
       no_debt each u k out_of_turn a true is = absurd (true≢false (sym (a.owes is) ∙ out_of_turn))
       no_debt each u k out_of_turn a false is = is
 
@@ -202,7 +202,7 @@ module _ {K E G : Type 0} (m : Ghosts K E G) (footing : G) (seats : ℕ) where
   absorbed_more log mine more absorbed each all = λ k d lt. let x = all k d lt in record { saw = x.saw; within = λ n c. each n (x.within n c) }
 
   -- what is told of both is so: what each has seen, and what each was told
-  absorbed_joined : (log : List E) (v w : View E G) → Saw m.caller log v.mine v.seen → Saw m.caller log w.mine w.seen → All (Absorbed m.caller log v.mine) v.absorbed → All (Absorbed m.caller log w.mine) w.absorbed
+  absorbed_joined : (log : List E) (v w : SeatView E G) → Saw m.caller log v.mine v.seen → Saw m.caller log w.mine w.seen → All (Absorbed m.caller log v.mine) v.absorbed → All (Absorbed m.caller log w.mine) w.absorbed
       → All (Absorbed m.caller log (joined v w).mine) (joined v w).absorbed
   absorbed_joined log v w saw saw' absorbed absorbed' =
       let P = Absorbed m.caller log (v.mine ++ w.mine) in
@@ -214,7 +214,7 @@ module _ {K E G : Type 0} (m : Ghosts K E G) (footing : G) (seats : ℕ) where
       )
       )
 
-  pub joins : (i : ℕ) (v : View E G) (other : ℕ) (w : View E G) → v.number ≡ None → v.holds ≡ false → w.number ≡ None → w.holds ≡ false → v.alive ≡ true
+  pub joins : (i : ℕ) (v : SeatView E G) (other : ℕ) (w : SeatView E G) → v.number ≡ None → v.holds ≡ false → w.number ≡ None → w.holds ≡ false → v.alive ≡ true
       → Joins (Ruled m footing seats) i v other w (joined v w) spent
   unfolding change
   joins i v other w idle waits idle' waits' alive s r at apart there =
@@ -226,8 +226,8 @@ module _ {K E G : Type 0} (m : Ghosts K E G) (footing : G) (seats : ℕ) where
       let none : out v ≡ 0 = rw idle in
       let none' : out w ≡ 0 = rw idle' in
       let lives : living v ≡ 1 = rw alive in
-      let spent' : View E G = spent in
-      let gone : State (Spot K) (View E G) = record { words = s.words; homes = s.homes; views = set s.views other spent' } in
+      let spent' : SeatView E G = spent in
+      let gone : State (Spot K) (SeatView E G) = record { words = s.words; homes = s.homes; views = set s.views other spent' } in
       let r' : Ruled m footing seats gone = change m footing seats s r other w spent' there' s.words s.homes r.at
       r.words_are
       (omega arith)
@@ -246,7 +246,7 @@ module _ {K E G : Type 0} (m : Ghosts K E G) (footing : G) (seats : ℕ) where
       (λ j u apart' e a h. (h, record { tickets = λ n e' h'. absurd (cc); numbers = λ n c c'. nothing n c; counts = λ x y e' h'. absurd (cc) }))
       (slot_kept m footing seats s r other w spent' there' r.at (λ h. h) (λ h. absurd (true≢false (sym h ∙ waits')))) in
       let here : get_elem? (set s.views other spent') i ≡ some v = set_else s.views other i spent' (λ h. apart (sym h)) ∙ at in
-      subst (λ (vs : List (View E G)). Ruled m footing seats (record { words = s.words; homes = s.homes; views = vs }))
+      subst (λ (vs : List (SeatView E G)). Ruled m footing seats (record { words = s.words; homes = s.homes; views = vs }))
       (set_comm s.views other i spent' both (λ h. apart h))
       (change m footing seats gone r' i v both here s.words s.homes r.at
       r.words_are
@@ -280,25 +280,25 @@ module _ {K E G : Type 0} (m : Ghosts K E G) (footing : G) (seats : ℕ) where
       (slot_kept m footing seats gone r' i v both here r.at (λ h. h) (λ h. absurd (true≢false (sym h ∙ waits)))))
     where
       -- what was joined is apart from each seat that is left
-      from_other : (s : State (Spot K) (View E G)) (r : Ruled m footing seats s) (other : ℕ) (w : View E G) → get_elem? s.views other ≡ some w
-          → (i : ℕ) (v : View E G) → get_elem? s.views i ≡ some v → (j : ℕ) (u : View E G) → j ≢ i → other ≢ i → get_elem? (set s.views other (spent {E = E} {G = G})) j ≡ some u → Apart w u
+      from_other : (s : State (Spot K) (SeatView E G)) (r : Ruled m footing seats s) (other : ℕ) (w : SeatView E G) → get_elem? s.views other ≡ some w
+          → (i : ℕ) (v : SeatView E G) → get_elem? s.views i ≡ some v → (j : ℕ) (u : SeatView E G) → j ≢ i → other ≢ i → get_elem? (set s.views other (spent {E = E} {G = G})) j ≡ some u → Apart w u
       from_other s r other w there i v at j u apart' apart e =
           ⊎_elim
-          (λ (t : (j ≡ other) × (spent {E = E} {G = G} ≡ u)). subst (λ (x : View E G). Apart w x) t.1 (record { tickets = λ n a b. absurd (cc); numbers = λ n a b. nothing n b; counts = λ x y a b. absurd (cc) }))
+          (λ (t : (j ≡ other) × (spent {E = E} {G = G} ≡ u)). subst (λ (x : SeatView E G). Apart w x) t.1 (record { tickets = λ n a b. absurd (cc); numbers = λ n a b. nothing n b; counts = λ x y a b. absurd (cc) }))
           (λ (t : (j ≢ other) × (get_elem? s.views j ≡ some u)). r.apart other j w u (λ h. t.0 (sym h)) there t.1)
           (at_set s.views other j (spent {E = E} {G = G}) u e)
 
   -- ---- The end
 
   -- Where a seat out of turn has every number that was given, no other seat is a pass's, so the value is at home.
-  all_home : (s : State (Spot K) (View E G)) (r : Ruled m footing seats s) (i : ℕ) (v : View E G) → get_elem? s.views i ≡ some v → v.holds ≡ false
+  all_home : (s : State (Spot K) (SeatView E G)) (r : Ruled m footing seats s) (i : ℕ) (v : SeatView E G) → get_elem? s.views i ≡ some v → v.holds ≡ false
       → ((n : ℕ) → n < seats → Contains v.mine n) → IsHome m footing s.homes r.at
   all_home s r i v at waits all = ⊎_elim (λ h. h) (λ (o : IsOut s.homes s.views). not_out o) r.slot
     where
       not_out : IsOut s.homes s.views → IsHome m footing s.homes r.at
       not_out o = dite (ℕ_discrete o.seat i)
           (λ here. let same : o.holder ≡ v = some-injective _ _ (sym o.sits ∙ ap (get_elem? s.views) here ∙ at) in
-          absurd (true≢false (sym o.holds ∙ ap (λ (u : View E G). u.holds) same ∙ waits)))
+          absurd (true≢false (sym o.holds ∙ ap (λ (u : SeatView E G). u.holds) same ∙ waits)))
           (λ there.
           let f = r.fits o.seat o.holder o.sits in
           let number = (f.turn o.holds).0 in
@@ -312,7 +312,7 @@ module _ {K E G : Type 0} (m : Ghosts K E G) (footing : G) (seats : ℕ) where
           is_alive true h = refl
           is_alive false h = absurd (omega arith)
 
-  pub ends : (i : ℕ) (v : View E G) → v.alive ≡ true → v.holds ≡ false → ((n : ℕ) → n < seats → Contains v.mine n)
+  pub ends : (i : ℕ) (v : SeatView E G) → v.alive ≡ true → v.holds ≡ false → ((n : ℕ) → n < seats → Contains v.mine n)
       → (ws : List ℕ) (xs : List (Spot K)) → Final (Seen (Ruled m footing seats) i v) ws xs → (kept : K) × (get_elem? xs 0 ≡ some (Home kept)) × Ends m seats v kept
   ends i v alive waits all ws xs (s, (r, at), is_words, long, values) =
       let h = all_home s r i v at waits all in

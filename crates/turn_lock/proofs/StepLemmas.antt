@@ -15,7 +15,7 @@ use Rattle.turn_lock.specs.declared.kept.Shown.{Shown}
 use Rattle.turn_lock.specs.declared.kept.Shown.TheVariants.{Cycles, Tickets}
 use Rattle.turn_lock.specs.declared.table.Spot.{Spot}
 use Rattle.turn_lock.specs.declared.table.Spot.TheVariants.{Home, Away, Counted}
-use Rattle.turn_lock.specs.declared.view.View.{View}
+use Rattle.turn_lock.specs.declared.view.SeatView.{SeatView}
 use Rattle.turn_lock.specs.declared.kept.Kept.{Ghosts}
 use Rattle.turn_lock.specs.Entries.{of}
 use Rattle.turn_lock.specs.Views.{known, waiting, at_turn, counted, published, loaded, passed_on}
@@ -82,14 +82,14 @@ same_word Tickets Tickets e = refl
 
 module _ {E G : Type 0} where
   -- after a count both publishes are owed
-  counted_posted : (v : View E G) (now : List E) (shown : Shown → List E → ℕ) (there : Shown → ℕ)
+  counted_posted : (v : SeatView E G) (now : List E) (shown : Shown → List E → ℕ) (there : Shown → ℕ)
       → ((which : Shown) → Posted (there which) (shown which) (known which v) v.holds v.seen) → v.holds ≡ true
       → (which : Shown) → Posted (there which) (shown which) (known which (counted now v)) v.holds now
   counted_posted v now shown there p holds Cycles = record { knows = (p Cycles).knows; current = λ e. absurd (true≢false e); owes = λ _. holds }
   counted_posted v now shown there p holds Tickets = record { knows = (p Tickets).knows; current = λ e. absurd (true≢false e); owes = λ _. holds }
 
   -- after a publish this one is owed no longer
-  published_posted : (which : Shown) (v : View E G) (n : ℕ) (shown : Shown → List E → ℕ) (t : LockState E)
+  published_posted : (which : Shown) (v : SeatView E G) (n : ℕ) (shown : Shown → List E → ℕ) (t : LockState E)
       → ((each : Shown) → Posted (value each t) (shown each) (known each v) v.holds v.seen) → value which t ≤ n → shown which v.seen ≡ n
       → (each : Shown) → Posted (value each (with_value which n t)) (shown each) (known each (published which v)) v.holds v.seen
   published_posted Cycles v n shown t p low is Cycles = let k = (p Cycles).knows in record { knows = omega arith; current = λ _. omega arith; owes = λ e. absurd (true≢false (sym e)) }
@@ -98,7 +98,7 @@ module _ {E G : Type 0} where
   published_posted Tickets v n shown t p low is Tickets = let k = (p Tickets).knows in record { knows = omega arith; current = λ _. omega arith; owes = λ e. absurd (true≢false (sym e)) }
 
   -- after a load the number that was found is known
-  loaded_posted : (which : Shown) (v : View E G) (n : ℕ) (shown : Shown → List E → ℕ) (there : Shown → ℕ)
+  loaded_posted : (which : Shown) (v : SeatView E G) (n : ℕ) (shown : Shown → List E → ℕ) (there : Shown → ℕ)
       → ((each : Shown) → Posted (there each) (shown each) (known each v) v.holds v.seen) → n ≡ there which
       → (each : Shown) → Posted (there each) (shown each) (known each (loaded which n v)) v.holds v.seen
   loaded_posted Cycles v n shown there p is Cycles = record { knows = omega arith; current = (p Cycles).current; owes = (p Cycles).owes }
@@ -120,7 +120,7 @@ served_on n k le ne = omega arith
 
 module _ {K E G : Type 0} (m : Ghosts K E G) (footing : G) (seats : ℕ) where
   -- two tickets that are out lie less than 2 ^ 64 apart, so they are one where their remainders are
-  near : (s : State (Spot K) (View E G)) (r : Ruled m footing seats s) (n : ℕ) → r.at.serving ≤ n → n < r.at.ticket → r.at.serving % 2 ^ 64 ≡ n % 2 ^ 64 → r.at.serving ≡ n
+  near : (s : State (Spot K) (SeatView E G)) (r : Ruled m footing seats s) (n : ℕ) → r.at.serving ≤ n → n < r.at.ticket → r.at.serving % 2 ^ 64 ≡ n % 2 ^ 64 → r.at.serving ≡ n
   near s r n low high same =
       let few : sum_by out s.views ≤ sum_by living s.views = sum_le out living s.views (λ i v e. (r.fits i v e).one) in
       let many = r.as_many in
@@ -128,7 +128,7 @@ module _ {K E G : Type 0} (m : Ghosts K E G) (footing : G) (seats : ℕ) where
       let most = r.most in
       one_turn r.at.serving n (2 ^ 64) low (omega arith) same
 
-  pub draws : (slots : ℕ) (i : ℕ) (me : Me (Spot K) (View E G)) → me.0.alive ≡ true → me.0.number ≡ None
+  pub draws : (slots : ℕ) (i : ℕ) (me : Me (Spot K) (SeatView E G)) → me.0.alive ≡ true → me.0.number ≡ None
       → Allows (Ruled m footing seats) slots i me 0 (λ n. (n + 1) % 2 ^ 64) (drawn some_step me)
   draws slots i me alive idle s r long at small =
       let v = me.0 in
@@ -174,18 +174,18 @@ module _ {K E G : Type 0} (m : Ghosts K E G) (footing : G) (seats : ℕ) where
       )
 
   -- the seat that waits with the served ticket finds the value at home
-  home_now : (s : State (Spot K) (View E G)) (r : Ruled m footing seats s) (i : ℕ) (v : View E G) → get_elem? s.views i ≡ some v → v.holds ≡ false → v.number ≡ Some r.at.serving
+  home_now : (s : State (Spot K) (SeatView E G)) (r : Ruled m footing seats s) (i : ℕ) (v : SeatView E G) → get_elem? s.views i ≡ some v → v.holds ≡ false → v.number ≡ Some r.at.serving
       → IsHome m footing s.homes r.at
   home_now s r i v at waits mine = ⊎_elim (λ h. h) (λ (o : IsOut s.homes s.views). not_out o) r.slot
     where
       not_out : IsOut s.homes s.views → IsHome m footing s.homes r.at
       not_out o = dite (ℕ_discrete o.seat i)
           (λ here. let same : o.holder ≡ v = some-injective _ _ (sym o.sits ∙ ap (get_elem? s.views) here ∙ at) in
-          absurd (true≢false (sym o.holds ∙ ap (λ (u : View E G). u.holds) same ∙ waits)))
+          absurd (true≢false (sym o.holds ∙ ap (λ (u : SeatView E G). u.holds) same ∙ waits)))
           (λ there. let f = r.fits o.seat o.holder o.sits in
           absurd ((r.apart i o.seat v o.holder (λ h. there (sym h)) at o.sits).tickets r.at.serving mine (f.turn o.holds).0))
 
-  pub looks : (slots : ℕ) (i : ℕ) (me : Me (Spot K) (View E G)) (ticket : ℕ) → me.0.alive ≡ true → me.0.number ≡ Some ticket → me.0.holds ≡ false → me.1 ≡ []
+  pub looks : (slots : ℕ) (i : ℕ) (me : Me (Spot K) (SeatView E G)) (ticket : ℕ) → me.0.alive ≡ true → me.0.number ≡ Some ticket → me.0.holds ≡ false → me.1 ≡ []
       → Allows (Ruled m footing seats) slots i me 1 (λ n. n) (looked m some_step me)
   looks slots i me ticket alive mine waits empty s r long at small =
       let v = me.0 in
@@ -273,7 +273,7 @@ module _ {K E G : Type 0} (m : Ghosts K E G) (footing : G) (seats : ℕ) where
     own = λ n c. saw.own n c ∙ sym (ap (of m.caller n) more ∙ of_other m.caller n log e (other n c));
   }
 
-  pub counts_one : (slots : ℕ) (i : ℕ) (me : Me (Spot K) (View E G)) (named : Snapshot K) (e : E)
+  pub counts_one : (slots : ℕ) (i : ℕ) (me : Me (Spot K) (SeatView E G)) (named : Snapshot K) (e : E)
       → me.1 ≡ (0, Counted named) ∷ [] → me.0.holds ≡ true → me.0.absorbed ≡ []
       → m.entries named.value ≡ me.0.seen ++ e ∷ [] → Contains me.0.mine (m.caller e) → length (m.entries named.value) < 2 ^ 64
       → Allows (Ruled m footing seats) slots i me 2 (λ n. (n + 1) % 2 ^ 64) (counts m some_step me)
@@ -332,7 +332,7 @@ module _ {K E G : Type 0} (m : Ghosts K E G) (footing : G) (seats : ℕ) where
         λ named' has'. let same : named ≡ named' = ap (named_in named) (sym has ∙ has') in ap (λ (x : Snapshot K). (counted (m.entries x.value) v, me.1)) same,
       )
 
-  pub publishes_one : (slots : ℕ) (st : Step (Spot K)) (i : ℕ) (me : Me (Spot K) (View E G)) (which : Shown) (n : ℕ) → st.word ≡ atomic_word_of which
+  pub publishes_one : (slots : ℕ) (st : Step (Spot K)) (i : ℕ) (me : Me (Spot K) (SeatView E G)) (which : Shown) (n : ℕ) → st.word ≡ atomic_word_of which
       → me.0.holds ≡ true → n ≡ m.shown which me.0.seen
       → Allows (Ruled m footing seats) slots i me (atomic_word_of which) (λ _. n) (λ _. publishes st me n)
   publishes_one slots st i me which n word holds is s r long at small =
@@ -388,7 +388,7 @@ module _ {K E G : Type 0} (m : Ghosts K E G) (footing : G) (seats : ℕ) where
         λ each same. ap (λ k. (published k v, me.1)) (same_word which each (sym word ∙ same)),
       )
 
-  pub loads_one : (slots : ℕ) (st : Step (Spot K)) (i : ℕ) (me : Me (Spot K) (View E G)) (which : Shown) → st.word ≡ atomic_word_of which
+  pub loads_one : (slots : ℕ) (st : Step (Spot K)) (i : ℕ) (me : Me (Spot K) (SeatView E G)) (which : Shown) → st.word ≡ atomic_word_of which
       → Allows (Ruled m footing seats) slots i me (atomic_word_of which) (λ n. n) (loads m st me)
   loads_one slots st i me which word s r long at small =
       let v = me.0 in
@@ -426,7 +426,7 @@ module _ {K E G : Type 0} (m : Ghosts K E G) (footing : G) (seats : ℕ) where
             ),
       )
 
-  pub passes : (slots : ℕ) (i : ℕ) (me : Me (Spot K) (View E G)) (kept : K) → me.1 ≡ (0, Home kept) ∷ [] → me.0.alive ≡ true → me.0.holds ≡ true
+  pub passes : (slots : ℕ) (i : ℕ) (me : Me (Spot K) (SeatView E G)) (kept : K) → me.1 ≡ (0, Home kept) ∷ [] → me.0.alive ≡ true → me.0.holds ≡ true
       → m.entries kept ≡ me.0.seen → me.0.footing ≡ Some (m.footing kept) → ((which : Shown) → (known which me.0).owes ≡ false)
       → Allows (Ruled m footing seats) slots i me 1 (λ n. (n + 1) % 2 ^ 64) (passes_on some_step me)
   passes slots i me kept has alive holds list ground_is paid s r long at small =

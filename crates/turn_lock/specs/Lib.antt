@@ -1,4 +1,5 @@
--- In reading order: what is said of kept values, what a seat knows, what a pass is, the rule between any two steps, what each step tells, and what calls promise.
+-- In reading order: what is said of kept values, what a seat knows, what a pass is, the rule between any two steps,
+-- what each step tells, and what calls promise.
 pub mod Entries
 pub mod Views
 pub mod Stands

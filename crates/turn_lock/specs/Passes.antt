@@ -3,7 +3,7 @@ use Rattle.std.specs.Prelude.{◌≡◌, ℕ, ◌<◌, true, false, List, length
 use Rattle.turn_lock.specs.declared.kept.Kept.{Ghosts}
 use Rattle.turn_lock.specs.declared.lock.TurnLock.{TurnLock}
 use Rattle.turn_lock.specs.declared.pass.TurnPass.{TurnPass}
-use Rattle.turn_lock.specs.declared.view.View.{View}
+use Rattle.turn_lock.specs.declared.view.SeatView.{SeatView}
 
 module _ {K E G : Type 0} where
   -- how many passes a lock has
@@ -12,7 +12,7 @@ module _ {K E G : Type 0} where
 
 module _ {K E G : Type 0} {g : Ghosts K E G} where
   -- what a pass knows
-  abbrev pub view : TurnPass K E G g → View E G
+  abbrev pub view : TurnPass K E G g → SeatView E G
   view p = p.seat.me.0
 
   -- it is a pass of this lock
@@ -32,9 +32,11 @@ module _ {K E G : Type 0} {g : Ghosts K E G} where
   IsSamePass p q = (q.number ≡ p.number) × (q.seat.table_id ≡ p.seat.table_id)
 
   -- it is the same pass, and this is what it knows now
-  abbrev pub Becomes : TurnPass K E G g → TurnPass K E G g → View E G → Type 0
+  abbrev pub Becomes : TurnPass K E G g → TurnPass K E G g → SeatView E G → Type 0
   Becomes p q v = IsSamePass p q × (view q ≡ v)
 
   -- each pass is where it was in the row, with its number, and ready again
   abbrev pub EachStays : TurnLock K E G → List (TurnPass K E G g) → List (TurnPass K E G g) → Type 0
-  EachStays lock ps qs = (i : ℕ) (p q : TurnPass K E G g) → i < length ps → IsReady lock (slice_index_or qs i q) × ((slice_index_or qs i q).number ≡ (slice_index_or ps i p).number)
+  EachStays lock ps qs =
+      (i : ℕ) (p q : TurnPass K E G g) → i < length ps
+      → IsReady lock (slice_index_or qs i q) × ((slice_index_or qs i q).number ≡ (slice_index_or ps i p).number)

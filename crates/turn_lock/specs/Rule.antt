@@ -1,5 +1,6 @@
 -- The rule of the lock: what holds between any two steps, of the words, the slot and the views of all seats.
-use Rattle.std.specs.Prelude.{◌≡◌, ◌≢◌, ◌⊎◌, ℕ, ◌+◌, ◌%◌, ◌^◌, ◌<◌, ◌≤◌, Bool, true, false, cond, List, [], ◌∷◌, length, All, Contains, sum_by, Option, Some, None}
+use Rattle.std.specs.Prelude.{◌≡◌, ◌≢◌, ◌⊎◌, ℕ, ◌+◌, ◌%◌, ◌^◌, ◌<◌, ◌≤◌, Bool, true, false, cond, List, [], ◌∷◌, length}
+use Rattle.std.specs.Prelude.{All, Contains, sum_by, Option, Some, None}
 use mathlib.Core.List.{IsPrefix}
 use mathlib.Core.Option.{Option as Maybe, none, some}
 use lib.ListN.{get_elem?}
@@ -9,12 +10,13 @@ use Rattle.turn_lock.specs.declared.TheConstants.{MOST_SEATS}
 use Rattle.turn_lock.specs.declared.table.Spot.{Spot}
 use Rattle.turn_lock.specs.declared.table.Spot.TheVariants.{Home}
 use Rattle.turn_lock.specs.declared.view.Known.{Known}
-use Rattle.turn_lock.specs.declared.view.View.{View}
+use Rattle.turn_lock.specs.declared.view.SeatView.{SeatView}
 use Rattle.turn_lock.specs.declared.kept.Kept.{Ghosts}
 use Rattle.turn_lock.specs.Entries.{of, pick}
 use Rattle.turn_lock.specs.Views.{known}
 
--- where a lock stands: the next ticket and the one that is served, never wrapped, the count of numbers given, the counted list, and what is published
+-- where a lock stands: the next ticket and the one that is served, never wrapped, the count of numbers given, the
+-- counted list, and what is published
 pub record LockState (E : Type 0) : Type 0 where
   pub ticket : ℕ
   pub serving : ℕ
@@ -35,7 +37,8 @@ module _ {E : Type 0} where
   atomic_words t = t.ticket % 2 ^ 64 ∷ t.serving % 2 ^ 64 ∷ length t.log ∷ t.cycles ∷ t.tickets ∷ []
 
 module _ {E : Type 0} where
-  -- this list was seen by the passes of these numbers: the counted list begins with it, and has no more entries of theirs
+  -- this list was seen by the passes of these numbers: the counted list begins with it, and has no more entries of
+  -- theirs
   pub record Saw (caller : E → ℕ) (log : List E) (numbers : List ℕ) (seen : List E) : Type 0 where
     pub begins : IsPrefix seen log
     pub own : (pass : ℕ) → Contains numbers pass → of caller pass seen ≡ of caller pass log
@@ -45,7 +48,8 @@ module _ {E : Type 0} where
     pub saw : Saw caller log absorbed.0 absorbed.1
     pub within : (pass : ℕ) → Contains absorbed.0 pass → Contains mine pass
 
-  -- What is published is not below what the seat knows, nor below what it has seen, unless it owes this publish; and only the turn's holder owes one
+  -- What is published is not below what the seat knows, nor below what it has seen, unless it owes this publish; and
+  -- only the turn's holder owes one
   pub record Posted (published : ℕ) (shown : List E → ℕ) (k : Known) (holds : Bool) (seen : List E) : Type 0 where
     pub knows : k.number ≤ published
     pub current : k.owes ≡ false → shown seen ≤ published
@@ -57,30 +61,30 @@ one_if_some (Some n) = 1
 
 module _ {E G : Type 0} where
   -- how many tickets a seat has out, and whether it is a pass's
-  abbrev pub out : View E G → ℕ
+  abbrev pub out : SeatView E G → ℕ
   out v = one_if_some v.number
 
-  abbrev pub living : View E G → ℕ
+  abbrev pub living : SeatView E G → ℕ
   living v = cond v.alive 1 0
 
   -- Two seats have no ticket and no number in common, and do not both keep count of the numbers given
-  pub record Apart (v w : View E G) : Type 0 where
+  pub record Apart (v w : SeatView E G) : Type 0 where
     pub tickets : (ticket : ℕ) → v.number ≡ Some ticket → w.number ≡ Some ticket → ⊥
     pub numbers : (pass : ℕ) → Contains v.mine pass → Contains w.mine pass → ⊥
     pub counts : (k l : ℕ) → v.given ≡ Some k → w.given ≡ Some l → ⊥
 
 module _ {K E G : Type 0} where
   -- the slot is away with a seat that holds the turn
-  pub record IsOut (homes : List (Maybe (Spot K))) (views : List (View E G)) : Type 0 where
+  pub record IsOut (homes : List (Maybe (Spot K))) (views : List (SeatView E G)) : Type 0 where
     pub away : homes ≡ none ∷ []
     pub seat : ℕ
-    pub holder : View E G
+    pub holder : SeatView E G
     pub sits : get_elem? views seat ≡ some holder
     pub holds : holder.holds ≡ true
 
 module _ {K E G : Type 0} (m : Ghosts K E G) (footing : G) where
   -- what holds of each seat
-  pub record Fits (homes : List (Maybe (Spot K))) (t : LockState E) (v : View E G) : Type 0 where
+  pub record Fits (homes : List (Maybe (Spot K))) (t : LockState E) (v : SeatView E G) : Type 0 where
     -- only a pass's seat has a ticket out, at most one, which is from the served one up to the next one
     pub one : out v ≤ living v
     pub within : (ticket : ℕ) → v.number ≡ Some ticket → (t.serving ≤ ticket) × (ticket < t.ticket)
@@ -106,7 +110,7 @@ module _ {K E G : Type 0} (m : Ghosts K E G) (footing : G) where
     pub current : (which : Shown) → m.shown which t.log ≤ value which t
 
   -- the rule, of a lock with so many passes at most
-  pub record Ruled (seats : ℕ) (s : State (Spot K) (View E G)) : Type 0 where
+  pub record Ruled (seats : ℕ) (s : State (Spot K) (SeatView E G)) : Type 0 where
     pub at : LockState E
     pub words_are : s.words ≡ atomic_words at
     -- as many tickets are out as lie from the served one up to the next one, and so few that their remainders differ
@@ -116,6 +120,7 @@ module _ {K E G : Type 0} (m : Ghosts K E G) (footing : G) where
     -- each entry's number is a given one, and nothing is published that the counted list does not have
     pub callers : (pass : ℕ) → at.given ≤ pass → of m.caller pass at.log ≡ []
     pub published : (which : Shown) → value which at ≤ m.shown which at.log
-    pub fits : (i : ℕ) (v : View E G) → get_elem? s.views i ≡ some v → Fits s.homes at v
-    pub apart : (i j : ℕ) (v w : View E G) → i ≢ j → get_elem? s.views i ≡ some v → get_elem? s.views j ≡ some w → Apart v w
+    pub fits : (i : ℕ) (v : SeatView E G) → get_elem? s.views i ≡ some v → Fits s.homes at v
+    pub apart : (i j : ℕ) (v w : SeatView E G) → i ≢ j → get_elem? s.views i ≡ some v → get_elem? s.views j ≡ some w
+        → Apart v w
     pub slot : IsHome s.homes at ⊎ IsOut s.homes s.views

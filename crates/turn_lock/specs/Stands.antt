@@ -3,7 +3,7 @@ use Rattle.std.specs.Prelude.{ℕ, ◌==◌, Bool, true, false, cond, not, ◌&&
 use Rattle.atomic_table.specs.Table.{Me}
 use Rattle.turn_lock.specs.declared.table.Spot.{Spot}
 use Rattle.turn_lock.specs.declared.table.Spot.TheVariants.{Home, Away, Counted}
-use Rattle.turn_lock.specs.declared.view.View.{View}
+use Rattle.turn_lock.specs.declared.view.SeatView.{SeatView}
 
 -- the slot, in the hands of the turn's holder, has no value in it
 abbrev pub is_emptied : {K : Type 0} → Spot K → Bool
@@ -23,9 +23,9 @@ is_nil (x ∷ xs) = false
 
 module _ {K E G : Type 0} where
   -- no ticket is out, no slot held and no publish owed
-  abbrev pub is_idle : Me (Spot K) (View E G) → Bool
+  abbrev pub is_idle : Me (Spot K) (SeatView E G) → Bool
   is_idle me = is_none me.0.number && is_nil me.1 && not me.0.cycles.owes && not me.0.tickets.owes
 
   -- no other pass was joined into it, and it holds the turn or is idle
-  abbrev pub stands : Me (Spot K) (View E G) → Bool
+  abbrev pub stands : Me (Spot K) (SeatView E G) → Bool
   stands me = is_nil me.0.absorbed && cond me.0.holds (has_slot me.1) (is_idle me)

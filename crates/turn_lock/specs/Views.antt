@@ -2,7 +2,7 @@
 use Rattle.std.specs.Prelude.{ℕ, ◌+◌, max, true, false, cond, ltb, List, [], ◌∷◌, ◌++◌, length, Option, Some, None}
 use Rattle.turn_lock.specs.declared.kept.Shown.{Shown}
 use Rattle.turn_lock.specs.declared.view.Known.{Known}
-use Rattle.turn_lock.specs.declared.view.View.{View}
+use Rattle.turn_lock.specs.declared.view.SeatView.{SeatView}
 use Rattle.turn_lock.specs.Entries.{pick}
 
 -- nothing is known of a published number, and none is owed
@@ -31,14 +31,14 @@ better k l = record { number = max k.number l.number; owes = false }
 
 module _ {E G : Type 0} where
   -- what a seat knows of one of the published numbers
-  abbrev pub known : Shown → View E G → Known
+  abbrev pub known : Shown → SeatView E G → Known
   known which v = pick which v.cycles v.tickets
 
-  abbrev pub with_known : Shown → Known → View E G → View E G
+  abbrev pub with_known : Shown → Known → SeatView E G → SeatView E G
   with_known which k v = record v { cycles = pick which k v.cycles; tickets = pick which v.tickets k }
 
   -- the seat of pass 0, before any other: it has seen the empty list, and keeps count of the numbers given
-  abbrev pub first_view : G → View E G
+  abbrev pub first_view : G → SeatView E G
   first_view footing = record {
     alive = true;
     number = None;
@@ -57,43 +57,48 @@ module _ {E G : Type 0} where
   -- ---- Steps of one seat
 
   -- draw: it waits with this ticket
-  abbrev pub waiting : ℕ → View E G → View E G
+  abbrev pub waiting : ℕ → SeatView E G → SeatView E G
   waiting ticket v = record v { number = Some ticket }
 
   -- a look that found its ticket: it holds the turn, and has seen the counted list
-  abbrev pub at_turn : List E → View E G → View E G
+  abbrev pub at_turn : List E → SeatView E G → SeatView E G
   at_turn list v = record v { holds = true; seen = list }
 
   -- count: it has seen the value's list, and owes both publishes
-  abbrev pub counted : List E → View E G → View E G
-  counted list v = record v { seen = list; cycles = record v.cycles { owes = true }; tickets = record v.tickets { owes = true } }
+  abbrev pub counted : List E → SeatView E G → SeatView E G
+  counted list v = record v {
+    seen = list;
+    cycles = record v.cycles { owes = true };
+    tickets = record v.tickets { owes = true };
+  }
 
   -- publish: it no longer owes this number
-  abbrev pub published : Shown → View E G → View E G
+  abbrev pub published : Shown → SeatView E G → SeatView E G
   published which v = with_known which (record (known which v) { owes = false }) v
 
   -- load: it knows the number that it found, and has loaded once more
-  abbrev pub loaded : Shown → ℕ → View E G → View E G
+  abbrev pub loaded : Shown → ℕ → SeatView E G → SeatView E G
   loaded which n v = with_known which (record (known which v) { number = n }) (record v { loads = v.loads + 1 })
 
   -- pass on: it has no ticket, and has taken one turn more
-  abbrev pub passed_on : View E G → View E G
+  abbrev pub passed_on : SeatView E G → SeatView E G
   passed_on v = record v { number = None; holds = false; turns = v.turns + 1 }
 
   -- ---- A seat is cut in two
 
   -- the seat that keeps count has given one number more
-  abbrev pub dealer : View E G → View E G
+  abbrev pub dealer : SeatView E G → SeatView E G
   dealer v = record v { given = one_more v.given }
 
   -- and the new seat has that number, has seen what the other has, and has no entries yet
-  abbrev pub dealt : View E G → View E G
+  abbrev pub dealt : SeatView E G → SeatView E G
   dealt v = record v { turns = 0; loads = 0; mine = if_any v.given; given = None; absorbed = [] }
 
   -- ---- A seat is joined into another
 
-  -- it has the longer list, the numbers of both, the greater of what both know and the count if either kept it, and remembers what each had seen
-  abbrev pub joined : View E G → View E G → View E G
+  -- it has the longer list, the numbers of both, the greater of what both know and the count if either kept it, and
+  -- remembers what each had seen
+  abbrev pub joined : SeatView E G → SeatView E G → SeatView E G
   joined v w = record v {
     number = None;
     holds = false;
@@ -106,7 +111,7 @@ module _ {E G : Type 0} where
   }
 
   -- a seat that was joined into another
-  abbrev pub spent : View E G
+  abbrev pub spent : SeatView E G
   spent = record {
     alive = false;
     number = None;

@@ -5,14 +5,14 @@ ghost use Rattle.turn_lock.specs.Stands.{stands};
 
 use crate::kept::Kept;
 use crate::table::Spot;
-use crate::view::View;
+use crate::view::SeatView;
 use atomic_table::Seat;
 
 /// One of the passes of a lock. It has no more bytes than its number; what it knows stands in clauses alone.
 #[derive(Drop)]
 pub struct TurnPass<K: Kept> {
     pub(crate) number: u32,
-    pub(crate) seat: Seat<Spot<K>, View<K::Entry, K::Ground>>,
+    pub(crate) seat: Seat<Spot<K>, SeatView<K::Entry, K::Ground>>,
     // The seat is no spent one, and has the pass's number and no other.
     pub ghost alive: { seat.me.0.alive ≡ true },
     pub ghost mine: { seat.me.0.mine ≡ number ∷ [] },

@@ -2,13 +2,13 @@
 
 use crate::kept::Kept;
 use crate::table::Spot;
-use crate::view::View;
+use crate::view::SeatView;
 use atomic_table::{Join, Play, Split};
 
 /// Draws a ticket: one is added to the word of tickets.
 pub struct Draws;
 
-impl<K: Kept> Play<Spot<K>, View<K::Entry, K::Ground>> for Draws {
+impl<K: Kept> Play<Spot<K>, SeatView<K::Entry, K::Ground>> for Draws {
     ghost use Rattle.turn_lock.specs.Steps.{drawn};
 
     ghost then = { drawn };
@@ -17,7 +17,7 @@ impl<K: Kept> Play<Spot<K>, View<K::Entry, K::Ground>> for Draws {
 /// Looks whether its ticket is served: the served number is loaded. Where it is, the seat takes the value with the same step.
 pub struct Looks;
 
-impl<K: Kept> Play<Spot<K>, View<K::Entry, K::Ground>> for Looks {
+impl<K: Kept> Play<Spot<K>, SeatView<K::Entry, K::Ground>> for Looks {
     ghost use Rattle.turn_lock.specs.Steps.{looked};
 
     ghost then = { looked ⟦<K as Kept>⟧ };
@@ -26,7 +26,7 @@ impl<K: Kept> Play<Spot<K>, View<K::Entry, K::Ground>> for Looks {
 /// Counts one entry more.
 pub struct Counts;
 
-impl<K: Kept> Play<Spot<K>, View<K::Entry, K::Ground>> for Counts {
+impl<K: Kept> Play<Spot<K>, SeatView<K::Entry, K::Ground>> for Counts {
     ghost use Rattle.turn_lock.specs.Steps.{counts};
 
     ghost then = { counts ⟦<K as Kept>⟧ };
@@ -35,7 +35,7 @@ impl<K: Kept> Play<Spot<K>, View<K::Entry, K::Ground>> for Counts {
 /// Stores a published number.
 pub struct Publishes;
 
-impl<K: Kept> Play<Spot<K>, View<K::Entry, K::Ground>> for Publishes {
+impl<K: Kept> Play<Spot<K>, SeatView<K::Entry, K::Ground>> for Publishes {
     ghost use Rattle.turn_lock.specs.Steps.{publishes};
 
     ghost then = { publishes };
@@ -44,7 +44,7 @@ impl<K: Kept> Play<Spot<K>, View<K::Entry, K::Ground>> for Publishes {
 /// Loads a published number.
 pub struct Loads;
 
-impl<K: Kept> Play<Spot<K>, View<K::Entry, K::Ground>> for Loads {
+impl<K: Kept> Play<Spot<K>, SeatView<K::Entry, K::Ground>> for Loads {
     ghost use Rattle.turn_lock.specs.Steps.{loads};
 
     ghost then = { loads ⟦<K as Kept>⟧ };
@@ -53,7 +53,7 @@ impl<K: Kept> Play<Spot<K>, View<K::Entry, K::Ground>> for Loads {
 /// Passes the turn on: one is added to the served number, and the value is home with the same step.
 pub struct PassesOn;
 
-impl<K: Kept> Play<Spot<K>, View<K::Entry, K::Ground>> for PassesOn {
+impl<K: Kept> Play<Spot<K>, SeatView<K::Entry, K::Ground>> for PassesOn {
     ghost use Rattle.turn_lock.specs.Steps.{passes_on};
 
     ghost then = { passes_on };
@@ -62,7 +62,7 @@ impl<K: Kept> Play<Spot<K>, View<K::Entry, K::Ground>> for PassesOn {
 /// Gives a new seat the next number.
 pub struct Deals;
 
-impl<E, G> Split<View<E, G>> for Deals {
+impl<E, G> Split<SeatView<E, G>> for Deals {
     ghost use Rattle.turn_lock.specs.Views.{dealer, dealt};
 
     ghost left = { dealer };
@@ -73,7 +73,7 @@ impl<E, G> Split<View<E, G>> for Deals {
 /// Joins a seat into another.
 pub struct Gathers;
 
-impl<E, G> Join<View<E, G>> for Gathers {
+impl<E, G> Join<SeatView<E, G>> for Gathers {
     ghost use Rattle.turn_lock.specs.Views.{joined, spent};
 
     ghost both = { joined };

@@ -4,7 +4,7 @@ ghost use Rattle.std.specs.Prelude.{◌≡◌};
 ghost use Rattle.turn_lock.specs.Steps.{atomic_word_of};
 
 use crate::kept::{Kept, Shown};
-use crate::view::View;
+use crate::view::SeatView;
 use atomic_table::{Seat, TableRule};
 use std::marker::PhantomData;
 use std::snapshot::Snapshot;
@@ -59,7 +59,7 @@ pub struct Turns<K> {
     marker: PhantomData<K>,
 }
 
-impl<K: Kept> TableRule<Spot<K>, View<K::Entry, K::Ground>, Terms<K>> for Turns<K> {
+impl<K: Kept> TableRule<Spot<K>, SeatView<K::Entry, K::Ground>, Terms<K>> for Turns<K> {
     ghost use Rattle.turn_lock.specs.Views.{first_view};
     ghost use Rattle.turn_lock.specs.Rule.{Ruled};
 
@@ -69,4 +69,4 @@ impl<K: Kept> TableRule<Spot<K>, View<K::Entry, K::Ground>, Terms<K>> for Turns<
 }
 
 /// A seat of the lock's table.
-pub type LockSeat<K> = Seat<Spot<K>, View<<K as Kept>::Entry, <K as Kept>::Ground>>;
+pub type LockSeat<K> = Seat<Spot<K>, SeatView<<K as Kept>::Entry, <K as Kept>::Ground>>;

@@ -11,7 +11,7 @@ pub struct Known {
 }
 
 /// What a seat knows.
-pub struct View<E, G> {
+pub struct SeatView<E, G> {
     /// Whether it is a pass's. A seat that was joined into another is not, and knows nothing.
     pub alive: bool,
     /// The ticket that it has drawn and not yet passed on, counted from the first ticket of all and never wrapped.

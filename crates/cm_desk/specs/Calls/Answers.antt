@@ -8,7 +8,7 @@ use Rattle.cm_model.specs.Steady.{IsSteady}
 use Rattle.cm_model.specs.declared.data.CtlData.{CtlData}
 use Rattle.cm_model.specs.declared.entry.Entry.{Entry}
 use Rattle.cm_desk.specs.Desk.{History, now_of, CanBeCalled, is_list}
-use Rattle.cm_desk.specs.declared.TheConstants.{TOO_MANY_ENTRIES}
+use Rattle.cm_desk.specs.declared.TheConstants.{TOO_MANY_FOR_A_BOOK}
 
 -- It is a call that is answered at once, in a steady state.
 pub record CanAnswer (before : State) (call : Call) : Type 0 where
@@ -32,5 +32,5 @@ pub record IsHandedOver (h : History) (entries : List Entry) (held : List CtlDat
   pub history : entries ≡ h.made
   pub legal : LegalFrom h.opening h.made
   pub sound : AreSound (moments h.opening h.made)
-  pub few : length entries < TOO_MANY_ENTRIES
+  pub few : length entries < TOO_MANY_FOR_A_BOOK
   pub boxes : held ≡ map (λ l. l.ctl) (now_of h).loaded

@@ -10,7 +10,8 @@ pub record IsPut (serials : List ℕ) (members : List Member) (before after : Li
   pub run : AreAt serials members after.run
   pub fresh : after.fresh ≡ true
 
--- Where the members stand among these serials is looked up anew, if their order is the one of now; nothing else has changed.
+-- Where the members stand among these serials is looked up anew, if their order is the one of now; nothing else has
+-- changed.
 pub record IsIndexedAnew (serials : List ℕ) (before after : Listed) : Type 0 where
   pub active : after.active ≡ before.active
   pub order : after.order ≡ before.order

@@ -10,7 +10,8 @@ pub record IsPlaceOf (at : ℕ) (loans : List Loan) (placed : Placed) : Type 0 w
   pub claimers : at < length placed.claimers
   pub exporters : at < length placed.exporters
 
--- One of the components has this place; the board has each place of which the component is told, and one for each state interface.
+-- One of the components has this place; the board has each place of which the component is told, and one for each state
+-- interface.
 pub record CanSettle (at : ℕ) (ms : List Mounted) (cs : List (Option ℕ)) (loans : List Loan) : Type 0 where
   pub place : at < length ms
   pub places : length cs ≤ length loans

@@ -36,9 +36,10 @@ sink_facts taken flushed faults sink = record { taken = taken sink; flushed = fl
 abbrev pub written : SinkFacts → SinkFacts → Written
 written sink sink' = record { old = sink.taken; new = sink'.taken; flushed = sink'.flushed }
 
--- Words that are not accepted are answered so, unless memory runs out, and no others are. Then nothing was read, nothing written and no
--- book made.
-pub record RefusesWords {S K B : Type 0} (words : List (List ℕ)) (source source' : S) (sink sink' : K) (ended : Status) (book : Option B) : Type 0 where
+-- Words that are not accepted are answered so, unless memory runs out, and no others are. Then nothing was read,
+-- nothing written and no book made.
+pub record RefusesWords {S K B : Type 0} (words : List (List ℕ)) (source source' : S) (sink sink' : K) (ended : Status)
+    (book : Option B) : Type 0 where
   pub alone : ended ≡ status.BadWords → asked words ≡ Err Usage
   pub refused : asked words ≡ Err Usage → (ended ≡ status.BadWords) ⊎ (ended ≡ status.Memory)
   pub nothing_read : asked words ≡ Err Usage → source' ≡ source
@@ -53,7 +54,8 @@ pub record SparesAlone {S K : Type 0} (job : Job) (ended : Status) (source sourc
   pub untouched : ComesBeforeWriting ended → sink' ≡ sink
 
 -- What a run of words leaves as it was.
-pub record Spares {S K P : Type 0} (words : List (List ℕ)) (ended : Status) (source source' : S) (sink sink' : K) (pace pace' : P) : Type 0 where
+pub record Spares {S K P : Type 0} (words : List (List ℕ)) (ended : Status) (source source' : S) (sink sink' : K)
+    (pace pace' : P) : Type 0 where
   -- a made document is not read
   pub unread : IfOk (asked words) (λ job. IfSome job.make (λ _. source' ≡ source))
   -- statuses 2 to 6 leave the sink as it was
@@ -68,7 +70,8 @@ pub record MindsSink (sink sink' : SinkFacts) (ended : Status) : Type 0 where
   -- what was taken is flushed where the run went well, and nowhere else
   pub unflushed : ended ≢ status.Ok → sink'.flushed ≡ sink.flushed
 
--- How a run ends by the faults of its source and its sink, before and after it, whatever its words and its document are.
+-- How a run ends by the faults of its source and its sink, before and after it, whatever its words and its document
+-- are.
 pub record MindsFaults (source source' : SourceFacts) (sink sink' : SinkFacts) (ended : Status) : Type 0 where
   -- it ends as a fault of reading exactly where a read failed
   pub read_fault : IsToldAs status.ReadFault ended source.faults source'.faults
@@ -77,15 +80,17 @@ pub record MindsFaults (source source' : SourceFacts) (sink sink' : SinkFacts) (
   pub of_sink : MindsSink sink sink' ended
 
 -- A run of these bytes into this sink, before and after, with its status and its book.
-pub record RunsBytes (task : Task) (blanks : Blanks) (bytes : List ℕ) (sink sink' : SinkFacts) (ended : Status) (book : Option BookFacts) : Type 0 where
+pub record RunsBytes (task : Task) (blanks : Blanks) (bytes : List ℕ) (sink sink' : SinkFacts) (ended : Status)
+    (book : Option BookFacts) : Type 0 where
   pub ran : EndedWith task bytes blanks (written sink sink') ended book
   pub handed_out : HandsOut task blanks (written sink sink') ended book
   pub of_bytes : ComesOfBytes ended
   pub plain : IsPlain ended
 
--- A run from this source, before and after, into this sink, before and after, with its status and its book. This was the
--- task.
-pub record Runs (task : Task) (blanks : Blanks) (source source' : SourceFacts) (sink sink' : SinkFacts) (ended : Status) (book : Option BookFacts) : Type 0 where
+-- A run from this source, before and after, into this sink, before and after, with its status and its book. This was
+-- the task.
+pub record Runs (task : Task) (blanks : Blanks) (source source' : SourceFacts) (sink sink' : SinkFacts) (ended : Status)
+    (book : Option BookFacts) : Type 0 where
   -- by the bytes of the source, where they are known
   pub ran : IfSome source.left (λ bytes. EndedWith task bytes blanks (written sink sink') ended book)
   -- whatever the source tells, by the book
@@ -96,20 +101,27 @@ pub record Runs (task : Task) (blanks : Blanks) (source source' : SourceFacts) (
   pub read_whole : ended ≡ status.Ok → IsSome source.left → IsAtEnd source'.left
   -- no refusal carries a want of memory
   pub plain : IsPlain ended
-  -- Where neither source nor sink had a fault, the bytes alone decide the status, unless memory runs out: a document that is
-  -- too long or refused is answered so, and an accepted one goes well.
+  -- Where neither source nor sink had a fault, the bytes alone decide the status, unless memory runs out: a document
+  -- that is too long or refused is answered so, and an accepted one goes well.
   pub exact : IfSome source.left (λ bytes. ¬ (Rose source.faults source'.faults) → ¬ (Rose sink.faults sink'.faults)
       → (ended ≡ status_of bytes) ⊎ (ended ≡ status.Memory))
 
--- A run of a made document of so many rounds: what a run of its bytes promises. It goes well, unless the sink fails or memory runs out.
-pub record RunsMade (task : Task) (blanks : Blanks) (rounds : ℕ) (sink sink' : SinkFacts) (ended : Status) (book : Option BookFacts) : Type 0 where
+-- A run of a made document of so many rounds: what a run of its bytes promises. It goes well, unless the sink fails or
+-- memory runs out.
+pub record RunsMade (task : Task) (blanks : Blanks) (rounds : ℕ) (sink sink' : SinkFacts) (ended : Status)
+    (book : Option BookFacts) : Type 0 where
   pub ran : RunsBytes task blanks (made rounds) sink sink' ended book
   pub exact : ¬ (Rose sink.faults sink'.faults) → (ended ≡ status.Ok) ⊎ (ended ≡ status.Memory)
 
--- A run of a job, by where its document comes from: the source, or with `--make` a number of rounds. Then the source tells nothing.
-abbrev pub RunsFrom : Option ℕ → Task → Blanks → SourceFacts → SourceFacts → SinkFacts → SinkFacts → Status → Option BookFacts → Type 0
+-- A run of a job, by where its document comes from: the source, or with `--make` a number of rounds. Then the source
+-- tells nothing.
+abbrev pub RunsFrom : Option ℕ → Task → Blanks → SourceFacts → SourceFacts → SinkFacts → SinkFacts → Status
+    → Option BookFacts → Type 0
 RunsFrom None task blanks source source' sink sink' ended book = Runs task blanks source source' sink sink' ended book
-RunsFrom (Some rounds) task blanks source source' sink sink' ended book = RunsMade task blanks rounds sink sink' ended book
+RunsFrom (Some rounds) task blanks source source' sink sink' ended book =
+    RunsMade task blanks rounds sink sink' ended book
 
-abbrev pub RunsJob : Job → Blanks → SourceFacts → SourceFacts → SinkFacts → SinkFacts → Status → Option BookFacts → Type 0
-RunsJob job blanks source source' sink sink' ended book = RunsFrom job.make (task_of job blanks) blanks source source' sink sink' ended book
+abbrev pub RunsJob : Job → Blanks → SourceFacts → SourceFacts → SinkFacts → SinkFacts → Status → Option BookFacts
+    → Type 0
+RunsJob job blanks source source' sink sink' ended book =
+    RunsFrom job.make (task_of job blanks) blanks source source' sink sink' ended book

@@ -4,11 +4,10 @@ ghost use Rattle.std.specs.Prelude.{◌≡◌, Bool, true, ◌&&◌, ℤ, List, 
 ghost use Rattle.cm_model.specs.Kinds.{are_ranged, AreItsReads};
 ghost use Rattle.cm_model.specs.Controllers.{runs_chained, started, IsBlank};
 
-use cm_document::MOST_CLAIMS_OF_ONE;
-use cm_model::{Fx, Mail, Params};
-use ctl_trait::{
-    CfgFault, Controller, Done, LONGEST_PERIOD, Tick, Value, shape_of, takes, takes_none,
-};
+use cm_document::{MOST_CLAIMS_OF_ONE, Mail, Params};
+use cm_model::{Done, LONGEST_PERIOD, Tick};
+use ctl_trait::{CfgFault, Controller, shape_of, takes, takes_none};
+use fixed_num::{Fx, Value};
 use std::alloc::Global;
 use std::marker::Model;
 use std::test::Fail;

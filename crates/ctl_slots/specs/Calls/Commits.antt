@@ -15,7 +15,8 @@ pub record CanCommit (slots : Slotted) (placed : Placed) (board : ℕ) (room : �
   pub has_room : AllByRecursion (HasRoom placed room) slots.loaded
 
 -- The same of these controllers, whose boxes have these data.
-pub record CanCommitAll (loaded : List Loaded) (boxes : List (Option CtlData)) (placed : Placed) (board : ℕ) (room : ℕ) : Type 0 where
+pub record CanCommitAll (loaded : List Loaded) (boxes : List (Option CtlData)) (placed : Placed) (board : ℕ) (room : ℕ)
+    : Type 0 where
   pub home : boxes ≡ map (box_of false) loaded
   pub seated : AllByRecursion (IsSeated placed board) loaded
   pub has_room : AllByRecursion (HasRoom placed room) loaded
@@ -26,7 +27,8 @@ pub record CanCommitOne (l : Loaded) (box : Option CtlData) (placed : Placed) (b
   pub seated : IsSeated placed board l
   pub has_room : HasRoom placed room l
 
--- Its box is there, and it can be given the states at these places of a board of so many interfaces, in room for so many.
+-- Its box is there, and it can be given the states at these places of a board of so many interfaces, in room for so
+-- many.
 pub record CanStart (l : Loaded) (box : Option CtlData) (board : ℕ) (reads : List ℕ) (room : ℕ) : Type 0 where
   pub home : box ≡ Some l.ctl
   pub there : All (λ place. place < board) reads

@@ -10,9 +10,10 @@ pub record ReadsAll (left left' : Option (List ℕ)) (limit : ℕ) (bytes : List
   pub whole : GivesAll left left' bytes
   pub within : length bytes ≤ limit
 
--- A whole read of a source that had these bytes left, with its count of faults before and after: it is too long only where more
--- than the limit were left, and it failed exactly where a read did, once. The count never falls.
-pub record ReadHasCause {T : Type 0} (left : Option (List ℕ)) (limit before now : ℕ) (result : Result T ReadFault) : Type 0 where
+-- A whole read of a source that had these bytes left, with its count of faults before and after: it is too long only
+-- where more than the limit were left, and it failed exactly where a read did, once. The count never falls.
+pub record ReadHasCause {T : Type 0} (left : Option (List ℕ)) (limit before now : ℕ) (result : Result T ReadFault) :
+    Type 0 where
   pub long : result ≡ Err fault.TooLong → IsLonger left limit
   pub later : before ≤ now
   pub counted : result ≡ Err fault.Failed → now ≡ one_more before

@@ -16,7 +16,8 @@ pub record CanDecide (d : Description) (related : Related) (now : Stand) : Type 
   pub relations : related ≡ relations_of d
   pub stand : IsStand d now
 
--- A switch can be carried out by these: the relations are those of the description, and each loaded controller has its place in it.
+-- A switch can be carried out by these: the relations are those of the description, and each loaded controller has its
+-- place in it.
 pub record CanSwitch (d : Description) (related : Related) (loaded : List Seen) : Type 0 where
   pub relations : related ≡ relations_of d
   pub within : All (λ l. l.place < length d.controllers) loaded

@@ -7,7 +7,8 @@ use Rattle.ctl_slots.specs.Updates.{Aloft, IsTimely}
 use Rattle.rt_flight.specs.Stations.{IsSeatedOn}
 use Rattle.rt_flight.specs.Cells.{Seat, Flying, seats_after, all_flown, post_of, CanFly, CanTell, CanBeTold}
 
--- What a cell gave out can be put on a board of so many interfaces, and told; there is room for its serial beside so many others.
+-- What a cell gave out can be put on a board of so many interfaces, and told; there is room for its serial beside so
+-- many others.
 pub record CanPut (placed : Placed) (board : ℕ) (c : Seat) (room : Filling) (count most : ℕ) : Type 0 where
   pub seated : IsSeatedOn placed board c.station
   pub few_states : length c.station.states < 2 ^ 8
@@ -23,9 +24,10 @@ pub record CanPutAll (placed : Placed) (board : ℕ) (cs : List Seat) (room : Fi
   pub told : CanTell cs room
   pub erred : count + length cs ≤ most
 
--- Then the board is as large as before; of the room for what is told so much is left at least; and so many serials more stand there at
--- most, within the same capacity.
-pub record LeavesPut (cells outs published : ℕ) (loans loans' : ℕ) (room room' : Filling) (count count' most most' : ℕ) : Type 0 where
+-- Then the board is as large as before; of the room for what is told so much is left at least; and so many serials more
+-- stand there at most, within the same capacity.
+pub record LeavesPut (cells outs published : ℕ) (loans loans' : ℕ) (room room' : Filling) (count count' most most' : ℕ)
+    : Type 0 where
   pub board : loans' ≡ loans
   pub heads : room.heads ≤ room'.heads + cells
   pub values : room.values ≤ room'.values + outs
@@ -40,8 +42,8 @@ pub record CanTurn (a : Aloft) (board : ℕ) (cs : List Seat) (room : Filling) (
   pub told : CanTell cs room
   pub erred : count + length cs ≤ most
 
--- They had their turns: they and the work come to what they come to one after the other, and who stands there and how much room each has
--- is as before.
+-- They had their turns: they and the work come to what they come to one after the other, and who stands there and how
+-- much room each has is as before.
 pub record HaveTurned (a : Aloft) (cs cs' : List Seat) (f f' : Flying) : Type 0 where
   pub cells : cs' ≡ seats_after a cs f
   pub flying : f' ≡ all_flown a cs f

@@ -17,19 +17,21 @@ use Rattle.rt_flight.specs.Cells.{Seat}
 use Rattle.rt_flight.specs.Flights.{member_in}
 use Rattle.rt_flight.specs.declared.plant.Plant.{Plant}
 
--- A cycle that was made leaves who flies, stations that are fitted, the plant but for its hardware, who stopped, and the room for serials;
--- and who ran, where nobody flies.
-pub record LeavesFlight (cells cells' : List Seat) (g g' : Plant) (room room' : RecordRoom) (most most' : ℕ) : Type 0 where
-  pub order : map member_in cells' ≡ map member_in cells
-  pub fitted : AllByRecursion (λ c. IsFitted g.places c.station) cells'
-  pub plant : g' ≡ record g { hardware = g'.hardware }
-  pub stops : room'.stops ≡ room.stops
-  pub idle : cells ≡ [] → room'.ran.rans ≡ room.ran.rans
-  pub capacity : most' ≡ most
+-- A cycle that was made leaves who flies, stations that are fitted, the plant but for its hardware, who stopped, and
+-- the room for serials; and who ran, where nobody flies.
+pub record LeavesFlight (cells cells' : List Seat) (g g' : Plant) (room room' : RecordRoom) (most most' : ℕ) : Type 0
+  where
+    pub order : map member_in cells' ≡ map member_in cells
+    pub fitted : AllByRecursion (λ c. IsFitted g.places c.station) cells'
+    pub plant : g' ≡ record g { hardware = g'.hardware }
+    pub stops : room'.stops ≡ room.stops
+    pub idle : cells ≡ [] → room'.ran.rans ≡ room.ran.rans
+    pub capacity : most' ≡ most
 
--- These are told of the cycle of the state: its relations, its active controllers in order, the components that failed, and the serials of
--- the controllers whose update failed.
-pub record IsToldOf (s : State) (w : Related) (members : List Member) (parts : List FailedPart) (serials : List ℕ) : Type 0 where
+-- These are told of the cycle of the state: its relations, its active controllers in order, the components that failed,
+-- and the serials of the controllers whose update failed.
+pub record IsToldOf (s : State) (w : Related) (members : List Member) (parts : List FailedPart) (serials : List ℕ) :
+    Type 0 where
   pub valid : IsValid s.description
   pub steady : IsSteady s
   pub related : w ≡ relations_of s.description
@@ -38,9 +40,11 @@ pub record IsToldOf (s : State) (w : Related) (members : List Member) (parts : L
   pub erred : serials ≡ erred_in (told_in s)
 
 -- It is decided who stops, of what is told in the record before, and told there.
-pub record Decides (w : Related) (members : List Member) (serials : List ℕ) (before after : RecordRoom) (sets : Ending) : Type 0 where
+pub record Decides (w : Related) (members : List Member) (serials : List ℕ) (before after : RecordRoom) (sets : Ending)
+    : Type 0 where
   pub ending : (s : State) → IsToldOf s w members before.failed.items serials → IsEndingOf s sets
-  pub stops : (s : State) → IsToldOf s w members before.failed.items serials → after.stops.items ≡ before.stops.items ++ stopped_in s (told_in s)
+  pub stops : (s : State) → IsToldOf s w members before.failed.items serials
+      → after.stops.items ≡ before.stops.items ++ stopped_in s (told_in s)
   pub told : after ≡ record before { stops = after.stops }
   pub flags : HasFlags (length w.leaders) sets
 

@@ -19,9 +19,10 @@ pub record IsMadeFor (m : Member) (cycles : ℕ) (placed : Placed) (s : Standing
   pub divisor : s.divisor ≡ cycles
   pub fitted : IsFitted placed s
 
--- A controller of this kind took this step from these states: its data, its outputs where those were, and its answer are those of the
--- step, which publishes by its kind, and gives nothing after an error.
-pub record TakesStep (step : Stepped) (kind : CtlKind) (states : List ℤ) (outs outs' : List Value) (after : CtlData) (told : Done) : Type 0 where
+-- A controller of this kind took this step from these states: its data, its outputs where those were, and its answer
+-- are those of the step, which publishes by its kind, and gives nothing after an error.
+pub record TakesStep (step : Stepped) (kind : CtlKind) (states : List ℤ) (outs outs' : List Value) (after : CtlData)
+    (told : Done) : Type 0 where
   pub ctl : after ≡ step.after
   pub outputs : outs' ≡ put_out step outs
   pub width : length outs' ≡ length outs

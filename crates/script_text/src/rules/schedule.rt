@@ -5,7 +5,9 @@ ghost use Rattle.sequence.specs.Answers.{Answers};
 ghost use Rattle.cm_document.specs.ScriptRules.{with_schedule, with_turn, with_step};
 
 use crate::rules::Draft;
-use cm_document::{MOST_CALLS, Name, ScriptFault, Seq, Turn};
+use cm_document::{MOST_CALLS, ScriptFault, Turn};
+use iface_names::Name;
+use sequence::Seq;
 use std::alloc::Global;
 
 impl Draft {

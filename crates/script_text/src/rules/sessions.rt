@@ -7,7 +7,9 @@ ghost use Rattle.iface_names.specs.Names.{same_name};
 ghost use Rattle.cm_document.specs.ScriptRules.{is_used, session_accepted, is_session_line, then_calling, session_number};
 
 use crate::rules::Draft;
-use cm_document::{Call, Grammar, Name, ScriptFault, Seq, SessionText};
+use cm_document::{Call, Grammar, ScriptFault, SessionText};
+use iface_names::Name;
+use sequence::Seq;
 
 impl Draft {
     /// Whether a session of this name may begin: the name is new and not `loop`, and no schedule stands.

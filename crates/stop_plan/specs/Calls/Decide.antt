@@ -9,8 +9,8 @@ use Rattle.stop_plan.specs.Reports.{count_in}
 use Rattle.stop_plan.specs.declared.ending.Ending.{Ending}
 use Rattle.stop_plan.specs.declared.report.Report.{Report}
 
--- The end of the cycle of a report: a flag for each described controller stays in each set; told are those that stop at the end of the
--- cycle; and the sets are those of the commit that follows.
+-- The end of the cycle of a report: a flag for each described controller stays in each set; told are those that stop at
+-- the end of the cycle; and the sets are those of the commit that follows.
 pub record Decides (r : Report) (after : Ending) (serials serials' : List ℕ) : Type 0 where
   pub flags : HasFlags (count_in r) after
   pub stops : (s : State) → IsValid s.description → IsReportOf s r → serials' ≡ serials ++ stops s (told_in s)

@@ -18,7 +18,8 @@ pub record HaveMet (scene : Scene) (names : List (List ℕ)) (flags : List Bool)
   pub length : HasFlags scene flags
   pub set : set_of flags ≡ named scene names
 
--- These can be put in the order of their updates in a set: it has a flag for each place, and each of them has its place.
+-- These can be put in the order of their updates in a set: it has a flag for each place, and each of them has its
+-- place.
 pub record CanOrder (s : Setting) (set : List Bool) (list : List Member) : Type 0 where
   pub setting : IsSetting s
   pub length : HasFlags (set_scene s) set

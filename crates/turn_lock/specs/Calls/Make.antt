@@ -4,11 +4,11 @@ use Rattle.std.specs.List.{range_with_len}
 use Rattle.turn_lock.specs.declared.kept.Kept.{Ghosts}
 use Rattle.turn_lock.specs.declared.lock.TurnLock.{TurnLock}
 use Rattle.turn_lock.specs.declared.pass.TurnPass.{TurnPass}
-use Rattle.turn_lock.specs.declared.view.View.{View}
+use Rattle.turn_lock.specs.declared.view.SeatView.{SeatView}
 use Rattle.turn_lock.specs.Passes.{view, seats_of, IsPassOf}
 
 -- who knows this has taken no turn and seen nothing
-pub record IsFresh {E G : Type 0} (footing : Option G) (v : View E G) : Type 0 where
+pub record IsFresh {E G : Type 0} (footing : Option G) (v : SeatView E G) : Type 0 where
   pub idle : v.holds ≡ false
   pub seen : v.seen ≡ []
   pub turns : v.turns ≡ 0
@@ -19,13 +19,15 @@ pub record IsFresh {E G : Type 0} (footing : Option G) (v : View E G) : Type 0 w
 
 module _ {K E G : Type 0} {g : Ghosts K E G} where
   -- passes of the lock that are fresh, so many from this number on, in order
-  pub record AreFresh (lock : TurnLock K E G) (footing : Option G) (from count : ℕ) (passes : List (TurnPass K E G g)) : Type 0 where
+  pub record AreFresh (lock : TurnLock K E G) (footing : Option G) (from count : ℕ) (passes : List (TurnPass K E G g)) :
+      Type 0 where
     pub numbers : map (λ p. p.number) passes ≡ range_with_len from count
     pub of_lock : All (IsPassOf lock) passes
     pub fresh : All (λ p. IsFresh footing (view p)) passes
 
   -- those of a lock with so many seats, without the first
-  pub record AreOthers (lock : TurnLock K E G) (footing : Option G) (seats : ℕ) (passes : List (TurnPass K E G g)) : Type 0 where
+  pub record AreOthers (lock : TurnLock K E G) (footing : Option G) (seats : ℕ) (passes : List (TurnPass K E G g)) :
+      Type 0 where
     pub count : length passes + 1 ≡ seats
     pub passes_are : AreFresh lock footing 1 (length passes) passes
 

@@ -5,7 +5,7 @@ use Rattle.atomic_table.specs.Table.{Me}
 use Rattle.turn_lock.specs.declared.pass.TurnPass.{TurnPass}
 use Rattle.turn_lock.specs.declared.table.Spot.{Spot}
 use Rattle.turn_lock.specs.declared.table.Spot.TheVariants.{Away}
-use Rattle.turn_lock.specs.declared.view.View.{View}
+use Rattle.turn_lock.specs.declared.view.SeatView.{SeatView}
 use Rattle.turn_lock.specs.declared.kept.Kept.{Ghosts}
 use Rattle.turn_lock.specs.Entries.{of}
 use Rattle.turn_lock.specs.Passes.{view, IsSamePass}
@@ -34,7 +34,7 @@ pub record Takes {K E G : Type 0} {g : Ghosts K E G} (p q : TurnPass K E G g) (k
 
 module _ {K E G : Type 0} where
   -- a seat that was idle waits with a ticket, whose remainder this is
-  pub record Waits (old me : Me (Spot K) (View E G)) (mine : ℕ) : Type 0 where
+  pub record Waits (old me : Me (Spot K) (SeatView E G)) (mine : ℕ) : Type 0 where
     pub ticket : ℕ
     pub is : me ≡ (waiting ticket old.0, [])
     pub remainder : ticket % 2 ^ 64 ≡ mine
@@ -42,7 +42,7 @@ module _ {K E G : Type 0} where
     pub waits : old.0.holds ≡ false
 
   -- the seat holds the turn and the emptied slot, and this is the value
-  pub record Found (m : Ghosts K E G) (old me : Me (Spot K) (View E G)) (kept : K) : Type 0 where
+  pub record Found (m : Ghosts K E G) (old me : Me (Spot K) (SeatView E G)) (kept : K) : Type 0 where
     pub is : me ≡ (at_turn (m.entries kept) old.0, (0, Away) ∷ [])
     pub begins : IsPrefix old.0.seen (m.entries kept)
     pub own : (pass : ℕ) → Contains old.0.mine pass → of m.caller pass old.0.seen ≡ of m.caller pass (m.entries kept)

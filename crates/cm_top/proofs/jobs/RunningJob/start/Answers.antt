@@ -1,6 +1,6 @@
 use Rattle.std.proofs.Common.{◌≡◌, rules, length}
 use Rattle.cm_top.proofs.SettleLemmas.{as_many}
-use Rattle.cm_top.proofs.jobs.Job.start.Goals as goal
+use Rattle.cm_top.proofs.jobs.RunningJob.start.Goals as goal
 
 -- a desk for as many sessions as there are
 pub invariant_of-result : goal.invariant_of-result

@@ -3,7 +3,7 @@ use Rattle.cm_document.specs.declared.call.Call.TheVariants.{Begin}
 use Rattle.cm_desk.specs.Desk.{now_of}
 use Rattle.cm_desk.proofs.BegunLemmas.{begun_aloft}
 use Rattle.cm_top.proofs.JobLemmas.{begin_number, begin_waits, loop_made, flight_out}
-use Rattle.cm_top.proofs.jobs.Job.begin.Goals as goal
+use Rattle.cm_top.proofs.jobs.RunningJob.begin.Goals as goal
 
 -- the cycle that begins has the number that was asked for,
 pub returns-in_ok-flight : goal.returns-in_ok-flight

@@ -2,7 +2,7 @@ use Rattle.std.proofs.Common.{◌∙◌}
 use Rattle.cm_desk.specs.Desk.{now_of}
 use Rattle.cm_top.specs.Jobs.{progress_of}
 use Rattle.cm_top.proofs.SettleLemmas.{one_cycle_more}
-use Rattle.cm_top.proofs.jobs.Job.cycles_left.Goals as goal
+use Rattle.cm_top.proofs.jobs.RunningJob.cycles_left.Goals as goal
 
 -- one cycle more
 pub loop-past-preserved : goal.loop-past-preserved

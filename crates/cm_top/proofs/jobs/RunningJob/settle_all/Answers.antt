@@ -1,7 +1,7 @@
 use Rattle.std.proofs.Common.{arith}
 use Rattle.std.proofs.lemmas.Grind.{common_steps}
 use Rattle.cm_desk.proofs.BegunLemmas.{flown_alike}
-use Rattle.cm_top.proofs.jobs.Job.settle_all.Goals as goal
+use Rattle.cm_top.proofs.jobs.RunningJob.settle_all.Goals as goal
 
 -- a cycle that is aloft stays so
 pub invariant_of-self : goal.invariant_of-self

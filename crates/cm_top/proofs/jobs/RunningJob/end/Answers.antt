@@ -4,7 +4,7 @@ use Rattle.cm_document.specs.declared.call.Call.TheVariants.{End}
 use Rattle.cm_desk.specs.Desk.{now_of}
 use Rattle.cm_desk.proofs.BegunLemmas.{landed_down}
 use Rattle.cm_top.proofs.JobLemmas.{end_number, end_waits, loop_made, flight_there, flight_lands, flight_gone}
-use Rattle.cm_top.proofs.jobs.Job.end.Goals as goal
+use Rattle.cm_top.proofs.jobs.RunningJob.end.Goals as goal
 
 -- the cycle that ends has the number that was asked for
 pub returns-in-Some : goal.returns-in-Some

@@ -1,6 +1,6 @@
 use Rattle.std.proofs.Common.{◌∙◌}
 use Rattle.cm_top.proofs.SettleLemmas.{turns_next}
-use Rattle.cm_top.proofs.jobs.Job.turns.Goals as goal
+use Rattle.cm_top.proofs.jobs.RunningJob.turns.Goals as goal
 
 -- this turn, and then those after it
 pub loop-asked-preserved : goal.loop-asked-preserved

@@ -1,7 +1,7 @@
 use Rattle.std.proofs.Common.{◌≡◌, drop}
 use Rattle.cm_model.specs.Scheduled.{turns}
 use Rattle.cm_top.specs.Jobs.{progress_of}
-use Rattle.cm_top.proofs.jobs.Job.turns.Given as goal
+use Rattle.cm_top.proofs.jobs.RunningJob.turns.Given as goal
 
 -- the turns from here on, from what is made, are all turns, over a desk of the same opening
 abbrev pub invariant-loop-asked : goal.invariant-loop-asked

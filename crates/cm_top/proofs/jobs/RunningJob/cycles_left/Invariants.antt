@@ -1,7 +1,7 @@
 use Rattle.cm_model.specs.Scheduled.{cycles_from}
 use Rattle.cm_desk.specs.Desk.{now_of}
 use Rattle.cm_top.specs.Jobs.{GoesOn}
-use Rattle.cm_top.proofs.jobs.Job.cycles_left.Given as goal
+use Rattle.cm_top.proofs.jobs.RunningJob.cycles_left.Given as goal
 
 -- the cycles so far, from the first that is left
 abbrev pub invariant-loop-past : goal.invariant-loop-past

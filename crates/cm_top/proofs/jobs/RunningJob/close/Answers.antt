@@ -3,7 +3,7 @@ use Rattle.cm_document.specs.declared.call.Call.TheVariants.{Close}
 use Rattle.cm_top.proofs.JobLemmas.{close_waits, loop_made}
 use Rattle.cm_desk.specs.Desk.{now_of}
 use Rattle.cm_desk.proofs.BegunLemmas.{closed_alike, none_flies, down_there}
-use Rattle.cm_top.proofs.jobs.Job.close.Goals as goal
+use Rattle.cm_top.proofs.jobs.RunningJob.close.Goals as goal
 
 -- the loop closed
 pub returns-then-can_close : goal.returns-then-can_close

@@ -1,6 +1,6 @@
 use Rattle.cm_model.specs.Scheduled.{cycles}
 use Rattle.cm_top.specs.Jobs.{GoesOn}
-use Rattle.cm_top.proofs.jobs.Job.cycles.Given as goal
+use Rattle.cm_top.proofs.jobs.RunningJob.cycles.Given as goal
 
 -- the cycles so far
 abbrev pub invariant-loop-number : goal.invariant-loop-number
