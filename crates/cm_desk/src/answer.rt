@@ -12,7 +12,7 @@ use cm_document::Call;
 use cm_model::{Reply, Request};
 use ctl_trait::Controller;
 use fixed_num::Memory;
-use sequence::Boxed;
+use sequence::{Boxed, Shared};
 use std::alloc::Global;
 
 /// What a call came to: its reply, once for the caller and once for the history, and the box that it hands out.
@@ -48,12 +48,11 @@ impl<C: Controller> Works<C> {
 
     /// Answers a list, which changes nothing.
     #[tactic(auto, using(crate::proofs::AnswerLemmas::list_changes_nothing))]
-    fn told_list(&mut self, alloc: Global, call: &Call) -> Result<Answer<C>, Memory>
+    fn told_list(&self, alloc: Global, call: &Call) -> Result<Answer<C>, Memory>
         requires { is_list call.now ≡ true }
         ensures made { IfOk result
-            (λ answer. IsAnswerTo self.old call.now self.new answer.reply (option_map C.meaning answer.given)) }
+            (λ answer. IsAnswerTo self.now call.now self.now answer.reply (option_map C.meaning answer.given)) }
         ensures twice { IfOk result (λ answer. answer.noted ≡ answer.reply) }
-        ensures kept { self.new ≡ self.old }
     {
         let reply = self.list(alloc, call)?;
         let noted = reply.clone()?;
@@ -65,20 +64,19 @@ impl<C: Controller> Works<C> {
     }
 
     /// The list that is asked for.
-    fn list(&mut self, alloc: Global, call: &Call) -> Result<Reply, Memory>
+    fn list(&self, alloc: Global, call: &Call) -> Result<Reply, Memory>
         requires { is_list call.now ≡ true }
-        ensures list { IfOk result (λ reply. reply_of self.old call.now ≡ Some reply) }
-        ensures kept { self.new ≡ self.old }
+        ensures { IfOk result (λ reply. reply_of self.now call.now ≡ Some reply) }
     {
         match call {
             Call::ListControllers => Ok(Reply::Controllers(Boxed::new(
                 alloc,
                 self.controllers(alloc)?,
             )?)),
-            Call::ListInterfaces => {
-                let lines = self.interfaces(alloc)?;
-                Ok(Reply::Interfaces(self.last_told.told(alloc, lines)?))
-            }
+            Call::ListInterfaces => Ok(Reply::Interfaces(Shared::new(
+                alloc,
+                self.interfaces(alloc)?,
+            )?)),
             Call::ListComponents => Ok(Reply::Components(Boxed::new(
                 alloc,
                 self.components(alloc)?,

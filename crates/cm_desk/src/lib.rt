@@ -15,7 +15,6 @@ mod console;
 mod cycles;
 mod desk;
 mod land;
-mod last_told;
 pub mod laws;
 mod lines;
 mod roster;

@@ -8,7 +8,6 @@ ghost use Rattle.cm_model.specs.State.{boot};
 ghost use Rattle.cm_desk.specs.Works.{IsAnswered, load_reply};
 
 use crate::bay::Bay;
-use crate::last_told::LastTold;
 use crate::roster::Roster;
 use crate::start::{at_start, names_of};
 use cm_document::{Checked, CtlDesc};
@@ -45,8 +44,6 @@ pub struct Works<C: Controller> {
     pub(crate) boxes: Vec<C>,
     /// Who is active.
     pub(crate) roster: Roster,
-    /// For the next list of interfaces.
-    pub(crate) last_told: LastTold,
     /// How many cycles have ended.
     pub(crate) ended: u64,
     /// Whether the loop is closed.
@@ -96,7 +93,6 @@ impl<C: Controller> Works<C> {
             cells: Vec::new(alloc),
             boxes: Vec::new(alloc),
             roster: start.roster,
-            last_told: LastTold::none(),
             ended: 0,
             closed: false,
         })

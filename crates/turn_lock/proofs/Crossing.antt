@@ -7,7 +7,7 @@ use Rattle.std.proofs.Crossing.{crosses}
 use Rattle.std.specs.contracts.alloc.Global as Heap
 use Rattle.std.specs.contracts.impls.GlobalAllocator.TheImpl.{ghosts as heap_ghosts}
 use Rattle.turn_lock.specs.declared.kept.Kept.{Ghosts}
-use Rattle.turn_lock.specs.contracts.table.TurnsTableRuleSpotViewEntryGroundTerms.TheImpl.{ghosts, no_dict}
+use Rattle.turn_lock.specs.contracts.table.TurnsTableRuleSpotSeatViewEntryGroundTerms.TheImpl.{ghosts, no_dict}
 use Rattle.turn_lock.specs.contracts.table.Spot as Spot
 use Rattle.turn_lock.specs.contracts.table.Terms as Terms
 use Rattle.turn_lock.specs.contracts.table.Turns as Turns
