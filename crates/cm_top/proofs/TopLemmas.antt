@@ -237,18 +237,18 @@ IsNoFault status.WriteFault = ⊥
 IsNoFault _ = Unit {0}
 
 -- where nothing was written, no fault of writing is told
-pub untouched-MindsSink : (sink : SinkFacts) (ended : Status) → IsNoFault ended → MindsSink sink sink ended
-untouched-MindsSink sink ended none = record {
+pub untouched_minds_sink : (sink : SinkFacts) (ended : Status) → IsNoFault ended → MindsSink sink sink ended
+untouched_minds_sink sink ended none = record {
   write_fault = record { later = omega arith; counted = λ failed. absurd (rw failed at none); uncounted = λ other. refl };
   unflushed = λ other. refl;
 }
 
 -- where nothing was read either, no fault is told
-pub untouched-MindsFaults : (source : SourceFacts) (sink : SinkFacts) (ended : Status) → IsNoFault ended → MindsFaults source source sink sink ended
-untouched-MindsFaults source sink ended none = record {
+pub untouched_minds_faults : (source : SourceFacts) (sink : SinkFacts) (ended : Status) → IsNoFault ended → MindsFaults source source sink sink ended
+untouched_minds_faults source sink ended none = record {
   read_fault = record { later = omega arith; counted = λ failed. absurd (rw failed at none); uncounted = λ other. refl };
   read_at_most = ([], omega arith, Consumes-nil source.left);
-  of_sink = untouched-MindsSink sink ended none;
+  of_sink = untouched_minds_sink sink ended none;
 }
 
 all_known : (known : Option (List ℕ)) (P : List ℕ → Type 0) → ((bytes : List ℕ) → P bytes) → IfSome known P

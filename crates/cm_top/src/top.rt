@@ -28,7 +28,7 @@ use std::thread::Threads;
 /// Reads the source to its end, checks description and script, runs the job over the stock, writes the trace and flushes it, and hands
 /// out the book. With a number of rounds the document is made, nothing is read, and the summary is written. Nothing is written before
 /// the job has run. The pace and the gate are not called.
-#[tactic(auto, using(crate::proofs::TopLemmas::untouched-MindsFaults))]
+#[tactic(auto, using(crate::proofs::TopLemmas::untouched_minds_faults))]
 pub fn run<R, S, K, P, G, C>(
     rt: &R,
     alloc: Global,
@@ -115,7 +115,7 @@ fn run_read<S: Source, K: Sink, C: Controller>(
 }
 
 /// Runs the made document of so many rounds.
-#[tactic(auto, using(crate::proofs::TopLemmas::untouched-MindsSink))]
+#[tactic(auto, using(crate::proofs::TopLemmas::untouched_minds_sink))]
 fn run_made<K: Sink, C: Controller>(
     alloc: Global,
     job: Job,
@@ -138,7 +138,7 @@ fn run_made<K: Sink, C: Controller>(
 }
 
 /// Runs the document that these bytes are.
-#[tactic(auto, using(crate::proofs::TopLemmas::untouched-MindsSink))]
+#[tactic(auto, using(crate::proofs::TopLemmas::untouched_minds_sink))]
 fn run_bytes<K: Sink, C: Controller>(
     alloc: Global,
     job: Job,
