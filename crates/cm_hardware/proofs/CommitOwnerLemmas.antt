@@ -4,11 +4,10 @@ use Rattle.std.specs.Prelude.{◌==◌, ◌&&◌, ◌||◌, if◌then◌else◌,
 use Rattle.std.specs.List.{AllByRecursion, list_any}
 use Rattle.std.specs.Option.{option_map_or, option_or}
 use Rattle.std.proofs.lemmas.Bool.{and_parts, and_from, or_right, eqb-true, eq-eqb, false_from_ne_true, cases_lt}
-use Rattle.ctl_places.proofs.FirstLemmas.{none_found}
 use Rattle.iface_names.specs.Interfaces.{same_interface}
 use Rattle.iface_names.specs.Sameness.{same_interface-IsEquivalence}
 use Rattle.iface_names.specs.declared.interface.IfaceName.{IfaceName}
-use Rattle.cm_document.proofs.DistinctLemmas.{all_so}
+use Rattle.cm_document.proofs.DistinctLemmas.{none_found, all_so}
 use Rattle.cm_document.proofs.ReadingLemmas.{cases_Option}
 use Rattle.cm_document.specs.Links.{is_among}
 use Rattle.cm_document.specs.declared.description.CtlDesc.{CtlDesc}

@@ -11,7 +11,6 @@ use Rattle.std.proofs.lemmas.List.Folds.{list_any-append}
 use Rattle.std.proofs.lemmas.List.Quantifiers.{position-Some}
 use Rattle.std.proofs.lemmas.List.{map-append}
 use Rattle.std.proofs.lemmas.Slice.Eq.{bytes_eq-Decides}
-use Rattle.cm_document.proofs.PlaceLemmas.{found_none}
 use Rattle.sequence.proofs.ListLemmas.{any_map, any_flat_map, all_append}
 use Rattle.iface_names.specs.Interfaces.{same_interface, interface_text}
 use Rattle.iface_names.specs.Names.{same_name}

@@ -23,7 +23,7 @@ use Rattle.cm_model.specs.State.{Loaded}
 use Rattle.cm_model.specs.Steady.{IsOwn}
 use Rattle.cm_document.proofs.ValidParts.{few_controllers, parts_of_valid}
 use Rattle.chain_order.specs.Links.{linked}
-use Rattle.sound_laws.proofs.ValidLemmas.{none_told, valid-IsChecked}
+use Rattle.sound_laws.proofs.ValidLemmas.{valid-IsChecked}
 use Rattle.ctl_places.specs.Placed.{placed_of, AreFound}
 use Rattle.ctl_places.proofs.ExistLemmas.{among_itself}
 use Rattle.ctl_places.proofs.PlacedLemmas.{placed_of-HasAllRows, reads-AreFound, references-AreFound, claims-AreFound}
