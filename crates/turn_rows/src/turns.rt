@@ -266,14 +266,17 @@ fn shows_all_in_time<R: Threads + Wait + Clock + Abort + Sync>(
     requires seats { (1 ≤ seats) × (seats ≤ MOST_SEATS) }
     requires turns { work.turns ≤ MOST_TURNS }
 {
-    let is_done = AtomicBool::new(false);
-    let watched = || watch(rt, &is_done);
-    let (_, shown) = thread::join(rt, watched, || {
+    let flag = AtomicBool::new(false);
+    let is_done = &flag;
+    let watched = || watch(rt, is_done);
+    let worked = move || -> Result<bool, Memory>
+        requires { (1 ≤ seats) × (seats ≤ MOST_SEATS) × (work.turns ≤ MOST_TURNS) }
+    {
         let shown = shows_all(rt, alloc, seats, work);
         is_done.store(true, SeqCst);
         shown
-    });
-    shown
+    };
+    thread::join(rt, watched, worked).1
 }
 
 #[test]
