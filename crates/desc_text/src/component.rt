@@ -3,13 +3,13 @@
 ghost use Rattle.cm_document.specs.Described.{component_table};
 ghost use Rattle.cm_document.specs.Tables.{walk};
 
-use crate::cycles::CycleList;
+use crate::cycles::cycles_at;
 use crate::forms::{One, TableForm, TablesOf};
 use crate::joint::Joint;
 use crate::keys::Keys;
 use crate::values::Named;
 use crate::words::{ComponentKinds, LivesAtStart, LivesOnError, WordOf};
-use cm_document::{CompDesc, Cycles, DescFault, Life};
+use cm_document::{CompDesc, DescFault, Life};
 
 /// The keys that a component may have.
 const KEYS: [&str; 7] = [
@@ -38,8 +38,8 @@ impl TableForm for ComponentTable {
         let kind = keys.required("kind", &One(WordOf(ComponentKinds)))?;
         let initial = keys.defaulted("initial", &One(WordOf(LivesAtStart)), Life::Active)?;
         let on_error = keys.defaulted("on_error", &One(WordOf(LivesOnError)), Life::Unconfigured)?;
-        let fail_read = keys.defaulted("fail_read", &CycleList, Cycles::none(keys.alloc)?)?;
-        let fail_write = keys.defaulted("fail_write", &CycleList, Cycles::none(keys.alloc)?)?;
+        let fail_read = cycles_at(keys, "fail_read")?;
+        let fail_write = cycles_at(keys, "fail_write")?;
         let joints = keys.required("joint", &TablesOf(Joint))?;
         Ok(CompDesc {
             name,

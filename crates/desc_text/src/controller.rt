@@ -7,13 +7,13 @@ ghost use Rattle.cm_document.specs.Described.{controller_form, claiming_table, p
 ghost use Rattle.cm_document.specs.Tables.{walk};
 ghost use Rattle.cm_document.specs.declared.description.Params.TheVariants as params;
 
-use crate::cycles::CycleList;
+use crate::cycles::cycles_at;
 use crate::forms::{ListOf, One, TableForm};
 use crate::keys::Keys;
 use crate::states::{AllOrList, ReadList};
 use crate::values::{Boolean, Interface, Named, Quantity, Whole};
 use crate::words::{ControllerKinds, WordOf};
-use cm_document::{CtlDesc, CtlKind, Cycles, DescFault, Params};
+use cm_document::{CtlDesc, CtlKind, DescFault, Params};
 use fixed_num::Fx;
 use iface_names::IfaceName;
 use sequence::{Seq, Shared};
@@ -200,15 +200,16 @@ fn mock(keys: &Keys<'_>) -> Result<CtlDesc, DescFault>
     keys.required("type", &One(WordOf(ControllerKinds)))?;
     let rate = keys.defaulted("update_rate", &One(Whole), 0)?;
     let claims = keys.defaulted("claims", &ListOf(Interface), Seq::new(keys.alloc))?;
+    let outs = count(&claims);
     let reads = keys.defaulted("reads", &ReadList, no_reads(keys.alloc)?)?;
     let refuse_config = keys.defaulted("refuse_config", &One(Boolean), false)?;
-    let not_ready = keys.defaulted("not_ready", &CycleList, Cycles::none(keys.alloc)?)?;
-    let fail_update = keys.defaulted("fail_update", &CycleList, Cycles::none(keys.alloc)?)?;
+    let not_ready = cycles_at(keys, "not_ready")?;
+    let fail_update = cycles_at(keys, "fail_update")?;
     Ok(CtlDesc {
         name,
         rate,
         params: Params::Mock {
-            outs: count(&claims),
+            outs,
             refuse_config,
             not_ready,
             fail_update,
