@@ -1,7 +1,7 @@
 """The documents of a size that has to do with a script, or with the words: a count of lines or words, or a number in a line."""
 
 from .parts import (
-    BLANKS, CLAIMS_OF_ONE, CONTROLLERS, JOINTS, RATE, TYPES, WAITING, Case, activated, arm, case, controller, every, head, named,
+    BLANKS, CLAIMS_OF_ONE, CONTROLLERS, JOINTS, RATE, ROUNDS, TYPES, WAITING, Case, activated, arm, case, controller, every, head, named,
     of_type)
 
 MOCK = controller("m", "mock")
@@ -131,7 +131,8 @@ def value(sign, size):
 
 
 def rounds(size):
-    return Case("", 4 + 8, {f"cycles {10 * size}": 1}, words=("run", "--make", str(size)))
+    made = 10 * min(size, ROUNDS)
+    return Case("", 4 + 8, {f"cycles {made}": 1}, cycles=made, words=("run", "--make", str(size)))
 
 
 def digits_of_rounds(size):

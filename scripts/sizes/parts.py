@@ -75,7 +75,7 @@ def joint(name, command=KINDS[:1], state=KINDS[:1], more="vmax = 1\n"):
 
 
 def component(name, joints, more=""):
-    return f'[[component]]\nname = "{name}"\nkind = "system"\n{more}' + "".join(joints)
+    return f'[[component]]\nname = "{name}"\nkind = "system"\n{more}' + ("".join(joints) or "joint = []\n")
 
 
 def controller(name, kind, claims=None, reads=None, more=""):

@@ -97,10 +97,11 @@ def rows_of_descriptions():
     for name, path in LISTS.items():
         yield Row(f"a cycle in {name}", WHOLE, of(descriptions.whole, name), bad_value(f"{path}.{name}[0]"))
         yield Row(f"length of {name}", (LONGEST - 1_000) // 2, of(descriptions.listed_cycles, name))
-    names = {"component": "component[0]", "joint": "component[0].joint[0]", "passthrough": "controller[0]", "forward": "controller[1]"}
-    for what, path in (names | {"all": "component[0]"}).items():
+    joint, above, below = "component[0].joint[0]", "controller[0]", "controller[1]"
+    names = {"a component": "component[0]", "a joint": joint, "a passthrough": above, "a forward": below, "all": "component[0]"}
+    for whose, path in names.items():
         fault = bad_value(f"{path}.name")
-        yield Row(f"name of a {what}", NAME, of(descriptions.names_in_a_description, what), fault, 1, fault)
+        yield Row(f"name of {whose}", NAME, of(descriptions.names_in_a_description, whose.split()[-1]), fault, 1, fault)
     yield Row("an unlisted key", LINE, descriptions.key, least=1)
     yield Row("nested arrays", NESTING, descriptions.nested_arrays, "description: not_toml", 1)
     yield Row("bytes of a document", LONGEST, descriptions.document_bytes, f"document longer than {LONGEST} bytes")
