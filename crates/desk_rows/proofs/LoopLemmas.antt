@@ -4,7 +4,7 @@ use Rattle.std.specs.Prelude.{◌-◌, ◌==◌, nat_lt, not, ◌&&◌}
 use Rattle.std.proofs.lemmas.Bool.Decides.{nat_tests}
 use Rattle.cm_document.specs.declared.call.Call.{Call}
 use Rattle.cm_document.specs.declared.call.Call.TheVariants.{Begin, End, Close}
-use Rattle.cm_model.specs.Boundary.{begin_effect, begin_reply, close_effect, close_reply}
+use Rattle.cm_model.specs.Boundary.{begin_reply, close_reply}
 use Rattle.cm_model.specs.Commit.{commit}
 use Rattle.cm_model.specs.Cycle.{cycle, after_cycle}
 use Rattle.cm_model.specs.Histories.{ends_in}

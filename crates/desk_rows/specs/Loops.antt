@@ -1,6 +1,6 @@
 -- What the console of the loop over a desk tells, and what a cycle that was made through any console of the loop makes
 -- of it.
-use Rattle.std.specs.Prelude.{◌≡◌, ◌+◌, ◌-◌, false, [], ◌∷◌, ◌++◌}
+use Rattle.std.specs.Prelude.{◌≡◌, ◌-◌, false, [], ◌∷◌, ◌++◌}
 use Rattle.cm_document.specs.declared.call.Call.TheVariants.{Begin, End}
 use Rattle.cm_model.specs.Histories.{ends_in}
 use Rattle.cm_model.specs.Ports.{LoopConsole}

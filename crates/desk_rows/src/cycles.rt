@@ -52,7 +52,7 @@ close => none
 close => cannot
 cycle => cannot
 history => 0 load fwd: ok 0 / 0 configure fwd: ok / 0 switch strict +fwd: queued 0 / \
-1 switch strict +traj2: queued 1 / 2 begin 0: 0 done; 1 refused traj2 not_loaded / \
+1 switch strict +traj2: queued 1 / 2 begin 0: 0 done; 1 refused traj2 unknown / \
 2 end 0: run 0 unset; joint 0.000000 0.000000 0.000000 / 0 send fwd 0.500000: ok / 2 begin 1: none / \
 2 end 1: run 0 0.500000; joint 0.010000 1.000000 0.000000 / 1 unload fwd: active / 2 close: none";
 
