@@ -14,6 +14,7 @@ use crate::steps::{Counts, Loads, PassesOn, Publishes};
 use crate::table::{HISTORY, SERVING, Spot, TICKET, atomic_word_of};
 use std::snapshot::Snapshot;
 use std::sync::Wait;
+use std::time::Duration;
 
 impl<K: Kept> TurnLock<K> {
     /// Waits for the turn, and hands out the kept value. No other pass holds the turn until this one puts the value back.
@@ -76,5 +77,15 @@ impl<K: Kept> TurnLock<K> {
         self.table
             .shared
             .load::<Loads>(&mut pass.seat, atomic_word_of(which))
+    }
+
+    /// Sleeps for at most so many microseconds, if this number is still published. It takes no turn, and no publish wakes
+    /// it. It may also return at once.
+    pub fn rest<R: Wait>(&self, rt: &R, which: Shown, n: u64, micros: u64) {
+        let word = atomic_word_of(which);
+        let low_bits = (n % (1 << 32)) as u32;
+        self.table
+            .shared
+            .park_timeout(rt, word, low_bits, Duration::from_micros(micros));
     }
 }

@@ -2,4 +2,6 @@
 #![tactic(auto)]
 
 #[cfg(test)]
+mod rests;
+#[cfg(test)]
 mod turns;

@@ -1,7 +1,7 @@
 //! A book of lines that passes write in turns: eight at once, one alone, and as many as a lock has; and passes that sleep. No clause
 //! promises that a turn comes, so each case has a limit of time.
 
-ghost use Rattle.std.specs.Prelude.{◌≡◌, ◌+◌, ◌<◌, ◌≤◌, ◌^◌, ℕ, true, false, length, All, IfOk};
+ghost use Rattle.std.specs.Prelude.{◌≡◌, ◌+◌, ◌<◌, ◌≤◌, ◌^◌, ℕ, true, false, [], length, All, IfOk};
 ghost use Rattle.turn_lock.specs.Passes.{view, IsReady, IsSamePass, EachStays};
 ghost use Rattle.turn_lock.specs.Calls.Finish.{AreAll};
 ghost use Rattle.turn_lock.specs.declared.TheConstants.{MOST_SEATS};
@@ -22,15 +22,26 @@ use turn_lock::{Kept, MOST_SEATS, Shown, TurnLock, TurnPass};
 
 /// A line: the number of the pass that wrote it, and at which of its turns.
 #[derive(Clone, Copy, Debug, PartialEq, Eq)]
-struct Line {
+pub(crate) struct Line {
     who: u32,
     turn: u32,
 }
 
 /// The lines in order, with room for all that will be written.
 #[derive(Drop)]
-struct Book {
+pub(crate) struct Book {
     lines: Vec<Line>,
+}
+
+impl Book {
+    /// A book without lines, and without room for any.
+    pub(crate) fn empty(alloc: Global) -> Book
+        ensures { result.lines.items ≡ [] }
+    {
+        Book {
+            lines: Vec::new(alloc),
+        }
+    }
 }
 
 /// So many lines a book has at most.
@@ -41,7 +52,7 @@ const MOST_TURNS: u32 = 10_000;
 
 /// What is the same of all books of one lock: nothing.
 #[derive(Clone, Copy)]
-struct Any;
+pub(crate) struct Any;
 
 impl Kept for Book {
     ghost use Rattle.std.specs.Prelude.{length, refl};
@@ -246,7 +257,7 @@ const BETWEEN_LOOKS: u64 = 10;
 const MOST_LOOKS: u32 = 2_000;
 
 /// Ends the test where a case is not done within the limit.
-fn watch<R: Clock + Abort>(rt: &R, is_done: &AtomicBool) {
+pub(crate) fn watch<R: Clock + Abort>(rt: &R, is_done: &AtomicBool) {
     for _ in 0..MOST_LOOKS {
         if is_done.load(SeqCst) {
             return;

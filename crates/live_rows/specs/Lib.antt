@@ -1,0 +1,2 @@
+-- What the small consoles of these tests tell.
+pub mod Consoles

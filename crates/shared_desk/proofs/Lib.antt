@@ -1,0 +1,7 @@
+mod TurnLemmas
+mod LoopLemmas
+mod ShareLemmas
+mod HomeLemmas
+mod PortLemmas
+pub mod Crossing
+pub mod PortCrossing

@@ -1,0 +1,5 @@
+pub mod Share
+pub mod Sessions
+pub mod Looping
+pub mod Looks
+pub mod Home
