@@ -1,0 +1,7 @@
+pub mod TransmissionLemmas
+pub mod WayLemmas
+pub mod FormulaLemmas
+pub mod StepLemmas
+pub mod LimitLemmas
+mod Rows
+mod LimiterRows

@@ -1,0 +1,5 @@
+pub mod Transmissions
+pub mod RoundTrips
+pub mod Limiters
+pub mod Capped
+pub mod Calls

@@ -1,0 +1,104 @@
+-- Limiters: how a position goes on, step by step, between two ends, with a limit on its speed and on how fast that
+-- changes. A step is so many whole micro-units from one update to the next.
+use Rattle.std.specs.Prelude.{◌≡◌, ℕ, zero, suc, ◌+◌, ◌-◌, ◌*◌, ◌≤◌, List, [], ◌∷◌, ◌⊎◌}
+use Rattle.std.specs.Prelude.{ℤ, pos, negsuc, ◌+ℤ◌, ◌-ℤ◌, ◌*ℤ◌, ◌≤ℤ◌, nat_abs}
+use Rattle.std.specs.Int.{int_min, int_max}
+use Rattle.fixed_num.specs.Arithmetic.{floor_div, change_at}
+use Rattle.fixed_num.specs.declared.TheConstants.{MICRO}
+use Rattle.fixed_num.specs.declared.value.Value.{Value}
+use Rattle.fixed_num.specs.declared.value.Value.TheVariants.{Unset, Num}
+use Rattle.ctl_shape.specs.declared.limits.Limits.{Limits}
+
+-- the ends, how long a step may be, and by how much it may differ from the one before
+pub record Reach : Type 0 where
+  pub lowest : ℤ
+  pub highest : ℤ
+  pub longest : ℕ
+  pub change : ℕ
+
+-- what a speed and an acceleration come to in the time of one update, each rounded down
+abbrev pub reach_of : Limits → Reach
+reach_of limits = record {
+  lowest = limits.min;
+  highest = limits.max;
+  longest = nat_abs (change_at limits.vmax limits.dt_us);
+  change = nat_abs (floor_div (limits.amax *ℤ pos (limits.dt_us * limits.dt_us)) (pos (MICRO * MICRO)));
+}
+
+-- the lengths of the n steps that follow one of s, added up: each is a less than the one before, as long as it can be
+abbrev pub slowing : ℕ → ℕ → ℕ → ℕ
+slowing a s zero = 0
+slowing a s (suc n) = (s - a) + slowing a (s - a) n
+
+-- the way that is still needed to stop after a step of s
+abbrev pub way_after : ℕ → ℕ → ℕ
+way_after a s = slowing a s s
+
+-- after a step that brought it to a place it can stop before the end to which it goes
+abbrev pub StopsInTime : Reach → ℤ → ℤ → Type 0
+StopsInTime reach to (pos s) = (to +ℤ pos (way_after reach.change s)) ≤ℤ reach.highest
+StopsInTime reach to (negsuc s) = reach.lowest ≤ℤ (to -ℤ pos (way_after reach.change (suc s)))
+
+-- A step is feasible from a place, after the step that led there: it is no longer than it may be, it differs from the
+-- last by no more than it may, it can stop in time, and if nothing may change it is none.
+pub record IsFeasible (reach : Reach) (at last step : ℤ) : Type 0 where
+  pub no_longer : nat_abs step ≤ reach.longest
+  pub near_last : nat_abs (step -ℤ last) ≤ reach.change
+  pub stops : StopsInTime reach (at +ℤ step) step
+  pub still : reach.change ≡ 0 → step ≡ pos 0
+
+-- the feasible step that is nearest to the wanted one
+pub record IsNearest (reach : Reach) (at last wanted step : ℤ) : Type 0 where
+  pub feasible : IsFeasible reach at last step
+  pub no_nearer : (other : ℤ) → IsFeasible reach at last other → nat_abs (step -ℤ wanted) ≤ nat_abs (other -ℤ wanted)
+
+-- The new step is the feasible one that is nearest to the wanted one, and none if no step is feasible.
+abbrev pub IsNewStep : Reach → ℤ → ℤ → ℤ → ℤ → Type 0
+IsNewStep reach at last wanted step =
+    IsNearest reach at last wanted step
+    ⊎ ((step ≡ pos 0) × ((other : ℤ) → IsFeasible reach at last other → ⊥))
+
+-- a number brought between the ends
+abbrev pub brought : Reach → ℤ → ℤ
+brought reach r = int_max reach.lowest (int_min r reach.highest)
+
+-- the wanted step: to the wanted position, brought between the ends, and none if nothing is wanted
+abbrev pub wanted_step : Reach → ℤ → Value → ℤ
+wanted_step reach at Unset = pos 0
+wanted_step reach at (Num r) = brought reach r -ℤ at
+
+-- The outputs of a run from a place, after a step, for these wanted values: each is one new step further.
+abbrev pub IsRun : Reach → ℤ → ℤ → List Value → List ℤ → Type 0
+IsRun reach at last [] [] = Unit {0}
+IsRun reach at last (w ∷ wanted) (out ∷ outs) =
+    IsNewStep reach at last (wanted_step reach at w) (out -ℤ at) × IsRun reach out (out -ℤ at) wanted outs
+IsRun _ _ _ _ _ = ⊥
+
+-- a run that begins without a step at a place that is brought between the ends
+abbrev pub IsRunFrom : Reach → ℤ → List Value → List ℤ → Type 0
+IsRunFrom reach start wanted outs = IsRun reach (brought reach start) (pos 0) wanted outs
+
+-- a place and the step that led there from which a limiter keeps its limits: it stands between the ends, the step was
+-- no longer than it may be, it can stop in time, and if nothing may change it stood still
+pub record IsSafe (reach : Reach) (at last : ℤ) : Type 0 where
+  pub above : reach.lowest ≤ℤ at
+  pub below : at ≤ℤ reach.highest
+  pub no_longer : nat_abs last ≤ reach.longest
+  pub stops : StopsInTime reach at last
+  pub still : reach.change ≡ 0 → last ≡ pos 0
+
+-- One output keeps the limits: its step from a place, after the step that led there, is feasible; the output lies
+-- between the ends; the position changes by no more than the speed allows, and the step by no more than the
+-- acceleration.
+pub record KeepsLimits (reach : Reach) (at last out : ℤ) : Type 0 where
+  pub feasible : IsFeasible reach at last (out -ℤ at)
+  pub above : reach.lowest ≤ℤ out
+  pub below : out ≤ℤ reach.highest
+  pub speed : nat_abs (out -ℤ at) ≤ reach.longest
+  pub acceleration : nat_abs ((out -ℤ at) -ℤ last) ≤ reach.change
+
+-- each output of a run from a place, after a step, keeps the limits
+abbrev pub AllKeepLimits : Reach → ℤ → ℤ → List ℤ → Type 0
+AllKeepLimits reach at last [] = Unit {0}
+AllKeepLimits reach at last (out ∷ outs) =
+    KeepsLimits reach at last out × AllKeepLimits reach out (out -ℤ at) outs
