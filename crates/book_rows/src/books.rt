@@ -17,6 +17,9 @@ struct Books {
 
 impl Teller for Books {
     fn told(&self, alloc: Global, text: &str) -> Result<String, Fail> {
+        if self.kind == JobKind::Live {
+            return Err(Fail::new("a live run"));
+        }
         let mut source = OF_PROGRAM.source(alloc, text)?;
         let mut sink = ample_sink(alloc)?;
         let blanks = blanks(alloc, IN_STOCK)?;

@@ -1,4 +1,4 @@
-//! Runs by their words, between which nobody waits: neither pace nor gate is called.
+//! Runs by their words. Neither pace nor gate is called, but by a live run.
 
 ghost use Rattle.std.specs.Prelude.{◌<◌, ◌^◌, length};
 ghost use Rattle.std.specs.List.{All};
@@ -93,8 +93,25 @@ run|--make => usage: cm run|steps|live [--make N]
 run|--make| => usage: cm run|steps|live [--make N]
 run|--make|0 => usage: cm run|steps|live [--make N]
 run|--make|1001 => usage: cm run|steps|live [--make N]
-run|--make|1|--make|2 => usage: cm run|steps|live [--make N]
-live => usage: cm run|steps|live [--make N]";
+run|--make|1|--make|2 => usage: cm run|steps|live [--make N]";
+
+/// A document without operators, so that a live run leaves nothing to its threads.
+const ALONE: &str = "version = 1
+update_rate = 100
+cycles = 2
+--- script ---
+";
+
+/// What a live run of it prints.
+const BY_LIVE: &str = "loop begin 0: none
+loop end 0: none
+loop begin 1: none
+loop end 1: none
+loop close: none
+";
+
+/// How often a live run of it calls pace and gate: each cycle has a pause behind it, and is begun, about to be computed, and computed.
+const CALLS_OF_LIVE: u64 = 2 + 3 * 2;
 
 /// Words with a number of rounds, and the summary of the made document of so many, whatever the source gives. Zeros may lead a number; of
 /// the smallest, of two rounds, of five and of the largest.
@@ -173,6 +190,19 @@ fn hold_row<R: Threads + Wait + Sync>(rt: &R, alloc: Global, row: &str) -> Resul
 }
 
 #[test]
+fn a_live_run_calls_pace_and_gate(rt: HostRuntime) -> Result<(), Fail> {
+    let alloc = rt.alloc();
+    let words = words(alloc, "live")?;
+    let blanks = blanks(alloc, IN_STOCK)?;
+    let want = Want {
+        ended: "ok",
+        printed: BY_LIVE,
+        calls: CALLS_OF_LIVE,
+    };
+    hold_words(&rt, alloc, words.as_slice(), ALONE, blanks, &want)
+}
+
+#[test]
 fn made_documents_are_run_by_their_words(rt: HostRuntime) -> Result<(), Fail> {
     for case in MADE.split("\n\n") {
         hold_made(&rt, rt.alloc(), case)?;
@@ -186,6 +216,14 @@ fn hold_made<R: Threads + Wait + Sync>(rt: &R, alloc: Global, case: &str) -> Res
     hold_run(rt, alloc, given, "ok", summary)
 }
 
+/// How a run ends, what it prints, and how often it calls pace and gate.
+#[derive(Clone, Copy)]
+struct Want<'a> {
+    ended: &'a str,
+    printed: &'a str,
+    calls: u64,
+}
+
 /// Fails where a run by the words of a row does, over the program's stock.
 fn hold_run<R: Threads + Wait + Sync>(
     rt: &R,
@@ -196,28 +234,38 @@ fn hold_run<R: Threads + Wait + Sync>(
 ) -> Result<(), Fail> {
     let words = words(alloc, given)?;
     let blanks = blanks(alloc, IN_STOCK)?;
-    hold_words(rt, alloc, words.as_slice(), blanks, want, trace)
+    let want = Want {
+        ended: want,
+        printed: trace,
+        calls: 0,
+    };
+    hold_words(rt, alloc, words.as_slice(), DOCUMENT, blanks, &want)
 }
 
-/// Fails where a run by these words ends otherwise, or prints something else, or waits, or leaves a book where it should leave none,
-/// or none where it should.
-fn hold_words<R: Threads + Wait + Sync, C: Controller>(
+/// Fails where a run of the document by these words ends otherwise, or prints something else, or calls pace and gate more or less often,
+/// or leaves a book where it should leave none, or none where it should.
+fn hold_words<R: Threads + Wait + Sync, C: Controller + Send>(
     rt: &R,
     alloc: Global,
     words: &[String],
+    document: &str,
     blanks: Vec<C>,
-    want: &str,
-    trace: &str,
+    want: &Want<'_>,
 ) -> Result<(), Fail>
     requires blank { All (λ c. IsBlank (C.meaning c)) blanks.items }
     requires few { length blanks.items < 2 ^ 32 }
 {
-    let bytes = DOCUMENT.as_bytes().to_vec(alloc)?;
+    let bytes = document.as_bytes().to_vec(alloc)?;
     let mut source = MemSource::make(bytes, 1000, vec![in alloc]?);
     let mut sink = ample_sink(alloc)?;
     let ran = run_counted(rt, alloc, words, &mut source, &mut sink, blanks);
     hold_ran(alloc, &ran, want)?;
-    hold_told(alloc, "its words", str::from_utf8(sink.bytes())?, trace)
+    hold_told(
+        alloc,
+        "its words",
+        str::from_utf8(sink.bytes())?,
+        want.printed,
+    )
 }
 
 /// How a run ended, whether it left a book, and how often pace and gate were called.
@@ -229,7 +277,7 @@ struct Ran {
 }
 
 /// Runs the words over a stock of these blanks.
-fn run_counted<R: Threads + Wait + Sync, C: Controller>(
+fn run_counted<R: Threads + Wait + Sync, C: Controller + Send>(
     rt: &R,
     alloc: Global,
     words: &[String],
@@ -253,16 +301,17 @@ fn run_counted<R: Threads + Wait + Sync, C: Controller>(
     }
 }
 
-/// Fails where a run ended otherwise, or somebody was waited for, or a book is there without a run or is not there with one.
-fn hold_ran(alloc: Global, ran: &Ran, want: &str) -> Result<(), Fail> {
-    if ran.calls != 0 {
-        return Err(Fail::new("somebody waits"));
+/// Fails where a run ended otherwise, or called pace and gate more or less often, or a book is there without a run or is not there with
+/// one.
+fn hold_ran(alloc: Global, ran: &Ran, want: &Want<'_>) -> Result<(), Fail> {
+    if ran.calls != want.calls {
+        return Err(Fail::new("other calls of pace and gate"));
     }
-    if ran.has_book != (want == "ok") {
+    if ran.has_book != (want.ended == "ok") {
         return Err(Fail::new("a book without a run, or a run without a book"));
     }
     let status = format!(in alloc; "{}", ran.status)?;
-    hold_told(alloc, "its words", status.as_str(), want)
+    hold_told(alloc, "its words", status.as_str(), want.ended)
 }
 
 /// The words of a row; of an empty one none.

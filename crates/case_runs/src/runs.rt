@@ -1,6 +1,6 @@
 //! Whole runs between a source and a sink in memory: how each ends, what is printed, and what is left.
 
-ghost use Rattle.std.specs.Prelude.{◌<◌, ◌^◌, length};
+ghost use Rattle.std.specs.Prelude.{◌≢◌, ◌<◌, ◌^◌, length};
 ghost use Rattle.std.specs.List.{All};
 ghost use Rattle.cm_model.specs.Controllers.{IsBlank};
 
@@ -61,6 +61,9 @@ impl Runs {
         text: &str,
         sink: &mut K,
     ) -> Result<Status, Fail> {
+        if self.kind == JobKind::Live {
+            return Err(Fail::new("a live run"));
+        }
         let mut source = self.source(alloc, text)?;
         let blanks = blanks(alloc, self.in_stock)?;
         let (status, _) = run_by(self.kind, alloc, &mut source, sink, blanks);
@@ -90,7 +93,7 @@ pub fn run_over<C: Controller, K: Sink>(
     run_by(JobKind::Run, alloc, source, sink, blanks)
 }
 
-/// How a job that reads its document ends over a stock of these blanks, and what it leaves.
+/// How a job that reads its document and is not live ends over a stock of these blanks, and what it leaves.
 pub fn run_by<C: Controller, K: Sink>(
     kind: JobKind,
     alloc: Global,
@@ -98,6 +101,7 @@ pub fn run_by<C: Controller, K: Sink>(
     sink: &mut K,
     blanks: Vec<C>,
 ) -> (Status, Option<Book<C>>)
+    requires alone { kind ≢ JobKind.Live }
     requires blank { All (λ c. IsBlank (C.meaning c)) blanks.items }
     requires few { length blanks.items < 2 ^ 32 }
 {

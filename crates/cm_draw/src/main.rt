@@ -1,11 +1,12 @@
 //! The program `cm_draw`: a document from standard input, and a page of SVG that shows its run to standard output.
 #![tactic(auto)]
 
-ghost use Rattle.std.specs.Prelude.{◌≡◌, ◌≤◌, length};
+ghost use Rattle.std.specs.Prelude.{◌≡◌, ◌≢◌, ◌≤◌, length};
 ghost use Rattle.cm_document.specs.declared.limits.TheConstants.{LONGEST_DOCUMENT};
 ghost use Rattle.cm_document.specs.ScriptLaws.{MeetsRules};
 ghost use Rattle.cm_program.specs.Stock.{AreBlanks, blanks_of_each};
 ghost use Rattle.cm_program.specs.declared.stock.TheConstants.{BLANKS};
+ghost use Rattle.cm_words.specs.declared.job.JobKind.TheVariants as job_kind;
 
 use crate::unkept::Unkept;
 use cm_document::{CtlKind, Description, Document, DocumentFault, LONGEST_DOCUMENT, Script};
@@ -50,6 +51,8 @@ struct Asked {
     kind: JobKind,
     /// The document's name in the title; empty where none is given.
     name: String,
+    // No live run is drawn.
+    ghost alone: { kind ≢ job_kind.Live },
 }
 
 /// Draws over the program's stock, which is that of `cm`.
@@ -124,7 +127,9 @@ fn asked_by(alloc: Global, words: &[String]) -> Result<Asked, Status> {
 }
 
 /// What a job and these words behind it ask for.
-fn asked_named(alloc: Global, kind: JobKind, words: &[String]) -> Result<Asked, Status> {
+fn asked_named(alloc: Global, kind: JobKind, words: &[String]) -> Result<Asked, Status>
+    requires alone { kind ≢ JobKind.Live }
+{
     let given = match words {
         [] => "",
         [key, name] if key.as_str() == "--name" => name.as_str(),

@@ -18,7 +18,7 @@ use ctl_rack::Stock;
 use ctl_trait::Controller;
 use ctl_traj::TrajCtl;
 use fixed_num::Memory;
-use outside_io::{NoPace, OpenGate, Sink, Source};
+use outside_io::{OpenGate, Sink, Source, YieldPace};
 use std::sync::Wait;
 use std::thread::Threads;
 
@@ -85,7 +85,7 @@ where
     R: Threads + Wait + Sync + AllocGlobal,
     S: Source,
     K: Sink,
-    C: Controller,
+    C: Controller + Send,
     requires { AreBlanks C.meaning blanks.items (blanks_of_each BLANKS) }
     ensures refused { result ≡ Status.BadWords → source.new ≡ source.old }
     ensures untouched { ComesBeforeWriting result → sink.new ≡ sink.old }
@@ -102,7 +102,7 @@ where
         source,
         sink,
         stock,
-        &mut NoPace,
+        &mut YieldPace,
         &OpenGate,
     );
     status

@@ -1,6 +1,9 @@
+pub mod NumberLemmas
 pub mod PortLemmas
 pub mod PartsLemmas
 pub mod SettleLemmas
 pub mod JobLemmas
 pub mod PlainLemmas
 pub mod TopLemmas
+pub mod ReadLemmas
+pub mod LiveLemmas

@@ -82,21 +82,6 @@ alike_ends first h h' last lent lent' who who' still alike left = rw left (recor
 
 -- ---- All sessions
 
--- where the session of a text stands at first
-abbrev first_of : SessionText → Session
-first_of text = record { lines = text.lines; ticket = None }
-
--- one session more, at its first line
-pub waiting_more : (texts : List SessionText) (i : ℕ) (text : SessionText) (xs : List SessionState) (x : SessionState) → i < length texts → text ≡ get_or texts i text
-    → left_of x ≡ first_of text → map left_of xs ≡ map first_of (take i texts) → map left_of (xs ++ x ∷ []) ≡ map first_of (take (i + 1) texts)
-waiting_more texts i text xs x less is first so_far =
-    let next_place : i + 1 ≡ suc i = omega arith in
-    rw (next_place, take-suc texts i text less, ← is, map-append left_of xs (x ∷ []), map-append first_of (take i texts) (text ∷ []), so_far, first) refl
-
--- so there are as many sessions as texts
-pub as_many : (texts : List SessionText) (xs : List SessionState) → map left_of xs ≡ map first_of texts → length xs ≡ length texts
-as_many texts xs same = sym (length-map xs left_of) ∙ ap length same ∙ length-map texts first_of
-
 -- the next session settles, and then the sessions after it
 pub settle_from_next : (who : ℕ) (xs : List SessionState) (i : ℕ) (d y : SessionState) (h next : History) → i < length xs
     → settle who (at h (left_of (get_or xs i d))) ≡ at next (left_of y)

@@ -1,16 +1,16 @@
 -- What a run hands out besides its status: a book.
-use Rattle.std.specs.Prelude.{◌≡◌, ℕ, ◌≤◌, List, length, map, Option, None, Some}
+use Rattle.std.specs.Prelude.{◌≡◌, ℕ, ◌≤◌, true, List, length, map, Option, None, Some, IfSome}
 use Rattle.cm_document.specs.declared.document.Document.{Document}
 use Rattle.cm_document.specs.declared.limits.TheConstants.{LONGEST_DOCUMENT}
 use Rattle.cm_model.specs.Machine.{IsLegal, state_after}
-use Rattle.cm_model.specs.Scheduled.{Progress, start, cycles, turns, landed, cycles_left, finish, scheduled}
-use Rattle.cm_model.specs.Scheduled.{scheduled_in_steps}
+use Rattle.cm_model.specs.Scheduled.{scheduled, scheduled_in_steps}
 use Rattle.cm_model.specs.Sessions.{IsWhole}
 use Rattle.cm_model.specs.Sound.{IsSound}
 use Rattle.cm_model.specs.State.{boot}
 use Rattle.cm_model.specs.declared.blanks.Blanks.{Blanks}
 use Rattle.cm_model.specs.declared.data.CtlData.{CtlData}
 use Rattle.cm_model.specs.declared.entry.Entry.{Entry}
+use Rattle.cm_desk.specs.Desk.{History, now_of}
 use Rattle.cm_desk.specs.declared.book.Book.{Book}
 use Rattle.cm_model.specs.Trace.{output}
 use Rattle.summary_text.specs.Summary.{summary}
@@ -27,21 +27,20 @@ pub record BookFacts : Type 0 where
 abbrev pub book_facts : {C : Type 0} → (C → CtlData) → Book C → BookFacts
 book_facts meaning book = record { history = book.history.items; boxes = map meaning book.boxes.items }
 
--- How far a job of this kind comes with a document: before each cycle the sessions settle, and after the last one the
--- loop closes; with `steps` the turns of the schedule come first, and a cycle that is then aloft ends.
-abbrev pub finished : JobKind → Document → Blanks → Progress
-finished kind.Run d blanks = finish (cycles d.description.cycles (start d blanks))
-finished kind.Steps d blanks =
-    finish (cycles_left d.description.cycles (landed (turns d.script.schedule (start d blanks))))
+-- the book that a desk of this history hands out
+abbrev pub book_of : History → BookFacts
+book_of h = record { history = h.made; boxes = map (λ l. l.ctl) (now_of h).loaded }
 
--- the history that a job makes of each document
+-- The history that a job makes of each document. A live run leaves it to its threads.
 abbrev pub Histories : Type 0
-Histories = Document → List Entry
+Histories = Option (Document → List Entry)
 
--- the one that a job of this kind makes over these blanks
-abbrev pub made_by : JobKind → Blanks → Document → List Entry
-made_by kind.Run blanks d = scheduled d blanks
-made_by kind.Steps blanks d = scheduled_in_steps d blanks
+-- the one that a job of this kind makes over these blanks: before each cycle the sessions settle, and with `steps` the
+-- turns of the schedule come first
+abbrev pub made_by : JobKind → Blanks → Histories
+made_by kind.Run blanks = Some (λ d. scheduled d blanks)
+made_by kind.Steps blanks = Some (λ d. scheduled_in_steps d blanks)
+made_by kind.Live blanks = None
 
 -- the text that is written of a document's history: its trace, and of a made document its summary
 abbrev pub text_by : Option ℕ → Document → List Entry → List ℕ
@@ -61,12 +60,18 @@ task_of job blanks = record { history = made_by job.kind blanks; text = text_by 
 abbrev pub IsShort : List ℕ → Type 0
 IsShort bytes = length bytes ≤ LONGEST_DOCUMENT
 
--- The book of a run of this document: its history is the one that the job made of it, which is legal, sound and whole,
--- and its boxes have the data of the controllers that are loaded after it, by serial.
+-- The book of a run of this document. Its history is legal, sound and whole, and it is the one that the job makes of
+-- the document, if that is said. Its boxes have the data of the controllers that are loaded after it, by serial.
 pub record IsBookOf (made : Histories) (blanks : Blanks) (d : Document) (book : BookFacts) : Type 0 where
-  pub history : book.history ≡ made d
+  pub history : IfSome made (λ history_of. book.history ≡ history_of d)
   pub legal : IsLegal d.description blanks (length d.script.sessions) book.history
   pub sound : IsSound d.description blanks (length d.script.sessions) book.history
   pub whole : IsWhole d book.history
   pub boxes : book.boxes
       ≡ map (λ l. l.ctl) (state_after (boot d.description blanks (length d.script.sessions)) book.history).loaded
+
+-- A desk that has made its job of this document to the end: the loop is closed, and its book is that of the run.
+pub record IsDone (made : Histories) (blanks : Blanks) (d : Document) (h : History) : Type 0 where
+  pub opening : h.opening ≡ boot d.description blanks (length d.script.sessions)
+  pub closed : (now_of h).closed ≡ true
+  pub book_is : IsBookOf made blanks d (book_of h)

@@ -1,12 +1,32 @@
 -- How far a job has come, and a move of it.
-use Rattle.std.specs.Prelude.{◌≡◌, List, map}
+use Rattle.std.specs.Prelude.{◌≡◌, ℕ, suc, List, [], ◌∷◌, length, map}
 use Rattle.cm_model.specs.Scheduled.{Session, Advanced, Progress}
-use Rattle.cm_desk.specs.Desk.{History, now_of}
-use Rattle.console_session.specs.Sessions.{SessionState, left_of}
+use Rattle.cm_desk.specs.Desk.{History, now_of, IsAloftAlike}
+use Rattle.console_session.specs.Sessions.{SessionState, at_first, left_of}
 
 -- how far the run has come where a session that stands so advances over a desk of this history
 abbrev pub at : History → Session → Advanced
 at h x = record { state = now_of h; made = h.made; session = x }
+
+-- the numbers of these sessions go up by one, from this one on
+abbrev pub AreNumberedFrom : ℕ → List SessionState → Type 0
+AreNumberedFrom n [] = Unit {0}
+AreNumberedFrom n (x ∷ xs) = (x.who ≡ n) × AreNumberedFrom (suc n) xs
+
+-- sessions before their first lines, numbered from this number on
+abbrev pub AreAtFirst : ℕ → List SessionState → Type 0
+AreAtFirst n [] = Unit {0}
+AreAtFirst n (x ∷ xs) = (x ≡ at_first n x.lines) × AreAtFirst (suc n) xs
+
+-- The sessions of a desk: as many as it has, each with its place as its number, which is that of its console.
+pub record AreSessionsOf (desk : History) (sessions : List SessionState) : Type 0 where
+  pub many : length sessions ≡ desk.opening.sessions
+  pub numbered : AreNumberedFrom 0 sessions
+
+-- It is the same desk, from the same opening, and the same cycle is aloft in it, if one was.
+pub record IsSameDesk (old new : History) : Type 0 where
+  pub opening : new.opening ≡ old.opening
+  pub aloft : IsAloftAlike old new
 
 -- How far a job has come: what its desk did from the opening on, and where each session stands.
 pub record JobFacts : Type 0 where

@@ -2,4 +2,5 @@ pub mod Ports
 pub mod Jobs
 pub mod Book
 pub mod Status
+pub mod Live
 pub mod Calls

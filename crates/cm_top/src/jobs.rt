@@ -1,20 +1,18 @@
 //! The jobs: sessions over a desk, and the order in which they and the loop go on.
 
-ghost use Rattle.std.specs.Prelude.{◌≡◌, ◌<◌, ◌^◌, [], None, true, length, map, IfOk, OnOk};
+ghost use Rattle.std.specs.Prelude.{◌≡◌, ◌<◌, ◌^◌, [], true, length, map, IfOk, OnOk};
 ghost use Rattle.std.specs.List.{All};
 ghost use Rattle.cm_document.specs.declared.call.Call.TheVariants as call;
 ghost use Rattle.cm_document.specs.declared.document.Document.{Document};
 ghost use Rattle.cm_model.specs.Scheduled.{settle, settle_from, start, cycles, finish, turned, turns, landed, cycles_left};
-ghost use Rattle.cm_model.specs.Sound.{moments, AreSound};
 ghost use Rattle.cm_model.specs.State.{boot};
-ghost use Rattle.cm_desk.specs.Desk.{now_of, IsAloftAlike};
+ghost use Rattle.cm_desk.specs.Desk.{IsRight, now_of};
 ghost use Rattle.console_session.specs.Sessions.{AreLines, left_of};
-ghost use Rattle.cm_top.specs.Jobs.{at, progress_of};
+ghost use Rattle.cm_top.specs.Jobs.{AreAtFirst, AreSessionsOf, IsSameDesk, at, progress_of};
 
 use crate::port::DeskPort;
-use cm_desk::{Book, Desk};
+use cm_desk::Desk;
 use cm_document::{Call, Checked, Script, SessionText, Turn};
-use cm_model::Entry;
 use console_session::{Progress, Session};
 use ctl_rack::Stock;
 use ctl_trait::Controller;
@@ -34,15 +32,14 @@ pub struct RunningJob<C: Controller> {
 }
 
 impl<C: Controller> Model for RunningJob<C> {
-    ghost use Rattle.std.specs.Prelude.{◌≡◌, length};
     ghost use Rattle.cm_desk.specs.Desk.{IsFlown};
-    ghost use Rattle.cm_top.specs.Jobs.{JobFacts};
+    ghost use Rattle.cm_top.specs.Jobs.{AreSessionsOf, JobFacts};
 
     ghost Value = { JobFacts };
 
     ghost view = { λ j. record { desk = j.desk; sessions = j.sessions.items } };
 
-    ghost invariant = { λ j. (length j.sessions.items ≡ j.desk.opening.sessions) × IsFlown j.desk j.flight };
+    ghost invariant = { λ j. AreSessionsOf j.desk j.sessions.items × IsFlown j.desk j.flight };
 }
 
 impl<C: Controller> RunningJob<C> {
@@ -75,28 +72,14 @@ impl<C: Controller> RunningJob<C> {
         })
     }
 
-    /// All that the job did, in order.
-    pub fn history(&self) -> &[Entry]
-        ensures { result.now ≡ self.now.desk.made }
+    /// Its desk, with all that it did.
+    pub fn into_desk(self) -> Desk<C>
+        ensures desk { result ≡ self.desk }
+        ensures right { IsRight result }
     {
-        self.desk.history()
-    }
-
-    /// The description that the job runs on.
-    pub fn checked(&self) -> &Checked
-        ensures { result.now ≡ self.now.desk.opening.description }
-    {
-        self.desk.checked()
-    }
-
-    /// The book of a job whose loop is closed. It takes no memory.
-    pub fn into_book(self) -> Book<C>
-        requires closed { (now_of self.desk).closed ≡ true }
-        ensures history { result.history.items ≡ self.desk.made }
-        ensures sound { AreSound (moments self.desk.opening self.desk.made) }
-        ensures boxes { map C.meaning result.boxes.items ≡ map (λ l. l.ctl) (now_of self.desk).loaded }
-    {
-        self.desk.finish()
+        let RunningJob { desk, .. } = self;
+        desk.is_right();
+        desk
     }
 
     /// All sessions settle, in order.
@@ -328,11 +311,12 @@ pub fn run_in_steps<C: Controller>(
 }
 
 /// The sessions of a script, each before its first line.
-fn waiting(alloc: Global, texts: &[SessionText]) -> Result<Vec<Session>, Memory>
+pub fn waiting(alloc: Global, texts: &[SessionText]) -> Result<Vec<Session>, Memory>
     requires few { length texts.now < 2 ^ 32 }
     requires lines { All (λ s. AreLines s.lines) texts.now }
-    ensures { IfOk result
-        (λ sessions. map left_of sessions.items ≡ map (λ s. record { lines = s.lines; ticket = None }) texts.now) }
+    ensures first { IfOk result (λ sessions. AreAtFirst 0 sessions.items) }
+    ensures lines { IfOk result
+        (λ sessions. map (λ x. x.lines) sessions.items ≡ map (λ s. s.lines) texts.now) }
 {
     let mut sessions = Vec::with_capacity(alloc, texts.len())?;
     for text in texts {
@@ -375,33 +359,32 @@ fn settle_each<C: Controller>(
     sessions: &mut [Session],
     desk: &mut Desk<C>,
 ) -> Result<(), Memory>
-    requires { length sessions.old ≡ desk.old.opening.sessions }
+    requires { AreSessionsOf desk.old sessions.old }
     ensures settled { OnOk result
         (settle_from 0 (map left_of sessions.old) (now_of desk.old) desk.old.made []
         ≡ progress_of (record { desk = desk.new; sessions = sessions.new })) }
-    ensures opening { desk.new.opening ≡ desk.old.opening }
-    ensures aloft { IsAloftAlike desk.old desk.new }
+    ensures desk { IsSameDesk desk.old desk.new }
+    ensures numbered { AreSessionsOf desk.new sessions.new }
 {
     for who in 0..desk.sessions() {
-        settle(alloc, who, &mut sessions[who as usize], desk)?;
+        settle(alloc, &mut sessions[who as usize], desk)?;
     }
     Ok(())
 }
 
-/// A session settles: it advances until it cannot.
+/// A session settles: it advances over the console of its number until it cannot.
 fn settle<C: Controller>(
     alloc: Global,
-    who: u32,
     session: &mut Session,
     desk: &mut Desk<C>,
 ) -> Result<(), Memory>
-    requires { who < desk.old.opening.sessions }
+    requires { session.old.who < desk.old.opening.sessions }
     ensures settled { OnOk result
-        (settle who (at desk.old (left_of session.old)) ≡ at desk.new (left_of session.new)) }
-    ensures opening { desk.new.opening ≡ desk.old.opening }
-    ensures aloft { IsAloftAlike desk.old desk.new }
+        (settle session.old.who (at desk.old (left_of session.old)) ≡ at desk.new (left_of session.new)) }
+    ensures desk { IsSameDesk desk.old desk.new }
+    ensures number { session.new.who ≡ session.old.who }
 {
-    let mut port = DeskPort::over(alloc, desk, who);
+    let mut port = DeskPort::over(alloc, desk, session.who());
     while let Progress::Ran = session.advance(&mut port)? {}
     Ok(())
 }
@@ -413,12 +396,12 @@ fn step<C: Controller>(
     sessions: &mut [Session],
     desk: &mut Desk<C>,
 ) -> Result<(), Memory>
-    requires { length sessions.old ≡ desk.old.opening.sessions }
+    requires { AreSessionsOf desk.old sessions.old }
     ensures stepped { OnOk result
         (progress_of (record { desk = desk.new; sessions = sessions.new })
         ≡ turned (Turn.Step who) (progress_of (record { desk = desk.old; sessions = sessions.old }))) }
-    ensures opening { desk.new.opening ≡ desk.old.opening }
-    ensures aloft { IsAloftAlike desk.old desk.new }
+    ensures desk { IsSameDesk desk.old desk.new }
+    ensures numbered { AreSessionsOf desk.new sessions.new }
 {
     if who >= desk.sessions() {
         return Ok(());

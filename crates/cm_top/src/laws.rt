@@ -1,6 +1,6 @@
 //! Laws of accepted documents: each is the contract of a function that does nothing.
 
-ghost use Rattle.std.specs.Prelude.{◌≡◌, ℕ, List, Ok};
+ghost use Rattle.std.specs.Prelude.{◌≡◌, ℕ, List, Ok, IfSome};
 ghost use Rattle.cm_document.specs.Grammars.{whole_grammar};
 ghost use Rattle.cm_document.specs.Document.{document};
 ghost use Rattle.cm_document.specs.ScriptLaws.{MeetsRules, UsesGrammar};
@@ -19,10 +19,11 @@ pub fn accepted_scripts_meet_the_rules()
         → document whole_grammar bytes ≡ Ok d → UsesGrammar whole_grammar d.script }
 {}
 
-/// Each history that a job makes of an accepted document is whole for it, whichever the job: it has every session's lines, each once
-/// and in order, behind each request the Told of its ticket, the begin and the end of each cycle, the close, and nothing else.
+/// The history that a job makes of an accepted document is whole for it, whichever job leaves nothing of it to threads: it has every
+/// session's lines, each once and in order, behind each request the Told of its ticket, the begin and the end of each cycle, the close,
+/// and nothing else.
 pub fn histories_of_accepted_documents_are_whole()
     ensures { (kind : JobKind) (bytes : List ℕ) (d : Document) (blanks : Blanks)
         → document whole_grammar bytes ≡ Ok d
-        → IsWhole d (made_by kind blanks d) }
+        → IfSome (made_by kind blanks) (λ history_of. IsWhole d (history_of d)) }
 {}

@@ -15,7 +15,7 @@ use Rattle.cm_words.specs.Accepted.{HasNoOption, IsAround, IsListed, gives_make,
 use Rattle.cm_words.specs.Words.{asked, command, given, job_of, kind_named, make_rule, unless_at_fault}
 use Rattle.cm_words.specs.declared.job.Job.{Job}
 use Rattle.cm_words.specs.declared.job.JobKind.{JobKind}
-use Rattle.cm_words.specs.declared.job.JobKind.TheVariants.{Run, Steps}
+use Rattle.cm_words.specs.declared.job.JobKind.TheVariants.{Run, Steps, Live}
 use Rattle.cm_words.specs.declared.job.WordsFault.{WordsFault}
 use Rattle.cm_words.specs.declared.job.WordsFault.TheVariants.{Usage}
 
@@ -202,14 +202,25 @@ abbrev job_in : Result Job WordsFault → Job
 job_in (Ok job) = job
 job_in (Err fault) = record { kind = Run; make = None }
 
-which : (a b : Bool) (v : Text) (job : Job) → (a ≡ true → v ≡ codes "run") → (b ≡ true → v ≡ codes "steps")
-    → job_of (cond a (Some Run) (cond b (Some Steps) None)) None ≡ Ok job → (v ≡ word_for job.kind) × (job.make ≡ None)
-which true b v job run steps e = (run refl ∙ ap (λ (r : Result Job WordsFault). word_for (job_in r).kind) e, ap (λ (r : Result Job WordsFault). (job_in r).make) (sym e))
-which false true v job run steps e = (steps refl ∙ ap (λ (r : Result Job WordsFault). word_for (job_in r).kind) e, ap (λ (r : Result Job WordsFault). (job_in r).make) (sym e))
-which false false v job run steps e = cc
+-- a word is that of its job, where no document is made
+abbrev Names : Text → Job → Type 0
+Names v job = (v ≡ word_for job.kind) × (job.make ≡ None)
 
-named : (v : Text) (job : Job) → of_given (Some v) None ≡ Ok job → (v ≡ word_for job.kind) × (job.make ≡ None)
-named v job e = which (bytes_eq v (codes "run")) (bytes_eq v (codes "steps")) v job (bytes_eq-Decides v (codes "run")).0 (bytes_eq-Decides v (codes "steps")).0 e
+-- a word that is a kind's names the job of this kind
+names : (kind : JobKind) (v : Text) (job : Job) → v ≡ word_for kind → job_of (Some kind) None ≡ Ok job → Names v job
+names kind v job is e = (is ∙ ap (λ (r : Result Job WordsFault). word_for (job_in r).kind) e, ap (λ (r : Result Job WordsFault). (job_in r).make) (sym e))
+
+which : (a b d : Bool) (v : Text) (job : Job) → (a ≡ true → v ≡ codes "run") → (b ≡ true → v ≡ codes "steps") → (d ≡ true → v ≡ codes "live")
+    → job_of (cond a (Some Run) (cond b (Some Steps) (cond d (Some Live) None))) None ≡ Ok job → Names v job
+which true b d v job run steps live e = names Run v job (run refl) e
+which false true d v job run steps live e = names Steps v job (steps refl) e
+which false false true v job run steps live e = names Live v job (live refl) e
+which false false false v job run steps live e = cc
+
+named : (v : Text) (job : Job) → of_given (Some v) None ≡ Ok job → Names v job
+named v job e =
+    which (bytes_eq v (codes "run")) (bytes_eq v (codes "steps")) (bytes_eq v (codes "live")) v job (bytes_eq-Decides v (codes "run")).0
+    (bytes_eq-Decides v (codes "steps")).0 (bytes_eq-Decides v (codes "live")).0 e
 
 -- what is given of words
 abbrev given_of : List Text → Result Job WordsFault

@@ -7,7 +7,7 @@ use Rattle.cm_words.specs.Accepted.{IsAround, IsListed, word_for}
 use Rattle.cm_words.specs.Words.{asked, given}
 use Rattle.cm_words.specs.declared.job.Job.{Job}
 use Rattle.cm_words.specs.declared.job.JobKind.{JobKind}
-use Rattle.cm_words.specs.declared.job.JobKind.TheVariants.{Run, Steps}
+use Rattle.cm_words.specs.declared.job.JobKind.TheVariants.{Run, Steps, Live}
 use Rattle.cm_words.specs.declared.job.WordsFault.TheVariants.{Usage}
 
 -- ---- Accepted
@@ -19,6 +19,10 @@ run = refl
 steps : asked (codes "steps" ∷ []) ≡ Ok (record { kind = Steps; make = None })
 unfolding given clap_on_literals
 steps = refl
+
+live : asked (codes "live" ∷ []) ≡ Ok (record { kind = Live; make = None })
+unfolding given clap_on_literals
+live = refl
 
 -- two hyphens end the options
 run_and_hyphens : asked (codes "run" ∷ codes "--" ∷ []) ≡ Ok (record { kind = Run; make = None })
@@ -37,6 +41,14 @@ hyphens_and_steps : asked (codes "--" ∷ codes "steps" ∷ []) ≡ Ok (record {
 unfolding given clap_on_literals
 hyphens_and_steps = refl
 
+live_and_hyphens : asked (codes "live" ∷ codes "--" ∷ []) ≡ Ok (record { kind = Live; make = None })
+unfolding given clap_on_literals
+live_and_hyphens = refl
+
+hyphens_and_live : asked (codes "--" ∷ codes "live" ∷ []) ≡ Ok (record { kind = Live; make = None })
+unfolding given clap_on_literals
+hyphens_and_live = refl
+
 -- so the words of each job ask for it
 around_accepted : (kind : JobKind) (words : List Text) → IsAround (word_for kind) words → asked words ≡ Ok (record { kind = kind; make = None })
 around_accepted Run words (inl e) = subst (λ (t : List Text). asked t ≡ Ok (record { kind = Run; make = None })) (sym e) run
@@ -45,6 +57,9 @@ around_accepted Run words (inr (inr e)) = subst (λ (t : List Text). asked t ≡
 around_accepted Steps words (inl e) = subst (λ (t : List Text). asked t ≡ Ok (record { kind = Steps; make = None })) (sym e) steps
 around_accepted Steps words (inr (inl e)) = subst (λ (t : List Text). asked t ≡ Ok (record { kind = Steps; make = None })) (sym e) hyphens_and_steps
 around_accepted Steps words (inr (inr e)) = subst (λ (t : List Text). asked t ≡ Ok (record { kind = Steps; make = None })) (sym e) steps_and_hyphens
+around_accepted Live words (inl e) = subst (λ (t : List Text). asked t ≡ Ok (record { kind = Live; make = None })) (sym e) live
+around_accepted Live words (inr (inl e)) = subst (λ (t : List Text). asked t ≡ Ok (record { kind = Live; make = None })) (sym e) hyphens_and_live
+around_accepted Live words (inr (inr e)) = subst (λ (t : List Text). asked t ≡ Ok (record { kind = Live; make = None })) (sym e) live_and_hyphens
 
 pub listed_accepted : (words : List Text) (job : Job) → IsListed words job → asked words ≡ Ok job
 listed_accepted words job listed =
@@ -76,6 +91,10 @@ making_before_hyphens : asked (codes "--make" ∷ codes "5" ∷ codes "--" ∷ c
 unfolding given clap_on_literals
 making_before_hyphens = refl
 
+making_live : asked (codes "live" ∷ codes "--make" ∷ codes "5" ∷ []) ≡ Ok (record { kind = Live; make = Some 5 })
+unfolding given clap_on_literals
+making_live = refl
+
 -- zeros may lead the number
 making_with_a_zero : asked (codes "run" ∷ codes "--make" ∷ codes "05" ∷ []) ≡ Ok (record { kind = Run; make = Some 5 })
 unfolding given clap_on_literals
@@ -98,6 +117,10 @@ an_empty_word = refl
 another_case : asked (codes "Run" ∷ []) ≡ Err Usage
 unfolding given clap_on_literals
 another_case = refl
+
+lives : asked (codes "lives" ∷ []) ≡ Err Usage
+unfolding given clap_on_literals
+lives = refl
 
 two_jobs : asked (codes "run" ∷ codes "run" ∷ []) ≡ Err Usage
 unfolding given clap_on_literals
@@ -122,16 +145,6 @@ a_short_flag = refl
 a_word_for_help : asked (codes "help" ∷ []) ≡ Err Usage
 unfolding given clap_on_literals
 a_word_for_help = refl
-
--- ---- Refused today, while there is no live run
-
-a_live_run : asked (codes "live" ∷ []) ≡ Err Usage
-unfolding given clap_on_literals
-a_live_run = refl
-
-a_live_run_that_makes : asked (codes "live" ∷ codes "--make" ∷ codes "5" ∷ []) ≡ Err Usage
-unfolding given clap_on_literals
-a_live_run_that_makes = refl
 
 -- ---- Refused for the option
 

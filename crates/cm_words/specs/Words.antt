@@ -9,7 +9,7 @@ use Rattle.clap.specs.Words.{App, Kinds, Rule, Text, fault_of, first_of, matches
 use Rattle.cm_words.specs.declared.job.TheConstants.{MOST_DIGITS_OF_ROUNDS, MOST_ROUNDS}
 use Rattle.cm_words.specs.declared.job.Job.{Job}
 use Rattle.cm_words.specs.declared.job.JobKind.{JobKind}
-use Rattle.cm_words.specs.declared.job.JobKind.TheVariants.{Run, Steps}
+use Rattle.cm_words.specs.declared.job.JobKind.TheVariants.{Run, Steps, Live}
 use Rattle.cm_words.specs.declared.job.WordsFault.{WordsFault}
 use Rattle.cm_words.specs.declared.job.WordsFault.TheVariants.{Usage}
 
@@ -54,7 +54,9 @@ make_text line = given (codes "make") line
 -- the job that a word names
 abbrev pub kind_named : Text → Option JobKind
 kind_named word =
-    if bytes_eq word (codes "run") then Some Run else (if bytes_eq word (codes "steps") then Some Steps else None)
+    if bytes_eq word (codes "run")
+    then Some Run
+    else if bytes_eq word (codes "steps") then Some Steps else if bytes_eq word (codes "live") then Some Live else None
 
 -- a number of rounds that can be asked for
 abbrev pub rounds_within : ℕ → Option ℕ

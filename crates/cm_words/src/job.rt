@@ -16,6 +16,8 @@ pub enum JobKind {
     Run,
     /// The turns of the script's schedule come first, and then the rest as in `Run`.
     Steps,
+    /// The sessions and the loop run beside one another, each in a thread of its own.
+    Live,
 }
 
 /// What words ask for.

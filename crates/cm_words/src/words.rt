@@ -94,6 +94,7 @@ fn kind_named(word: &str) -> Option<JobKind>
     match word {
         "run" => Some(JobKind::Run),
         "steps" => Some(JobKind::Steps),
+        "live" => Some(JobKind::Live),
         _ => None,
     }
 }

@@ -128,6 +128,13 @@ impl Session {
         self.ticket
     }
 
+    /// What every session keeps of its lines, for a caller's proof: it does nothing.
+    pub fn is_right(&self)
+        ensures { AreLines self.now.lines }
+    {
+        let _ = &self.text;
+    }
+
     /// Whether it has no line left, and no ticket.
     pub fn ended(&self) -> bool
         ensures { result ≡ is_none (next_of self.now) }

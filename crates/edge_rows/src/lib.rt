@@ -7,3 +7,5 @@ mod edge;
 mod faults;
 #[cfg(test)]
 mod largest;
+#[cfg(test)]
+mod pace;

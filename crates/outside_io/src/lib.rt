@@ -7,7 +7,7 @@ pub use gate::{Gate, OpenGate, Point};
 pub use gathered::MOST_GATHERED;
 pub use memory_sink::MemSink;
 pub use memory_source::MemSource;
-pub use pace::{NoPace, Pace};
+pub use pace::{NoPace, Pace, YieldPace};
 pub use retrying::MOST_TRIES;
 pub use sink::Sink;
 pub use source::Source;

@@ -36,6 +36,7 @@ joint j7 0.000000
 /// `WORDS => END`, over the least document.
 const WORDS: &str = r"run => 0
 steps => 0
+live => 0
 run -- => 0
 -- steps => 0
 run --make 1 => 0
@@ -48,7 +49,8 @@ run --make 0 => 2 cm: usage: cm run|steps|live [--make N]
 run --make 1001 => 2 cm: usage: cm run|steps|live [--make N]
 run --make 1 --make 2 => 2 cm: usage: cm run|steps|live [--make N]
 run --make => 2 cm: usage: cm run|steps|live [--make N]
-live --make 5 => 2 cm: usage: cm run|steps|live [--make N]
+live live => 2 cm: usage: cm run|steps|live [--make N]
+live --make 0 => 2 cm: usage: cm run|steps|live [--make N]
 --help => 2 cm: usage: cm run|steps|live [--make N]
 Run => 2 cm: usage: cm run|steps|live [--make N]
 \xFF => 2 cm: usage: cm run|steps|live [--make N]

@@ -43,6 +43,7 @@ fn name_of(kind: JobKind) -> &'static str {
     match kind {
         JobKind::Run => "run",
         JobKind::Steps => "steps",
+        JobKind::Live => "live",
     }
 }
 
@@ -58,13 +59,16 @@ fn words(alloc: Global, row: &str) -> Result<Vec<String>, Fail> {
     Ok(words)
 }
 
-/// The two jobs, with hyphens that end the options and with a number of rounds; and what is refused, for good or today.
+/// The three jobs, with hyphens that end the options and with a number of rounds; and what is refused.
 const WORDS: &str = r"run => run
 steps => steps
+live => live
 run|-- => run
 --|run => run
 steps|-- => steps
 --|steps => steps
+live|-- => live
+--|live => live
 run|--make|1 => run, 1 made
 run|--make|1000 => run, 1000 made
 run|--make=5 => run, 5 made
@@ -74,6 +78,8 @@ run|--make=5 => run, 5 made
 --make|5|run|-- => run, 5 made
 run|--make|05 => run, 5 made
 steps|--make|0012 => steps, 12 made
+live|--make|5 => live, 5 made
+--make=1000|live => live, 1000 made
  => usage: cm run|steps|live [--make N]
 walk => usage: cm run|steps|live [--make N]
 Run => usage: cm run|steps|live [--make N]
@@ -91,8 +97,12 @@ run|--help => usage: cm run|steps|live [--make N]
 -h => usage: cm run|steps|live [--make N]
 --version => usage: cm run|steps|live [--make N]
 help => usage: cm run|steps|live [--make N]
-live => usage: cm run|steps|live [--make N]
-live|--make|5 => usage: cm run|steps|live [--make N]
+Live => usage: cm run|steps|live [--make N]
+lives => usage: cm run|steps|live [--make N]
+run|live => usage: cm run|steps|live [--make N]
+live|--make => usage: cm run|steps|live [--make N]
+live|--make|0 => usage: cm run|steps|live [--make N]
+live|--make|1001 => usage: cm run|steps|live [--make N]
 --make|5 => usage: cm run|steps|live [--make N]
 run|--make => usage: cm run|steps|live [--make N]
 run|--make= => usage: cm run|steps|live [--make N]

@@ -1,11 +1,15 @@
 -- What a call of `run_alone` promises, and `run` where its words are accepted.
-use Rattle.std.specs.Prelude.{◌≡◌, ◌≢◌, ℕ, ◌+◌, List, Option, None, Some, Err, IfOk, IfSome, IsSome, ◌⊎◌}
+use Rattle.std.specs.Prelude.{◌≡◌, ◌≢◌, ◌⊎◌, ℕ, ◌+◌, ◌≤◌, List, Option, None, Some, Result, Ok, Err}
+use Rattle.std.specs.Prelude.{IfOk, IfSome, IsSome}
 use Rattle.std.specs.Io.KnownBytes.{IsAtEnd}
 use Rattle.cm_document.specs.declared.limits.TheConstants.{LONGEST_DOCUMENT}
 use Rattle.outside_io.specs.Bytes.{TakesAtMost}
 use Rattle.outside_io.specs.Faults.{IsToldAs, Rose}
 use Rattle.cm_model.specs.declared.blanks.Blanks.{Blanks}
 use Rattle.cm_words.specs.Words.{asked}
+use Rattle.cm_words.specs.declared.job.JobKind.TheVariants as kind
+use Rattle.cm_words.specs.declared.job.TheConstants.{MOST_ROUNDS}
+use Rattle.cm_words.specs.declared.job.WordsFault.{WordsFault}
 use Rattle.cm_words.specs.declared.job.WordsFault.TheVariants.{Usage}
 use Rattle.make_document.specs.Made.{made}
 use Rattle.cm_words.specs.declared.job.Job.{Job}
@@ -46,12 +50,22 @@ pub record RefusesWords {S K B : Type 0} (words : List (List ℕ)) (source sourc
   pub nothing_written : asked words ≡ Err Usage → sink' ≡ sink
   pub no_book : asked words ≡ Err Usage → book ≡ None
 
+-- A job that one thread can run: it is not live, and its document, if it is made, has as many rounds as one can have.
+pub record CanRunAlone (job : Job) : Type 0 where
+  pub alone : job.kind ≢ kind.Live
+  pub rounds : IfSome job.make (λ rounds. (1 ≤ rounds) × (rounds ≤ MOST_ROUNDS))
+
 -- What a run of a job leaves as it was.
 pub record SparesAlone {S K : Type 0} (job : Job) (ended : Status) (source source' : S) (sink sink' : K) : Type 0 where
   -- a made document is not read
   pub unread : IfSome job.make (λ _. source' ≡ source)
   -- statuses 3 to 6 leave the sink as it was
   pub untouched : ComesBeforeWriting ended → sink' ≡ sink
+
+-- the words ask for a live run
+abbrev pub AskForLive : Result Job WordsFault → Type 0
+AskForLive (Ok job) = job.kind ≡ kind.Live
+AskForLive (Err refused) = ⊥
 
 -- What a run of words leaves as it was.
 pub record Spares {S K P : Type 0} (words : List (List ℕ)) (ended : Status) (source source' : S) (sink sink' : K)
@@ -60,8 +74,8 @@ pub record Spares {S K P : Type 0} (words : List (List ℕ)) (ended : Status) (s
   pub unread : IfOk (asked words) (λ job. IfSome job.make (λ _. source' ≡ source))
   -- statuses 2 to 6 leave the sink as it was
   pub untouched : ComesBeforeWriting ended → sink' ≡ sink
-  -- nothing is paced
-  pub unpaced : pace' ≡ pace
+  -- nothing is paced but a live run
+  pub unpaced : ¬ (AskForLive (asked words)) → pace' ≡ pace
 
 -- How a run ends by the faults of its sink, before and after it.
 pub record MindsSink (sink sink' : SinkFacts) (ended : Status) : Type 0 where

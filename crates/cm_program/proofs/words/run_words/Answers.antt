@@ -1,5 +1,5 @@
 use Rattle.std.proofs.Common.{sym, subst, inl, inr}
-use Rattle.cm_top.proofs.TopLemmas.{IsNoFault, untouched_minds_faults}
+use Rattle.cm_top.proofs.ReadLemmas.{IsNoFault, untouched_minds_faults}
 use Rattle.cm_program.proofs.words.run_words.Goals as goal
 
 -- words that can't be had end the program before anything is read or written

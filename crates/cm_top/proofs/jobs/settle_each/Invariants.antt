@@ -2,6 +2,7 @@ use Rattle.std.proofs.Common.{◌≡◌, [], map, take, drop}
 use Rattle.cm_model.specs.Scheduled.{settle_from}
 use Rattle.cm_desk.specs.Desk.{now_of, IsAloftAlike}
 use Rattle.console_session.specs.Sessions.{left_of}
+use Rattle.cm_top.specs.Jobs.{AreSessionsOf}
 use Rattle.cm_top.proofs.jobs.settle_each.Given as goal
 
 -- to settle the sessions from here on, from what is made, is to settle all, over a desk of the same opening
@@ -11,4 +12,5 @@ invariant-loop-who g l = record {
       ≡ settle_from 0 (map left_of l.fn.sessions) (now_of l.fn.desk) l.fn.desk.made [];
   opening : l.desk.opening ≡ l.fn.desk.opening;
   aloft : IsAloftAlike l.fn.desk l.desk;
+  these : AreSessionsOf l.desk l.sessions;
 }

@@ -1,5 +1,6 @@
 use Rattle.std.proofs.Common.{rules, ap, arith}
 use Rattle.cm_top.specs.Ports.{DeskGround}
+use Rattle.cm_top.proofs.NumberLemmas.{advanced-who, sessions_over_port}
 use Rattle.cm_top.proofs.SettleLemmas.{step_over}
 use Rattle.cm_top.proofs.jobs.step.Goals as goal
 
@@ -10,5 +11,13 @@ returns-clause-stepped g c =
     let opening = ap (λ (k : DeskGround). k.opening) c.in_ok-advance.ensures.still in
     step_over c.in_ok-advance.field-0 c.args.who c.over-port.result.who c.advance.new.port.who c.over-port.result.waited c.advance.new.port.waited
     c.args.sessions.now c.index-sessions-who.result c.advance.new.self c.args.desk.now c.over-port.result.desk.now c.advance.new.port.desk.now _
-    (omega (arith, c.if-who-sessions.false, c.sessions.ensures, c.requires)) c.over-port.ensures.who who c.over-port.ensures.desk opening
+    (omega (arith, c.if-who-sessions.false, c.sessions.ensures, c.requires.many)) c.over-port.ensures.who who c.over-port.ensures.desk opening
     c.in_ok-advance.ensures.advanced c.in_ok-advance.ensures.as_written (search rules)
+
+-- and the session has its number
+pub returns-clause-numbered : goal.returns-clause-numbered
+returns-clause-numbered g c =
+    let opening = ap (λ (k : DeskGround). k.opening) c.in_ok-advance.ensures.still in
+    sessions_over_port c.args.desk.now c.over-port.result.desk.now c.advance.new.port.desk.now _
+    c.args.sessions.now c.args.who c.index-sessions-who.result c.advance.new.self c.over-port.ensures.desk opening (search rules)
+    (advanced-who c.in_ok-advance.field-0 _ _ _ c.advance.new.self c.in_ok-advance.ensures.advanced) c.requires

@@ -1,5 +1,6 @@
-use Rattle.std.proofs.Common.{◌≡◌, ◌++◌, ◌∷◌, [], rules, refl}
-use Rattle.cm_top.proofs.SettleLemmas.{waiting_more}
+use Rattle.std.proofs.Common.{◌≡◌, ◌++◌, ◌∷◌, [], rules, refl, ap, ◌∙◌}
+use Rattle.console_session.specs.Sessions.{SessionState}
+use Rattle.cm_top.proofs.NumberLemmas.{first_made, first_more, lines_more}
 use Rattle.cm_top.proofs.jobs.waiting.Goals as goal
 
 -- the lines are those of a text
@@ -10,5 +11,8 @@ make-requires c = rw (c.in_ok-text_again.ensures, c.text-item.is) (c.requires.li
 pub loop-text-preserved : goal.loop-text-preserved
 loop-text-preserved c =
     let pushed : c.push.new.self.items ≡ c.loop-text.sessions.items ++ c.make.result ∷ [] = search rules in
-    rw pushed (waiting_more c.args.texts.now c.loop-text.text-index c.text-item.result c.loop-text.sessions.items c.make.result
-    c.loop-text-test.true c.text-item.is (rw (c.make.ensures, c.in_ok-text_again.ensures) refl) c.loop-text.invariant)
+    record {
+      first = rw pushed (first_more 0 c.loop-text.sessions.items c.make.result c.loop-text.invariant.first (first_made c.make.result _ _ _ c.make.ensures (search rules)));
+      lines = rw pushed (lines_more c.args.texts.now c.loop-text.text-index c.text-item.result c.loop-text.sessions.items c.make.result
+          c.loop-text-test.true c.text-item.is (ap (λ (x : SessionState). x.lines) c.make.ensures ∙ rw c.in_ok-text_again.ensures refl) c.loop-text.invariant.lines);
+    }

@@ -1,8 +1,10 @@
 use Rattle.std.proofs.Common.{◌≡◌, map, take}
-use Rattle.std.specs.Prelude.{None}
-use Rattle.console_session.specs.Sessions.{left_of}
+use Rattle.cm_top.specs.Jobs.{AreAtFirst}
 use Rattle.cm_top.proofs.jobs.waiting.Given as goal
 
 -- the sessions so far
 abbrev pub invariant-loop-text : goal.invariant-loop-text
-invariant-loop-text l = map left_of l.sessions.items ≡ map (λ s. record { lines = s.lines; ticket = None }) (take l.text-index l.texts)
+invariant-loop-text l = record {
+  first : AreAtFirst 0 l.sessions.items;
+  lines : map (λ x. x.lines) l.sessions.items ≡ map (λ s. s.lines) (take l.text-index l.texts);
+}

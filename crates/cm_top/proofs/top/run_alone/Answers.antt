@@ -1,11 +1,30 @@
-use Rattle.std.proofs.Common.{[], refl, arith}
-use Rattle.std.proofs.KnownBytes.{Consumes-nil}
+use Rattle.cm_top.specs.Book.{task_of}
+use Rattle.cm_top.proofs.ReadLemmas.{ran-MindsFaults, ran-RunsFrom, reads-Rules, unread-MindsFaults, unread-RunsFrom, RanDocument-late}
 use Rattle.cm_top.proofs.top.run_alone.Goals as goal
 
--- of a made document nothing is read, and a read fault does not come of its bytes
-pub returns-in-Some-clause-outside : goal.returns-in-Some-clause-outside
-returns-in-Some-clause-outside g c = record {
-  read_fault = record { later = omega arith; counted = λ failed. absurd (rw failed at c.run_made.ensures.runs.ran.of_bytes); uncounted = λ other. refl };
-  read_at_most = ([], omega arith, Consumes-nil _);
-  of_sink = c.run_made.ensures.outside;
+-- the script of a document that was read meets the rules
+pub run_document-requires-clause-rules : goal.run_document-requires-clause-rules
+run_document-requires-clause-rules g c = reads-Rules _ _ _ _ c.in-Ok.ensures.reads
+
+-- its run is that of its source
+pub returns-in-Ok-clause-runs : goal.returns-in-Ok-clause-runs
+returns-in-Ok-clause-runs g c =
+    ran-RunsFrom c.args.job.now.make (task_of c.args.job.now c.args.stock) _ _ _ _ _ _ _ _ c.requires.rounds c.in-Ok.ensures.reads c.run_document.ensures.ran c.run_document.ensures.outside.write_fault
+
+pub returns-in-Ok-clause-outside : goal.returns-in-Ok-clause-outside
+returns-in-Ok-clause-outside g c =
+    ran-MindsFaults (task_of c.args.job.now c.args.stock) c.args.stock _ _ _ _ _ _ _ c.in-Ok.ensures.outside c.run_document.ensures.ran
+    c.run_document.ensures.outside
+
+pub returns-in-Ok-clause-spared : goal.returns-in-Ok-clause-spared
+returns-in-Ok-clause-spared g c = record {
+  unread = c.in-Ok.ensures.unread;
+  untouched = λ before. absurd (RanDocument-late (task_of c.args.job.now c.args.stock) _ _ (record { old = _; new = _; flushed = g.K.Sink.flushed c.run_document.new.sink }) _ _ c.run_document.ensures.ran before);
 }
+
+-- without a document it ends with nothing written
+pub returns-in-Err-clause-runs : goal.returns-in-Err-clause-runs
+returns-in-Err-clause-runs g c = unread-RunsFrom c.args.job.now.make (task_of c.args.job.now c.args.stock) _ _ _ _ _ c.requires.rounds c.in-Err.ensures.reads c.in-Err.ensures.outside
+
+pub returns-in-Err-clause-outside : goal.returns-in-Err-clause-outside
+returns-in-Err-clause-outside g c = unread-MindsFaults c.args.job.now.make _ _ _ _ c.in-Err.ensures.reads c.in-Err.ensures.outside

@@ -2,6 +2,7 @@ use Rattle.std.proofs.Common.{rules, refl, sym, ◌∙◌}
 use Rattle.cm_document.specs.declared.call.Call.TheVariants.{Begin}
 use Rattle.cm_desk.specs.Desk.{now_of}
 use Rattle.cm_desk.proofs.BegunLemmas.{begun_aloft}
+use Rattle.cm_top.proofs.NumberLemmas.{sessions_over}
 use Rattle.cm_top.proofs.JobLemmas.{begin_number, begin_waits, loop_made, flight_out}
 use Rattle.cm_top.proofs.jobs.RunningJob.begin.Goals as goal
 
@@ -15,7 +16,7 @@ returns-in_ok-flight g c =
 -- and its flight may land
 pub invariant_of-self-then-can_begin : goal.invariant_of-self-then-can_begin
 invariant_of-self-then-can_begin g c = (
-  search rules,
+  sessions_over c.self.inside.desk _ _ (search rules) c.self.invariant.0,
   flight_out c.begin.new.self c.replace.new.self c.in_ok-flight.flight c.compute.new.self c.replace.ensures.after c.in_ok-flight.ensures.flight c.compute.ensures.cycle
       (begun_aloft c.self.inside.desk c.begin.new.self _ _ _ c.in_ok-flight.ensures.made),
 )

@@ -1,5 +1,6 @@
 use Rattle.std.proofs.Common.{rules, refl, sym, ◌∙◌}
 use Rattle.cm_document.specs.declared.call.Call.TheVariants.{Close}
+use Rattle.cm_top.proofs.NumberLemmas.{sessions_over}
 use Rattle.cm_top.proofs.JobLemmas.{close_waits, loop_made}
 use Rattle.cm_desk.specs.Desk.{now_of}
 use Rattle.cm_desk.proofs.BegunLemmas.{closed_alike, none_flies, down_there}
@@ -14,7 +15,7 @@ pub invariant_of-self : goal.invariant_of-self
 invariant_of-self g c =
     let can = rw (← c.self.view_is) at (sym c.can_close.ensures ∙ c.if-can_close.true) in
     let down = down_there (now_of c.self.inside.desk).aloft _ can in
-    (search rules, none_flies c.self.inside.desk c.close.new.self _ c.self.invariant.1 down (closed_alike c.self.inside.desk c.close.new.self _ _ c.close.ensures.made ∙ down))
+    (sessions_over c.self.inside.desk _ _ (search rules) c.self.invariant.0, none_flies c.self.inside.desk c.close.new.self _ c.self.invariant.1 down (closed_alike c.self.inside.desk c.close.new.self _ _ c.close.ensures.made ∙ down))
 
 -- it cannot close
 pub returns-else-can_close : goal.returns-else-can_close

@@ -3,6 +3,7 @@ use Rattle.std.proofs.lemmas.Bool.{and_parts}
 use Rattle.cm_document.specs.declared.call.Call.TheVariants.{End}
 use Rattle.cm_desk.specs.Desk.{now_of}
 use Rattle.cm_desk.proofs.BegunLemmas.{landed_down}
+use Rattle.cm_top.proofs.NumberLemmas.{sessions_over}
 use Rattle.cm_top.proofs.JobLemmas.{end_number, end_waits, loop_made, flight_there, flight_lands, flight_gone}
 use Rattle.cm_top.proofs.jobs.RunningJob.end.Goals as goal
 
@@ -25,7 +26,7 @@ land-requires g c = record { flight = flight_lands c.self.inside.desk c.self.ins
 -- and then it is gone
 pub invariant_of-self : goal.invariant_of-self
 invariant_of-self g c =
-    (search rules, flight_gone c.land.new.self c.take.new.self c.take.ensures.after (landed_down c.self.inside.desk c.land.new.self _ _ _ c.land.ensures.made))
+    (sessions_over c.self.inside.desk _ _ (search rules) c.self.invariant.0, flight_gone c.land.new.self c.take.new.self c.take.ensures.after (landed_down c.self.inside.desk c.land.new.self _ _ _ c.land.ensures.made))
 
 -- it cannot end
 pub returns-else-can_end : goal.returns-else-can_end

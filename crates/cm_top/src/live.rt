@@ -1,0 +1,156 @@
+//! The job `live`: the loop and the sessions beside one another, each on a thread of its own, over one desk that they share.
+
+ghost use Rattle.std.specs.Prelude.{◌≡◌, ◌≢◌, ◌+◌, ◌≤◌, ◌++◌, All, length, map, option_map, vec_capacity, vec_len, IfOk};
+ghost use Rattle.cm_document.specs.ScriptLaws.{MeetsRules};
+ghost use Rattle.cm_document.specs.declared.document.Document.{Document};
+ghost use Rattle.cm_words.specs.declared.job.Job.{Job};
+ghost use Rattle.cm_words.specs.declared.job.JobKind.TheVariants as kind;
+ghost use Rattle.shared_desk.specs.Passes.{IsSessionPass};
+ghost use Rattle.cm_top.specs.Book.{IsDone, book_facts, made_by, task_of};
+ghost use Rattle.cm_top.specs.Calls.Run.{sink_facts, MindsSink};
+ghost use Rattle.cm_top.specs.Live.{CanStart, HasRun};
+ghost use Rattle.cm_top.specs.Status.{RanDocument};
+
+use crate::accepted::write_out;
+use crate::jobs::waiting;
+use crate::status::Status;
+use cm_desk::{Book, Desk};
+use cm_document::{Checked, Document, Script};
+use console_session::Session;
+use ctl_rack::Stock;
+use ctl_trait::Controller;
+use fixed_num::Memory;
+use live_run::live;
+use outside_io::{Gate, Pace, Sink};
+use shared_desk::{LoopEnd, LoopPass, Pass, SessionPort, SharedDesk};
+use std::alloc::Global;
+use std::sync::Wait;
+use std::thread::Threads;
+
+/// Runs an accepted document live, writes its trace, or of a made document the summary, and hands out its book.
+pub fn run_document_live<R, K, P, G, C>(
+    rt: &R,
+    alloc: Global,
+    make: Option<u32>,
+    document: Document,
+    sink: &mut K,
+    stock: Stock<C>,
+    pace: &mut P,
+    gate: &G,
+) -> (Status, Option<Book<C>>)
+where
+    R: Threads + Wait + Sync,
+    K: Sink,
+    P: Pace + Send,
+    G: Gate,
+    C: Controller + Send,
+    requires rules { MeetsRules document.script }
+    ensures ran { RanDocument (task_of (record { kind = kind.Live; make = make }) stock) document stock
+        (record { old = K.taken sink.old; new = K.taken sink.new; flushed = K.flushed sink.new })
+        result.0 (option_map (book_facts C.meaning) result.1) }
+    ensures outside { MindsSink (sink_facts K.taken K.flushed K.faults sink.old)
+        (sink_facts K.taken K.flushed K.faults sink.new) result.0 }
+{
+    let Document {
+        description,
+        script,
+    } = document;
+    match made(rt, alloc, description, &script, stock, pace, gate) {
+        Ok(desk) => write_out(alloc, sink, make, desk, &script),
+        Err(Memory) => (Status::Memory, None),
+    }
+}
+
+/// The desk of a live run over a checked description and a script, once the loop and all sessions have come to their ends.
+fn made<R, P, G, C>(
+    rt: &R,
+    alloc: Global,
+    checked: Checked,
+    script: &Script,
+    stock: Stock<C>,
+    pace: &mut P,
+    gate: &G,
+) -> Result<Desk<C>, Memory>
+where
+    R: Threads + Wait + Sync,
+    P: Pace + Send,
+    G: Gate,
+    C: Controller + Send,
+    requires rules { MeetsRules script.now }
+    ensures { IfOk result
+        (IsDone (made_by kind.Live stock) stock (record { description = checked; script = script.now })) }
+{
+    let cycles = checked.description().cycles;
+    let texts = script.sessions.as_slice();
+    let sessions = waiting(alloc, texts)?;
+    let desk = Desk::boot(alloc, checked, stock, texts.len() as u32)?;
+    let (shared, looping, passes) = SharedDesk::share(alloc, desk)?;
+    let (looping, passes) = run_over(
+        rt, alloc, &shared, sessions, looping, passes, cycles, pace, gate,
+    )?;
+    Ok(shared.home(looping, passes))
+}
+
+/// The loop and all sessions over a shared desk, to their ends: their passes come back.
+fn run_over<R, P, G, C>(
+    rt: &R,
+    alloc: Global,
+    shared: &SharedDesk<C>,
+    sessions: Vec<Session>,
+    looping: LoopPass<C>,
+    passes: Vec<Pass<C>>,
+    cycles: u64,
+    pace: &mut P,
+    gate: &G,
+) -> Result<(LoopPass<C>, Vec<Pass<C>>), Memory>
+where
+    R: Threads + Wait + Sync,
+    P: Pace + Send,
+    G: Gate,
+    C: Controller + Send,
+    requires { CanStart cycles shared.now.lock shared.now.at_first.value sessions.items looping.pass passes.items }
+    ensures { IfOk result
+        (λ r. HasRun cycles shared.now.lock shared.now.at_first.value sessions.items r.0.pass r.1.items) }
+{
+    // No memory is taken once a thread has started.
+    let room = Vec::with_capacity(alloc, passes.len())?;
+    let pairs = with_ports(rt, alloc, shared, sessions, passes)?;
+    let mut end = LoopEnd::make(shared, rt, looping);
+    let ports = live(rt, alloc, pairs, &mut end, cycles, pace, gate)?;
+    Ok((end.into_pass(), passes_of(ports, room)))
+}
+
+/// Each session with the console of its pass, in order.
+fn with_ports<'a, R: Wait, C: Controller>(
+    rt: &'a R,
+    alloc: Global,
+    shared: &'a SharedDesk<C>,
+    sessions: Vec<Session>,
+    passes: Vec<Pass<C>>,
+) -> Result<Vec<(Session, SessionPort<'a, R, C>)>, Memory>
+    requires passes { All (IsSessionPass shared.now.lock shared.now.at_first.value) passes.items }
+    requires as_many { length sessions.items ≡ length passes.items }
+    ensures sessions { IfOk result (λ pairs. map (λ s. s.0) pairs.items ≡ sessions.items) }
+    ensures passes { IfOk result (λ pairs. map (λ s. s.1.pass) pairs.items ≡ passes.items) }
+{
+    let mut pairs = Vec::with_capacity(alloc, sessions.len())?;
+    for (session, pass) in sessions.into_iter().zip(passes) {
+        pairs.push((session, SessionPort::make(shared, rt, pass)))?;
+    }
+    Ok(pairs)
+}
+
+/// The passes of all consoles, behind those that are there, in room that was reserved for them.
+fn passes_of<'a, R: Wait, C: Controller>(
+    ports: Vec<SessionPort<'a, R, C>>,
+    mut passes: Vec<Pass<C>>,
+) -> Vec<Pass<C>>
+    requires room { vec_len passes + length ports.items ≤ vec_capacity passes }
+    ensures passes { result.items ≡ passes.items ++ map (λ p. p.pass) ports.entry.items }
+    ensures theirs { All (λ p. IsSessionPass p.desk.now.lock p.desk.now.at_first.value p.pass) ports.entry.items }
+{
+    for port in ports {
+        passes.push_reserved(port.into_pass());
+    }
+    passes
+}
