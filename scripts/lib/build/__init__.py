@@ -1,0 +1,1 @@
+"""How the programs are built: proved, and unproved."""

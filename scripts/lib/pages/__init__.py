@@ -1,0 +1,1 @@
+"""How pages are checked, and the made parts of them written."""

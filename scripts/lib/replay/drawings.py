@@ -1,0 +1,118 @@
+"""Answers: is what pictures show right, and does it fit? Draws all examples, made documents, and random documents, and looks at each page:
+
+- each text, line and mark lies on the page and within its section, and no text lies on another or on a mark;
+- each interface that is named is one that `list interfaces` prints, and each reference that this prints is named;
+- the counts of the heading are those of the trace that `cm` prints;
+- the log has each request and each refused call of the trace, in that order, with ticket, cycle, session, call and what became of it, or
+  says how many it leaves out.
+Prints a line for each fault, and last `N passed, M failed`. The exit status is 1 if a page is wrong.
+"""
+
+import concurrent.futures
+import re
+import sys
+from pathlib import Path
+
+from ..tree import TOP
+from . import programs
+from .layout import names, places
+from .log import Told, log
+from .other import STAGE
+from .page import Page
+
+SEPARATOR = re.compile(rb"(?m)^--- script ---\r?$")
+SHOWN = 6  # faults of one page that are told
+AT_ONCE = 4  # pages
+LIMIT = 600  # seconds
+RUNS = (["run"], ["steps"])
+
+
+def options(parser):
+    parser.add_argument("--other", type=Path, metavar="FOLDER", help="of an implementation that makes random documents")
+    parser.add_argument("--count", type=int, default=200, help="so many random documents, 200 if it is not said")
+    parser.add_argument("--keep", type=Path, metavar="FOLDER", help="where the pages are put")
+    programs.options(parser, drawer=True)
+
+
+def made(rounds):
+    """The made document of so many rounds."""
+    joints = "".join(
+        f'[[component.joint]]\nname = "j{n}"\nvmax = 1\ncommand = ["position"]\nstate = ["position"]\n' for n in range(8))
+    controllers = "".join(f'[[controller]]\nname = "f{n}"\ntype = "forward"\nclaims = ["j{n}/position"]\n' for n in range(8))
+    lines = [f"{word} f{n}" for word in ("load", "configure") for n in range(8)]
+    lines.append("switch strict " + " ".join(f"+f{n}" for n in range(8)))
+    for k in range(1, rounds + 1):
+        other = (k + 1) % 8
+        lines += [f"send f{k % 8} 0.{37 * k % 100:02}", f"switch strict -f{other}", f"switch strict +f{other}", f"await {10 * k}"]
+    return (f'version = 1\nupdate_rate = 100\ncycles = {10 * rounds}\n[[component]]\nname = "sys"\nkind = "system"\n{joints}'
+            f"{controllers}--- script ---\nsession a\n" + "\n".join(lines) + "\n").encode()
+
+
+def examples():
+    for document in sorted(TOP.glob("examples/*.cm")):
+        words = Path(f"{document}.args").read_text().split()
+        if words in RUNS:
+            yield str(document.relative_to(TOP)), words, document.read_bytes()
+
+
+def random_documents(folder, program, count):
+    """So many random documents that the program runs, each with its number and its words; none if nothing makes them."""
+    if not folder or not folder.is_dir():
+        print("no other implementation is named that makes random documents: none are drawn")
+        return
+    sys.path.insert(0, str(folder))
+    from cm_oracle.gen import case
+    seed = 0
+    while count > 0:
+        seed += 1
+        one = case(STAGE, seed)
+        if one.words in RUNS and ran(program, one.words, one.document)[0] == 0:
+            count -= 1
+            yield f"random document {seed}", one.words, one.document
+
+
+def ran(program, words, document):
+    status, printed, _ = programs.ran([program, *words], document, LIMIT)
+    return status, printed.decode(errors="replace")
+
+
+class Looker:
+    def __init__(self, drawer, program, keep):
+        self.draw, self.cm, self.keep = drawer, program, keep
+
+    def faults(self, case):
+        """The name of a document with the faults of its page, or None where it has none as it is refused."""
+        name, words, document = case
+        status, svg = ran(self.draw, [*words, "--name", name], document)
+        if status != 0:
+            return name, None if ran(self.cm, words, document)[0] == status and not svg else [f"there is no page: {status}"]
+        if self.keep:
+            self.keep.mkdir(exist_ok=True)
+            Path(self.keep, re.sub(r"\W+", "_", name) + ".svg").write_text(svg)
+        _, trace = ran(self.cm, words, document)
+        page = Page(svg)
+        cycles = int(re.search(r"run of (\d+) cycle", page.texts[0].words)[1])
+        told = Told(trace, cycles)
+        return name, [*places(page), *names(page, self.interfaces(document)), *log(page, told)]
+
+    def interfaces(self, document):
+        """The interfaces that `list interfaces` prints of a document's description."""
+        description = SEPARATOR.split(document, maxsplit=1)[0]
+        _, trace = ran(self.cm, ["run"], description + b"--- script ---\nsession a\nlist interfaces\n")
+        listed = trace.splitlines()[0].split(": ", 1)[1]
+        return {it.split(" ")[1] for it in listed.split("; ")} if listed != "none" else set()
+
+
+def main(asked):
+    looker = Looker(programs.drawer(asked), programs.program(asked), asked.keep)
+    cases = [*examples(), *[(f"the made document of {it} rounds", ["run"], made(it)) for it in (1, 12, 70)]]
+    cases += random_documents(asked.other, looker.cm, asked.count)
+    passed = failed = 0
+    with concurrent.futures.ThreadPoolExecutor(AT_ONCE) as pool:
+        for name, faults in pool.map(looker.faults, cases):
+            passed += faults == []
+            failed += bool(faults)
+            for fault in (faults or [])[:SHOWN]:
+                print(f"FAILED  {name}: {fault}")
+    print(f"{passed} passed, {failed} failed")
+    return int(failed > 0 or passed == 0)

@@ -1,0 +1,157 @@
+"""Answers: is what a live run prints always the trace of one legal history?
+
+Each document is run live, so many times, and each trace is judged. The program's own job `steps` makes the calls of the trace again, in
+their order: it has to print the same lines, up to the close of the loop. (It goes on otherwise: before its close sessions settle.) Each
+session has to have made the calls that it makes in the job `run`, in their order. Another implementation, if one is named, judges the
+whole trace.
+
+The documents are made here: four sessions list, send, wait and switch beside 300 cycles. Every other one comes from the maker of the other
+implementation, if one is named. Last it says how many different traces the documents gave, and how many lines of sessions came while a
+cycle was aloft. The exit status is 1 if a trace is wrong or a run hangs, and if no document gave a second trace.
+"""
+
+import collections
+import concurrent.futures
+import functools
+import itertools
+import os
+import random
+import re
+import sys
+from pathlib import Path
+
+from . import programs
+from .other import STAGE, judge
+from .traces import SEPARATOR, aloft, before_close, calls_of, scheduled
+
+LIMIT = 60  # seconds; a run takes some hundredths of one
+CYCLES, SESSIONS, LINES, JOINTS = 300, 4, 20, 3
+MOST_TURNS = 10_000  # calls and turns of a script
+
+
+def options(parser):
+    parser.add_argument("--runs", type=int, default=200, help="how many in all, 200 if it is not said")
+    parser.add_argument("--times", type=int, default=5, help="how often a document is run, 5 if it is not said")
+    parser.add_argument("--first", type=int, default=1, help="the seed of the first document")
+    parser.add_argument("--processors", type=int, help="on so many processors alone")
+    parser.add_argument("--other", type=Path, metavar="FOLDER", help="of another implementation, which judges and makes documents too")
+    programs.options(parser)
+
+
+# ---- The documents
+
+
+def joint(number):
+    return f'[[component.joint]]\nname = "j{number}"\nvmax = 1\ncommand = ["position"]\nstate = ["position"]\n'
+
+
+def controller(name):
+    return f'[[controller]]\nname = "{name}"\ntype = "forward"\nclaims = ["j{name[1:]}/position"]\n'
+
+
+def made(number):
+    """The document of this number: each joint has two controllers, which sessions load, switch, send to and list."""
+    by = random.Random(number)
+    names = [f"{letter}{k}" for k in range(JOINTS) for letter in "ab"]
+    description = f'version = 1\nupdate_rate = 1000\ncycles = {CYCLES}\n[[component]]\nname = "arm"\nkind = "system"\n'
+    description += "".join(map(joint, range(JOINTS))) + "".join(map(controller, names))
+    script = [line for k in range(SESSIONS) for line in [f"session s{k}", *(call(by, names) for _ in range(LINES))]]
+    return description.encode() + SEPARATOR + "".join(line + "\n" for line in script).encode()
+
+
+def call(by, names):
+    name, other = by.choice(names), by.choice(names)
+    return by.choice([
+        f"load {name}", f"load {name}", f"configure {name}", f"configure {name}", f"switch best +{name}", f"switch strict +{name} -{other}",
+        f"send {name} 0.{by.randrange(10)}", f"await {by.randrange(CYCLES)}", "list controllers", "list interfaces", f"unload {name}",
+        f"hw arm {by.choice(['inactive', 'active'])}",
+    ])
+
+
+def documents_of_other(program, first):
+    """Documents of the other implementation's maker that run, and have no schedule, from this seed on."""
+    from cm_oracle.gen import case
+    for seed in itertools.count(first):
+        document = case(STAGE, seed).document
+        script = document.split(SEPARATOR, 1)[1:]
+        if script and not re.search(rb"(?m)^\s*schedule", script[0]) and programs.came([program, "run"], document, LIMIT).status == 0:
+            yield f"random document {seed}", document
+
+
+def documents(asked, program):
+    """Gives of each document its name and its bytes."""
+    others = documents_of_other(program, asked.first) if judge(asked.other) else None
+    for number in range(asked.first, asked.first + max(1, asked.runs // asked.times)):
+        yield next(others) if others and number % 2 else (f"made document {number}", made(number))
+
+
+# ---- How a trace is judged
+
+
+@functools.lru_cache(maxsize=64)
+def calls_in_run(program, document):
+    return calls_of(programs.came([program, "run"], document, LIMIT).printed.splitlines())
+
+
+def differs_in_steps(program, document, lines):
+    """Where the job `steps` prints otherwise if it makes these calls in their order, up to the close of the loop, or None."""
+    came = programs.came([program, "steps"], scheduled(document, lines), LIMIT)
+    again = came.printed.splitlines()
+    if came.status != 0:
+        return f"the job steps ends with status {came.status} {came.told[:200]!r}"
+    pairs = enumerate(zip(before_close(lines), again + [b""]), 1)
+    return next((f"line {number} is {was!r}, and the job steps prints {now!r}" for number, (was, now) in pairs if was != now), None)
+
+
+def reason(program, document, printed):
+    """What is wrong with what a live run printed, by the program's own other jobs, or None."""
+    lines = printed.splitlines()
+    if len(before_close(lines)) == len(lines):
+        return "the loop does not close"
+    if calls_of(lines) != calls_in_run(program, document):
+        return "a session's calls are not all there, in their order"
+    return differs_in_steps(program, document, lines) if 2 * len(lines) < MOST_TURNS else None
+
+
+def finding(program, other, document, came):
+    """What is wrong with a live run of the document, or None."""
+    if came.status is None:
+        return "it hangs"
+    if came.status or came.told:
+        return f"status {came.status} {came.told[:200]!r}"
+    disagreement = judge(other)
+    wrong = reason(program, document, came.printed)
+    return wrong or disagreement and disagreement(document, ["live"], STAGE, came.status, came.printed, came.told)
+
+
+# ---- The runs
+
+
+Tried = collections.namedtuple("Tried", "name traces aloft longest wrong")
+
+
+def tried(program, other, times, document):
+    name, text = document
+    all_came = [programs.came([program, "live"], text, LIMIT) for _ in range(times)]
+    wrong = [why for came in all_came if (why := finding(program, other, text, came))]
+    lines = sum(aloft(came.printed.splitlines()) for came in all_came)
+    return Tried(name, len({came.printed for came in all_came}), lines, max(came.seconds for came in all_came), wrong)
+
+
+def main(asked):
+    program = programs.program(asked)
+    if asked.processors:
+        os.sched_setaffinity(0, sorted(os.sched_getaffinity(0))[:asked.processors])
+    one = functools.partial(tried, program, asked.other, asked.times)
+    with concurrent.futures.ProcessPoolExecutor(max(1, (os.cpu_count() or 2) // 2)) as pool:
+        all_tried = list(pool.map(one, documents(asked, program)))
+    for it in all_tried:
+        if it.wrong:
+            print(f"FAILED  {it.name}: {it.wrong[0]}", flush=True)
+    many, failed = sum(it.traces > 1 for it in all_tried), sum(len(it.wrong) for it in all_tried)
+    traces, lines = sum(it.traces for it in all_tried), sum(it.aloft for it in all_tried)
+    longest = max(it.longest for it in all_tried) * 1000
+    print(f"{asked.times * len(all_tried):,} live runs of {len(all_tried):,} documents gave {traces:,} different traces, {many:,} documents "
+          f"more than one; {lines:,} lines of sessions came while a cycle was aloft; the longest took {longest:.0f} ms of processors; "
+          f"{failed} wrong")
+    return int(failed > 0 or many == 0 and asked.times > 1 and len(os.sched_getaffinity(0)) > 1)

@@ -1,0 +1,125 @@
+"""What a trace tells, and whether the log of a page tells the same."""
+
+from dataclasses import dataclass
+
+from .layout import INTERFACE
+
+CALLS = ("load", "configure", "cleanup", "unload", "rate", "send")
+LOG = "Requests, and calls that were refused"
+
+
+@dataclass(frozen=True)
+class Row:
+    """A row of the log: a request that was decided, or a call that did nothing."""
+    ticket: str
+    cycle: str
+    who: str
+    call: str
+    outcome: str
+
+
+class Told:
+    """What a trace tells: rows of the log, and how often things happened."""
+
+    def __init__(self, trace, cycles):
+        self.rows, self.asked, self.cycles, self.ended = [], {}, cycles, 0
+        self.failed = self.stopped = 0
+        for line in trace.splitlines():
+            who, rest = line.split(" ", 1)
+            call, reply = rest.split(": ", 1)
+            self.read(who, call, reply)
+
+    def read(self, who, call, reply):
+        word = call.split(" ")[0]
+        if who == "loop" and word in ("begin", "close"):
+            self.decide(reply)
+        elif who == "loop" and word == "end":
+            items = reply.split("; ")
+            self.failed += sum(it.startswith("fail ") or it.startswith("run ") and it.endswith(" error") for it in items)
+            self.stopped += sum(it.startswith("stop ") for it in items)
+            self.ended += 1
+        elif reply.startswith("queued "):
+            self.asked[reply.split(" ")[1]] = (who, call)
+        elif word in ("switch", "hw") or word in CALLS and not reply.startswith("ok"):
+            self.rows.append(Row("", self.now(), who, call, reply))
+
+    def now(self):
+        return str(self.ended) if self.ended < self.cycles else "close"
+
+    def decide(self, reply):
+        for one in reply.split("; ") if reply != "none" else []:
+            ticket, outcome = one.split(" ", 1)
+            self.rows.append(Row(ticket, self.now(), *self.asked[ticket], outcome))
+
+    def counts(self):
+        decided = [it for it in self.rows if it.ticket]
+        turned = [it for it in self.rows if not it.ticket and it.call.split(" ")[0] in ("switch", "hw")]
+        others = [it for it in self.rows if not it.ticket and it not in turned]
+        count = lambda word: sum(it.outcome.split(" ")[0] == word for it in decided)
+        text = f"requests: {count('done')} done, {count('refused')} refused"
+        text += f", {count('loop_ended')} not decided" if count("loop_ended") else ""
+        text += f", {len(turned)} turned away" if turned else ""
+        text += f" · other calls refused: {len(others)}" if others else ""
+        return f"{text} · failures: {self.failed} · stops of controllers: {self.stopped}"
+
+
+def log_of(page):
+    """The rows of a page's log: texts of facts, and the lines of words; and what it says last of those that it leaves out."""
+    rows, more = [], ""
+    for it in page.section(LOG):
+        if it.kind in ("done-disc", "partly-disc", "bad-disc"):
+            rows.append(([], []))
+        elif it.element == "text" and it.kind == "row":
+            rows[-1][0].append(it.title or it.words)
+        elif it.element == "text" and it.kind.endswith("-words"):
+            rows[-1][1].append(it.words)
+        elif it.element == "text" and it.kind == "dim" and it.words.startswith("and "):
+            more = it.words
+    return rows, more
+
+
+def log(page, told):
+    if all(it.words != told.counts() for it in page.texts if it.kind == "note"):
+        yield f"the heading does not say `{told.counts()}`"
+    rows, more = log_of(page)
+    left_out = told.rows[len(rows):]
+    if len(rows) > len(told.rows):
+        yield f"the log has {len(rows)} rows, and there were {len(told.rows)}"
+    if left_out:
+        done = sum(it.outcome.startswith("done") for it in left_out)
+        count = len(left_out)
+        said = f"and {count} more, which have no room here: {done} done, {count - done} not done"
+        if more != said:
+            yield f"the log says `{more}` in place of `{said}`"
+    for row, (facts, lines) in zip(told.rows, rows):
+        yield from row_faults(row, facts, lines)
+
+
+def row_faults(row, facts, lines):
+    wanted = [it for it in (row.ticket, row.cycle, row.who) if it]
+    if facts != wanted:
+        yield f"the log's row {facts} is to be {wanted}"
+    cut = bool(lines) and lines[-1].startswith("… and ")
+    said = "".join(lines[:-1] if cut else lines).replace(" ", "")
+    call = row.call.replace(" ", "")
+    if cut:
+        call = call[:len(said)]
+    if not said.startswith(call):
+        yield f"the log's words `{said[:80]}` do not begin with the call `{row.call[:80]}`"
+    if not cut:
+        yield from outcome_faults(row, said[len(call):])
+
+
+def outcome_faults(row, said):
+    word = row.outcome.split(" ")[0]
+    begin = {"done": ":done", "loop_ended": ":notdecided" if row.ticket else ":refused"}.get(word, ":refused")
+    if not said.startswith(begin):
+        yield f"`{row.call}: {row.outcome}` is told as `{said[:80]}`"
+    for name in INTERFACE.findall(row.outcome):
+        if name not in said:
+            yield f"`{row.call}: {row.outcome}` is told without {name}"
+    if row.ticket and word == "refused" and row.outcome.split(" ")[1] not in said:
+        yield f"`{row.call}: {row.outcome}` is told without its name"
+    dropped = row.outcome.split("dropped ")[1].count(", ") + 1 if "dropped " in row.outcome else 0
+    if said.count(";without") != dropped:
+        yield f"`{row.call}: {row.outcome}` tells {said.count(';without')} that were left out"

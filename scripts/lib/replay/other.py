@@ -1,0 +1,15 @@
+"""Another implementation, if one is named: it judges what the program answers."""
+
+import functools
+import sys
+
+STAGE = "r13"  # what it is told that the program accepts
+
+
+@functools.cache
+def judge(folder):
+    """The call by which the other implementation in this folder judges an answer, or None if there is none."""
+    if not folder or not (folder / "cm_oracle").is_dir():
+        return None
+    sys.path.insert(0, str(folder))
+    return __import__("cm_oracle").disagreement

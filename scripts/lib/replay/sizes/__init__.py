@@ -1,0 +1,1 @@
+"""The documents of each size, and what the program answers to them."""

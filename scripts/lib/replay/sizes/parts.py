@@ -1,0 +1,114 @@
+"""The limits by their names, and the parts of which a document of some size is made."""
+
+import functools
+import re
+from dataclasses import dataclass, field
+from typing import Optional
+
+from ...tree import TOP
+
+REQUESTS, NO_CALLS = ("switch ", "hw "), ("session ", "schedule", "step ", "begin", "end", "#")
+KINDS = ("position", "velocity", "effort")
+TYPES = ("forward", "passthrough", "pid", "trajectory", "broadcaster", "mock")
+cited = set()
+
+
+@functools.cache
+def limit(path):
+    """The constant of this path, as `cm_document::MOST_JOINTS`, by the sources of its crate."""
+    crate, name = path.split("::")
+    cited.add(path)
+    texts = (it.read_text() for it in sorted((TOP / "crates" / crate / "src").rglob("*.rt")))
+    (value,) = [it for text in texts for it in re.findall(rf"(?m)^pub const {name}: \w+ = ([\d_]+);", text)]
+    return int(value)
+
+
+def without_row():
+    """The limits on documents that no row cites."""
+    names = re.findall(r"(?m)^pub const (\w+)", (TOP / "crates/cm_document/src/limits.rt").read_text())
+    return [name for name in names if f"cm_document::{name}" not in cited]
+
+
+JOINTS, STATES = limit("cm_document::MOST_JOINTS"), limit("cm_document::MOST_STATES")
+COMMANDS, CYCLES = limit("cm_document::MOST_COMMANDS"), limit("cm_document::MOST_CYCLES")
+CONTROLLERS, CLAIMS_OF_ONE = limit("cm_document::MOST_CONTROLLERS"), limit("cm_document::MOST_CLAIMS_OF_ONE")
+CALLS, SESSIONS = limit("cm_document::MOST_CALLS"), limit("cm_document::MOST_SESSIONS")
+LONGEST, LINE = limit("cm_document::LONGEST_DOCUMENT"), limit("cm_document::LONGEST_LINE")
+RATE, DIGITS = limit("cm_document::HIGHEST_RATE"), limit("cm_document::MOST_DIGITS_OF_WHOLE")
+WAITING, BLANKS = limit("cm_model::MOST_WAITING"), limit("cm_program::BLANKS")
+UNITS, DECIMALS = limit("fixed_num::MOST_UNITS"), limit("fixed_num::DECIMALS")
+NAME, ROUNDS = limit("iface_names::LONGEST_NAME"), limit("cm_words::MOST_ROUNDS")
+
+
+@dataclass
+class Case:
+    """A document with what the program must answer: so many lines, and so many of them that end with a text; or its fault."""
+
+    text: str
+    lines: int = 0
+    told: dict = field(default_factory=dict)
+    fault: Optional[str] = None
+    cycles: int = 0
+    words: tuple = ("run",)
+
+
+def case(described, script=(), untold=0, told=None, fault=None, words=("run",)):
+    """The case of a description and a script's lines, all of whose requests but `untold` get a ticket."""
+    cycles = int(re.search(r"(?m)^cycles = (\d+)", described)[1])
+    calls = sum(bool(line.strip()) and not line.startswith(NO_CALLS) for line in script)
+    tickets = sum(line.startswith(REQUESTS) for line in script) - untold
+    text = "".join([described, "--- script ---\n", *(f"{line}\n" for line in script)])
+    return Case(text, calls + tickets + 2 * cycles + 1, told or {}, fault, cycles, words)
+
+
+def head(cycles=3, rate=100):
+    return f"version = 1\nupdate_rate = {rate}\ncycles = {cycles}\n"
+
+
+def quoted(texts):
+    return [f'"{it}"' for it in texts]
+
+
+def joint(name, command=KINDS[:1], state=KINDS[:1], more="vmax = 1\n"):
+    lists = f"command = [{', '.join(quoted(command))}]\nstate = [{', '.join(quoted(state))}]\n"
+    return f'[[component.joint]]\nname = "{name}"\n{more}{lists}'
+
+
+def component(name, joints, more=""):
+    return f'[[component]]\nname = "{name}"\nkind = "system"\n{more}' + ("".join(joints) or "joint = []\n")
+
+
+def controller(name, kind, claims=None, reads=None, more=""):
+    lists = (("claims", claims), ("reads", reads))
+    lines = [f"{key} = [{', '.join(quoted(items))}]\n" for key, items in lists if items is not None]
+    return f'[[controller]]\nname = "{name}"\ntype = "{kind}"\n' + "".join(lines) + more
+
+
+def arm(joints=1, command=KINDS[:1], state=KINDS[:1]):
+    """A component of so many joints, j0 and on."""
+    return component("arm", [joint(f"j{k}", command, state) for k in range(joints)])
+
+
+def of_joints(places, kinds=KINDS):
+    """So many interfaces of joints: the positions of all first, then the velocities, then the efforts."""
+    return [f"j{k % JOINTS}/{kinds[k // JOINTS % len(kinds)]}" for k in range(places)]
+
+
+def every(line, names):
+    return [line.format(name) for name in names]
+
+
+def activated(names, how="strict"):
+    """A script that loads these, configures them and switches them on together."""
+    return ["session a", *every("load {}", names), *every("configure {}", names), f"switch {how} " + " ".join(every("+{}", names))]
+
+
+def named(letter, size):
+    return [f"{letter}{k}" for k in range(size)]
+
+
+def of_type(kind, name, claims=1):
+    """A controller of this type with so many claims, where its type lets it choose."""
+    wanted = [f"j{k}/position" if k < JOINTS else f"j{k - JOINTS}/velocity" for k in range(claims)]
+    has_claims, has_reads = kind != "broadcaster", kind in ("pid", "trajectory", "broadcaster")
+    return controller(name, kind, wanted if has_claims else None, wanted if has_reads else None)

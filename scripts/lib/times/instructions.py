@@ -1,0 +1,138 @@
+"""Answers: how many instructions does a cycle take, and has that grown? As docs/SPEED.md has it.
+
+It counts the instructions of the built program by `valgrind --tool=callgrind`, over four jobs, each with few cycles and with more, and
+prints what a cycle more takes: reading and start are in both, and go. A count does not move with the load of the machine, as a time does;
+what it leaves out is what the system does, above all memory that is touched for the first time.
+
+- bare: neither a joint nor a controller: the turn of the loop alone.
+- idle: one joint that stands, and no controller.
+- full: 32 joints and 64 controllers: 31 chains of a trajectory over a pid, all of which move, a forward, and a broadcaster of 96 states.
+- switches: 16 chains of three controllers, and in each cycle a request that stops, starts or restarts some of them.
+
+Beside each stands what the page has. The exit status is 1 if a job takes more than that by over a tenth; the page is then to say why, or
+the program to be mended.
+"""
+
+import re
+import subprocess
+import sys
+import tempfile
+
+from ..replay import programs
+from ..tree import TOP
+
+options = programs.options
+PAGE = TOP / "docs/SPEED.md"
+WORSE = 1.1  # times what the page has
+POINTS = 16  # of each trajectory
+CHAINS = 31
+SWITCHED = 16  # chains that are switched
+
+
+def head(rate, cycles):
+    return f"version = 1\nupdate_rate = {rate}\ncycles = {cycles}\n"
+
+
+def component(name, joints):
+    return f'[[component]]\nname = "{name}"\nkind = "system"\n' + "".join(joints)
+
+
+def joint(name, vmax, command, state):
+    lists = [", ".join(f'"{kind}"' for kind in kinds.split()) for kinds in (command, state)]
+    return f'[[component.joint]]\nname = "{name}"\nvmax = {vmax}\ncommand = [{lists[0]}]\nstate = [{lists[1]}]\n'
+
+
+def controller(name, kind, claim="", read="", more=""):
+    claims = f'claims = ["{claim}"]\n' if claim else ""
+    reads = f'reads = ["{read}"]\n' if read else ""
+    return f'[[controller]]\nname = "{name}"\ntype = "{kind}"\n{claims}{reads}{more}'
+
+
+def script(names, lines):
+    started = "".join(f"load {name}\n" for name in names) + "".join(f"configure {name}\n" for name in names)
+    switched = "switch strict " + " ".join(f"+{name}" for name in names) + "\n" if names else ""
+    return "--- script ---\nsession a\n" + started + switched + "".join(lines)
+
+
+def bare(cycles):
+    return head(1000, cycles) + script([], [])
+
+
+def idle(cycles):
+    return head(1000, cycles) + component("arm", [joint("j1", 1, "position", "position")]) + script([], [])
+
+
+def full(cycles):
+    joints = [joint(f"joint_{k}", 2 + k % 3, "velocity position", "position velocity effort") for k in range(CHAINS + 1)]
+    gains = [f'kp = {4 + k % 5}\nki = "0.3"\nkd = "0.02"\nimax = 1\nomax = 3\n' for k in range(CHAINS)]
+    lower = [controller(f"pid_{k}", "pid", f"joint_{k}/velocity", f"joint_{k}/position", gains[k]) for k in range(CHAINS)]
+    upper = [controller(f"traj_{k}", "trajectory", f"pid_{k}/joint_{k}/position", f"joint_{k}/position") for k in range(CHAINS)]
+    broadcaster = controller("broadcaster", "broadcaster", more='reads = "all"\n')
+    described = [broadcaster, *lower, *upper, controller("forward", "forward", f"joint_{CHAINS}/position")]
+    names = [re.search(r'name = "(\w+)"', text)[1] for text in described]
+    sends = [f"send traj_{k}{moves(k, cycles * 1000)}\n" for k in range(CHAINS)]
+    return head(1000, cycles) + component("robot", joints) + "".join(described) + script(names, [*sends, "send forward 0.75\n"])
+
+
+def moves(k, span):
+    """The points of a trajectory to and fro, over so many microseconds."""
+    sizes = [0.1 * (k % 7) + 0.05 * i + 0.123 for i in range(1, POINTS + 1)]
+    return "".join(f" @{span * i // POINTS} {(-1) ** (i + k) * size:.6f}" for i, size in enumerate(sizes, 1))
+
+
+def switches(cycles):
+    joints = [joint(f"j{k}", 1, "velocity position", "position") for k in range(SWITCHED)]
+    described, names = [], []
+    for k in range(SWITCHED):
+        described.append(controller(f"pid{k}", "pid", f"j{k}/velocity", f"j{k}/position", "kp = 2\n"))
+        described.append(controller(f"pass{k}", "passthrough", f"pid{k}/j{k}/position"))
+        described.append(controller(f"traj{k}", "trajectory", f"pass{k}/j{k}/position", f"j{k}/position"))
+        names += [f"pid{k}", f"pass{k}", f"traj{k}"]
+    requests = [request(i % SWITCHED, i // SWITCHED % 4) for i in range(cycles - 1)]
+    return head(100, cycles) + component("robot", joints) + "".join(described) + script(names, requests)
+
+
+def request(k, turn):
+    return (
+        f"switch strict -traj{k} +traj{k}\n",
+        f"switch strict -pid{k}\n",
+        f"switch best -pass{k} -traj{k} +pass{k} +nosuch\n",
+        f"switch best +traj{k} +traj{(k + 1) % SWITCHED}\n",
+    )[turn]
+
+
+# Each with few cycles and with more. The requests of `switches` come in rounds of 64.
+JOBS = {"bare": (bare, 1_000, 11_000), "idle": (idle, 1_000, 11_000), "full": (full, 200, 1_200), "switches": (switches, 65, 385)}
+
+
+def counted(program, document):
+    """The instructions of a run over the document."""
+    counter = ["valgrind", "--tool=callgrind", "--callgrind-out-file=/dev/null", program, "run"]
+    with tempfile.TemporaryFile("w+") as given:
+        given.write(document)
+        given.seek(0)
+        ran = subprocess.run(counter, stdin=given, stdout=subprocess.DEVNULL, stderr=subprocess.PIPE, text=True)
+    found = re.search(r"Collected : (\d+)", ran.stderr)
+    if ran.returncode or not found:
+        sys.exit(f"{program} was not counted: {ran.stderr.strip()[-300:]}")
+    return int(found[1])
+
+
+def on_page(job):
+    found = re.search(rf"(?m)^\| {job} \| ([\d,]+) \|", PAGE.read_text())
+    return int(found[1].replace(",", "")) if found else None
+
+
+def main(asked):
+    program, worse = programs.program(asked), []
+    print("| Job | Instructions a cycle | On the page |\n|---|---|---|")
+    for job, (document, few, more) in JOBS.items():
+        each = (counted(program, document(more)) - counted(program, document(few))) / (more - few)
+        known = on_page(job)
+        print(f"| {job} | {each:,.0f} | {f'{known:,}' if known else 'none'} |", flush=True)
+        if known and each > WORSE * known:
+            worse.append(f"{job} takes {each / known:.2f} times what {PAGE.name} has")
+    for line in worse:
+        print(line, file=sys.stderr)
+    return 1 if worse else 0
+

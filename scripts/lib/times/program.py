@@ -1,0 +1,120 @@
+"""Answers: how fast is the built program? As docs/SPEED.md has it.
+
+It runs the program seven times on each of three documents of 100,000 cycles, its output to the null device, and then with the words
+`run --make 1000`, and prints of each the least time, the time a cycle, what it makes a second, and the peak memory.
+- controllers: 64 described controllers, and a session that loads 32 of them and lists them.
+- components: 32 joints in 16 components, read, written, stepped and told of in each cycle, and a session that lists them.
+- updates: the same joints, each commanded by a forward; a session switches the 32 on together and sends each a value.
+- made: no document; 10,000 cycles, of which the program prints a summary alone.
+"""
+
+import os
+import subprocess
+import sys
+import tempfile
+import time
+from pathlib import Path
+
+from ..replay import programs
+
+CYCLES = 100_000
+RUNS = 7
+MADE = ["run", "--make", "1000"]
+MADE_CYCLES, MADE_ENTRIES, MADE_UPDATES = 10_000, 26_019, 79_000
+CONTROLLERS, LOADED, COMPONENTS, SIDES = 64, 32, 16, "lr"
+HEAD = f"version = 1\nupdate_rate = 1000\ncycles = {CYCLES}\n"
+SESSION = "--- script ---\nsession a\n"
+options = programs.options
+
+
+def controllers():
+    described = "".join(f'[[controller]]\nname = "c{k}"\ntype = "mock"\n' for k in range(CONTROLLERS))
+    return HEAD + described + SESSION + "".join(f"load c{k}\n" for k in range(LOADED)) + "list controllers\n"
+
+
+def robot():
+    described = ""
+    for k in range(COMPONENTS):
+        described += f'[[component]]\nname = "c{k}"\nkind = "system"\n'
+        for side in SIDES:
+            described += f'[[component.joint]]\nname = "{side}{k}"\nvmax = 1\ncommand = ["position"]\n'
+            described += 'state = ["position", "velocity"]\n'
+    return HEAD + described
+
+
+def components():
+    return robot() + SESSION + "list components\nlist interfaces\n"
+
+
+def updates():
+    joints = [f"{side}{k}" for k in range(COMPONENTS) for side in SIDES]
+    described = "".join(f'[[controller]]\nname = "f{it}"\ntype = "forward"\nclaims = ["{it}/position"]\n' for it in joints)
+    script = "".join(f"load fl{k}\nload fr{k}\nconfigure fl{k}\nconfigure fr{k}\n" for k in range(COMPONENTS))
+    script += "switch strict" + "".join(f" +f{it}" for it in joints) + "\n"
+    script += "".join(f"send fl{k} 0.5\nsend fr{k} -0.5\n" for k in range(COMPONENTS))
+    return robot() + described + SESSION + script
+
+
+# Each document, with the lines of its trace.
+DOCUMENTS = {
+    "controllers": (controllers, 2 * CYCLES + 34),
+    "components": (components, 2 * CYCLES + 3),
+    "updates": (updates, 2 * CYCLES + 99),
+}
+
+
+def time_of_a_run(program, words, document):
+    with open(document, "rb") as given:
+        begun = time.perf_counter()
+        subprocess.run([program, *words], stdin=given, stdout=subprocess.DEVNULL, check=True)
+        return time.perf_counter() - begun
+
+
+def peak_of_a_run(program, words, document):
+    """In kilobytes, as the system tells it of the running program: for one that has ended it counts the launcher's own too."""
+    peak = 0
+    with open(document, "rb") as given:
+        running = subprocess.Popen([program, *words], stdin=given, stdout=subprocess.DEVNULL)
+    while running.poll() is None:
+        try:
+            with open(f"/proc/{running.pid}/status") as told:
+                peak = max([peak, *(int(line.split()[1]) for line in told if line.startswith("VmHWM"))])
+        except OSError:
+            pass  # it has ended since
+    return peak
+
+
+def tell_runs(program, name, words, document, cycles, counts):
+    """Prints what runs with these words take, and how many of each of the counts they make a second."""
+    least = min(time_of_a_run(program, words, document) for _ in range(RUNS))
+    peak = max(peak_of_a_run(program, words, document) for _ in range(RUNS))
+    print(f"document         {name}")
+    print(f"least time       {least * 1000:.1f} ms, of {RUNS} runs")
+    print(f"time a cycle     {least / cycles * 1e6:.2f} us")
+    for what, count in counts:
+        print(f"{what + ' a second':<16} {count / least:,.0f}")
+    print(f"peak memory      {peak / 1024:.1f} MiB", flush=True)
+
+
+def see_counts(program, folder):
+    """Ends if a trace has other lines, or the summary other counts, than those by which the time is divided."""
+    for name, (_, lines) in DOCUMENTS.items():
+        printed = programs.ran([program, "run"], Path(folder, name).read_bytes())[1].count(b"\n")
+        if printed != lines:
+            sys.exit(f"the trace of {name} has {printed} lines in place of {lines}")
+    summary = programs.ran([program, *MADE])[1].decode().split("\n")[:3]
+    if summary != [f"cycles {MADE_CYCLES}", f"entries {MADE_ENTRIES}", f"updates {MADE_UPDATES}"]:
+        sys.exit("the summary of 'run --make 1000' begins with\n" + "\n".join(summary))
+
+
+def main(asked):
+    program = programs.program(asked)
+    with tempfile.TemporaryDirectory() as folder:
+        for name, (document, _) in DOCUMENTS.items():
+            Path(folder, name).write_text(document())
+        see_counts(program, folder)
+        print(f"cores            {os.cpu_count()}")
+        for name, (_, lines) in DOCUMENTS.items():
+            tell_runs(program, name, ["run"], Path(folder, name), CYCLES, [("lines", lines)])
+    tell_runs(program, "made", MADE, os.devnull, MADE_CYCLES, [("entries", MADE_ENTRIES), ("updates", MADE_UPDATES)])
+    return 0

@@ -1,0 +1,1 @@
+"""How wrong bodies and wrong definitions are tried."""

@@ -1,0 +1,131 @@
+"""A copy of a crate in which wrong bodies are planted, and what the prover says of them."""
+
+import re
+import shutil
+import sys
+
+from ..edits import Edit
+from ..kit import are_below, asked, crate
+from .functions import citing_constant_at, function_at
+
+# What is said where a proof file names what the wrong body does not have: that shows nothing of a contract.
+OF_NAMES = re.compile(r"has no field|is not in scope|has no `|was not admitted|no goal|is not declared|unknown")
+
+
+class WrongBody(Edit):
+    """An edit of one body, or of a constant that bodies cite."""
+
+    def __init__(self, path):
+        super().__init__(path)
+        self.crate, self.title = path.parent.name, f"{path.parent.name}/{path.stem}"
+
+    def function(self, texts):
+        """The one function that it turns, or None."""
+        found = {}
+        for file, old, _ in self.changes:
+            if texts[file].count(old) != 1:
+                sys.exit(f"{self.path}: its old text stands {texts[file].count(old)} times in {file}")
+            function = function_at(file, texts[file].index(old), texts)
+            if function is None:
+                return None
+            found[file, function.start] = function
+        return found.popitem()[1] if len(found) == 1 else None
+
+    def citing(self, texts):
+        """The functions that cite the one constant that it changes."""
+        (file, old, _), *more = self.changes
+        return [] if more else citing_constant_at(file, texts[file].index(old), texts)
+
+    def turned(self, text):
+        for _, old, new in self.changes:
+            text = text.replace(old, new)
+        return text
+
+
+class PlantedCrate:
+    """A copy of a crate, in which wrong bodies are planted."""
+
+    def __init__(self, copy, name):
+        self.copy, self.folder = copy, copy / "crates" / name
+        self.name, self.asked, self.others, self.later, self.alone = name, {}, [], [], []
+        self.texts = {str(it.relative_to(self.folder)): it.read_text() for it in self.folder.glob("src/**/*.rt")}
+        self.inserts, self.in_place = {}, {}
+
+    def plant(self, edits, alone):
+        for number, edit in enumerate(edits):
+            function = edit.function(self.texts)
+            file = edit.changes[0][0]
+            if function is None:
+                self.turn_constant(edit, file, alone)
+            elif function.trait or function.calls_itself:
+                self.turn(edit, file, function)
+            else:
+                self.add(edit, file, function, f"{function.name}_{number}")
+        for file, text in self.texts.items():
+            for end, added in sorted(self.inserts.get(file, []), reverse=True):
+                text = text[:end] + added + text[end:]
+            for edit in self.in_place.get(file, {}).values():
+                text = edit.turned(text)
+            (self.folder / file).write_text(text)
+
+    def turn(self, edit, file, function):
+        taken = self.in_place.setdefault(file, {})
+        if function.start in taken:
+            self.later.append(edit)
+            return
+        taken[function.start] = edit
+        self.asked[edit] = ["::".join([self.name, *function.path])]
+
+    def turn_constant(self, edit, file, alone):
+        cite = edit.citing(self.texts)
+        if not cite:
+            self.others.append(edit)
+        elif alone:
+            self.in_place[file] = {0: edit}
+            self.asked[edit] = ["::".join([self.name, *it.path]) for it in cite]
+        else:
+            self.alone.append(edit)
+
+    def add(self, edit, file, function, name):
+        """Plants the wrong body under this name beside its function."""
+        text, (first, end) = self.texts[file], function.named
+        text = text[function.start : first] + name + text[end : function.end]
+        self.inserts.setdefault(file, []).append((function.end, "\n" + edit.turned(text)))
+        *above, _ = function.path
+        self.asked[edit] = ["::".join([self.name, *above, name])]
+        was, new = (self.folder.joinpath("proofs", *above, it) for it in (function.name, name))
+        if was.is_dir():
+            shutil.copytree(was, new)
+            for proof in new.glob("**/*.antt"):
+                old_path, new_path = (".".join(["", "proofs", *above, it, ""]) for it in (function.name, name))
+                proof.write_text(proof.read_text().replace(old_path, new_path))
+
+    def check(self, kept, jobs):
+        """What the prover says of the planted bodies."""
+        of = crate(self.name, self.copy)
+        only = [word for names in self.asked.values() for name in names for word in ("--only", name)]
+        words = of.words(["--jobs", str(jobs), "--allow-holes", *only], as_source=not are_below(of))
+        return asked(of, words, kept)[1]
+
+
+def verdict(names, said):
+    """Whether a wrong body is refused, by one of the functions that were asked for it, and by what."""
+    each = [verdict_of(it, said) for it in names]
+    return next((it for it in each if it[0]), each[0])
+
+
+def verdict_of(name, said):
+    own = re.escape(name.split("::", 1)[1].replace("::", "/"))
+    line = re.search(rf"(?m)^fn {re.escape(name)}: (.*)", said)
+    if not line:
+        return False, "the prover says nothing of it"
+    above = said[: line.start()].rpartition("\nfn ")[2]
+    goals = re.findall(r"(?m)^note: \S+: .* \(`(\S+)`\)", above)
+    if goals:
+        return True, f"refused at {', '.join(dict.fromkeys(goals[:3]))}"
+    answers = re.findall(rf"(?m)^(?:\./)?proofs/{own}/\w+\.antt:\S+ error.*(?:\n  .*)*", said)
+    if any(not OF_NAMES.search(it) for it in answers):
+        return True, f"refused at {', '.join(re.findall(r'Answers.([^`]+)`', line[1])) or 'an answer'}"
+    if answers:
+        return False, "refused by a name alone"
+    return False, "LET THROUGH" if line[1].startswith("no holes") else line[1]

@@ -1,1 +1,0 @@
-"""The documents of each size that scripts/sweep_of_sizes runs."""
