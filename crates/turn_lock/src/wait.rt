@@ -8,11 +8,15 @@ use crate::kept::Kept;
 use crate::lock::TurnLock;
 use crate::steps::{Draws, Looks};
 use crate::table::{LockSeat, SERVING, SLOT, Spot, TICKET};
-use std::hint;
 use std::sync::Wait;
+use std::{hint, thread};
 
-/// How often a pass looks before it sleeps: a turn that ends soon comes sooner than a sleep.
-const LOOKS: u32 = 64;
+/// How often a pass looks before it lets other threads run: a turn that ends soon comes sooner than another thread.
+const LOOKS: u32 = 16;
+
+/// How often a pass lets other threads run before it sleeps. A sleep and its end cost more than a turn. So if more passes want
+/// turns than there are processors, and all sleep at once, few turns are taken.
+const YIELDS: u32 = 16;
 
 impl<K: Kept> TurnLock<K> {
     /// Draws a ticket, and gives its word.
@@ -33,12 +37,28 @@ impl<K: Kept> TurnLock<K> {
         ensures found { Found ⟦<K as Kept>⟧ seat.old.me seat.new.me result }
     {
         for _ in rt.forever() {
-            if let Some(kept) = self.look_often(seat, mine) {
+            if let Some(kept) = self.look_long(seat, mine) {
                 return kept;
             }
             self.sleep(rt, mine);
         }
         unreachable!()
+    }
+
+    /// Looks, and lets other threads run between its looks.
+    fn look_long(&self, seat: &mut LockSeat<K>, mine: u64) -> Option<K>
+        requires table { seat.old.table_id ≡ self.now.table.shared.table_id }
+        requires waits { Waits seat.old.me seat.old.me mine }
+        ensures table { seat.new.table_id ≡ seat.old.table_id }
+        ensures looked { MatchOption result (seat.new.me ≡ seat.old.me) (Found ⟦<K as Kept>⟧ seat.old.me seat.new.me) }
+    {
+        for _ in 0..YIELDS {
+            if let Some(kept) = self.look_often(seat, mine) {
+                return Some(kept);
+            }
+            thread::yield_now();
+        }
+        None
     }
 
     /// Looks some times.

@@ -90,8 +90,13 @@ enum Hold {
 /// In so many milliseconds those who wait have gone to sleep.
 const LONG: u64 = 20;
 
-/// More pauses of the processor than those who wait make before they sleep.
-const MOST_PAUSES: u32 = 128;
+/// More pauses of the processor than those who wait make before they sleep: 256 looks, each of up to four pauses.
+const MOST_PAUSES: u32 = 1_024;
+
+/// A rest of a pass that waits for the other one to begin, in microseconds, and as many of them as ten seconds have.
+const REST: u64 = 100;
+
+const MOST_RESTS: u32 = 100_000;
 
 /// What each pass does: so many turns, held so long.
 #[derive(Clone, Copy)]
@@ -168,8 +173,29 @@ fn write_lines<R: Wait + Clock>(
 {
     for turn in 0..work.turns {
         write_line(rt, lock, &mut pass, work.hold, turn);
+        if turn == 0 && work.hold == Hold::Varied {
+            meet(rt, lock, &mut pass);
+        }
     }
     pass
+}
+
+/// So many lines stand once each of two passes has written one.
+const A_LINE_EACH: u64 = 2;
+
+/// Rests until two passes have written, so that neither writes all of its lines before the other begins.
+fn meet<R: Wait>(rt: &R, lock: &TurnLock<Book>, pass: &mut TurnPass<Book>)
+    requires ready { IsReady lock.now pass.old }
+    ensures ready { IsReady lock.now pass.new }
+    ensures number { pass.new.number ≡ pass.old.number }
+{
+    for _ in 0..MOST_RESTS {
+        let lines = lock.seen(pass, Shown::Cycles);
+        if lines >= A_LINE_EACH {
+            return;
+        }
+        lock.rest(rt, Shown::Cycles, lines, REST);
+    }
 }
 
 /// As many threads as passes write at once.
@@ -320,13 +346,18 @@ fn each_pass_that_sleeps_is_woken(rt: HostRuntime) -> Result<(), Fail> {
     Ok(())
 }
 
-/// Turns come just when those who wait go to sleep.
+/// So many times two passes go by turns that come just when the other goes to sleep.
+const TIMES: u32 = 8;
+
+/// Turns come just when those who wait go to sleep. Each pass waits for the other's first line, so both run at once.
 #[test]
 fn no_pass_sleeps_through_its_turn(rt: HostRuntime) -> Result<(), Fail> {
     let work = Work {
         turns: MOST_TURNS,
         hold: Hold::Varied,
     };
-    assert!(rt; shows_all_in_time(&rt, rt.alloc(), 2, work)?);
+    for _ in 0..TIMES {
+        assert!(rt; shows_all_in_time(&rt, rt.alloc(), 2, work)?);
+    }
     Ok(())
 }
