@@ -1,0 +1,10 @@
+//! Where the loop stands.
+
+/// Where the loop stands, as its pass has seen.
+#[derive(Clone, Copy)]
+pub struct Stand {
+    /// So many cycles are left.
+    pub left: u64,
+    pub aloft: bool,
+    pub closed: bool,
+}
