@@ -15,4 +15,6 @@ mod looping;
 #[cfg(test)]
 mod marked;
 #[cfg(test)]
+mod refused;
+#[cfg(test)]
 mod tables;

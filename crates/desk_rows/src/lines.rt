@@ -30,8 +30,16 @@ const MOST_BLANKS: usize = 100;
 /// What stands between two entries of a history.
 const BETWEEN: &str = " / ";
 
+/// What came of a call.
+#[derive(Drop)]
+enum Heard {
+    Answered,
+    /// Memory was refused to the desk.
+    Refused,
+}
+
 /// Fails at the first line of a page of which something else is told than it says. A case is a paragraph of lines
-/// `CALL => TOLD`, for a desk of so many sessions over this robot.
+/// `CALL => TOLD`, for a desk of so many sessions over this robot. A call that was refused memory is made again.
 pub fn hold_calls<R: Threads>(
     rt: &R,
     alloc: Global,
@@ -97,8 +105,34 @@ fn hold_line<R: Threads, C: Controller + Send + 'static>(
 ) -> Result<(), Fail> {
     let (call, want) = halves(line, " => ")?;
     let mut told = String::new(alloc);
-    make(rt, alloc, table, call, &mut told)?;
+    let entries = table.history().len();
+    if let Heard::Refused = make(rt, alloc, table, call, &mut told)? {
+        hold_unchanged(table, entries)?;
+        make_again(rt, alloc, table, call, &mut told)?;
+    }
     hold_told(alloc, call, told.as_str(), want)
+}
+
+/// Fails if a call that was refused memory has changed the history, which had so many entries.
+fn hold_unchanged<C: Controller>(table: &Table<Marked<C>>, entries: usize) -> Result<(), Fail> {
+    if table.history().len() == entries {
+        return Ok(());
+    }
+    Err(Fail::new("a refused call has changed the history"))
+}
+
+/// Makes a call that was refused memory.
+fn make_again<R: Threads, C: Controller + Send + 'static>(
+    rt: &R,
+    alloc: Global,
+    table: &mut Table<Marked<C>>,
+    call: &str,
+    told: &mut String,
+) -> Result<(), Fail> {
+    match make(rt, alloc, table, call, told)? {
+        Heard::Answered => Ok(()),
+        Heard::Refused => Err(Fail::new("a call was refused memory twice")),
+    }
 }
 
 /// A call of the loop, or else a session's behind its number; or `drop` of the flight that is at hand, or the `history`.
@@ -108,18 +142,19 @@ fn make<R: Threads, C: Controller + Send + 'static>(
     table: &mut Table<Marked<C>>,
     call: &str,
     told: &mut String,
-) -> Result<(), Fail> {
+) -> Result<Heard, Fail> {
     match call {
-        "begin" => begin(alloc, table, told),
-        "compute" => push_outcome_of(told, table.compute(), table),
-        "compute aside" => push_outcome_of(told, table.compute_aside(rt), table),
-        "land" => push_last(told, table.land(), table.history()),
-        "end" => end(table, told),
-        "drop" => push_made(told, table.lose()),
-        "close" => push_last(told, table.close(), table.history()),
-        "history" => push_history(alloc, told, table.history()),
-        _ => ask(alloc, table, call, told),
+        "begin" => return begin(alloc, table, told),
+        "compute" => push_outcome_of(told, table.compute(), table)?,
+        "compute aside" => push_outcome_of(told, table.compute_aside(rt), table)?,
+        "land" => push_last(told, table.land(), table.history())?,
+        "end" => end(table, told)?,
+        "drop" => push_made(told, table.lose())?,
+        "close" => push_last(told, table.close(), table.history())?,
+        "history" => push_history(alloc, told, table.history())?,
+        _ => return ask(alloc, table, call, told),
     }
+    Ok(Heard::Answered)
 }
 
 // ---- The loop
@@ -128,9 +163,12 @@ fn begin<C: Controller>(
     alloc: Global,
     table: &mut Table<Marked<C>>,
     told: &mut String,
-) -> Result<(), Fail> {
-    let made = table.begin(alloc)?;
-    push_last(told, made, table.history())
+) -> Result<Heard, Fail> {
+    let Ok(made) = table.begin(alloc) else {
+        return Ok(Heard::Refused);
+    };
+    push_last(told, made, table.history())?;
+    Ok(Heard::Answered)
 }
 
 /// The flight at hand is computed and lands.
@@ -206,7 +244,7 @@ fn ask<C: Controller>(
     table: &mut Table<Marked<C>>,
     line: &str,
     told: &mut String,
-) -> Result<(), Fail> {
+) -> Result<Heard, Fail> {
     let (who, call) = halves(line, " ")?;
     let who = who.parse()?;
     if who >= table.sessions() {
@@ -227,11 +265,14 @@ fn ask_for<C: Controller>(
     who: u32,
     ticket: u32,
     told: &mut String,
-) -> Result<(), Fail>
+) -> Result<Heard, Fail>
     requires session { who < table.old.opening.sessions }
 {
-    let outcome = table.told(alloc, who, ticket)?;
-    push_outcome(told, outcome)
+    let Ok(outcome) = table.told(alloc, who, ticket) else {
+        return Ok(Heard::Refused);
+    };
+    push_outcome(told, outcome)?;
+    Ok(Heard::Answered)
 }
 
 /// A session waits until so many cycles have ended.
@@ -241,11 +282,14 @@ fn wait_for<C: Controller>(
     who: u32,
     cycles: u64,
     told: &mut String,
-) -> Result<(), Fail>
+) -> Result<Heard, Fail>
     requires session { who < table.old.opening.sessions }
 {
-    let reached = table.reached(alloc, who, cycles)?;
-    push_reached(told, reached)
+    let Ok(reached) = table.reached(alloc, who, cycles) else {
+        return Ok(Heard::Refused);
+    };
+    push_reached(told, reached)?;
+    Ok(Heard::Answered)
 }
 
 /// A session calls the desk, and is told of the reply and of the box that an unload hands out.
@@ -255,14 +299,17 @@ fn call_desk<C: Controller>(
     who: u32,
     call: Call,
     told: &mut String,
-) -> Result<(), Fail>
+) -> Result<Heard, Fail>
     requires session { who < table.old.opening.sessions }
 {
     if !is_call(&call) {
         return Err(Fail::new("no call of a session"));
     }
-    let (reply, given) = table.call(alloc, who, call)?;
-    push_answer(told, &reply, given)
+    let Ok((reply, given)) = table.call(alloc, who, call) else {
+        return Ok(Heard::Refused);
+    };
+    push_answer(told, &reply, given)?;
+    Ok(Heard::Answered)
 }
 
 /// Whether a desk answers this call for a session.

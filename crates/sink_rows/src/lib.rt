@@ -2,6 +2,8 @@
 #![tactic(auto)]
 
 #[cfg(test)]
+mod each_call;
+#[cfg(test)]
 mod faults;
 #[cfg(test)]
 mod gathered;
