@@ -1,4 +1,5 @@
-//! The program `cm_draw`: a document from standard input, and a page of SVG that shows its run to standard output.
+//! The program `cm_draw`: a document from standard input, and to standard output a page of SVG that shows its run, or what went
+//! wrong in it in words.
 #![tactic(auto)]
 
 ghost use Rattle.std.specs.Prelude.{◌≡◌, ◌≢◌, ◌≤◌, length};
@@ -11,7 +12,7 @@ ghost use Rattle.cm_words.specs.declared.job.JobKind.TheVariants as job_kind;
 use crate::unkept::Unkept;
 use cm_document::{CtlKind, Description, Document, DocumentFault, LONGEST_DOCUMENT, Script};
 use cm_model::Entry;
-use cm_picture::page_of;
+use cm_picture::{page_of, whys_of};
 use cm_program::stock::{BLANKS, add};
 use cm_top::{Status, read_document, run_document};
 use cm_words::{Job, JobKind};
@@ -49,10 +50,19 @@ fn main(rt: HostRuntime) -> ExitCode {
 struct Asked {
     /// The job whose run it is.
     kind: JobKind,
-    /// The document's name in the title; empty where none is given.
-    name: String,
+    /// What is written of the run.
+    form: Form,
     // No live run is drawn.
     ghost alone: { kind ≢ job_kind.Live },
+}
+
+/// What is written of a run.
+#[derive(Drop)]
+enum Form {
+    /// A page of SVG, with the document's name in the title; empty if none is given.
+    Page(String),
+    /// What was not done as asked or went wrong, and what would mend it, in words.
+    Whys,
 }
 
 /// Draws over the program's stock, which is that of `cm`.
@@ -103,7 +113,8 @@ fn draw_over<S: Source, K: Sink, C: Controller>(
     draw(alloc, asked, source, sink, Stock::make(blanks))
 }
 
-/// What the words after the program's name ask for: the job, `run` where none is named, and behind `--name` the document's name.
+/// What the words after the program's name ask for: the job, `run` where none is named, and behind it `--why`, or `--name` and the
+/// document's name.
 fn asked_of<E: Env + AllocGlobal>(rt: &E) -> Result<Asked, Status> {
     let Ok(args) = env::args(rt) else {
         return Err(Status::BadWords);
@@ -130,14 +141,20 @@ fn asked_by(alloc: Global, words: &[String]) -> Result<Asked, Status> {
 fn asked_named(alloc: Global, kind: JobKind, words: &[String]) -> Result<Asked, Status>
     requires alone { kind ≢ JobKind.Live }
 {
-    let given = match words {
-        [] => "",
-        [key, name] if key.as_str() == "--name" => name.as_str(),
+    let form = match words {
+        [] => Form::Page(String::new(alloc)),
+        [key] if key.as_str() == "--why" => Form::Whys,
+        [key, name] if key.as_str() == "--name" => named_page(alloc, name.as_str())?,
         _ => return Err(Status::BadWords),
     };
+    Ok(Asked { kind, form })
+}
+
+/// A page with this name in its title.
+fn named_page(alloc: Global, given: &str) -> Result<Form, Status> {
     let mut name = String::new(alloc);
     match name.push_str(given) {
-        Ok(()) => Ok(Asked { kind, name }),
+        Ok(()) => Ok(Form::Page(name)),
         Err(_) => Err(Status::Memory),
     }
 }
@@ -215,7 +232,7 @@ fn draw_document<K: Sink, C: Controller>(
     }
 }
 
-/// Draws a history, and writes the page.
+/// Draws a history or tells it in words, and writes that.
 fn write_page<K: Sink>(
     alloc: Global,
     asked: &Asked,
@@ -223,15 +240,7 @@ fn write_page<K: Sink>(
     described: &Described,
     history: &[Entry],
 ) -> Status {
-    let name = asked.name.as_str();
-    let page = page_of(
-        alloc,
-        name,
-        &described.description,
-        &described.script,
-        history,
-    );
-    let Ok(text) = page else {
+    let Ok(text) = text_of(alloc, &asked.form, described, history) else {
         return Status::Memory;
     };
     if write_whole(sink, text.as_bytes()).is_err() || sink.flush().is_err() {
@@ -240,12 +249,29 @@ fn write_page<K: Sink>(
     Status::Ok
 }
 
+/// What is written of a history.
+fn text_of(
+    alloc: Global,
+    form: &Form,
+    described: &Described,
+    history: &[Entry],
+) -> Result<String, Memory> {
+    let Described {
+        description,
+        script,
+    } = described;
+    match form {
+        Form::Page(name) => page_of(alloc, name.as_str(), description, script, history),
+        Form::Whys => whys_of(alloc, description, script, history),
+    }
+}
+
 /// Tells a status that is not `Ok` on standard error, as `cm` does, and gives the number that the program ends with.
 fn report<R: Eprint>(rt: &R, status: &Status) -> u8 {
     match status {
         Status::Ok => {}
         Status::BadWords => {
-            let _ = eprintln!(rt; "cm: usage: draw [run|steps] [--name NAME]");
+            let _ = eprintln!(rt; "cm: usage: draw [run|steps] [--why | --name NAME]");
         }
         fault => {
             let _ = eprintln!(rt; "cm: {fault}");

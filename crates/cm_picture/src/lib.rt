@@ -1,7 +1,7 @@
 //! The page of SVG that shows a run: who commands whom, the run cycle by cycle, and where each joint was.
 #![tactic(auto)]
 
-pub use page::page_of;
+pub use page::{page_of, whys_of};
 
 mod curves;
 mod keys;

@@ -8,7 +8,7 @@ use cm_model::Entry;
 use cm_replay::{Columns, Linked, Replay, RunCounts, joints_of, links_of};
 use fixed_num::Memory;
 use link_picture::draw_links;
-use run_picture::{Run, Strip, draw_log, draw_run};
+use run_picture::{Run, Strip, draw_log, draw_run, push_whys};
 use std::alloc::Global;
 use svg_text::{MARGIN, PAGE_WIDTH, PagePoint, Px, Svg, shortened};
 
@@ -34,6 +34,37 @@ pub fn page_of(
         links: links.as_slice(),
     };
     page_of_linked(alloc, name, linked, script, history)
+}
+
+/// What was not done as asked in a run, or went wrong, as lines of plain text: why, and what would mend it.
+pub fn whys_of(
+    alloc: Global,
+    description: &Description,
+    script: &Script,
+    history: &[Entry],
+) -> Result<String, Memory> {
+    let joints = joints_of(alloc, description)?;
+    let links = links_of(alloc, description, joints.as_slice())?;
+    let linked = Linked {
+        description,
+        joints: joints.as_slice(),
+        links: links.as_slice(),
+    };
+    whys_of_linked(alloc, linked, script, history)
+}
+
+/// What went wrong in a run whose links are known.
+fn whys_of_linked<'a>(
+    alloc: Global,
+    linked: Linked<'a>,
+    script: &'a Script,
+    history: &'a [Entry],
+) -> Result<String, Memory> {
+    let columns = Columns::of(linked.description.cycles);
+    let replay = Replay::of(alloc, columns, linked, script, history)?;
+    let mut text = String::new(alloc);
+    push_whys(&mut text, &replay)?;
+    Ok(text)
 }
 
 /// The page of a run whose links are known.

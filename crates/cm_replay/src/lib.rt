@@ -3,13 +3,15 @@
 
 pub use columns::{Columns, MOST_COLUMNS};
 pub use course::{JointCourse, Sample};
+pub use incidents::Incident;
 pub use links::{ControllerLinks, Link, Linked, joints_of, links_of};
 pub use present::Asked;
-pub use replay::{Answered, Became, Replay, RunCounts, is_own};
+pub use replay::{Answered, Became, Replay, RunCounts};
 pub use rows::{ColumnState, Event, Row, RowCell};
 
 mod columns;
 mod course;
+mod incidents;
 mod links;
 mod present;
 mod replay;

@@ -1,7 +1,7 @@
 //! What stands while a history is read: who is loaded and in which lifecycle state, and what was asked.
 
 use crate::links::{ControllerLinks, Link, Linked, component_place, controller_place};
-use cm_document::{Call, Description, Life, Script, SessionText};
+use cm_document::{Call, CtlDesc, Description, Life, Script, SessionText};
 use cm_model::{FailedPart, Reply};
 use fixed_num::Memory;
 use iface_names::Name;
@@ -134,6 +134,23 @@ impl<'a> Present<'a> {
     /// The place of the controller with this serial.
     pub fn place_of(&self, serial: u32) -> Option<usize> {
         self.places.get(serial as usize).copied()
+    }
+
+    /// The controller with this serial, as described.
+    pub fn controller_of(&self, serial: u32) -> Option<&'a CtlDesc> {
+        let place = self.place_of(serial)?;
+        self.description.controllers.as_slice().get(place)
+    }
+
+    /// What the controller with this serial claims and reads.
+    pub fn links_of(&self, serial: u32) -> Option<&'a ControllerLinks> {
+        self.links.get(self.place_of(serial)?)
+    }
+
+    /// The name of the controller at this place.
+    pub fn name_at(&self, place: Option<usize>) -> Option<&'a Name> {
+        let controller = self.description.controllers.as_slice().get(place?)?;
+        Some(&controller.name)
     }
 
     /// An inactive controller becomes active.

@@ -3,15 +3,17 @@
 
 use crate::columns::Columns;
 use crate::course::{JointCourse, blank_courses, forget};
+use crate::incidents::{Incident, push_incidents};
 use crate::links::{Linked, component_place, controller_place};
 use crate::present::{Asked, Present};
 use crate::rows::{ColumnState, Event, Row, blank_rows, mark_row};
+use cause_words::is_own;
 use cm_document::{Call, Script, SwitchRequest};
 use cm_model::{
     Cause, CycleRecord, Decision, Done, Dropped, Entry, FailedPart, Outcome, RanRef, Reply, Why,
 };
 use fixed_num::Memory;
-use iface_names::{IfaceName, Name};
+use iface_names::Name;
 use std::alloc::Global;
 
 /// What became of a call that asked for something.
@@ -60,6 +62,8 @@ pub struct RunCounts {
 pub struct Replay<'a> {
     /// The requests that were decided and the calls that did nothing, in that order.
     pub answered: Vec<Answered<'a>>,
+    /// What was not done as asked, or went wrong, in the order in which it happened.
+    pub incidents: Vec<Incident<'a>>,
     /// The row of the requests.
     pub requests: Row,
     /// The rows of the controllers, by place.
@@ -102,6 +106,7 @@ impl<'a> Replay<'a> {
         let components = description.components.as_slice().len();
         Ok(Replay {
             answered: Vec::new(alloc),
+            incidents: Vec::new(alloc),
             requests: Row::blank(alloc, columns.count())?,
             controllers: blank_rows(alloc, controllers, columns.count())?,
             components: blank_rows(alloc, components, columns.count())?,
@@ -124,10 +129,7 @@ impl<'a> Replay<'a> {
     fn read(&mut self, entry: &'a Entry) -> Result<(), Memory> {
         match &entry.reply {
             Reply::Decisions(decisions) => self.read_decisions(decisions.as_slice()),
-            Reply::Cycle(record) => {
-                self.read_cycle(record);
-                Ok(())
-            }
+            Reply::Cycle(record) => self.read_cycle(record),
             // A session is told what became of its request: that is no line of its own.
             Reply::Outcome(_) => Ok(()),
             reply => self.read_call(entry.who, reply),
@@ -154,6 +156,7 @@ impl<'a> Replay<'a> {
             asked: Some(asked),
             became: Became::Not(why),
         })?;
+        self.incidents.push(Incident::Answered(number))?;
         let column = self.columns.of_cycle(cycle);
         match controller_of(asked.call) {
             Some(name) => {
@@ -188,6 +191,9 @@ impl<'a> Replay<'a> {
             asked,
             became: Became::Decided(&decision.outcome),
         })?;
+        if event_of(&decision.outcome) != Event::Done {
+            self.incidents.push(Incident::Answered(number))?;
+        }
         self.count(&decision.outcome);
         let column = self.columns.of_cycle(cycle);
         self.requests
@@ -278,7 +284,8 @@ impl<'a> Replay<'a> {
 
     // ---- Cycles
 
-    fn read_cycle(&mut self, record: &'a CycleRecord) {
+    fn read_cycle(&mut self, record: &'a CycleRecord) -> Result<(), Memory> {
+        push_incidents(&mut self.incidents, &self.present, record)?;
         let cycle = record.cycle();
         let column = self.columns.of_cycle(cycle);
         self.read_failures(record.failed(), column, cycle);
@@ -292,6 +299,7 @@ impl<'a> Replay<'a> {
         self.read_stops(record.stops(), column, cycle);
         self.present.fail(record.failed());
         self.present.ended = cycle.saturating_add(1);
+        Ok(())
     }
 
     fn read_failures(&mut self, failed: &[FailedPart], column: usize, cycle: u64) {
@@ -429,21 +437,5 @@ fn speaks_against(cause: &Cause, name: &Name) -> bool {
             true
         }
         _ => false,
-    }
-}
-
-/// Whether a missing follower is the controller itself: it was to leave, and one that stays claims a reference of it.
-pub fn is_own(cause: &Cause, name: &Name) -> bool {
-    match cause {
-        Cause::MissingFollower(interface) => is_of(interface.get(), name),
-        _ => false,
-    }
-}
-
-/// Whether an interface is a reference of this controller.
-fn is_of(interface: &IfaceName, name: &Name) -> bool {
-    match interface {
-        IfaceName::Reference { controller, .. } => controller == name,
-        IfaceName::Joint { .. } => false,
     }
 }

@@ -192,7 +192,7 @@ component arm: actuator
 cycle 0, operator: switch strict +lead: refused, lead claims pt/j1/position, whose controller would not be active \
 (refused lead missing_follower pt/j1/position)
 cycle 1, operator: switch strict +pt +lead +mk: done (done)
-cycle 2, operator: switch best -pt +mk: done; without pt: pt is needed, as pt/j1/position is claimed \
+cycle 2, operator: switch best -pt +mk: done; without pt: pt is needed, because pt/j1/position is claimed \
 (done dropped pt missing_follower pt/j1/position)
 lead: inactive in cycle 0
 lead: active in cycles 1 to 2

@@ -1,4 +1,4 @@
-//! The part of the picture of a run that tells cycle by cycle what happened.
+//! The part of the picture of a run that tells cycle by cycle what happened, and the same in words.
 #![tactic(auto)]
 
 pub use axis::draw_axis;
@@ -6,6 +6,7 @@ pub use log::draw_log;
 pub use marks::draw_mark;
 pub use run::{Run, draw_run};
 pub use strip::Strip;
+pub use why::push_whys;
 
 mod axis;
 mod bars;
@@ -15,3 +16,4 @@ mod marks;
 mod placed;
 mod run;
 mod strip;
+mod why;

@@ -6,6 +6,7 @@ use crate::causes::answered_title;
 use crate::marks::draw_mark;
 use crate::placed::{Placed, marks_of};
 use crate::strip::Strip;
+use cause_words::{Failure, failure_words};
 use cm_document::Description;
 use cm_replay::{Event, Replay, Row, RowCell};
 use fixed_num::Memory;
@@ -175,17 +176,26 @@ fn event_title(
         (Event::Stopped, Some(at)) => {
             format!(in alloc; "{name}: stopped at the end of cycle {at}")?
         }
-        (Event::UpdateFailed, _) => format!(in alloc;
-            "{name}: its update failed in cycle {cycle}"
-        )?,
-        (Event::WriteFailed, _) => format!(in alloc; "{name}: its write failed in cycle {cycle}")?,
-        (Event::ReadFailed, _) => format!(in alloc; "{name}: its read failed in cycle {cycle}")?,
+        (Event::UpdateFailed, _) => failure_title(alloc, name, Failure::Update, cycle)?,
+        (Event::WriteFailed, _) => failure_title(alloc, name, Failure::Write, cycle)?,
+        (Event::ReadFailed, _) => failure_title(alloc, name, Failure::Read, cycle)?,
         _ => match run.replay.answered.get(cell.answered) {
             Some(answered) => answered_title(alloc, answered)?,
             None => format!(in alloc; "{name}: cycle {cycle}")?,
         },
     };
     Ok(title)
+}
+
+/// What failed of whom, and when.
+fn failure_title(
+    alloc: Global,
+    name: &str,
+    failure: Failure,
+    cycle: u64,
+) -> Result<String, Memory> {
+    let words = failure_words(failure);
+    Ok(format!(in alloc; "{name}: {words} in cycle {cycle}")?)
 }
 
 // ---- Tickets

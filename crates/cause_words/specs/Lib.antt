@@ -1,0 +1,2 @@
+-- The table of the sentences.
+pub mod Words
