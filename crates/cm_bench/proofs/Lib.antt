@@ -1,3 +1,4 @@
+mod Crossing
 pub mod LineLemmas
 mod TextLemmas
 pub mod WordLemmas

@@ -1,5 +1,5 @@
 -- Which words are a plan.
-use Rattle.std.specs.Prelude.{◌≡◌, ℕ, ◌<◌, ◌^◌, List, [], ◌∷◌}
+use Rattle.std.specs.Prelude.{◌≡◌, ℕ, ◌<◌, ◌^◌, List, [], ◌∷◌, codes}
 use Rattle.std.specs.Str.Parse.{IsNumeral, digits_value, without_leading_plus}
 use Rattle.cm_bench.specs.declared.plan.TurnsAsked.{TurnsAsked}
 
@@ -27,3 +27,19 @@ IsPlan words plan = (turns : List ℕ) × (seed : List ℕ) × (words ≡ turns 
 -- words that are none
 abbrev pub IsNoPlan : List (List ℕ) → Type 0
 IsNoPlan words = (plan : TurnsAsked) → ¬ IsPlan words plan
+
+-- the word for live runs, and one that stands for so many, which are some
+abbrev pub AreRuns : List ℕ → List ℕ → ℕ → Type 0
+AreRuns word runs n = (word ≡ codes "live") × (0 < n) × StandsFor runs n
+
+-- or for none at all
+abbrev pub AreNoRuns : List ℕ → List ℕ → Type 0
+AreNoRuns word runs = (n : ℕ) → ¬ AreRuns word runs n
+
+-- two words that ask for so many live runs
+abbrev pub AskForRuns : List (List ℕ) → ℕ → Type 0
+AskForRuns words n = (word : List ℕ) × (runs : List ℕ) × (words ≡ word ∷ runs ∷ []) × AreRuns word runs n
+
+-- words that ask for none
+abbrev pub AskForNoRuns : List (List ℕ) → Type 0
+AskForNoRuns words = (n : ℕ) → ¬ AskForRuns words n

@@ -4,7 +4,6 @@ ghost use Rattle.std.specs.Prelude.{pos, ◌<ℤ◌, ◌≤◌};
 ghost use Rattle.joint_body.specs.declared.TheConstants.{LONGEST_STEP};
 ghost use Rattle.cm_bench.specs.declared.cases.TheConstants.{FAR};
 
-use crate::points::SEGMENT_US;
 use fixed_num::{Fx, JointMode, Memory};
 use joint_body::LONGEST_STEP;
 use std::alloc::Global;
@@ -57,32 +56,6 @@ pub fn pushes(alloc: Global, seed: u64) -> Result<Vec<Push>, Memory> {
     Ok(pushes)
 }
 
-/// When a trajectory is updated.
-#[derive(Clone, Copy)]
-pub struct Moment {
-    pub time_us: u64,
-}
-
-/// As many moments in the second that ends at a time, of a seed.
-pub fn moments(alloc: Global, seed: u64, end_us: u64) -> Result<Vec<Moment>, Memory> {
-    let mut source = SplitMix::make(seed);
-    let mut moments = Vec::with_capacity(alloc, COUNT)?;
-    for _ in 0..COUNT {
-        moments.push(source.moment(end_us))?;
-    }
-    Ok(moments)
-}
-
-/// So many numbers of a seed.
-pub fn values(alloc: Global, seed: u64, count: usize) -> Result<Vec<Fx>, Memory> {
-    let mut source = SplitMix::make(seed);
-    let mut values = Vec::new(alloc);
-    for _ in 0..count {
-        values.push(source.number())?;
-    }
-    Ok(values)
-}
-
 /// So many numbers of a seed, of up to ten units either way.
 pub fn few_units(alloc: Global, seed: u64, count: usize) -> Result<Vec<Fx>, Memory> {
     let mut source = SplitMix::make(seed);
@@ -118,12 +91,6 @@ impl SplitMix {
             mode: self.mode(),
             command: self.number(),
             dt_us: 1 + (self.next() % u64::from(LONGEST_STEP)) as u32,
-        }
-    }
-
-    fn moment(&mut self, end_us: u64) -> Moment {
-        Moment {
-            time_us: end_us.saturating_sub(1 + self.next() % SEGMENT_US),
         }
     }
 

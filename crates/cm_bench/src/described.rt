@@ -17,17 +17,6 @@ const MOCKS: u32 = 4;
 
 /// A description of 16 components and 64 controllers, with 96 states, 96 commands, 60 references, 188 claims and 256 reads.
 pub fn made(alloc: Global) -> Result<String, Memory> {
-    text_of(alloc, 0)
-}
-
-/// The same, in which the mocks claim no effort of the joint at the end of the chain, so that one of them can be active beside the chain:
-/// 184 claims.
-pub fn chained(alloc: Global) -> Result<String, Memory> {
-    text_of(alloc, 1)
-}
-
-/// The text of the description in which mocks claim the effort of the joints from this one on.
-fn text_of(alloc: Global, first_claimed: u32) -> Result<String, Memory> {
     let mut text = String::from_str(alloc, "version = 1\nupdate_rate = 1000\ncycles = 0\n")?;
     for component in 0..COMPONENTS {
         push_component(&mut text, component)?;
@@ -36,7 +25,7 @@ fn text_of(alloc: Global, first_claimed: u32) -> Result<String, Memory> {
         push_passthrough(&mut text, place)?;
     }
     for number in 0..MOCKS {
-        push_mock(&mut text, number, first_claimed)?;
+        push_mock(&mut text, number)?;
     }
     Ok(text)
 }
@@ -81,13 +70,13 @@ fn push_passthrough(text: &mut String, place: u32) -> Result<(), Memory> {
     Ok(())
 }
 
-/// A mock that claims the effort of every joint from one on, and reads position and velocity of every joint.
-fn push_mock(text: &mut String, number: u32, first_claimed: u32) -> Result<(), Memory> {
+/// A mock that claims the effort of every joint, and reads position and velocity of every joint.
+fn push_mock(text: &mut String, number: u32) -> Result<(), Memory> {
     write!(
         text,
         "[[controller]]\nname = \"m{number}\"\ntype = \"mock\"\nclaims = ["
     )?;
-    for joint in first_claimed..JOINTS {
+    for joint in 0..JOINTS {
         write!(text, "\"j{joint}/effort\", ")?;
     }
     text.push_str("]\nreads = [")?;

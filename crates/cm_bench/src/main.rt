@@ -2,46 +2,51 @@
 #![tactic(auto)]
 
 use bodies::{FastMul, FastOver, FastText, PlainMul, PlainOver, PlainText};
-use cases::{Case, Moment};
-use cm_document::MOST_POINTS;
+use cases::Case;
+use crowds::compare_callers;
 use lines::{FastLine, PlainLine};
+use lives::tell_live;
 use plan::TurnsAsked;
-use points::{SEGMENT_US, UnderWay};
 use ranks::{FastOrder, PlainOrder};
 use reading::{DescriptionChecker, DescriptionReader, ScriptReader, TomlReader};
 use std::alloc::Global;
 use std::process::ExitCode;
 use std::rt::{Clock, Env};
 use std::sync::Wait;
+use std::thread::Threads;
 use std::{env, io};
 use steps::{FastStep, PlainStep};
-use switches::{PlainPlan, RelatedPlan};
 use texts::Texts;
 use timing::{Pair, Title, Trial};
-use turns::{LockTurn, MutexTurn};
-use words::plan_of;
+use words::{live_runs_of, plan_of};
 
 mod bodies;
+mod callers;
 mod cases;
+mod crowds;
 mod described;
+mod desks;
 mod lines;
+mod lives;
 mod plain;
 mod plan;
-mod points;
 mod ranks;
 mod reading;
 mod steps;
-mod switches;
 mod texts;
 mod timing;
-mod turns;
 mod words;
 
-/// Status 0 where all answers were the same, 1 where some differ or a call failed, 2 for words that are no plan.
+/// Compares the bodies, or times live runs. The status is 0 if all answers were the same, 1 if some differ or a call
+/// failed, and 2 for words that are no plan.
 fn main(rt: HostRuntime) -> anyhow::Result<ExitCode> {
     let words: Vec<String> = env::args(&rt)?.skip(1).collect(rt.alloc())?;
+    if let Some(runs) = live_runs_of(words.as_slice()) {
+        tell_live(&rt, runs)?;
+        return Ok(ExitCode::SUCCESS);
+    }
     let Some(plan) = plan_of(words.as_slice()) else {
-        eprintln!(rt; "cm_bench: usage: cm_bench TURNS SEED")?;
+        eprintln!(rt; "cm_bench: usage: cm_bench TURNS SEED | live RUNS")?;
         return Ok(ExitCode::from(2));
     };
     match compare_all(&rt, plan)? {
@@ -53,41 +58,40 @@ fn main(rt: HostRuntime) -> anyhow::Result<ExitCode> {
 /// Prints a line for each pair of bodies, and says whether all gave the same answers.
 fn compare_all<R>(rt: &R, plan: TurnsAsked) -> anyhow::Result<bool>
 where
-    R: Clock + Print + AllocGlobal + Wait,
+    R: Clock + Print + AllocGlobal + Threads + Wait + Sync,
 {
     let motions = compare_motions(rt, plan)?;
+    let callers = compare_callers(rt, plan)?;
     let requests = compare_requests(rt, plan)?;
     let readers = compare_readers(rt, plan)?;
-    Ok(motions && requests && readers)
+    Ok(motions && callers && requests && readers)
 }
 
-/// Prints the lines of what a cycle does: numbers, steps and ways.
+/// Prints the lines of what a cycle does: numbers and steps.
 fn compare_motions<R>(rt: &R, plan: TurnsAsked) -> anyhow::Result<bool>
 where
-    R: Clock + Print + AllocGlobal + Wait,
+    R: Clock + Print + AllocGlobal,
 {
     let numbers = compare_numbers(rt, plan)?;
     let steps = compare_steps(rt, plan)?;
-    let ways = compare_ways(rt, plan)?;
-    Ok(numbers && steps && ways)
+    Ok(numbers && steps)
 }
 
-/// Prints the lines of what is done with a description and a history: orders, traces, switches and checks.
+/// Prints the lines of what is done with a description and a history: orders, traces and checks.
 fn compare_requests<R>(rt: &R, plan: TurnsAsked) -> anyhow::Result<bool>
 where
     R: Clock + Print + AllocGlobal,
 {
     let orders = compare_orders(rt, plan)?;
     let lines = compare_lines(rt, plan)?;
-    let switches = compare_switches(rt, plan)?;
     let checks = compare_checks(rt, plan)?;
-    Ok(orders && lines && switches && checks)
+    Ok(orders && lines && checks)
 }
 
-/// Prints the lines of a product, a ratio, a number's text and a turn at a lock, over the same cases.
+/// Prints the lines of a product, a ratio and a number's text, over the same cases.
 fn compare_numbers<R>(rt: &R, plan: TurnsAsked) -> anyhow::Result<bool>
 where
-    R: Clock + Print + AllocGlobal + Wait,
+    R: Clock + Print + AllocGlobal,
 {
     let cases = cases::made(rt.alloc(), plan.seed)?;
     let course = Trial {
@@ -99,13 +103,12 @@ where
 
 fn compare_over<R>(rt: &R, course: &Trial<'_, Case>) -> anyhow::Result<bool>
 where
-    R: Clock + Print + AllocGlobal + Wait,
+    R: Clock + Print + AllocGlobal,
 {
     let mul = course.tell(rt, MUL, &mut PlainMul, &mut FastMul)?;
     let over = course.tell(rt, OVER, &mut PlainOver, &mut FastOver)?;
     let text = compare_texts(rt, course)?;
-    let turn = compare_locks(rt, course)?;
-    Ok(mul && over && text && turn)
+    Ok(mul && over && text)
 }
 
 /// Prints the line of a number's text.
@@ -115,15 +118,6 @@ where
 {
     let mut plain = PlainText::make(rt.alloc());
     course.tell(rt, TEXT, &mut plain, &mut FastText::make(rt.alloc()))
-}
-
-/// Prints the line of a turn at a lock.
-fn compare_locks<R>(rt: &R, course: &Trial<'_, Case>) -> anyhow::Result<bool>
-where
-    R: Clock + Print + AllocGlobal + Wait,
-{
-    let mut lock = LockTurn::make(rt, rt.alloc())?;
-    course.tell(rt, TURN, &mut MutexTurn::make(rt), &mut lock)
 }
 
 /// Prints the line of a body's step.
@@ -138,37 +132,6 @@ where
     };
     course.tell(rt, STEP, &mut PlainStep::make(), &mut FastStep::make())
 }
-
-/// Prints the line of a trajectory: on the last of its segments, which it has alone, and behind all others that there may be.
-fn compare_ways<R>(rt: &R, plan: TurnsAsked) -> anyhow::Result<bool>
-where
-    R: Clock + Print + AllocGlobal,
-{
-    let moments = cases::moments(rt.alloc(), plan.seed, LAST_US)?;
-    let course = Trial {
-        cases: moments.as_slice(),
-        turns: plan.turns,
-    };
-    compare_points(rt, &course, plan.seed)
-}
-
-fn compare_points<R>(rt: &R, course: &Trial<'_, Moment>, seed: u64) -> anyhow::Result<bool>
-where
-    R: Clock + Print + AllocGlobal,
-{
-    let mut last = way(rt.alloc(), seed, LAST_US - 2 * SEGMENT_US)?;
-    let mut all = way(rt.alloc(), seed, 0)?;
-    course.tell(rt, POINTS, &mut last, &mut all)
-}
-
-/// A trajectory of the points of a seed, but for those up to a time.
-fn way(alloc: Global, seed: u64, after_us: u64) -> anyhow::Result<UnderWay> {
-    let values = cases::values(alloc, seed, MOST_POINTS)?;
-    UnderWay::make(alloc, values.as_slice(), after_us)
-}
-
-/// When the last point is, in microseconds.
-const LAST_US: u64 = MOST_POINTS as u64 * SEGMENT_US;
 
 /// Prints the line of an order by rank.
 fn compare_orders<R>(rt: &R, plan: TurnsAsked) -> anyhow::Result<bool>
@@ -210,28 +173,6 @@ where
 
 /// A line of 255 numbers is made in some microseconds, so it gets one turn for so many of the others.
 const LINE_SHARE: u64 = 200;
-
-/// Prints the line of a switch.
-fn compare_switches<R>(rt: &R, plan: TurnsAsked) -> anyhow::Result<bool>
-where
-    R: Clock + Print + AllocGlobal,
-{
-    let alloc = rt.alloc();
-    let cases = [switches::made(alloc)?];
-    let course = Trial {
-        cases: cases.as_slice(),
-        turns: plan.turns / SWITCH_SHARE + 1,
-    };
-    course.tell(
-        rt,
-        SWITCH,
-        &mut PlainPlan { alloc },
-        &mut RelatedPlan { alloc },
-    )
-}
-
-/// A switch is decided in some microseconds, so it gets one turn for so many of the others.
-const SWITCH_SHARE: u64 = 200;
 
 /// Prints the line of the checks, over a description near every limit: what reading it takes, and what checking it takes besides.
 fn compare_checks<R>(rt: &R, plan: TurnsAsked) -> anyhow::Result<bool>
@@ -327,18 +268,8 @@ const TEXT: Title = Title {
     what: "bytes",
 };
 
-const TURN: Title = Title {
-    name: "turn",
-    what: "answers",
-};
-
 const STEP: Title = Title {
     name: "step",
-    what: "answers",
-};
-
-const POINTS: Title = Title {
-    name: "points",
     what: "answers",
 };
 
@@ -350,9 +281,4 @@ const RANKS: Title = Title {
 const TRACE: Title = Title {
     name: "trace",
     what: "bytes",
-};
-
-const SWITCH: Title = Title {
-    name: "switch",
-    what: "plans",
 };

@@ -38,6 +38,11 @@ pub struct Pair {
 pub struct Tenths(u128);
 
 impl Tenths {
+    /// The time of each of so many turns that took these nanoseconds together; 0 if there were none.
+    pub fn of(nanos: u128, turns: u128) -> Tenths {
+        Tenths(nanos.saturating_mul(10).checked_div(turns).unwrap_or(0))
+    }
+
     /// What this time is more than another; 0 where it is less.
     pub fn besides(self, other: Tenths) -> Tenths {
         Tenths(self.0.saturating_sub(other.0))
@@ -57,7 +62,7 @@ impl fmt::Display for Tenths {
 
 impl Pair {
     /// Prints the line of a pair. One turn has no time worth telling, so its line is the same in each run.
-    fn tell<R: Print>(&self, rt: &R, turns: u64, title: Title) -> io::Result<()> {
+    pub fn tell<R: Print>(&self, rt: &R, turns: u64, title: Title) -> io::Result<()> {
         let Title { name, what } = title;
         if !self.same {
             return println!(rt; "{name}: {what} differ");

@@ -2,6 +2,7 @@
 
 ghost use Rattle.std.specs.Prelude.{map, string_bytes, MatchOption};
 ghost use Rattle.cm_bench.specs.Words.{AreOf, AreOfNone, IsPlan, IsNoPlan, StandsFor, StandsForNone};
+ghost use Rattle.cm_bench.specs.Words.{AreRuns, AreNoRuns, AskForRuns, AskForNoRuns};
 
 use crate::plan::TurnsAsked;
 
@@ -24,6 +25,29 @@ fn plan_of_two(turns: &str, seed: &str) -> Option<TurnsAsked>
         return None;
     }
     Some(TurnsAsked { turns, seed })
+}
+
+/// How many live runs the words `live RUNS` ask for, decimal and not 0. `None` for any others.
+pub fn live_runs_of(words: &[String]) -> Option<u64>
+    ensures { MatchOption result (AskForNoRuns (map string_bytes words.now)) (AskForRuns (map string_bytes words.now)) }
+{
+    if words.len() != 2 {
+        return None;
+    }
+    live_runs_of_two(words[0].as_str(), words[1].as_str())
+}
+
+fn live_runs_of_two(word: &str, runs: &str) -> Option<u64>
+    ensures { MatchOption result (AreNoRuns word.now runs.now) (AreRuns word.now runs.now) }
+{
+    if word != "live" {
+        return None;
+    }
+    let runs = number_of(runs)?;
+    if runs == 0 {
+        return None;
+    }
+    Some(runs)
 }
 
 /// The number that a word stands for.

@@ -58,10 +58,10 @@ def main(asked):
     program, load = measuring(), os.getloadavg()[0]
     bodies, checks, readers = zip(*(measured(program) for _ in range(RUNS)))
     print(f"load             {load:.1f}")
-    print(f"{'body':<8} {'plain':>10} {'fast':>10} {'ratio':>7}")
+    print(f"{'body':<14} {'plain':>10} {'fast':>10} {'ratio':>7}")
     for name in bodies[0]:
         plain, fast = best(min, [it[name] for it in bodies])
-        print(f"{name:<8} {plain:>7.1f} ns {fast:>7.1f} ns {plain / fast:>7.1f}")
+        print(f"{name:<14} {plain:>7.1f} ns {fast:>7.1f} ns {plain / fast:>7.1f}")
     read, checked = best(min, checks)
     toml, script = best(max, readers)
     print(f"\ndescription      {read / 1000:.1f} us read, {checked / 1000:.1f} us checked")

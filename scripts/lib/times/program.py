@@ -1,7 +1,7 @@
-"""Answers: how fast is the built program? As docs/SPEED.md has it.
+"""Answers: how fast is the built program? Prints what docs/SPEED.md has between its marks.
 
 It runs the program seven times on each of three documents of 100,000 cycles, its output to the null device, and then with the words
-`run --make 1000`, and prints of each the least time, the time a cycle, what it makes a second, and the peak memory.
+`run --make 1000`, and prints of each the least time and the peak memory, and of a document the time a cycle and the lines a second.
 - controllers: 64 described controllers, and a session that loads 32 of them and lists them.
 - components: 32 joints in 16 components, read, written, stepped and told of in each cycle, and a session that lists them.
 - updates: the same joints, each commanded by a forward; a session switches the 32 on together and sends each a value.
@@ -84,16 +84,22 @@ def peak_of_a_run(program, words, document):
     return peak
 
 
-def tell_runs(program, name, words, document, cycles, counts):
-    """Prints what runs with these words take, and how many of each of the counts they make a second."""
+def tell_table(*rows):
+    """Prints a table, whose first row is its head, between empty lines."""
+    head, *others = ("| " + " | ".join(row) + " |" for row in rows)
+    print("", head, "|---" * len(rows[0]) + "|", *others, "", sep="\n", flush=True)
+
+
+def best_of_runs(program, words, document):
+    """Returns the least time of runs with these words, in seconds, and their peak memory, in MiB."""
     least = min(time_of_a_run(program, words, document) for _ in range(RUNS))
-    peak = max(peak_of_a_run(program, words, document) for _ in range(RUNS))
-    print(f"document         {name}")
-    print(f"least time       {least * 1000:.1f} ms, of {RUNS} runs")
-    print(f"time a cycle     {least / cycles * 1e6:.2f} us")
-    for what, count in counts:
-        print(f"{what + ' a second':<16} {count / least:,.0f}")
-    print(f"peak memory      {peak / 1024:.1f} MiB", flush=True)
+    return least, max(peak_of_a_run(program, words, document) for _ in range(RUNS)) / 1024
+
+
+def of_document(program, name, document, lines):
+    """Returns the row of a document, whose trace has so many lines."""
+    least, peak = best_of_runs(program, ["run"], document)
+    return name, f"{least * 1000:.1f} ms", f"{least / CYCLES * 1e6:.2f} us", f"{lines:,}", f"{lines / least:,.0f}", f"{peak:.1f} MiB"
 
 
 def see_counts(program, folder):
@@ -113,8 +119,8 @@ def main(asked):
         for name, (document, _) in DOCUMENTS.items():
             Path(folder, name).write_text(document())
         see_counts(program, folder)
-        print(f"cores            {os.cpu_count()}")
-        for name, (_, lines) in DOCUMENTS.items():
-            tell_runs(program, name, ["run"], Path(folder, name), CYCLES, [("lines", lines)])
-    tell_runs(program, "made", MADE, os.devnull, MADE_CYCLES, [("entries", MADE_ENTRIES), ("updates", MADE_UPDATES)])
+        rows = [of_document(program, name, Path(folder, name), lines) for name, (_, lines) in DOCUMENTS.items()]
+    tell_table(("Document", "Least time", "Time a cycle", "Lines of trace", "Lines a second", "Peak memory"), *rows)
+    least, peak = best_of_runs(program, MADE, os.devnull)
+    print(f"`{' '.join(MADE)}` took {least * 1000:.1f} ms and {peak:.1f} MiB.")
     return 0

@@ -1,0 +1,24 @@
+//! A desk on which nothing is loaded.
+
+ghost use Rattle.std.specs.Prelude.{◌≡◌, [], IfOk};
+
+use cm_desk::Desk;
+use ctl_mock::Mock;
+use ctl_rack::Stock;
+use desc_check::check;
+use desc_text::read_description;
+use std::alloc::Global;
+
+/// A description of no cycles, with neither a component nor a controller.
+const EMPTY: &str = "version = 1\nupdate_rate = 100\ncycles = 0\n";
+
+/// Such a desk at boot, of so many sessions.
+pub fn booted(alloc: Global, sessions: u32) -> anyhow::Result<Desk<Mock>>
+    ensures empty { IfOk result (λ desk. desk.made ≡ []) }
+    ensures sessions { IfOk result (λ desk. desk.opening.sessions ≡ sessions) }
+{
+    let description = read_description(alloc, EMPTY.as_bytes())?;
+    let checked = check(alloc, description)?;
+    let stock = Stock::make(Vec::new(alloc));
+    Ok(Desk::boot(alloc, checked, stock, sessions)?)
+}

@@ -1,0 +1,96 @@
+"""Answers: what do a live run and a shared desk cost? Prints what docs/SPEED.md has between its marks.
+
+First it runs the built program with `run` and with `live`, in turns, on documents of 100,000 cycles in which no session waits: `bare` has
+neither a joint nor a controller, and the others are those of `scripts/times program`. Then eight sessions wait for the last cycle of
+`bare`, on two processors, in turns with `bare` itself.
+Then it runs cm_bench: as `scripts/times bodies` does, for the callers of one desk, which have passes or lock std's mutex round the same
+boxed desk; and with `live`, for how long a cycle takes from before its begin until it has landed.
+If cm_bench is missing, it is proved and built first.
+"""
+
+import os
+import re
+import resource
+import subprocess
+import tempfile
+from pathlib import Path
+
+from ..replay import programs
+from . import bodies
+from .program import CYCLES, DOCUMENTS, HEAD, tell_table, time_of_a_run
+
+RUNS = 9
+LIVE_RUNS = 201  # of 499 measured cycles each
+SESSIONS = 8
+TWO = ["taskset", "-c", "0,1"]  # on two processors
+SCRIPT = "--- script ---\n"
+CALLERS = {"desk": "a look, nobody else calls", "one_caller": "1", "two_callers": "2", "four_callers": "4", "eight_callers": "8"}
+LENGTHS = re.compile(r"(.*): (\d+) cycles, median (\d+) ns, hundredth greatest (\d+) ns, greatest (\d+) ns")
+
+
+def options(parser):
+    parser.add_argument("--bench", type=Path, metavar="PATH", help="another program than the built cm_bench")
+    programs.options(parser)
+
+
+def bare():
+    return HEAD + SCRIPT
+
+
+def waiting():
+    return HEAD + SCRIPT + "".join(f"session s{k}\nawait {CYCLES}\n" for k in range(SESSIONS))
+
+
+def by_both_jobs(program, name, document):
+    """Returns the row of a document: the least time of a cycle by each job. They take turns."""
+    both = [[time_of_a_run(program, [job], document) for job in ("run", "live")] for _ in range(RUNS)]
+    alone, live = (min(times) / CYCLES * 1e6 for times in zip(*both))
+    return name, f"{alone:.2f} us", f"{live:.2f} us", f"{live / alone:.2f}"
+
+
+def time_on_two(program, document):
+    """Returns how long a live run on two processors takes, and how much of them."""
+    before = resource.getrusage(resource.RUSAGE_CHILDREN)
+    took = time_of_a_run(TWO[0], [*TWO[1:], program, "live"], document)
+    after = resource.getrusage(resource.RUSAGE_CHILDREN)
+    return took, after.ru_utime + after.ru_stime - before.ru_utime - before.ru_stime
+
+
+def tell_waiting(program, document, alone):
+    """Prints how long a run takes in which all sessions wait, and which part of a processor they take."""
+    took, busy, _, busy_alone = zip(*((*time_on_two(program, document), *time_on_two(program, alone)) for _ in range(RUNS)))
+    part = (sum(busy) - sum(busy_alone)) / sum(took)
+    print(f"A live run of `bare` in which eight sessions wait for its last cycle took {max(took) * 1000:.0f} ms at most on two processors,")
+    print(f"and {part:.2f} of a processor more than without them.")
+
+
+def of_callers(bench):
+    """Returns the rows of the callers: the least times of a call."""
+    runs = [bodies.measured(bench)[0] for _ in range(bodies.RUNS)]
+    for name, callers in CALLERS.items():
+        mutex, passes = bodies.best(min, [pairs[name] for pairs in runs])
+        yield callers, f"{mutex:.0f} ns", f"{passes:.0f} ns", f"{1e9 / mutex:,.0f}", f"{1e9 / passes:,.0f}"
+
+
+def of_cycles(bench):
+    """Returns the rows of the lengths of cycles."""
+    told = subprocess.run([bench, "live", str(LIVE_RUNS)], stdout=subprocess.PIPE, text=True, check=True).stdout
+    for line in told.splitlines():
+        name, _, *lengths = LENGTHS.fullmatch(line).groups()
+        yield name, *(f"{int(length) / 1000:,.1f} us" for length in lengths)
+
+
+def main(asked):
+    program, bench = programs.program(asked), str(asked.bench or bodies.measuring())
+    with tempfile.TemporaryDirectory() as folder:
+        made = {"bare": bare, "waiting": waiting, **{name: made for name, (made, _) in DOCUMENTS.items()}}
+        paths = {name: Path(folder, name) for name in made}
+        for name, path in paths.items():
+            path.write_text(made[name]())
+        rows = [by_both_jobs(program, name, paths[name]) for name in ["bare", *DOCUMENTS]]
+        tell_table(("Document", "A cycle of `run`", "Of `live`", "Ratio"), *rows)
+        tell_waiting(program, paths["waiting"], paths["bare"])
+    head = "Callers of one desk", "A call under std's mutex", "By passes", "Calls a second under the mutex", "By passes"
+    tell_table(head, *of_callers(bench))
+    tell_table(("Sessions beside the loop", "Median of a cycle", "Hundredth greatest", "Greatest"), *of_cycles(bench))
+    return 0
