@@ -3,8 +3,8 @@ definitions that they name, whether it may want memory, and whether it may wait.
 comes, with the clause that says so.
 
 A call is a public function or method, or a method of a public trait. What implements a trait answers as the trait says. Laws, tests and
-the crates of tests are apart. A call whose answer may be a refusal needs a clause that speaks of its result, but for the crates that draw:
-they promise that they return, and no more.
+the crates of tests are apart. A call whose answer may be a refusal needs a clause that speaks of its result, and a row of causes.txt for each
+refusal, but for the crates that draw: they promise that they return, and no more.
 """
 
 import functools
@@ -23,7 +23,8 @@ DRAWS = ("Pictures",)  # floors whose crates promise only that they return
 HEAD = re.compile(r"(?P<indent> {0}| {4})(?P<public>pub )?(?:const |unsafe )*fn (?P<name>\w+)")
 BLOCK = re.compile(r"(?:pub )?(?:unsafe )?(?P<kind>impl|trait)\b(?P<rest>.*)")
 MEMORY = ("Memory", "AllocError")
-TOLD = ("Status", "Progress", "Done")  # types whose every case is an answer
+TOLD = ("Status", "Progress", "Done")  # types whose cases are answers,
+WELL = ("Ok", "Ran")  # but for those that tell that all went well
 NONE, UNNAMED = "None", "-"
 MOST_DEFINITIONS = 3  # of a clause that are told
 
@@ -69,7 +70,7 @@ class Call:
 
     def answers(self):
         """What it may answer besides its value, want of memory apart."""
-        return [it for it in answers_in(self.returned) if it not in MEMORY]
+        return [it for it in answers_in(self.returned) if it not in (*MEMORY, *WELL)]
 
     def wants_memory(self):
         return any(it in MEMORY for it in answers_in(self.returned))
@@ -171,12 +172,19 @@ def heads(text):
         found = HEAD.match(line)
         if not found:
             continue
-        head = [line]
-        while not head[-1].rstrip().endswith(("{", "{}", ";")):
-            head.append(next(lines))
+        head = line
+        while not is_whole(head):
+            head += "\n" + next(lines)
         if found["indent"] and of_trait == "given":
             continue
-        yield owner if found["indent"] else "", bool(found["public"] or of_trait == "trait"), found["name"], "\n".join(head)
+        yield owner if found["indent"] else "", bool(found["public"] or of_trait == "trait"), found["name"], head
+
+
+def is_whole(head):
+    """Whether a head goes on to its body, or to the semicolon in its place. A clause may have braces and semicolons within its own."""
+    end = re.search(r"(\{\}|[{;])\s*\Z", head)
+    before = head[:end.start()] if end else "{"
+    return before.count("{") == before.count("}")
 
 
 def owner_of(block, line, lines):
@@ -263,6 +271,12 @@ def findings():
         for call in of_crate:
             if call.answers() and not call.is_answered and crate not in draws:
                 yield f"{crate}: no clause says when {call.path} answers {', '.join(call.answers())}"
+    causes_of = {}
     for answer, _, place, clause, call in causes():
+        causes_of.setdefault(place, set()).update(re.findall(r"`(\w+)`", answer))
         if not call or clause not in call.clauses:
             yield f"{CAUSES.relative_to(TOP)}: {answer} names {place} and its clause {clause}, which is not there"
+    for crate, of_crate in every_call().items():
+        for call in of_crate if crate not in draws else []:
+            if missing := [it for it in call.answers() if it not in causes_of.get(f"{crate}::{call.path}", ())]:
+                yield f"{CAUSES.relative_to(TOP)}: has no row for {', '.join(missing)} of {crate}::{call.path}"

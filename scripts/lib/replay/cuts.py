@@ -2,11 +2,11 @@
 
 - The first document of scripts/cases, cut behind each of its lines, and within the first: docs/FAULTS.md has a row for each cut.
 - The schedule of ten turns, cut behind each turn: the run goes well, and cut behind the sixth it prints what stands here.
-- Each document of examples/ and scripts/cases, cut behind a byte. Cut within the description it is refused. Cut behind the separator it goes
-  well, or its last line is refused if it is not whole. If another implementation is named, its answer is compared too, byte by byte.
+- Each document of examples/ and scripts/cases, cut behind each byte. Cut within the description it is refused. Cut behind the separator it
+  goes well, or its last line is refused if it is not whole.
 
-Of the cuts behind a byte one of STRIDE is made, by turns from document to document, and each that is behind a line. With `--whole` all are
-made. No run is to take a tenth of a second of the processor.
+If another implementation is named, its answer is compared too, byte by byte: of the cuts behind a byte one of STRIDE, by turns from document
+to document, and each that is behind a line. With `--whole` all are compared. No run is to take a tenth of a second of the processor.
 Prints a line for each cut of which something else comes, and last `N passed, M failed`. The exit status is 1 if there is one.
 """
 
@@ -41,7 +41,7 @@ loop close: none
 
 def options(parser):
     parser.add_argument("--other", type=Path, metavar="FOLDER", help="of another implementation, with whose answers these are compared")
-    parser.add_argument("--whole", action="store_true", help="each document is cut behind each of its bytes")
+    parser.add_argument("--whole", action="store_true", help="each cut is compared with it, which takes minutes")
     parser.add_argument("--jobs", type=int, default=os.cpu_count(), help="how many documents are run side by side")
     programs.options(parser)
 
@@ -93,9 +93,9 @@ def documents():
     return [document for document in every if "--make" not in words_of(document)]
 
 
-def cuts(number, text, is_whole):
-    """Returns behind how many bytes a document is cut, which is the one of this number."""
-    return [left for left in range(len(text)) if is_whole or left % STRIDE == number % STRIDE or text[left - 1: left] == b"\n"]
+def is_compared(number, text, left):
+    """Whether the document of this number is compared if it is cut behind so many bytes and not all are compared."""
+    return left % STRIDE == number % STRIDE or text[left - 1: left] == b"\n"
 
 
 def wrong_by_rules(cut, refused, came):
@@ -121,18 +121,17 @@ def tried(program, other, is_whole, numbered):
     number, document = numbered
     words, text, found = words_of(document), document.read_bytes(), []
     refused = programs.came([program, *words], text).told
-    made = cuts(number, text, is_whole)
-    for left in made:
+    for left in range(len(text)):
         came = programs.came([program, *words], text[:left])
         why = wrong_by_rules(text[:left], refused, came)
         if not why and came.seconds >= SECONDS:
             why = "it takes too long"
-        if not why and judge(other):
+        if not why and judge(other) and (is_whole or is_compared(number, text, left)):
             why = judge(other)(text[:left], words, STAGE, came.status, came.printed, came.told)
         if why:
             said = f"status {came.status}, {came.told!r}, {came.seconds:.3f} s"
             found.append((f"{document.relative_to(TOP)}, {left} bytes", f"{why}: {said}"))
-    return len(made), found
+    return len(text), found
 
 
 def main(asked):

@@ -4,7 +4,8 @@
 - each interface that is named is one that `list interfaces` prints, and each reference that this prints is named;
 - the counts of the heading are those of the trace that `cm` prints;
 - the log has each request and each refused call of the trace, in that order, with ticket, cycle, session, call and what became of it, or
-  says how many it leaves out.
+  says how many it leaves out;
+- `--why` tells each refusal, each name that was left out, each failure and each stop of the trace, in that order.
 Prints a line for each fault, and last `N passed, M failed`. The exit status is 1 if a page is wrong.
 """
 
@@ -16,7 +17,7 @@ from pathlib import Path
 from ..tree import TOP
 from . import programs
 from .layout import names, places
-from .log import Told, log
+from .log import Told, log, whys
 from .other import STAGE
 from .page import Page
 
@@ -93,7 +94,8 @@ class Looker:
         page = Page(svg)
         cycles = int(re.search(r"run of (\d+) cycle", page.texts[0].words)[1])
         told = Told(trace, cycles)
-        return name, [*places(page), *names(page, self.interfaces(document)), *log(page, told)]
+        _, text = ran(self.draw, [*words, "--why"], document)
+        return name, [*places(page), *names(page, self.interfaces(document)), *log(page, told), *whys(text, told)]
 
     def interfaces(self, document):
         """The interfaces that `list interfaces` prints of a document's description."""

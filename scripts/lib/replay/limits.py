@@ -2,9 +2,9 @@
 
 The document has as many components, joints, states, commands, controllers, references, claims and reads as it may have, names as long as
 names may be, as many sessions, calls and turns as a script may have, with as many names in a switch, values in a list and points in a send,
-and as many bytes as a document may have. It is run by each job that the program has: for a few cycles, compared with another
-implementation if one is named, and for many, of which the lines are counted. With `--whole` it is also run for as many cycles as there
-may be, which takes a gigabyte.
+a line as long as lines may be, and as many bytes as a document may have. It is run by each job that the program has: for a few cycles,
+compared with another implementation if one is named, and for many, of which the lines are counted. With `--whole` it is also run for as
+many cycles as there may be, which takes a gigabyte.
 Prints a line a run, with the processor's seconds, and last `N passed, M failed`. The exit status is 1 if one failed.
 """
 
@@ -14,7 +14,7 @@ from ..tool import Tally
 from . import programs
 from .other import STAGE, judge
 from .sizes.parts import (
-    CALLS, CLAIMS_OF_ONE, CONTROLLERS, CYCLES, JOINTS, KINDS, LONGEST, NAME, RATE, SESSIONS, component, controller, head, joint, limit)
+    CALLS, CLAIMS_OF_ONE, CONTROLLERS, CYCLES, JOINTS, KINDS, LINE, LONGEST, NAME, RATE, SESSIONS, component, controller, head, joint, limit)
 from .streams import LEAST, USAGE
 
 FEW, MANY = 20, 2_000  # cycles
@@ -62,7 +62,7 @@ def first_session():
     yield "switch best " + " ".join([*unknown, *(f"+{name}" for name in loaded)])
     yield f"send {loaded[0]} " + " ".join(["0.5"] * VALUES)
     yield f"send {loaded[0]} " + " ".join(f"@{k + 1}{' 0.5' * VALUES}" for k in range(POINTS))
-    yield from ("list controllers", "list interfaces", "list components")
+    yield from ("list controllers", "list interfaces", "list" + "components".rjust(LINE - len("list")))
 
 
 def script(job):

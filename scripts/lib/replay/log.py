@@ -1,4 +1,4 @@
-"""What a trace tells, and whether the log of a page tells the same."""
+"""What a trace tells, and whether the log of a page and what stands there in words tell the same."""
 
 from dataclasses import dataclass
 
@@ -6,6 +6,8 @@ from .layout import INTERFACE
 
 CALLS = ("load", "configure", "cleanup", "unload", "rate", "send")
 LOG = "Requests, and calls that were refused"
+NOTHING = "Nothing was refused, left out or stopped, and nothing failed."
+MEND = "    mend: "
 
 
 @dataclass(frozen=True)
@@ -19,11 +21,12 @@ class Row:
 
 
 class Told:
-    """What a trace tells: rows of the log, and how often things happened."""
+    """What a trace tells: rows of the log, how often things happened, and how each line begins that tells what went wrong."""
 
     def __init__(self, trace, cycles):
         self.rows, self.asked, self.cycles, self.ended = [], {}, cycles, 0
         self.failed = self.stopped = 0
+        self.whys = []
         for line in trace.splitlines():
             who, rest = line.split(" ", 1)
             call, reply = rest.split(": ", 1)
@@ -37,11 +40,23 @@ class Told:
             items = reply.split("; ")
             self.failed += sum(it.startswith("fail ") or it.startswith("run ") and it.endswith(" error") for it in items)
             self.stopped += sum(it.startswith("stop ") for it in items)
+            self.go_wrong([it.split(" ") for it in items])
             self.ended += 1
         elif reply.startswith("queued "):
             self.asked[reply.split(" ")[1]] = (who, call)
         elif word in ("switch", "hw") or word in CALLS and not reply.startswith("ok"):
             self.rows.append(Row("", self.now(), who, call, reply))
+            when = "after the close" if reply == "loop_ended" else f"cycle {self.ended}"
+            self.whys.append(f"{when}, {who}: {call}: refused, ")
+
+    def go_wrong(self, items):
+        for words in items:
+            if words[0] == "fail":
+                self.whys.append(f"cycle {self.ended}, {words[1]}: its {words[2]} failed")
+            elif words[0] == "run" and words[2:] == ["error"]:
+                self.whys.append(f"cycle {self.ended}, {words[1]}: its update failed")
+            elif words[0] == "stop":
+                self.whys.append(f"cycle {self.ended}, {words[1]}: stopped, ")
 
     def now(self):
         return str(self.ended) if self.ended < self.cycles else "close"
@@ -50,6 +65,16 @@ class Told:
         for one in reply.split("; ") if reply != "none" else []:
             ticket, outcome = one.split(" ", 1)
             self.rows.append(Row(ticket, self.now(), *self.asked[ticket], outcome))
+            self.decided(*self.asked[ticket], outcome)
+
+    def decided(self, who, call, outcome):
+        if outcome == "loop_ended":
+            self.whys.append(f"at the close, {who}: {call}: not decided, ")
+        elif outcome.startswith("refused "):
+            self.whys.append(f"cycle {self.ended}, {who}: {call}: refused, {outcome.split(' ')[1]} ")
+        elif " dropped " in outcome:
+            for one in outcome.split(" dropped ")[1].split(", "):
+                self.whys.append(f"cycle {self.ended}, {who}: {call}: left out, {one.split(' ')[0]} ")
 
     def counts(self):
         decided = [it for it in self.rows if it.ticket]
@@ -123,3 +148,15 @@ def outcome_faults(row, said):
     dropped = row.outcome.split("dropped ")[1].count(", ") + 1 if "dropped " in row.outcome else 0
     if said.count(";without") != dropped:
         yield f"`{row.call}: {row.outcome}` tells {said.count(';without')} that were left out"
+
+
+def whys(text, told):
+    """The faults of what is told in words: a line for all that went wrong in the trace, and below each what would mend it."""
+    lines = text.splitlines()
+    if not told.whys and lines != [NOTHING]:
+        yield "nothing went wrong, which is not told in words"
+    elif told.whys and len(lines) != 2 * len(told.whys):
+        yield f"{len(lines)} lines tell in words the {len(told.whys)} things that went wrong"
+    for wanted, line, mend in zip(told.whys, lines[::2], lines[1::2]):
+        if not line.startswith(wanted) or not mend.startswith(MEND):
+            yield f"`{line[:120]}` is to begin with `{wanted[:120]}`, and below it what would mend it"

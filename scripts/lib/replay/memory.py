@@ -4,7 +4,8 @@ The program runs each document of scripts/cases and the made one of three rounds
 refused alone, and then all from that one on. It is to end with status 0 and the whole trace, or with status 7, its line, and a front of
 the trace. Live runs have many traces: one that ends well is judged as `scripts/replay live` does, and a front of one by the job `steps`.
 Then the tests below are run with each of their allocations refused alone. A test may say that it wants memory itself. Else it
-must pass, and it fails if a call that was refused memory has changed the history, or has another answer when it is made again.
+must pass, and it fails if a call that was refused memory has changed the history, or has another answer when it is made again. One that
+never goes on behind a refusal shows nothing, and fails.
 
 A library that is loaded before all else refuses memory. It is compiled here, by the kit. It does not reach the program that ./try compiled,
 whose memory is watched by a library of its own. The test programs are those that the gate built: without one, a line says so. With
@@ -17,6 +18,7 @@ import collections
 import concurrent.futures
 import functools
 import os
+import re
 import tempfile
 from pathlib import Path
 
@@ -30,12 +32,17 @@ CASES = TOP / "scripts/cases"
 RUN_LIVE = (CASES / "every_cause.cm", EXAMPLES / "operators.cm")
 MADE, SUMMARY = ["run", "--make", "3"], TOP / "examples/made.cm.stdout"
 WELL, WANT = (0, b""), (7, b"cm: out of memory\n")
-# The tests of want of memory: of each crate the one that is run, by its full name.
-TESTS = {
-    "program_rows": "memory::memory_is_wanted_only_where_it_was_refused",
-}
+# The tests to which memory is refused, by their full names, each with its crate.
+TESTS = (
+    ("program_rows", "memory::memory_is_wanted_only_where_it_was_refused"),
+    ("desk_rows", "refused::a_call_that_was_refused_memory_is_made_again"),
+    ("desk_rows", "desks::a_desk_answers_several_sessions"),
+    ("share_rows", "passes::sessions_are_answered_while_a_flight_is_out"),
+    ("share_rows", "passes::each_call_is_answered_at_each_lifecycle_state"),
+)
+FAILED = 101  # the status of a test
 # What a test says that has no memory for itself.
-OWN_WANTS = (b"error: AllocError", b"error: Memory")
+OWN_WANT = re.compile(rb"error: (AllocError|AllocFailed { .. }|Memory|Error|\w+\(Memory\))\n")
 SHOWN = 5  # runs of one document that are told
 
 
@@ -62,7 +69,7 @@ def is_fair_live(program, document, came, _):
 
 def is_right_or_wants(came, whole):
     """Whether a test passed, or has no memory for itself."""
-    return came.status == 0 or came.status == 1 and came.told.strip().endswith(OWN_WANTS)
+    return came.status == 0 or came.status == FAILED and bool(OWN_WANT.match(came.told))
 
 
 def documents():
@@ -96,6 +103,8 @@ class Tried:
         odd = [
             f"allocation {number} {WAYS[way]}: status {came.status}, {came.told[-200:]!r}, {came.printed[-80:]!r}"
             for (way, number), came in zip(tried, all_came) if not self.is_so(came, self.whole)]
+        if all(came.status == FAILED for came in all_came):
+            odd.append("no run goes on behind a refusal")
         ended = sorted(collections.Counter(came.status for came in all_came).items(), key=str)
         said = ", ".join(f"{many} with status {status}" for status, many in ended)
         tally.tell(f"{self.name}: {len(tried)} runs, {said}", "; ".join(odd[:SHOWN]))
@@ -108,7 +117,7 @@ def documents_tried(program, loaded):
 
 
 def tests_tried(others, loaded):
-    for crate, test in TESTS.items():
+    for crate, test in TESTS:
         built = Path(others.get(crate, TOP / f"crates/{crate}/out/{crate}_tests"))
         if built.exists():
             yield Tried(f"{crate}: {test}", Refusing([built, test], b"", loaded), (ALONE,), is_right_or_wants)

@@ -1,8 +1,9 @@
 """Answers: what is left of a run that a signal ends, that is stopped for a while, or whose reader stops?
 
-The program is run over pipes and files. A signal comes while it reads, or while it writes a long trace that its reader does not take. What
-it printed is to be a front of the trace: of its lines each is whole but the last, and that one is whole if it has its line feed. A run
-that is stopped and goes on prints the whole trace, and so does one whose reader waits. docs/FAULTS.md says what a user sees.
+The program is run over pipes and files, by the jobs run and live. A signal comes while it reads, or while it writes a long trace that
+its reader does not take. What it printed is to be a front of the trace: of its lines each is whole but the last, and that one is whole if
+it has its line feed. A run that is stopped and goes on prints the whole trace, and so does one whose reader waits. docs/FAULTS.md says
+what a user sees.
 Prints a line a case, and last `N passed, M failed`. The exit status is 1 if one failed.
 """
 
@@ -14,7 +15,7 @@ import time
 
 from ..tool import Tally
 from . import programs
-from .streams import LEAST, LEAST_TRACE, LIMIT, LONG, LONG_TRACE, WELL, WRITE
+from .streams import JOBS, LEAST, LEAST_TRACE, LIMIT, LONG, LONG_TRACE, WELL, WRITE
 
 options = programs.options
 ENDING = (signal.SIGINT, signal.SIGTERM, signal.SIGHUP, signal.SIGQUIT, signal.SIGALRM, signal.SIGUSR1)
@@ -27,9 +28,8 @@ SLEEPS, STOPPED = "S", "T"  # states of a process
 class Run:
     """A run that is under way, over a pipe that gives its document and one that takes its trace."""
 
-    def __init__(self, program, document=b"", is_whole=True, stdout=subprocess.PIPE):
-        self.child = subprocess.Popen(
-            [program, "run"], stdin=subprocess.PIPE, stdout=stdout, stderr=subprocess.PIPE, bufsize=0)
+    def __init__(self, command, document=b"", is_whole=True, stdout=subprocess.PIPE):
+        self.child = subprocess.Popen(command, stdin=subprocess.PIPE, stdout=stdout, stderr=subprocess.PIPE, bufsize=0)
         self.give(document)
         if is_whole:
             self.child.stdin.close()
@@ -82,50 +82,50 @@ def front_of(trace, printed):
     return "a front" if trace.startswith(printed) and len(printed) < len(trace) else f"no front: {printed[-80:]!r}"
 
 
-def while_it_reads(program):
+def while_it_reads(command):
     """The document is given in part. So nothing is printed."""
     for number in ENDING:
-        run = Run(program, LEAST[:20], is_whole=False)
+        run = Run(command, LEAST[:20], is_whole=False)
         waited = run.comes_to(SLEEPS)
         run.send(number)
         yield f"{number.name} while it reads", (waited, *run.end()), (True, (-number, b""), b"")
     for number in UNMINDED:
-        run = Run(program, LEAST[:20], is_whole=False)
+        run = Run(command, LEAST[:20], is_whole=False)
         waited = run.comes_to(SLEEPS)
         run.send(number)
         run.give(LEAST[20:])
         yield f"{number.name} while it reads", (waited, *run.end()), (True, WELL, LEAST_TRACE)
-    run = Run(program, LEAST[:20], is_whole=False)
+    run = Run(command, LEAST[:20], is_whole=False)
     paused = run.comes_to(SLEEPS) and run.pause()
     run.give(LEAST[20:])
     yield "it is stopped while it reads, and goes on", (paused, *run.end()), (True, WELL, LEAST_TRACE)
 
 
-def while_it_writes(program):
+def while_it_writes(command):
     """The trace is longer than what a pipe holds, so the run waits until its reader takes it."""
     for number in ENDING:
-        run = Run(program, LONG)
+        run = Run(command, LONG)
         waited = run.comes_to(SLEEPS)
         run.send(number)
         ended, printed = run.end()
         yield f"{number.name} while it writes", (waited, ended, front_of(LONG_TRACE, printed)), (True, (-number, b""), "a front")
     for number in UNMINDED:
-        run = Run(program, LONG)
+        run = Run(command, LONG)
         waited = run.comes_to(SLEEPS)
         run.send(number)
         yield f"{number.name} while it writes", (waited, *run.end()), (True, WELL, LONG_TRACE)
-    run = Run(program, LONG)
+    run = Run(command, LONG)
     paused = run.comes_to(SLEEPS) and run.pause()
     yield "it is stopped while it writes, and goes on", (paused, *run.end()), (True, WELL, LONG_TRACE)
 
 
-def readers_that_stop(program):
-    run = Run(program, LONG)
+def readers_that_stop(command):
+    run = Run(command, LONG)
     first = run.take(TAKEN)
     waited = run.comes_to(SLEEPS)
     ended, rest = run.end()
     yield "its reader stops for a while", (waited, ended, first + rest), (True, WELL, LONG_TRACE)
-    run = Run(program, LONG)
+    run = Run(command, LONG)
     first = run.take(TAKEN)
     waited = run.comes_to(SLEEPS)
     run.child.stdout.close()
@@ -134,11 +134,11 @@ def readers_that_stop(program):
     yield "its reader goes away", (waited, ended, front_of(LONG_TRACE, first)), (True, WRITE, "a front")
 
 
-def into_a_file(program):
+def into_a_file(command):
     """A run that is ended at once, and one that is ended late, leave a front of the trace in a file."""
     for delay in (0, 0.001, 0.003, 0.01, 0.03):
         with tempfile.TemporaryFile() as file:
-            run = Run(program, LONG, stdout=file)
+            run = Run(command, LONG, stdout=file)
             time.sleep(delay)
             run.send(signal.SIGINT)
             ended, _ = run.end()
@@ -150,7 +150,8 @@ def into_a_file(program):
 
 def main(asked):
     program, tally = programs.program(asked), Tally()
-    for cases in (while_it_reads, while_it_writes, readers_that_stop, into_a_file):
-        for name, came, want in cases(program):
-            tally.tell(name, None if came == want else str(came)[:300])
+    for job in JOBS:
+        for cases in (while_it_reads, while_it_writes, readers_that_stop, into_a_file):
+            for name, came, want in cases([program, job]):
+                tally.tell(f"{job}: {name}", None if came == want else str(came)[:300])
     return tally.end()

@@ -1,6 +1,7 @@
 """Answers: what does the program make of a standard input and a standard output that end, fail or would wait?
 
-It is run over each, and its status, the line on standard error and what it printed are compared with what docs/TRACE.md says of these.
+It is run over each, by the jobs run and live. Its status, the line on standard error and what it printed are compared with what
+docs/TRACE.md says of these.
 - Standard input: nothing, the ends of pieces, an end that a terminal tells once, a folder, a pipe that would block.
 - Standard output: a full device, a full pipe, one that nobody reads; of a short trace, a long one, and a summary. Then of the long one a
   pipe that is full in its middle, and a file that may not grow so long.
@@ -25,6 +26,7 @@ from ..tree import TOP
 from . import programs
 
 LIMIT = 60  # seconds
+JOBS = ("run", "live")  # without sessions both print the same
 PIECE = 8192  # so many bytes are read and written at a time
 LONGEST = 1_048_576  # bytes of a document
 LEAST = b"version = 1\nupdate_rate = 1\ncycles = 0\n--- script ---\n"
@@ -176,8 +178,10 @@ def memories(run):
 
 def main(asked):
     """What runs the program is handed to each of the makers of cases."""
-    tally, one = Tally(tells_all=False), functools.partial(run, programs.program(asked))
-    for cases in (inputs, outputs, full_within, *([memories] if asked.memory else [])):
+    tally, program = Tally(tells_all=False), programs.program(asked)
+    runs = [(cases, job, functools.partial(run, program, words=(job,))) for job in JOBS for cases in (inputs, outputs, full_within)]
+    runs += [(memories, "run", functools.partial(run, program))] * asked.memory
+    for cases, job, one in runs:
         for name, came, want in cases(one):
-            tally.tell(name, str(came)[:300] if came != want else None)
+            tally.tell(f"{job}: {name}", str(came)[:300] if came != want else None)
     return tally.end()
