@@ -17,7 +17,7 @@ from ..edits import BODIES
 from ..kit import crate, guard, has_verdict, kit
 from .planted import PlantedCrate, WrongBody, verdict
 
-BYTES_A_CHECK = 3_000_000_000  # most of them take less
+BYTES_A_CHECK = 8_000_000_000  # those of cm_bench and cm_top take as much
 
 
 def options(parser):
