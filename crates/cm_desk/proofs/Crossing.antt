@@ -16,7 +16,6 @@ use Rattle.ctl_trait.specs.declared.controller.Controller.{Ghosts}
 use Rattle.std.specs.contracts.snapshot.Snapshot as Snapshot
 use Rattle.std.specs.contracts.option.Option as Option
 use Rattle.rt_flight.specs.contracts.plant.Plant as Plant
-use Rattle.rt_flight.proofs.plant.Plant.TheSendSync as plant
 use Rattle.ctl_slots.specs.contracts.slot.Slot as Slot
 use Rattle.ctl_slots.specs.contracts.slot.Slot.TheInside as SlotInside
 use Rattle.ctl_slots.specs.contracts.slots.Slots as Slots
@@ -43,7 +42,6 @@ use Rattle.cm_desk.specs.contracts.works.Works as Works
 use Rattle.cm_desk.specs.contracts.works.Works.TheInside as WorksInside
 use Rattle.cm_desk.specs.contracts.desk.Desk as Desk
 use Rattle.cm_desk.specs.contracts.desk.Desk.TheInside as DeskInside
-use Rattle.ctl_rack.specs.contracts.piles.Piles as Piles
 use Rattle.ctl_rack.proofs.piles.Piles.TheSendSync as piles
 use Rattle.request_plan.proofs.requests.Requests.TheSendSync as requests
 use Rattle.cm_document.proofs.checked.Checked.TheSendSync as checked

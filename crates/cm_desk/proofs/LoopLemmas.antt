@@ -1,5 +1,5 @@
 -- What a history says of the loop: what is counted in it, how it stands after entries of others, and what a landing tells.
-use Rattle.std.proofs.Common.{◌≡◌, ℕ, suc, ◌+◌, Bool, true, false, List, [], ◌∷◌, ◌++◌, length, length-append, Option, Some, None, refl, sym, ap, subst, ◌∙◌, cond, arith}
+use Rattle.std.proofs.Common.{◌≡◌, ℕ, suc, ◌+◌, Bool, true, false, List, [], ◌∷◌, ◌++◌, length, length-append, Option, Some, refl, sym, ap, subst, ◌∙◌, cond, arith}
 use Rattle.std.specs.Prelude.{◌==◌, ◌&&◌}
 use Rattle.std.proofs.Math.Nat.{zero-add}
 use Rattle.std.proofs.lemmas.List.{append_cancel_left}
@@ -27,8 +27,7 @@ use Rattle.cm_model.proofs.WaitingLemmas.{step-enabled}
 use Rattle.sound_laws.proofs.BetweenLemmas.{HasBegun}
 use Rattle.sound_laws.proofs.CoreLemmas.{core_cycle}
 use Rattle.sound_laws.proofs.ToldLemmas.{tickets_from}
-use Rattle.sound_laws.specs.Core.{core}
-use Rattle.cm_desk.specs.Desk.{History, begun_of, now_of, AreFew, Grows, GoesOnWithoutLoop, IsAloftAlike, IsRight, Keeps, StandsAlike}
+use Rattle.cm_desk.specs.Desk.{History, begun_of, now_of, AreFew, Grows, GoesOnWithoutLoop, IsRight, Keeps, StandsAlike}
 use Rattle.cm_desk.proofs.BegunLemmas.{after_cons, called_alike, has_begun, moments_cons}
 
 -- ---- What is counted
