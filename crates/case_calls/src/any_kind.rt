@@ -1,7 +1,8 @@
 //! A controller of any kind, without a box.
 
 use cm_document::{CtlKind, Mail, Params};
-use cm_model::{Done, Tick};
+use cm_model::Tick;
+use cm_storage::Done;
 use ctl_bcast::Broadcaster;
 use ctl_forward::{Forward, Passthrough};
 use ctl_mock::Mock;

@@ -1,7 +1,8 @@
 //! Replies, as a line of a page tells them.
 
 use case_pages::pages::push_parted;
-use cm_model::{CompLine, CtlLine, CycleRecord, Decision, IfaceLine, RanRef, Reply};
+use cm_model::{CompLine, CtlLine, Decision, IfaceLine, Reply};
+use cm_storage::{CycleRecord, RanRef};
 use fixed_num::Value;
 use std::test::Fail;
 

@@ -1,9 +1,9 @@
 -- The history of a cycle in which a controller published numbers.
 use Rattle.std.specs.Prelude.{ℤ, List, [], ◌∷◌}
 use Rattle.cm_document.specs.declared.call.Call.TheVariants.{Close}
-use Rattle.cm_model.specs.Happened.{Happened}
+use Rattle.cm_storage.specs.Happened.{Happened}
 use Rattle.cm_model.specs.declared.entry.Entry.{Entry}
-use Rattle.cm_model.specs.declared.ran.Done.TheVariants as done
+use Rattle.cm_storage.specs.declared.ran.Done.TheVariants as done
 use Rattle.cm_model.specs.declared.reply.Reply.TheVariants as reply
 
 -- the first cycle, in which the first controller gave out nothing and published these numbers

@@ -13,7 +13,7 @@ use Rattle.cm_model.specs.State.{State, Loaded, MailAloft}
 use Rattle.cm_model.specs.Steady.{IsSteady}
 use Rattle.cm_model.specs.declared.blanks.Blanks.{Blanks}
 use Rattle.cm_model.specs.declared.member.Member.{Member}
-use Rattle.cm_model.specs.declared.record_room.RecordRoom.{RecordRoom}
+use Rattle.cm_storage.specs.declared.record_room.RecordRoom.{RecordRoom}
 use Rattle.cm_hardware.specs.Holding.{IsHardwareOf, IsMoved}
 use Rattle.cm_hardware.specs.Listed.{with_hardware}
 use Rattle.cm_hardware.specs.Shown.{Shows}

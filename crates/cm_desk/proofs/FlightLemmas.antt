@@ -16,7 +16,7 @@ use Rattle.cm_model.specs.Sound.{running_part}
 use Rattle.cm_model.specs.State.{Loaded, MailAloft}
 use Rattle.cm_model.specs.declared.data.CtlData.{CtlData}
 use Rattle.cm_model.specs.declared.member.Member.{Member}
-use Rattle.cm_model.specs.declared.record_room.RecordRoom.{RecordRoom}
+use Rattle.cm_storage.specs.declared.record_room.RecordRoom.{RecordRoom}
 use Rattle.chain_order.specs.Links.{linked}
 use Rattle.ctl_places.specs.Placed.{Placed}
 use Rattle.ctl_slots.specs.Lives.{IsKept, publishes}

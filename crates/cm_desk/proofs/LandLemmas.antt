@@ -4,7 +4,7 @@ use Rattle.std.specs.Prelude.{not, slice_get}
 use Rattle.std.specs.List.{AllByRecursion}
 use Rattle.std.proofs.lemmas.List.{length-map}
 use Rattle.cm_model.specs.Cycle.{cycle, landed, active_order, after_cycle}
-use Rattle.cm_model.specs.Happened.{Happened}
+use Rattle.cm_storage.specs.Happened.{Happened}
 use Rattle.cm_model.specs.Sound.{running_part}
 use Rattle.cm_model.specs.State.{State, Loaded}
 use Rattle.cm_model.specs.declared.data.CtlData.{CtlData}

@@ -15,7 +15,7 @@ use Rattle.cm_model.specs.declared.data.CtlData.{CtlData}
 use Rattle.cm_model.specs.declared.member.Member.{Member}
 use Rattle.cm_model.proofs.InterfaceLemmas.{all_map_back}
 use Rattle.cm_model.specs.Order.{precedes_at}
-use Rattle.cm_model.specs.declared.record_room.RecordRoom.{RecordRoom}
+use Rattle.cm_storage.specs.declared.record_room.RecordRoom.{RecordRoom}
 use Rattle.chain_order.specs.Links.{places_below}
 use Rattle.chain_order.proofs.LinkLemmas.{length-each_below}
 use Rattle.cm_hardware.specs.Holding.{IsHardwareOf}

@@ -9,7 +9,8 @@ ghost use Rattle.cm_desk.specs.Supplies.{AreKept, AreStandsOf, AreStations, AreS
 use crate::bay::Spare;
 use crate::works::described_at;
 use cm_document::{Checked, Params};
-use cm_model::{CycleParts, Member, RecordRoom, RecordSize};
+use cm_model::Member;
+use cm_storage::{CycleParts, RecordRoom, RecordSize};
 use ctl_places::CtlPlaces;
 use ctl_slots::MailAloft;
 use fixed_num::Memory;

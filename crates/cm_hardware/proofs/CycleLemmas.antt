@@ -12,7 +12,7 @@ use Rattle.cm_model.specs.Components.{command_interfaces, claim_on, read_succeed
 use Rattle.cm_model.specs.Cycle.{period, component_is, commands_at, claims_in, components_stepped, moved, lives_after, CycleResult, Updates, updates, landed, cycle}
 use Rattle.cm_model.specs.State.{State, owner, available, active}
 use Rattle.cm_model.specs.Values.{InterfaceValue, running, read_of}
-use Rattle.cm_model.specs.declared.record.FailedPart.{FailedPart}
+use Rattle.cm_storage.specs.declared.record.FailedPart.{FailedPart}
 use Rattle.cm_model.proofs.StillLemmas.{idle_updates, idle, idle_cycle, idle_ended}
 use Rattle.cm_model.proofs.UpdateLemmas.{updates_leave_active}
 use Rattle.hw_component.specs.Hardware.{Hardware}

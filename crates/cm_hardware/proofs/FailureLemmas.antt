@@ -7,7 +7,7 @@ use Rattle.sequence.proofs.ListLemmas.{not_empty}
 use Rattle.cm_model.specs.Components.{is_listed, is_available, write_runs, read_fails, write_fails}
 use Rattle.cm_model.specs.Cycle.{component_is}
 use Rattle.cm_model.specs.State.{State}
-use Rattle.cm_model.specs.declared.record.FailedPart.{FailedPart}
+use Rattle.cm_storage.specs.declared.record.FailedPart.{FailedPart}
 use Rattle.cm_hardware.specs.Holding.{reads_failed_in, writes_failed_in}
 use Rattle.cm_hardware.specs.Wiring.{Mounted, IsWired, failure, failures, read, fails_read, fails_write, failed_reads, failed_writes, one_if, count, can_fail, most_failures}
 use Rattle.cm_hardware.proofs.ReadLemmas.{Agrees}

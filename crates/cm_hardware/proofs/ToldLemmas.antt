@@ -10,7 +10,7 @@ use Rattle.cm_document.specs.declared.life.Life.{Life}
 use Rattle.cm_model.specs.Components.{read_fails}
 use Rattle.cm_model.specs.Cycle.{component_is}
 use Rattle.cm_model.specs.State.{State}
-use Rattle.cm_model.specs.declared.record.FailedPart.{FailedPart}
+use Rattle.cm_storage.specs.declared.record.FailedPart.{FailedPart}
 use Rattle.cm_model.proofs.LoadedLemmas.{and_false, and_true}
 use Rattle.cm_hardware.specs.Holding.{reads_failed_in}
 

@@ -15,7 +15,7 @@ use Rattle.cm_model.specs.Sound.{IsEmptyUnless}
 use Rattle.cm_model.specs.State.{State, Loaded, is_active, owner, active, available, available_in}
 pub use Rattle.cm_model.specs.State.{IsStill}
 use Rattle.cm_model.specs.Values.{InterfaceValue, after_reads}
-use Rattle.cm_model.specs.declared.record.FailedPart.{FailedPart}
+use Rattle.cm_storage.specs.declared.record.FailedPart.{FailedPart}
 use Rattle.hw_component.specs.declared.faults.HwFault.{HwFault}
 use Rattle.hw_component.specs.declared.faults.HwFault.TheVariants.{NoSuchMove}
 use Rattle.cm_hardware.specs.Wiring.{Mounted, Wired, loan_of, component_of, fails_read, IsWired}

@@ -14,7 +14,7 @@ use Rattle.cm_model.specs.Components.{write_runs, is_available, has_move, is_lis
 use Rattle.cm_model.specs.Components.{measured_states, state_interfaces, command_interfaces}
 use Rattle.cm_model.specs.State.{State}
 use Rattle.cm_model.specs.Values.{InterfaceValue}
-use Rattle.cm_model.specs.declared.record.FailedPart.{FailedPart}
+use Rattle.cm_storage.specs.declared.record.FailedPart.{FailedPart}
 use Rattle.hw_component.specs.Hardware.{Hardware, after_write, after_step, after_move}
 use Rattle.hw_component.specs.declared.faults.HwFault.{HwFault}
 use Rattle.hw_component.specs.declared.faults.HwFault.TheVariants.{NoSuchMove}

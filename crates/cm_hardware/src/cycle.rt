@@ -12,7 +12,7 @@ use crate::hardware::{
     count_joints, fail_units, most_failures, read_units, step_units, write_units,
 };
 use crate::manager::ResourceManager;
-use cm_model::FailedPart;
+use cm_storage::FailedPart;
 use fixed_num::{BodyState, Value};
 use joint_body::LONGEST_STEP;
 use sequence::ListRoom;

@@ -8,7 +8,7 @@ ghost use Rattle.cm_hardware.specs.Calls.Cycles.{CanRead, HasRead, CanWrite, Can
 ghost use Rattle.cm_hardware.specs.Wiring.{read, states_count, with_values, after_read_of, failure, commands_count, all_written, failed_writes, values_at, fails_write, one_if, can_fail, most_failures, written, stepped_on, all_joints, all_bodies, AreFew, vacated, leaves, has_left, after_failure, after_failures_of};
 
 use cm_document::{CompDesc, Life};
-use cm_model::{Done, FailedPart};
+use cm_storage::{Done, FailedPart};
 use fixed_num::{BodyState, Value};
 use hw_component::Component;
 use loan_board::Board;

@@ -1,9 +1,9 @@
-pub mod RanLemmas
 pub mod AdvanceLemmas
 pub mod LegalLemmas
 pub mod StayLemmas
 pub mod HistoryLemmas
 pub mod WaitingLemmas
+pub mod ComesLemmas
 pub mod WholeLemmas
 pub mod EnabledLemmas
 pub mod CountLemmas

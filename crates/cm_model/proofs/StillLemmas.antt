@@ -10,7 +10,7 @@ use Rattle.cm_model.specs.Commit.{seen, scene_of, committed, is_exported_by, is_
 use Rattle.cm_model.specs.Components.{read_succeeds}
 use Rattle.cm_model.specs.Cycle.{component_is, components_stepped, failed_in, active_order, is_due_now, is_held_off, with_updates, updates, must_stop, stays_active, stops, CycleResult, cycle_with, cycle, landed, after_cycle, IsIdle}
 use Rattle.cm_model.specs.Order.{Places, some_below, by_rank, depth}
-use Rattle.cm_model.specs.Ran.{Ran}
+use Rattle.cm_storage.specs.Ran.{Ran}
 use Rattle.cm_model.specs.Scene.{is_running, has_seen, claims_at, is_claimed_by}
 use Rattle.cm_model.specs.Scene as scene
 use Rattle.cm_model.specs.State.{State, Loaded, life_of, is_active, active, IsStill}

@@ -11,11 +11,11 @@ use Rattle.cm_model.specs.Commit.{described_of}
 use Rattle.cm_model.specs.Controllers.{runs_chained, Stepped}
 use Rattle.cm_model.specs.Components.{read_succeeds}
 use Rattle.cm_model.specs.Cycle.{component_is, tick_of, mail_for, step_of, stepped_at, ran_by, Updates, with_step, with_updates, updated_in, updates, cycle}
-use Rattle.cm_model.specs.Ran.{Ran}
+use Rattle.cm_storage.specs.Ran.{Ran}
 use Rattle.cm_model.specs.State.{State, Loaded, is_active, active}
 use Rattle.cm_model.specs.Values.{InterfaceValue, after_reads}
-use Rattle.cm_model.specs.declared.ran.Done.{Done}
-use Rattle.cm_model.specs.declared.ran.Done.TheVariants as done
+use Rattle.cm_storage.specs.declared.ran.Done.{Done}
+use Rattle.cm_storage.specs.declared.ran.Done.TheVariants as done
 use Rattle.cm_model.proofs.ControllerLemmas.{ctl_step_keeps_chained}
 
 -- ---- Changes that leave a reading as it was

@@ -1,10 +1,9 @@
 -- A history that is scheduled for a script is whole: each session's entries follow its lines, whatever the others do meanwhile, and
 -- where the loop is closed no session has a line or a ticket left.
 use Rattle.std.proofs.Common.{◌≡◌, ℕ, zero, suc, ◌+◌, ◌<◌, ◌≤◌, List, [], ◌∷◌, ◌++◌, length, map, Option, Some, None, Bool, true, false, nat_lt, refl, sym, subst, ap, ◌∙◌, append_assoc, append-nil, inl, inr, ◌⊎◌, arith}
-use Rattle.std.specs.Prelude.{◌-◌, slice_get, slice_set, flat_map, not, ◌==◌, ◌&&◌, IfSome}
+use Rattle.std.specs.Prelude.{◌-◌, slice_get, slice_set, flat_map, ◌==◌, ◌&&◌, IfSome}
 use Rattle.std.specs.List.{AllByRecursion}
-use Rattle.std.proofs.lemmas.List.{map-append, length-map, length-append}
-use Rattle.std.proofs.lemmas.List.Concat.{flat_map-append}
+use Rattle.std.proofs.lemmas.List.{length-map, length-append}
 use Rattle.std.proofs.lemmas.List.Elements.{filter-append}
 use Rattle.std.proofs.lemmas.Bool.Decides.{nat_tests}
 use Rattle.std.proofs.lemmas.Option.{same_Some, slice_get-map}
@@ -22,12 +21,13 @@ use Rattle.cm_model.specs.Commit.{commit}
 use Rattle.cm_model.specs.Cycle.{cycle, after_cycle}
 use Rattle.cm_model.specs.Machine.{step, can_begin, can_end, can_close}
 use Rattle.cm_model.specs.Scheduled.{Session, Advanced, Progress, with_entry, ticket_in, next_call, after_call, stepped_on, called_on, advance, settle, settle_from, settle_all, looped, with_cycle, cycles, cycles_from, finish, start, scheduled, with_advance, advanced_once, turned, turns, landed, cycles_left, scheduled_in_steps}
-use Rattle.cm_model.specs.Sessions.{entries_by, calls_of, is_told, told_of, with_its_told, asked, Follows, cycle_calls, loop_calls, IsWhole}
+use Rattle.cm_model.specs.Sessions.{entries_by, calls_of, is_told, with_its_told, asked, Comes, Follows, cycle_calls, loop_calls, IsWhole}
 use Rattle.cm_model.specs.State.{State, boot}
 use Rattle.cm_model.specs.declared.blanks.Blanks.{Blanks}
 use Rattle.cm_model.specs.declared.entry.Entry.{Entry}
 use Rattle.cm_model.specs.declared.reply.Reply.{Reply}
 use Rattle.cm_model.specs.declared.reply.Reply.TheVariants as reply
+use Rattle.cm_model.proofs.ComesLemmas.{calls_more, none_comes, told_comes, line_comes}
 use Rattle.cm_model.proofs.AdvanceLemmas.{Made, advance-Made, settle-keeps, settled-stands}
 use Rattle.cm_model.proofs.EnabledLemmas.{enabled-IsConsole}
 use Rattle.cm_model.proofs.StayLemmas.{effect-SameLoop, boundary-SameLoop, step-IsStep}
@@ -46,49 +46,7 @@ pub other_entry : (k who : ℕ) (made : List Entry) (call : Call) (r : Reply) �
 other_entry k who made call r differs =
     filter-append (λ (e : Entry). e.who == k) made (record { who = who; call = call; reply = r } ∷ []) ∙ rw differs (append-nil (entries_by k made))
 
-calls_more : (es : List Entry) (e : Entry) → calls_of (es ++ e ∷ []) ≡ calls_of es ++ e.call ∷ []
-calls_more es e = map-append (λ (each : Entry). each.call) es (e ∷ [])
-
--- a Told is not among what is asked
-asked_told : (es : List Entry) (who ticket : ℕ) (r : Reply) → asked (with_entry es who (Told ticket) r) ≡ asked es
-asked_told es who ticket r =
-    filter-append (λ (each : Entry). not (is_told each.call)) es (record { who = who; call = Told ticket; reply = r } ∷ []) ∙ append-nil (asked es)
-
--- any other call is
-asked_more : (es : List Entry) (e : Entry) → is_told e.call ≡ false → asked (es ++ e ∷ []) ≡ asked es ++ e ∷ []
-asked_more es e no_told = filter-append (λ (each : Entry). not (is_told each.call)) es (e ∷ []) ∙ rw no_told refl
-
-told_more : (es : List Entry) (e : Entry) → flat_map with_its_told (es ++ e ∷ []) ≡ flat_map with_its_told es ++ with_its_told e
-told_more es e = flat_map-append with_its_told es (e ∷ []) ∙ ap (λ last. flat_map with_its_told es ++ last) (append-nil (with_its_told e))
-
 -- ---- One session
-
--- A session's entries so far: without its Told entries they are the lines that it has made, and each Told stands where it belongs,
--- but for that of the ticket that the session has still to be told of.
-record Comes (es : List Entry) (lines rest : List Call) (ticket : Option ℕ) : Type 0 where
-  in_order : calls_of (asked es) ++ rest ≡ lines
-  each_told : calls_of es ++ told_of ticket ≡ flat_map with_its_told (asked es)
-
--- it is told of its ticket
-told_comes : (es : List Entry) (lines rest : List Call) (who ticket : ℕ) (r : Reply) → Comes es lines rest (Some ticket) → Comes (with_entry es who (Told ticket) r) lines rest None
-told_comes es lines rest who ticket r comes = record {
-  in_order = rw (asked_told es who ticket r) comes.in_order;
-  each_told = append-nil _ ∙ calls_more es (record { who = who; call = Told ticket; reply = r }) ∙ comes.each_told ∙ ap (flat_map with_its_told) (sym (asked_told es who ticket r));
-}
-
--- it makes its next line
-line_comes : (es : List Entry) (lines rest : List Call) (who : ℕ) (call : Call) (r : Reply) → is_told call ≡ false → Comes es lines (call ∷ rest) None
-    → Comes (with_entry es who call r) lines rest (ticket_in r)
-line_comes es lines rest who call r no_told comes =
-    let e : Entry = record { who = who; call = call; reply = r } in
-    let more = asked_more es e no_told in
-    let so_far : calls_of es ≡ flat_map with_its_told (asked es) = sym (append-nil (calls_of es)) ∙ comes.each_told in
-    record {
-      in_order = ap (λ (made : List Entry). calls_of made ++ rest) more ∙ ap (λ calls. calls ++ rest) (calls_more (asked es) e)
-          ∙ append_assoc (calls_of (asked es)) (call ∷ []) rest ∙ comes.in_order;
-      each_told = ap (λ calls. calls ++ told_of (ticket_in r)) (calls_more es e) ∙ append_assoc (calls_of es) (call ∷ []) (told_of (ticket_in r))
-          ∙ ap (λ front. front ++ call ∷ told_of (ticket_in r)) so_far ∙ sym (told_more (asked es) e) ∙ ap (flat_map with_its_told) (sym more);
-    }
 
 -- no line of a script is a Told
 written_no_told : (call : Call) → CanBeWritten call → is_told call ≡ false
@@ -601,7 +559,7 @@ all_at_first : (s : State) (first : ℕ) (sessions : List SessionText) → AllBy
     → AllAre (Come [] s) first (lines_of sessions) (map (λ (session : SessionText). record { lines = session.lines; ticket = None }) sessions)
 all_at_first s first [] rules = tt
 all_at_first s first (session ∷ sessions) rules =
-    (record { comes = record { in_order = refl; each_told = refl }; written = rules.0.written; given = tt }, all_at_first s (first + 1) sessions rules.1)
+    (record { comes = none_comes session.lines; written = rules.0.written; given = tt }, all_at_first s (first + 1) sessions rules.1)
 
 -- a run that was made to its end is whole for its document
 finished-IsWhole : (document : Document) (size : length (lines_of document.script.sessions) ≡ length document.script.sessions) (progress : Progress)

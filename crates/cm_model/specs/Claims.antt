@@ -15,7 +15,7 @@ use Rattle.cm_document.specs.declared.description.CtlDesc.{CtlDesc}
 use Rattle.cm_model.specs.Controllers.{Stepped}
 use Rattle.cm_model.specs.Faults.{component_with}
 use Rattle.cm_model.specs.Values.{InterfaceValue}
-use Rattle.cm_model.specs.declared.ran.Done.TheVariants as done
+use Rattle.cm_storage.specs.declared.ran.Done.TheVariants as done
 
 -- ---- What it reads
 

@@ -19,8 +19,8 @@ use Rattle.cm_document.specs.declared.description.JointDesc.{JointDesc}
 use Rattle.cm_document.specs.declared.life.Life.{Life}
 use Rattle.cm_document.specs.declared.life.Life.TheVariants.{Inactive, Active, Finalized}
 use Rattle.cm_model.specs.declared.component.JointInterface.{JointInterface}
-use Rattle.cm_model.specs.declared.ran.Done.{Done}
-use Rattle.cm_model.specs.declared.ran.Done.TheVariants as done
+use Rattle.cm_storage.specs.declared.ran.Done.{Done}
+use Rattle.cm_storage.specs.declared.ran.Done.TheVariants as done
 
 -- ---- Lifecycle states
 

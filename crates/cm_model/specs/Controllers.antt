@@ -18,8 +18,8 @@ use Rattle.cm_model.specs.Ways.{led}
 use Rattle.cm_model.specs.declared.data.CtlData.{CtlData}
 use Rattle.cm_model.specs.declared.data.RunData.{RunData}
 use Rattle.cm_model.specs.declared.data.RunData.TheVariants as run
-use Rattle.cm_model.specs.declared.ran.Done.{Done}
-use Rattle.cm_model.specs.declared.ran.Done.TheVariants as done
+use Rattle.cm_storage.specs.declared.ran.Done.{Done}
+use Rattle.cm_storage.specs.declared.ran.Done.TheVariants as done
 use Rattle.cm_model.specs.declared.tick.TheConstants.{LONGEST_PERIOD}
 use Rattle.cm_model.specs.declared.tick.Tick.{Tick}
 

@@ -15,16 +15,16 @@ use Rattle.cm_model.specs.Commit.{described_of, commit}
 use Rattle.cm_model.specs.Components.{read_succeeds, read_fails, write_fails, has_failed, is_written, life_after}
 use Rattle.cm_model.specs.Components.{claimed_by, bodies_after_step}
 use Rattle.cm_model.specs.Controllers.{Stepped, ctl_step}
-use Rattle.cm_model.specs.Happened.{Happened}
+use Rattle.cm_storage.specs.Happened.{Happened}
 use Rattle.cm_model.specs.Order.{Places, precedes_at, some_below, by_rank, depth, is_due}
-use Rattle.cm_model.specs.Ran.{Ran}
+use Rattle.cm_storage.specs.Ran.{Ran}
 use Rattle.cm_model.specs.State.{State, Loaded, MailAloft, is_active, active, owner}
 use Rattle.cm_model.specs.Values.{InterfaceValue, belongs_to, after_reads, after_moves}
 use Rattle.cm_model.specs.declared.TheConstants.{SECOND_US}
 use Rattle.cm_model.specs.declared.member.Member.{Member}
-use Rattle.cm_model.specs.declared.ran.Done.{Done}
-use Rattle.cm_model.specs.declared.ran.Done.TheVariants as done
-use Rattle.cm_model.specs.declared.record.FailedPart.{FailedPart}
+use Rattle.cm_storage.specs.declared.ran.Done.{Done}
+use Rattle.cm_storage.specs.declared.ran.Done.TheVariants as done
+use Rattle.cm_storage.specs.declared.record.FailedPart.{FailedPart}
 use Rattle.cm_model.specs.declared.tick.Tick.{Tick}
 
 -- the time from one cycle to the next, in whole microseconds

@@ -7,14 +7,14 @@ use Rattle.fixed_num.specs.declared.value.Value.{Value}
 use Rattle.fixed_num.specs.declared.value.Value.TheVariants.{Unset, Num}
 use Rattle.cm_document.specs.Vocabulary.{component_word, controller_word, life_word}
 use Rattle.cm_document.specs.declared.description.CompDesc.{CompDesc}
-use Rattle.cm_model.specs.Happened.{Happened}
-use Rattle.cm_model.specs.Ran.{Ran}
+use Rattle.cm_storage.specs.Happened.{Happened}
+use Rattle.cm_storage.specs.Ran.{Ran}
 use Rattle.cm_model.specs.declared.lines.CompLine.{CompLine}
 use Rattle.cm_model.specs.declared.lines.CtlLine.{CtlLine}
 use Rattle.cm_model.specs.declared.lines.IfaceLine.{IfaceLine}
-use Rattle.cm_model.specs.declared.ran.Done.{Done}
-use Rattle.cm_model.specs.declared.ran.Done.TheVariants as done
-use Rattle.cm_model.specs.declared.record.FailedPart.{FailedPart}
+use Rattle.cm_storage.specs.declared.ran.Done.{Done}
+use Rattle.cm_storage.specs.declared.ran.Done.TheVariants as done
+use Rattle.cm_storage.specs.declared.record.FailedPart.{FailedPart}
 
 -- What stands for each number in a trace: the names of the controllers by serial, the components by place, the names of
 -- the joints and of the interfaces by place.

@@ -1,6 +1,4 @@
 -- In reading order: what the manager makes of a document.
-pub mod Ran
-pub mod Happened
 pub mod Components
 pub mod Values
 pub mod State
@@ -35,7 +33,3 @@ pub mod Causes
 -- the trace
 pub mod Items
 pub mod Trace
--- how values are kept in few bytes
-pub mod Rans
-pub mod Held
-pub mod Kept

@@ -54,6 +54,12 @@ pub record Follows (lines : List Call) (entries : List Entry) : Type 0 where
   pub in_order : calls_of (asked entries) ≡ lines
   pub each_told : calls_of entries ≡ flat_map with_its_told (asked entries)
 
+-- Where a session has come. Without its Told entries its entries so far are the lines that it has made, and those that
+-- are left are the others. Each Told stands where it belongs, but for that of the ticket that is still to be told.
+pub record Comes (entries : List Entry) (lines left : List Call) (ticket : Option ℕ) : Type 0 where
+  pub in_order : calls_of (asked entries) ++ left ≡ lines
+  pub each_told : calls_of entries ++ told_of ticket ≡ flat_map with_its_told (asked entries)
+
 -- ---- The loop's entries
 
 -- the loop's calls for the first n cycles

@@ -7,10 +7,10 @@ use Rattle.cm_document.specs.CallText.{call_text}
 use Rattle.cm_document.specs.Links.{joints_of}
 use Rattle.cm_document.specs.Places.{interfaces_of}
 use Rattle.cm_document.specs.declared.call.Call.{Call}
-use Rattle.cm_document.specs.declared.call.Call.TheVariants.{Load}
 use Rattle.cm_document.specs.declared.description.Description.{Description}
 use Rattle.cm_document.specs.declared.document.Document.{Document}
 use Rattle.cm_document.specs.declared.script.SessionText.{SessionText}
+use Rattle.cm_storage.specs.Kept.{load_name}
 use Rattle.cm_model.specs.Causes.{outcome_text, decision_text}
 use Rattle.cm_model.specs.Items.{Names, controller_text, iface_text, component_text, record_items}
 use Rattle.cm_model.specs.declared.entry.Entry.{Entry}
@@ -20,11 +20,6 @@ use Rattle.cm_model.specs.declared.reply.Why.{Why}
 use Rattle.cm_model.specs.declared.reply.Why.TheVariants as why
 
 -- ---- Names
-
--- the controller that a load is of
-abbrev pub load_name : Call → Option (List ℕ)
-load_name (Load name) = Some name
-load_name _ = None
 
 -- the name of the controller that a call loaded with this answer
 abbrev pub loaded_by : Call → Reply → Option (List ℕ)

@@ -2,28 +2,22 @@
 //! Nothing here runs a manager. Read `specs/` first, in the order of `specs/Lib.antt`.
 #![tactic(auto)]
 
-pub use append::{push_number, push_numbered};
 pub use blanks::Blanks;
 pub use cause::{Cause, Decision, Dropped, Outcome};
 pub use component::JointInterface;
 pub use data::{CtlData, RunData};
-pub use entry::{CycleCall, Entry, KeptCall};
+pub use entry::Entry;
 pub use fault_kind::{FAULT_KINDS, FaultKind};
 pub use lines::{CompLine, CtlLine, IfaceLine};
 pub use member::Member;
 pub use planned::Planned;
 pub use ports::{LoopPort, Port};
-pub use ran::{Done, RanList, RanRef, Rans};
-pub use ran_room::RanRoom;
-pub use record::{CycleParts, CycleRecord, FailedPart};
-pub use record_room::{RecordRoom, RecordSize};
 pub use reply::{Reply, Why};
 pub use request::Request;
 pub use seen::Seen;
 pub use shape::Shape;
 pub use tick::{LONGEST_PERIOD, Tick};
 
-mod append;
 mod blanks;
 mod cause;
 mod component;
@@ -36,10 +30,6 @@ mod lines;
 mod member;
 mod planned;
 mod ports;
-mod ran;
-mod ran_room;
-mod record;
-mod record_room;
 mod reply;
 mod request;
 mod seen;

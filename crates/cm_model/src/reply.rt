@@ -2,7 +2,7 @@
 
 use crate::cause::{Decision, Outcome};
 use crate::lines::{CompLine, CtlLine, IfaceLine};
-use crate::record::CycleRecord;
+use cm_storage::CycleRecord;
 use sequence::{Boxed, Rare, Seq, Shared};
 
 /// Why a call did nothing.

@@ -4,7 +4,7 @@ use crate::links::ControllerLinks;
 use crate::present::Present;
 use cause_words::{Failure, StopKind};
 use cm_document::{CompDesc, CtlDesc, Description, Life};
-use cm_model::{CycleRecord, Done, FailedPart};
+use cm_storage::{CycleRecord, Done, FailedPart};
 use fixed_num::Memory;
 use iface_names::{IfaceName, Name};
 

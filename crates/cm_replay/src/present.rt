@@ -2,7 +2,8 @@
 
 use crate::links::{ControllerLinks, Link, Linked, component_place, controller_place};
 use cm_document::{Call, CtlDesc, Description, Life, Script, SessionText};
-use cm_model::{FailedPart, Reply};
+use cm_model::Reply;
+use cm_storage::FailedPart;
 use fixed_num::Memory;
 use iface_names::Name;
 use std::alloc::Global;

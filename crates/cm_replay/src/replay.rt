@@ -9,9 +9,8 @@ use crate::present::{Asked, Present};
 use crate::rows::{ColumnState, Event, Row, blank_rows, mark_row};
 use cause_words::is_own;
 use cm_document::{Call, Script, SwitchRequest};
-use cm_model::{
-    Cause, CycleRecord, Decision, Done, Dropped, Entry, FailedPart, Outcome, RanRef, Reply, Why,
-};
+use cm_model::{Cause, Decision, Dropped, Entry, Outcome, Reply, Why};
+use cm_storage::{CycleRecord, Done, FailedPart, RanRef};
 use fixed_num::Memory;
 use iface_names::Name;
 use std::alloc::Global;

@@ -5,7 +5,8 @@ ghost use Rattle.cm_model.specs.State.{fresh};
 ghost use Rattle.cm_document.specs.declared.description.CtlKind.TheVariants as kind;
 
 use cm_document::{CtlKind, Mail, Params};
-use cm_model::{Done, Tick};
+use cm_model::Tick;
+use cm_storage::Done;
 use ctl_trait::{CfgFault, Controller, SetPart};
 use fixed_num::{Fx, Value};
 use std::alloc::Global;

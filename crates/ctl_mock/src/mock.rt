@@ -5,7 +5,8 @@ ghost use Rattle.cm_model.specs.State.{fresh};
 ghost use Rattle.cm_document.specs.declared.description.CtlKind.TheVariants as kind;
 
 use cm_document::{CtlKind, Cycles, Mail, Params};
-use cm_model::{Done, Tick};
+use cm_model::Tick;
+use cm_storage::Done;
 use ctl_trait::{CfgFault, Controller, SetPart};
 use fixed_num::{Fx, Value};
 use std::alloc::Global;
@@ -103,7 +104,7 @@ impl Controller for Mock {
 impl Kept {
     ghost use Rattle.std.specs.Prelude.{if◌then◌else◌, length};
     ghost use Rattle.cm_document.specs.Cycles.{is_listed};
-    ghost use Rattle.cm_model.specs.declared.ran.Done.TheVariants as done;
+    ghost use Rattle.cm_storage.specs.declared.ran.Done.TheVariants as done;
 
     /// Gives the values that are set, unless it fails in this cycle.
     fn update(&self, cycle: u64, outs: &mut [Value]) -> Done

@@ -7,7 +7,8 @@ ghost use Rattle.ctl_pid.specs.Loops.{running_of, loop_step, corrected_run, corr
 
 use crate::tuning::{Tuning, derivative_of, error_of};
 use cm_document::{CtlKind, Mail, Params};
-use cm_model::{Done, LONGEST_PERIOD, Tick};
+use cm_model::{LONGEST_PERIOD, Tick};
+use cm_storage::Done;
 use ctl_trait::{CfgFault, Controller};
 use fixed_num::{Fx, Value};
 use std::alloc::Global;

@@ -20,7 +20,7 @@ use Rattle.cm_model.specs.Scene.{is_running}
 use Rattle.cm_model.specs.declared.data.CtlData.{CtlData}
 use Rattle.cm_model.specs.declared.data.RunData.{RunData}
 use Rattle.cm_model.specs.declared.data.RunData.TheVariants as run
-use Rattle.cm_model.specs.declared.ran.Done.TheVariants as done
+use Rattle.cm_storage.specs.declared.ran.Done.TheVariants as done
 use Rattle.cm_model.specs.declared.tick.Tick.{Tick}
 use Rattle.ctl_slots.specs.Lives.{IsIn, IsKept, RunsAs, once_taken, published_by}
 use Rattle.ctl_slots.proofs.LifeLemmas.{active_in, some_is}

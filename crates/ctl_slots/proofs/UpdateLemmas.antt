@@ -14,7 +14,7 @@ use Rattle.cm_model.proofs.ControllerLemmas.{ctl_step_keeps_chained}
 use Rattle.cm_model.specs.Controllers.{Stepped, runs_chained, ctl_step, CanBeMailed}
 use Rattle.cm_model.specs.declared.data.CtlData.{CtlData}
 use Rattle.cm_model.specs.declared.data.RunData.{RunData}
-use Rattle.cm_model.specs.declared.record.FailedPart.{FailedPart}
+use Rattle.cm_storage.specs.declared.record.FailedPart.{FailedPart}
 use Rattle.cm_model.specs.declared.tick.Tick.{Tick}
 use Rattle.loan_board.specs.Loans.{with_loan, set}
 use Rattle.cm_hardware.specs.Wiring.{Wired}

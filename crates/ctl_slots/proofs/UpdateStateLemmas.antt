@@ -21,13 +21,13 @@ use Rattle.cm_model.specs.Controllers.{Stepped, ctl_step}
 use Rattle.cm_model.specs.Cycle.{component_is, is_due_now, is_held_off, tick_of, mail_for, step_of, ran_by, is_error, erred_in}
 use Rattle.cm_model.specs.Faults.{component_with}
 use Rattle.cm_model.specs.Order.{controller_at, nobody}
-use Rattle.cm_model.specs.Ran.{Ran}
+use Rattle.cm_storage.specs.Ran.{Ran}
 use Rattle.cm_model.specs.State.{State, Loaded, active}
 use Rattle.cm_model.specs.Steady.{IsSteady}
 use Rattle.cm_model.specs.Values.{InterfaceValue}
-use Rattle.cm_model.specs.declared.ran.Done.{Done}
-use Rattle.cm_model.specs.declared.ran.Done.TheVariants as done
-use Rattle.cm_model.specs.declared.record.FailedPart.{FailedPart}
+use Rattle.cm_storage.specs.declared.ran.Done.{Done}
+use Rattle.cm_storage.specs.declared.ran.Done.TheVariants as done
+use Rattle.cm_storage.specs.declared.record.FailedPart.{FailedPart}
 use Rattle.loan_board.specs.Loans.{with_loan, set}
 use Rattle.loan_board.specs.declared.board.Loan.{Loan}
 use Rattle.cm_hardware.specs.Holding.{IsInCycle}

@@ -5,8 +5,8 @@ use Rattle.fixed_num.specs.declared.value.Value.{Value}
 use Rattle.cm_document.specs.declared.call.Mail.{Mail}
 use Rattle.cm_model.specs.Controllers.{Stepped, ctl_step}
 use Rattle.cm_model.specs.State.{Loaded}
-use Rattle.cm_model.specs.declared.ran.Done.TheVariants as done
-use Rattle.cm_model.specs.declared.record.FailedPart.{FailedPart}
+use Rattle.cm_storage.specs.declared.ran.Done.TheVariants as done
+use Rattle.cm_storage.specs.declared.record.FailedPart.{FailedPart}
 use Rattle.cm_model.specs.declared.tick.TheConstants.{LONGEST_PERIOD}
 use Rattle.cm_model.specs.declared.tick.Tick.{Tick}
 use Rattle.loan_board.specs.Loans.{set, with_loan}

@@ -8,7 +8,8 @@ ghost use Rattle.cm_model.specs.declared.data.CtlData.{CtlData};
 
 use crate::fault::CfgFault;
 use cm_document::{CtlKind, Mail, Params};
-use cm_model::{Done, Tick};
+use cm_model::Tick;
+use cm_storage::Done;
 use fixed_num::{Fx, Value};
 use std::alloc::Global;
 

@@ -3,7 +3,8 @@
 use crate::controller::Controller;
 use crate::fault::CfgFault;
 use cm_document::{CtlKind, Mail, Params};
-use cm_model::{Done, Tick};
+use cm_model::Tick;
+use cm_storage::Done;
 use fixed_num::{Fx, Value};
 use std::alloc::Global;
 

@@ -8,7 +8,8 @@ ghost use Rattle.ctl_traj.specs.Led.{started_way, mailed_way, moved_way, way_val
 
 use crate::lead::lead;
 use cm_document::{CtlKind, Mail, Params, Point2};
-use cm_model::{Done, Tick};
+use cm_model::Tick;
+use cm_storage::Done;
 use ctl_trait::{CfgFault, Controller};
 use fixed_num::{Fx, Value};
 use sequence::Seq;

@@ -5,7 +5,8 @@ ghost use Rattle.std.specs.List.{All};
 ghost use Rattle.cm_model.specs.Controllers.{IsBlank};
 
 use cm_document::{CtlKind, Mail, Params};
-use cm_model::{Done, Tick};
+use cm_model::Tick;
+use cm_storage::Done;
 use ctl_trait::{CfgFault, Controller, shape_of};
 use fixed_num::{Fx, Value};
 use std::alloc::Global;

@@ -7,7 +7,8 @@ ghost use Rattle.rt_flight.specs.Flights.{IsAloft, IsComputed};
 
 use cm_desk::Desk;
 use cm_document::{Call, Checked};
-use cm_model::{CycleRecord, Entry, Outcome, Reply};
+use cm_model::{Entry, Outcome, Reply};
+use cm_storage::CycleRecord;
 use ctl_rack::Stock;
 use ctl_trait::Controller;
 use fixed_num::Memory;

@@ -8,7 +8,7 @@ use case_pages::acts::{Player, hold_acts};
 use case_pages::pages::{joined, push_parted};
 use case_robots::described::described;
 use cm_document::{Checked, Life};
-use cm_model::Done;
+use cm_storage::Done;
 use fixed_num::{BodyState, Fx, Value};
 use hw_component::{Component, ModeFault};
 use std::alloc::Global;

@@ -9,7 +9,7 @@ use case_pages::pages::{halves, joined, push_parted};
 use case_robots::described::described;
 use cm_document::{Checked, Description};
 use cm_hardware::ResourceManager;
-use cm_model::FailedPart;
+use cm_storage::FailedPart;
 use fixed_num::BodyState;
 use sequence::ListRoom;
 use std::alloc::Global;

@@ -4,7 +4,8 @@ ghost use Rattle.std.specs.Prelude.{◌≡◌, ◌+◌, ◌<◌, ◌^◌, ◌++�
 
 use crate::board::Board;
 use cm_document::Call;
-use cm_model::{Entry, KeptCall, LoopPort, Outcome, Port, Reply, Why};
+use cm_model::{Entry, LoopPort, Outcome, Port, Reply, Why};
+use cm_storage::KeptCall;
 use fixed_num::Memory;
 use sequence::{Boxed, SharedList};
 use std::alloc::Global;

@@ -1,7 +1,7 @@
 -- What each entry of a made run adds to the counts.
 use Rattle.std.proofs.Common.{◌≡◌, ℕ, zero, suc, ◌+◌, List, [], ◌∷◌, ◌++◌, length, refl, ap, ◌∙◌, arith}
 use Rattle.cm_document.specs.declared.call.Call.{Call}
-use Rattle.cm_model.specs.Happened.{Happened}
+use Rattle.cm_storage.specs.Happened.{Happened}
 use Rattle.cm_model.specs.Scheduled.{with_entry}
 use Rattle.cm_model.specs.declared.cause.Outcome.TheVariants as outcome
 use Rattle.cm_model.specs.declared.entry.Entry.{Entry}

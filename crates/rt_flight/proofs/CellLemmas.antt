@@ -10,14 +10,14 @@ use Rattle.cm_model.specs.Controllers.{Stepped, ctl_step, put_out}
 use Rattle.cm_model.specs.Cycle.{is_due_now, is_held_off, mail_for, stepped_at, ran_by, erred_in, Updates, with_updates}
 use Rattle.cm_model.specs.Cycle.{step_of as step_in_state, with_step as with_step_in_state}
 use Rattle.cm_model.specs.Order.{is_due}
-use Rattle.cm_model.specs.Ran.{Ran}
+use Rattle.cm_storage.specs.Ran.{Ran}
 use Rattle.cm_model.specs.Sound.{running_part}
 use Rattle.cm_model.specs.State.{State, Loaded, active}
 use Rattle.cm_model.specs.Steady.{IsSteady}
 use Rattle.cm_model.specs.Values.{InterfaceValue}
 use Rattle.cm_model.specs.declared.data.CtlData.{CtlData}
-use Rattle.cm_model.specs.declared.ran.Done.{Done}
-use Rattle.cm_model.specs.declared.ran.Done.TheVariants as done
+use Rattle.cm_storage.specs.declared.ran.Done.{Done}
+use Rattle.cm_storage.specs.declared.ran.Done.TheVariants as done
 use Rattle.fixed_num.specs.declared.value.Value.{Value}
 use Rattle.cm_hardware.specs.Holding.{IsInCycle}
 use Rattle.loan_board.specs.declared.board.Loan.{Loan}

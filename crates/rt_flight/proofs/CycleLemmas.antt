@@ -7,14 +7,14 @@ use Rattle.std.proofs.lemmas.List.{append-nil, length-map}
 use Rattle.fixed_num.specs.declared.value.BodyState.{BodyState}
 use Rattle.cm_document.specs.Places.{interfaces_of}
 use Rattle.cm_model.specs.Cycle.{failed_in, active_order, updates, Updates, cycle, landed, stops, member_of}
-use Rattle.cm_model.specs.Happened.{Happened}
-use Rattle.cm_model.specs.Ran.{Ran}
+use Rattle.cm_storage.specs.Happened.{Happened}
+use Rattle.cm_storage.specs.Ran.{Ran}
 use Rattle.cm_model.specs.Sound.{running_part, configuration}
 use Rattle.cm_model.specs.State.{State, Loaded, is_active, active}
 use Rattle.cm_model.specs.Values.{InterfaceValue}
 use Rattle.cm_model.specs.declared.member.Member.{Member}
-use Rattle.cm_model.specs.declared.record.FailedPart.{FailedPart}
-use Rattle.cm_model.specs.declared.record_room.RecordRoom.{RecordRoom}
+use Rattle.cm_storage.specs.declared.record.FailedPart.{FailedPart}
+use Rattle.cm_storage.specs.declared.record_room.RecordRoom.{RecordRoom}
 use Rattle.cm_hardware.specs.Holding.{IsHardwareOf, IsInCycle, IsMoved, FinishedCycle, values_read, values_updated, reads_failed_in, writes_failed_in}
 use Rattle.cm_hardware.specs.Shown.{HasLinesFor, Shows}
 use Rattle.cm_hardware.specs.Wiring.{Mounted, Wired, IsWired}

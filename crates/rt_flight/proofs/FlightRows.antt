@@ -6,10 +6,10 @@ use Rattle.cm_document.specs.declared.call.Mail.{Mail}
 use Rattle.cm_document.specs.declared.call.Mail.TheVariants.{Values}
 use Rattle.cm_document.specs.declared.description.CtlKind.TheVariants as kind
 use Rattle.cm_document.specs.declared.description.Params.TheVariants.{Passthrough, Mock}
-use Rattle.cm_model.specs.Ran.{Ran}
+use Rattle.cm_storage.specs.Ran.{Ran}
 use Rattle.cm_model.specs.declared.data.RunData.TheVariants as run
-use Rattle.cm_model.specs.declared.ran.Done.TheVariants as done
-use Rattle.cm_model.specs.declared.record.FailedPart.{FailedPart}
+use Rattle.cm_storage.specs.declared.ran.Done.TheVariants as done
+use Rattle.cm_storage.specs.declared.record.FailedPart.{FailedPart}
 use Rattle.loan_board.specs.Loans.{idle, set}
 use Rattle.loan_board.specs.declared.board.Loan.{Loan}
 use Rattle.ctl_slots.specs.Updates.{Aloft}

@@ -9,9 +9,9 @@ use Rattle.cm_document.specs.declared.life.Life.TheVariants.{Active}
 use Rattle.cm_model.specs.Claims.{number_in}
 use Rattle.cm_model.specs.Components.{is_listed}
 use Rattle.cm_model.specs.Controllers.{Stepped, CanBeUpdated}
-use Rattle.cm_model.specs.Ran.{Ran}
-use Rattle.cm_model.specs.declared.ran.Done.{Done}
-use Rattle.cm_model.specs.declared.ran.Done.TheVariants as done
+use Rattle.cm_storage.specs.Ran.{Ran}
+use Rattle.cm_storage.specs.declared.ran.Done.{Done}
+use Rattle.cm_storage.specs.declared.ran.Done.TheVariants as done
 use Rattle.loan_board.specs.Loans.{idle, set, loan_at, with_loan}
 use Rattle.loan_board.specs.declared.board.Loan.{Loan}
 use Rattle.chain_order.specs.Links.{linked}

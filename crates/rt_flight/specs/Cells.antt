@@ -7,10 +7,10 @@ use Rattle.cm_document.specs.declared.description.CtlKind.{CtlKind}
 use Rattle.cm_document.specs.declared.life.Life.TheVariants.{Active}
 use Rattle.cm_model.specs.Components.{is_listed}
 use Rattle.cm_model.specs.Controllers.{Stepped, put_out, AreItsCounts}
-use Rattle.cm_model.specs.Ran.{Ran, Filling}
+use Rattle.cm_storage.specs.Ran.{Ran, Filling}
 use Rattle.cm_model.specs.declared.data.CtlData.{CtlData}
-use Rattle.cm_model.specs.declared.ran.Done.{Done}
-use Rattle.cm_model.specs.declared.ran.Done.TheVariants as done
+use Rattle.cm_storage.specs.declared.ran.Done.{Done}
+use Rattle.cm_storage.specs.declared.ran.Done.TheVariants as done
 use Rattle.cm_hardware.specs.Wiring.{Wired}
 use Rattle.loan_board.specs.declared.board.Loan.{Loan}
 use Rattle.chain_order.specs.Links.{linked}

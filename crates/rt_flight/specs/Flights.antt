@@ -5,12 +5,12 @@ use Rattle.std.specs.List.{All, AllByRecursion, IsDistinct}
 use Rattle.joint_body.specs.declared.TheConstants.{LONGEST_STEP}
 use Rattle.cm_document.specs.Valid.{IsValid}
 use Rattle.cm_model.specs.Cycle.{period, failed_in, cycle, landed}
-use Rattle.cm_model.specs.Happened.{Happened}
+use Rattle.cm_storage.specs.Happened.{Happened}
 use Rattle.cm_model.specs.Sound.{Running, configuration}
 use Rattle.cm_model.specs.State.{State, Loaded, MailAloft}
 use Rattle.cm_model.specs.Steady.{IsSteady}
 use Rattle.cm_model.specs.declared.member.Member.{Member}
-use Rattle.cm_model.specs.declared.record_room.RecordRoom.{RecordRoom}
+use Rattle.cm_storage.specs.declared.record_room.RecordRoom.{RecordRoom}
 use Rattle.cm_hardware.specs.Holding.{IsHardwareOf, IsMoved}
 use Rattle.cm_hardware.specs.Shown.{HasLinesFor, Shows}
 use Rattle.cm_hardware.specs.Wiring.{most_failures, all_joints}

@@ -6,10 +6,10 @@ use Rattle.fixed_num.specs.declared.value.Value.{Value}
 use Rattle.cm_document.specs.declared.call.Mail.{Mail}
 use Rattle.cm_model.specs.Controllers.{Stepped, ctl_step}
 use Rattle.cm_model.specs.Order.{is_due}
-use Rattle.cm_model.specs.Ran.{Ran}
+use Rattle.cm_storage.specs.Ran.{Ran}
 use Rattle.cm_model.specs.declared.data.CtlData.{CtlData}
-use Rattle.cm_model.specs.declared.ran.Done.{Done}
-use Rattle.cm_model.specs.declared.ran.Done.TheVariants as done
+use Rattle.cm_storage.specs.declared.ran.Done.{Done}
+use Rattle.cm_storage.specs.declared.ran.Done.TheVariants as done
 use Rattle.cm_model.specs.declared.tick.TheConstants.{LONGEST_PERIOD}
 use Rattle.cm_model.specs.declared.tick.Tick.{Tick}
 use Rattle.loan_board.specs.declared.board.Loan.{Loan}

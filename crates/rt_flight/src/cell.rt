@@ -13,7 +13,7 @@ use crate::running::Running;
 use crate::station::Station;
 use cm_document::Mail;
 use cm_hardware::ResourceManager;
-use cm_model::{Done, RanRoom};
+use cm_storage::{Done, RanRoom};
 use ctl_places::CtlPlaces;
 use ctl_trait::Controller;
 use std::marker::Model;

@@ -9,7 +9,7 @@ ghost use Rattle.rt_flight.specs.Calls.Cells.{CanTurn, CanPutAll, LeavesPut, Hav
 use crate::cell::Cell;
 use crate::round::Round;
 use cm_hardware::ResourceManager;
-use cm_model::RanRoom;
+use cm_storage::RanRoom;
 use ctl_places::CtlPlaces;
 use ctl_trait::Controller;
 use switch_plan::Relations;

@@ -2,7 +2,8 @@
 
 use crate::plant::Plant;
 use cm_hardware::Lists;
-use cm_model::{CycleParts, CycleRecord, Member, RecordRoom};
+use cm_model::Member;
+use cm_storage::{CycleParts, CycleRecord, RecordRoom};
 use stop_plan::Ending;
 
 /// What works in a cycle besides the controllers, and room to tell of it. It stands behind one pointer, which alone moves as a cycle leaves

@@ -7,7 +7,7 @@ ghost use Rattle.rt_flight.specs.Flights.{IsEquipped, IsReady, IsAloft, IsComput
 use crate::cell::Cell;
 use crate::compute::{make_cycle, settle};
 use crate::craft::Craft;
-use cm_model::{CycleParts, CycleRecord, RecordRoom};
+use cm_storage::{CycleParts, CycleRecord, RecordRoom};
 use ctl_trait::Controller;
 use std::marker::Model;
 

@@ -8,7 +8,8 @@ ghost use Rattle.rt_flight.specs.Stations.{tick_at, is_held_at, flies, IsInTime}
 
 use crate::station::Station;
 use chain_order::due;
-use cm_model::{FailedPart, Tick};
+use cm_model::Tick;
+use cm_storage::FailedPart;
 use ctl_places::CtlPlaces;
 use std::marker::Model;
 use switch_plan::Relations;

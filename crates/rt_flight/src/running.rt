@@ -8,7 +8,8 @@ ghost use Rattle.ctl_trait.specs.Taking.{CanTake};
 ghost use Rattle.rt_flight.specs.Calls.Stations.{TakesStep};
 
 use cm_document::{CtlKind, Mail};
-use cm_model::{Done, Tick};
+use cm_model::Tick;
+use cm_storage::Done;
 use ctl_trait::Controller;
 use fixed_num::{Fx, Value};
 use std::marker::Model;

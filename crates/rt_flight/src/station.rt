@@ -12,7 +12,8 @@ ghost use Rattle.rt_flight.specs.Calls.Stations.{IsMadeFor, TakesStep, CanTellOf
 use crate::running::Running;
 use cm_document::Mail;
 use cm_hardware::ResourceManager;
-use cm_model::{Done, Member, RanRoom, Tick};
+use cm_model::{Member, Tick};
+use cm_storage::{Done, RanRoom};
 use ctl_places::CtlPlaces;
 use ctl_trait::Controller;
 use fixed_num::{Fx, Memory, Value};

@@ -10,7 +10,7 @@ use Rattle.cm_desk.proofs.LoopLemmas.{stands_alike}
 use Rattle.cm_model.specs.Boundary.{begin_reply, close_reply}
 use Rattle.cm_model.specs.Commit.{commit}
 use Rattle.cm_model.specs.Cycle.{cycle, after_cycle}
-use Rattle.cm_model.specs.Happened.{Happened}
+use Rattle.cm_storage.specs.Happened.{Happened}
 use Rattle.cm_model.specs.Histories.{ends_in}
 use Rattle.cm_model.specs.Machine.{LegalFrom, can_begin, can_close, step}
 use Rattle.cm_model.specs.Ports.{Console, IsSameConsole, Makes, MakesNone, MakesOpen, MakesWhere, IsNotYet, CanBegin, CanClose, MakesLoopCall, Begins, Lands, Closes}

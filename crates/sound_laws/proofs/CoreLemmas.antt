@@ -12,9 +12,9 @@ use Rattle.cm_model.specs.Claims.{given_by}
 use Rattle.cm_model.specs.Commit.{described_of}
 use Rattle.cm_model.specs.Components.{read_succeeds, is_written, claimed_by, bodies_after_step}
 use Rattle.cm_model.specs.Cycle.{period, component_is, failed_in, active_order, is_due_now, is_held_off, updated_in, step_of, ran_by, Updates, with_step, with_updates, updates, is_struck, struck, reaches, must_stop, stops, commands_at, claims_in, components_stepped, cycle}
-use Rattle.cm_model.specs.Happened.{Happened}
+use Rattle.cm_storage.specs.Happened.{Happened}
 use Rattle.cm_model.specs.Order.{Places, precedes_at, by_rank, depth}
-use Rattle.cm_model.specs.Ran.{Ran}
+use Rattle.cm_storage.specs.Ran.{Ran}
 use Rattle.cm_model.specs.Sound.{running_part, configuration}
 use Rattle.cm_model.specs.State.{State, Loaded, is_active, active, claims_name, owner}
 use Rattle.cm_model.specs.Values.{InterfaceValue, after_reads}

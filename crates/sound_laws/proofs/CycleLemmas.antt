@@ -20,7 +20,7 @@ use Rattle.cm_model.specs.Commit.{commit}
 use Rattle.cm_model.specs.Components.{is_available, is_listed, read_succeeds, life_after}
 use Rattle.cm_model.specs.Cycle.{component_is, updated_in, Updates, updates, components_stepped, CycleResult, cycle_with, cycle, stays_active, lives_after, landed, after_cycle}
 use Rattle.cm_model.specs.Loans.{IsEmptyUnless, IsUnsetUnlessClaimed, IsMarked}
-use Rattle.cm_model.specs.Ran.{Ran}
+use Rattle.cm_storage.specs.Ran.{Ran}
 use Rattle.cm_model.specs.State.{State, Loaded, is_active, available_in}
 use Rattle.cm_model.specs.Steady.{has_loaded, HoldsNumber, HasBody, IsInOrder, IsSteady}
 use Rattle.cm_model.specs.Values.{InterfaceValue, running, after_reads}

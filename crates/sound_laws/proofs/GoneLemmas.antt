@@ -17,7 +17,7 @@ use Rattle.cm_model.specs.Components.{is_listed}
 use Rattle.cm_model.specs.Console.{slot_of, controller_in, controller_of, unload_refusals, reply_on, unload_reply, where_done, without_slot}
 use Rattle.cm_model.specs.Cycle.{active_order, is_due_now, is_held_off, updated_in, must_stop, stops, cycle}
 use Rattle.cm_model.specs.Machine.{LegalFrom, reply_of, effect}
-use Rattle.cm_model.specs.Ran.{Ran}
+use Rattle.cm_storage.specs.Ran.{Ran}
 use Rattle.cm_model.specs.Serials.{serials_of, IsNumbered}
 use Rattle.cm_model.specs.Sound.{moments, mentions, IsGone, is_done, IfUnload, UnloadsLeaveNothing}
 use Rattle.cm_model.specs.State.{State, Loaded, is_active, owner, claims_name, controller_line, interface_lines_from}

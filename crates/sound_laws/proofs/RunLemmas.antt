@@ -14,7 +14,7 @@ use Rattle.cm_model.proofs.UpdateLemmas.{cycle_tells}
 use Rattle.cm_model.specs.Components.{is_listed}
 use Rattle.cm_model.specs.Cycle.{active_order, is_due_now, is_held_off, updated_in, cycle}
 use Rattle.cm_model.specs.Order.{precedes_at, depth}
-use Rattle.cm_model.specs.Ran.{Ran}
+use Rattle.cm_storage.specs.Ran.{Ran}
 use Rattle.cm_model.specs.Serials.{serials_of}
 use Rattle.cm_model.specs.Sound.{is_to_run, serial_precedes, NoneLater, EachRunsOnce}
 use Rattle.cm_model.specs.State.{State, Loaded, is_active, active}

@@ -16,7 +16,7 @@ use Rattle.cm_model.specs.Components.{is_available, has_failed, life_after}
 use Rattle.cm_model.specs.Cycle.{component_is, has_erred, is_struck, struck, reaches, must_stop, stays_active, lives_after}
 use Rattle.cm_model.specs.Faults.{component_with}
 use Rattle.cm_model.specs.Order.{Places, controller_at, precedes_at, some_below, height}
-use Rattle.cm_model.specs.Ran.{Ran}
+use Rattle.cm_storage.specs.Ran.{Ran}
 use Rattle.cm_model.specs.Sound.{names_at, is_there, CanRunTogether}
 use Rattle.cm_model.specs.State.{State, Loaded, is_active, active}
 use Rattle.chain_order.proofs.DepthLemmas.{precedes_at-second, height-most, height-rises}

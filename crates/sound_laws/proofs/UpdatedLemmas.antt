@@ -36,8 +36,8 @@ use Rattle.cm_model.specs.Values.{InterfaceValue}
 use Rattle.cm_model.specs.declared.component.JointInterface.{JointInterface}
 use Rattle.cm_model.specs.declared.data.CtlData.{CtlData}
 use Rattle.cm_model.specs.declared.data.RunData.{RunData}
-use Rattle.cm_model.specs.declared.ran.Done.{Done}
-use Rattle.cm_model.specs.declared.ran.Done.TheVariants as done
+use Rattle.cm_storage.specs.declared.ran.Done.{Done}
+use Rattle.cm_storage.specs.declared.ran.Done.TheVariants as done
 use Rattle.cm_model.specs.declared.tick.Tick.{Tick}
 use Rattle.switch_plan.proofs.TestLemmas.{some_below-from}
 

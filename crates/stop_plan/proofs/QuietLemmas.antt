@@ -12,7 +12,7 @@ use Rattle.cm_model.specs.Components.{has_failed}
 use Rattle.cm_model.specs.Cycle.{component_is, failed_in, active_order, has_erred, is_struck, struck, reaches, must_stop, stays_active, stops, cycle, landed, after_cycle}
 use Rattle.cm_model.specs.Faults.{component_with}
 use Rattle.cm_model.specs.Order.{Places, precedes_at, some_below}
-use Rattle.cm_model.specs.Ran.{Ran}
+use Rattle.cm_storage.specs.Ran.{Ran}
 use Rattle.cm_model.specs.Scene as scenes
 use Rattle.cm_model.specs.Scene.{is_chained_in}
 use Rattle.cm_model.specs.State.{State, Loaded, is_active, active}

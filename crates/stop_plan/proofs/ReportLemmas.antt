@@ -19,11 +19,11 @@ use Rattle.cm_model.specs.Components.{read_fails, write_fails, has_failed}
 use Rattle.cm_model.specs.Cycle.{component_is, components_where, failed_in, active_order, has_erred, is_struck, struck}
 use Rattle.cm_model.specs.Faults.{component_with}
 use Rattle.cm_model.specs.Order.{nobody, controller_at, precedes_at, places_of}
-use Rattle.cm_model.specs.Ran.{Ran}
+use Rattle.cm_storage.specs.Ran.{Ran}
 use Rattle.cm_model.specs.State.{State, Loaded, is_active, active}
-use Rattle.cm_model.specs.declared.ran.Done.{Done}
-use Rattle.cm_model.specs.declared.ran.Done.TheVariants as done
-use Rattle.cm_model.specs.declared.record.FailedPart.{FailedPart}
+use Rattle.cm_storage.specs.declared.ran.Done.{Done}
+use Rattle.cm_storage.specs.declared.ran.Done.TheVariants as done
+use Rattle.cm_storage.specs.declared.record.FailedPart.{FailedPart}
 use Rattle.chain_order.specs.Links.{places_below, each_below, linked}
 use Rattle.chain_order.proofs.LinkLemmas.{length-each_below, get_or-each_below}
 use Rattle.switch_plan.specs.Relations.{components_at, relations_of}

@@ -4,7 +4,7 @@ use Rattle.cm_model.specs.Commit.{scene_of}
 use Rattle.cm_model.specs.Cycle.{failed_in, stays_active, cycle, landed}
 pub use Rattle.cm_model.specs.Cycle.{member_of, members_in_order, is_error, erred_in}
 use Rattle.cm_model.specs.Order.{Places, set_of}
-use Rattle.cm_model.specs.Ran.{Ran}
+use Rattle.cm_storage.specs.Ran.{Ran}
 use Rattle.cm_model.specs.Scene.{is_chained_in}
 use Rattle.cm_model.specs.Sound.{CanRunTogether}
 use Rattle.cm_model.specs.State.{State}

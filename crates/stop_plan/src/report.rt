@@ -4,7 +4,8 @@ ghost use Rattle.std.specs.Prelude.{◌≡◌, ◌<◌, ◌==◌};
 ghost use Rattle.std.specs.List.{list_any};
 ghost use Rattle.stop_plan.specs.Reports.{IsReport, count_in, has_failed_in, is_struck_in};
 
-use cm_model::{FailedPart, Member};
+use cm_model::Member;
+use cm_storage::FailedPart;
 use switch_plan::Relations;
 
 /// What is known of a cycle at its end, and decides who stops.

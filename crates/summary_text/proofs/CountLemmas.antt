@@ -1,6 +1,6 @@
 -- What an entry adds to the counts.
 use Rattle.std.proofs.Common.{◌≡◌, ℕ, ◌+◌, ◌<◌, ◌^◌, List, [], ◌∷◌, length, refl, ◌∙◌, arith}
-use Rattle.cm_model.specs.Happened.{Happened}
+use Rattle.cm_storage.specs.Happened.{Happened}
 use Rattle.cm_model.specs.declared.cause.Decision.{Decision}
 use Rattle.cm_model.specs.declared.cause.Outcome.{Outcome}
 use Rattle.cm_model.specs.declared.cause.Outcome.TheVariants as outcome

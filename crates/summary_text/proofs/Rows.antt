@@ -11,12 +11,12 @@ use Rattle.cm_document.specs.declared.description.CompKind.TheVariants.{System}
 use Rattle.cm_document.specs.declared.description.Description.{Description}
 use Rattle.cm_document.specs.declared.description.JointDesc.{JointDesc}
 use Rattle.cm_document.specs.declared.life.Life.TheVariants.{Unconfigured, Active}
-use Rattle.cm_model.specs.Ran.{Ran}
+use Rattle.cm_storage.specs.Ran.{Ran}
 use Rattle.cm_model.specs.declared.cause.Cause.TheVariants.{Unknown}
 use Rattle.cm_model.specs.declared.cause.Decision.{Decision}
 use Rattle.cm_model.specs.declared.cause.Outcome.{Outcome}
 use Rattle.cm_model.specs.declared.cause.Outcome.TheVariants as outcome
-use Rattle.cm_model.specs.declared.ran.Done.TheVariants as done
+use Rattle.cm_storage.specs.declared.ran.Done.TheVariants as done
 use Rattle.cm_model.specs.declared.reply.Reply.TheVariants as reply
 use Rattle.summary_text.specs.Summary.{summary}
 

@@ -5,7 +5,8 @@ ghost use Rattle.summary_text.specs.Calls.Count.{CanCount};
 ghost use Rattle.summary_text.specs.Counted.{Counted, nothing, counted, with_entry, with_cycle, with_decisions, with_outcome};
 ghost use Rattle.summary_text.specs.Few.{AreFew, outcomes};
 
-use cm_model::{CycleRecord, Decision, Entry, Outcome, Reply};
+use cm_model::{Decision, Entry, Outcome, Reply};
+use cm_storage::CycleRecord;
 use fixed_num::BodyState;
 use std::marker::Model;
 

@@ -3,13 +3,13 @@ use Rattle.std.proofs.Common.{◌≡◌, ℕ, true, List, [], ◌++◌, length, 
 use Rattle.std.specs.Prelude.{◌==◌, ◌&&◌, codes}
 use Rattle.std.proofs.lemmas.Bool.{and_parts}
 use Rattle.fixed_num.specs.declared.value.BodyState.{BodyState}
-use Rattle.cm_model.proofs.RanLemmas.{no_item}
-use Rattle.cm_model.specs.Happened.{Happened}
-use Rattle.cm_model.specs.Held.{tells_nothing}
+use Rattle.cm_storage.proofs.RanLemmas.{no_item}
+use Rattle.cm_storage.specs.Happened.{Happened}
+use Rattle.cm_storage.specs.Held.{tells_nothing}
 use Rattle.cm_model.specs.Items.{Names, failed_text, ran_text, body_texts, stop_text, record_items}
-use Rattle.cm_model.specs.Ran.{Ran}
+use Rattle.cm_storage.specs.Ran.{Ran}
 use Rattle.cm_model.specs.Trace.{joined}
-use Rattle.cm_model.specs.declared.record.FailedPart.{FailedPart}
+use Rattle.cm_storage.specs.declared.record.FailedPart.{FailedPart}
 
 no_items : (names : Names) (failed : List FailedPart) (ran : List Ran) (bodies : List BodyState) (stops : List ℕ) → failed ≡ [] → ran ≡ [] → bodies ≡ [] → stops ≡ []
     → map (failed_text names) failed ++ map (ran_text names) ran ++ body_texts names 0 bodies ++ map (stop_text names) stops ≡ []

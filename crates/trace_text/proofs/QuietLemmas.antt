@@ -4,7 +4,7 @@ use Rattle.std.specs.Prelude.{Option, None, Some, IfSome, IsSomeAnd, decimal, sl
 use Rattle.std.proofs.lemmas.Fmt.{decimal_digit, decimal_step}
 use Rattle.std.proofs.lemmas.Bool.{cases_lt}
 use Rattle.std.proofs.Math.Seq.{set-append_seam}
-use Rattle.cm_model.specs.declared.entry.CycleCall.{CycleCall}
+use Rattle.cm_storage.specs.declared.kept_call.CycleCall.{CycleCall}
 use Rattle.trace_text.specs.Quiet.{quiet_end, quiet_text, DifferAtPair, IsNextWith}
 
 -- two digits are both of a number

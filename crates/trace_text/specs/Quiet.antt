@@ -1,8 +1,8 @@
 -- The lines of a cycle in which nothing happens.
 use Rattle.std.specs.Prelude.{◌≡◌, ℕ, ◌+◌, ◌/◌, ◌%◌, ◌<◌, ◌≤◌, List, ◌∷◌, ◌++◌, codes}
 use Rattle.cm_document.specs.CallText.{call_text}
-use Rattle.cm_model.specs.Kept.{call_of}
-use Rattle.cm_model.specs.declared.entry.CycleCall.{CycleCall}
+use Rattle.cm_storage.specs.Kept.{call_of}
+use Rattle.cm_storage.specs.declared.kept_call.CycleCall.{CycleCall}
 
 -- what stands behind the number
 abbrev pub quiet_end : List ℕ

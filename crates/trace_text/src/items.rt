@@ -6,7 +6,8 @@ ghost use Rattle.cm_model.specs.Trace.{joined, reply_text};
 ghost use Rattle.trace_text.specs.Replies.{is_in_words};
 
 use crate::names::Names;
-use cm_model::{CompLine, CtlLine, Decision, IfaceLine, Reply, push_numbered};
+use cm_model::{CompLine, CtlLine, Decision, IfaceLine, Reply};
+use cm_storage::push_numbered;
 use fixed_num::{Memory, StoredValue, Value};
 
 /// Appends the text of a reply that is no record.

@@ -3,11 +3,11 @@
 
 ghost use Rattle.std.specs.Prelude.{◌≡◌, ◌+◌, ◌-◌, ◌/◌, ◌%◌, ◌≤◌, ◌++◌, codes, length, slice_set, IfSome, IsSomeAnd, OnOk};
 ghost use Rattle.cm_document.specs.CallText.{call_text};
-ghost use Rattle.cm_model.specs.Kept.{call_of};
+ghost use Rattle.cm_storage.specs.Kept.{call_of};
 ghost use Rattle.trace_text.specs.Quiet.{quiet_text, DifferAtPair, IsNextWith};
 
 use crate::bytes::{push_counted, push_word};
-use cm_model::CycleCall;
+use cm_storage::CycleCall;
 use fixed_num::Memory;
 use std::alloc::Global;
 use std::marker::Model;

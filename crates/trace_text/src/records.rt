@@ -2,14 +2,14 @@
 //! as bytes, without a formatter and without a look at whether they are text.
 
 ghost use Rattle.std.specs.Prelude.{◌≡◌, ◌++◌, map, codes, OnOk, IfOk};
-ghost use Rattle.cm_model.specs.Rans.{ran_of};
+ghost use Rattle.cm_storage.specs.Rans.{ran_of};
 ghost use Rattle.cm_model.specs.Items.{nth_name, value_text, ran_text, outs_text, numbers_text, failed_text, body_text, body_texts, stop_text, record_items};
 ghost use Rattle.cm_model.specs.Trace.{joined};
 ghost use Rattle.trace_text.specs.Joined.{before_item, Adds};
 
 use crate::bytes::{push_number, push_word};
 use crate::names::Names;
-use cm_model::{CycleRecord, Done, FailedPart, RanRef, Rans};
+use cm_storage::{CycleRecord, Done, FailedPart, RanRef, Rans};
 use fixed_num::{BodyState, Fx, Memory, StoredValue, Value};
 
 /// Appends the items of a record, joined by `; `, or `none`.

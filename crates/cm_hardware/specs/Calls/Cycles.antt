@@ -6,7 +6,7 @@ use Rattle.fixed_num.specs.declared.value.BodyState.{BodyState}
 use Rattle.joint_body.specs.declared.TheConstants.{LONGEST_STEP}
 use Rattle.cm_model.specs.Cycle.{period}
 use Rattle.cm_model.specs.State.{State}
-use Rattle.cm_model.specs.declared.record.FailedPart.{FailedPart}
+use Rattle.cm_storage.specs.declared.record.FailedPart.{FailedPart}
 use Rattle.loan_board.specs.declared.board.Loan.{Loan}
 use Rattle.cm_hardware.specs.Wiring.{Mounted, Wired, read, all_states, after_reads_of, failed_reads, fails_read}
 use Rattle.cm_hardware.specs.Wiring.{all_commands, fails_write, failed_writes, count, most_failures, all_joints}

@@ -5,7 +5,8 @@ ghost use Rattle.cm_model.specs.Kinds.{are_ranged, AreItsReads};
 ghost use Rattle.cm_model.specs.Controllers.{runs_chained, started, IsBlank};
 
 use cm_document::{MOST_CLAIMS_OF_ONE, Mail, Params};
-use cm_model::{Done, LONGEST_PERIOD, Tick};
+use cm_model::{LONGEST_PERIOD, Tick};
+use cm_storage::Done;
 use ctl_trait::{CfgFault, Controller, shape_of, takes, takes_none};
 use fixed_num::{Fx, Value};
 use std::alloc::Global;

@@ -1,7 +1,7 @@
 -- What the parts of the turns of cells ask, and what they leave.
 use Rattle.std.specs.Prelude.{◌≡◌, ℕ, ◌+◌, ◌<◌, ◌≤◌, ◌^◌, List, length, map}
 use Rattle.std.specs.List.{AllByRecursion}
-use Rattle.cm_model.specs.Ran.{Filling}
+use Rattle.cm_storage.specs.Ran.{Filling}
 use Rattle.ctl_places.specs.Placed.{Placed}
 use Rattle.ctl_slots.specs.Updates.{Aloft, IsTimely}
 use Rattle.rt_flight.specs.Stations.{IsSeatedOn}

@@ -7,8 +7,8 @@ use Rattle.cm_model.specs.Cycle.{stops as stopped_in}
 use Rattle.cm_model.specs.State.{State}
 use Rattle.cm_model.specs.Steady.{IsSteady}
 use Rattle.cm_model.specs.declared.member.Member.{Member}
-use Rattle.cm_model.specs.declared.record.FailedPart.{FailedPart}
-use Rattle.cm_model.specs.declared.record_room.RecordRoom.{RecordRoom}
+use Rattle.cm_storage.specs.declared.record.FailedPart.{FailedPart}
+use Rattle.cm_storage.specs.declared.record_room.RecordRoom.{RecordRoom}
 use Rattle.stop_plan.specs.Ending.{IsEndingOf, HasFlags, told_in, erred_in}
 use Rattle.stop_plan.specs.declared.ending.Ending.{Ending}
 use Rattle.switch_plan.specs.Relations.{Related, relations_of}

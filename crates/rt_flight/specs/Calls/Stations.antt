@@ -3,11 +3,11 @@ use Rattle.std.specs.Prelude.{◌≡◌, ℕ, ℤ, ◌+◌, ◌<◌, ◌≤◌, 
 use Rattle.fixed_num.specs.declared.value.Value.{Value}
 use Rattle.cm_document.specs.declared.description.CtlKind.{CtlKind}
 use Rattle.cm_model.specs.Controllers.{Stepped, put_out}
-use Rattle.cm_model.specs.Ran.{Filling}
+use Rattle.cm_storage.specs.Ran.{Filling}
 use Rattle.cm_model.specs.declared.data.CtlData.{CtlData}
 use Rattle.cm_model.specs.declared.member.Member.{Member}
-use Rattle.cm_model.specs.declared.ran.Done.{Done}
-use Rattle.cm_model.specs.declared.ran.Done.TheVariants as done
+use Rattle.cm_storage.specs.declared.ran.Done.{Done}
+use Rattle.cm_storage.specs.declared.ran.Done.TheVariants as done
 use Rattle.ctl_places.specs.Placed.{Placed}
 use Rattle.ctl_slots.specs.Lives.{published_by}
 use Rattle.rt_flight.specs.Stations.{Standing, IsFitted}

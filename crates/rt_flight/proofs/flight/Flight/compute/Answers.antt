@@ -1,8 +1,8 @@
 use Rattle.std.proofs.Common.{◌≡◌, ℕ, true, false, List, length, Option, sym, ap, subst, ◌∙◌, arith}
 use Rattle.std.specs.Prelude.{is_some, vec_capacity, None, IsSomeAnd}
 use Rattle.std.proofs.lemmas.List.{with_items_is}
-use Rattle.cm_model.specs.Happened.{Happened}
-use Rattle.cm_model.specs.declared.record_room.RecordRoom.{RecordRoom}
+use Rattle.cm_storage.specs.Happened.{Happened}
+use Rattle.cm_storage.specs.declared.record_room.RecordRoom.{RecordRoom}
 use Rattle.stop_plan.specs.Ending.{HasFlags}
 use Rattle.switch_plan.specs.Relations.{Related}
 use Rattle.rt_flight.specs.Calls.Cycles.{LeavesFlight}

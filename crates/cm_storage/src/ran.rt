@@ -37,11 +37,11 @@ pub struct RanList {
 
 impl Model for RanList {
     ghost use Rattle.std.specs.Prelude.{List};
-    ghost use Rattle.cm_model.specs.Ran.{Ran};
+    ghost use Rattle.cm_storage.specs.Ran.{Ran};
 
     ghost Value = { List Ran };
 
-    ghost use Rattle.cm_model.specs.Rans.{rans, IsWhole};
+    ghost use Rattle.cm_storage.specs.Rans.{rans, IsWhole};
 
     ghost view = { λ list. rans list.heads.items list.values.items list.numbers.items };
 
@@ -105,11 +105,11 @@ pub struct Rans<'a> {
 
 impl<'a> Model for Rans<'a> {
     ghost use Rattle.std.specs.Prelude.{List};
-    ghost use Rattle.cm_model.specs.Ran.{Ran};
+    ghost use Rattle.cm_storage.specs.Ran.{Ran};
 
     ghost Value = { List Ran };
 
-    ghost use Rattle.cm_model.specs.Rans.{rans, IsWhole};
+    ghost use Rattle.cm_storage.specs.Rans.{rans, IsWhole};
 
     ghost view = { λ list. rans list.heads.now list.values.now list.numbers.now };
 
@@ -118,7 +118,7 @@ impl<'a> Model for Rans<'a> {
 
 impl<'a> Iterator for Rans<'a> {
     ghost use Rattle.std.specs.Iterator.{YieldsFirstBy, item_count};
-    ghost use Rattle.cm_model.specs.Rans.{ran_of};
+    ghost use Rattle.cm_storage.specs.Rans.{ran_of};
 
     type Item = RanRef<'a>;
 

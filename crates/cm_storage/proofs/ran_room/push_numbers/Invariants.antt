@@ -1,5 +1,5 @@
 use Rattle.std.proofs.Common.{◌≡◌, ◌+◌, ◌≤◌, ◌++◌, length, drop, vec_len, vec_capacity}
-use Rattle.cm_model.proofs.ran_room.push_numbers.Given as goal
+use Rattle.cm_storage.proofs.ran_room.push_numbers.Given as goal
 
 -- what is there and what is left are all, and what is left has room
 abbrev pub invariant-loop-number : goal.invariant-loop-number

@@ -16,12 +16,12 @@ pub struct RanRoom {
 }
 
 impl Model for RanRoom {
-    ghost use Rattle.cm_model.specs.Ran.{Filling};
+    ghost use Rattle.cm_storage.specs.Ran.{Filling};
 
     ghost Value = { Filling };
 
     ghost use Rattle.std.specs.Prelude.{◌-◌, vec_len, vec_capacity};
-    ghost use Rattle.cm_model.specs.Rans.{rans, IsWhole};
+    ghost use Rattle.cm_storage.specs.Rans.{rans, IsWhole};
 
     ghost view = { λ list. record {
       rans = rans list.heads.items list.values.items list.numbers.items;
@@ -34,7 +34,7 @@ impl Model for RanRoom {
 }
 
 impl RanRoom {
-    ghost use Rattle.cm_model.specs.Ran.{Fits, TakesRoom};
+    ghost use Rattle.cm_storage.specs.Ran.{Fits, TakesRoom};
 
     /// An empty list with room for so many controllers, values and numbers.
     pub fn with_room(

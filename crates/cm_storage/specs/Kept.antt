@@ -1,11 +1,11 @@
 -- A call as the history keeps it stands for the call.
-use Rattle.std.specs.Prelude.{Bool, true, false}
+use Rattle.std.specs.Prelude.{ℕ, Bool, true, false, List, Option, Some, None}
 use Rattle.cm_document.specs.declared.call.Call.{Call}
 use Rattle.cm_document.specs.declared.call.Call.TheVariants as call
-use Rattle.cm_model.specs.declared.entry.CycleCall.{CycleCall}
-use Rattle.cm_model.specs.declared.entry.CycleCall.TheVariants as of_cycle
-use Rattle.cm_model.specs.declared.entry.Short.{Short}
-use Rattle.cm_model.specs.declared.entry.Short.TheVariants as short
+use Rattle.cm_storage.specs.declared.kept_call.CycleCall.{CycleCall}
+use Rattle.cm_storage.specs.declared.kept_call.CycleCall.TheVariants as of_cycle
+use Rattle.cm_storage.specs.declared.kept_call.Short.{Short}
+use Rattle.cm_storage.specs.declared.kept_call.Short.TheVariants as short
 
 -- the call that is kept so
 abbrev pub kept_call : Short → Call
@@ -29,3 +29,8 @@ is_of_cycle _ = false
 abbrev pub call_of : CycleCall → Call
 call_of (of_cycle.Begin cycle) = call.Begin cycle
 call_of (of_cycle.End cycle) = call.End cycle
+
+-- the controller that a load is of
+abbrev pub load_name : Call → Option (List ℕ)
+load_name (call.Load name) = Some name
+load_name _ = None

@@ -1,8 +1,8 @@
 -- What happened in one cycle, as contracts see it.
 use Rattle.std.specs.Prelude.{ℕ, List}
 use Rattle.fixed_num.specs.declared.value.BodyState.{BodyState}
-use Rattle.cm_model.specs.Ran.{Ran}
-use Rattle.cm_model.specs.declared.record.FailedPart.{FailedPart}
+use Rattle.cm_storage.specs.Ran.{Ran}
+use Rattle.cm_storage.specs.declared.record.FailedPart.{FailedPart}
 
 -- The cycle's number; the components that failed, reads before writes; the controllers that were updated, in order; the
 -- bodies of the joints after it; and the serials of the controllers that were stopped.

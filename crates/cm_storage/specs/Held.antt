@@ -1,9 +1,9 @@
 -- A record of a cycle as it is kept stands for what happened.
 use Rattle.std.specs.Prelude.{ℕ, ◌==◌, Bool, ◌&&◌, [], length}
-use Rattle.cm_model.specs.Happened.{Happened}
-use Rattle.cm_model.specs.declared.record.CycleParts.{CycleParts}
-use Rattle.cm_model.specs.declared.record.Held.{Held}
-use Rattle.cm_model.specs.declared.record.Held.TheVariants.{Quiet, Whole}
+use Rattle.cm_storage.specs.Happened.{Happened}
+use Rattle.cm_storage.specs.declared.record.CycleParts.{CycleParts}
+use Rattle.cm_storage.specs.declared.record.Held.{Held}
+use Rattle.cm_storage.specs.declared.record.Held.TheVariants.{Quiet, Whole}
 
 -- nothing happened in this cycle but that it ended
 abbrev pub nothing_in : ℕ → Happened

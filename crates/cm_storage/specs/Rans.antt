@@ -1,9 +1,9 @@
 -- How the updated controllers of a cycle are kept flat: a head for each, and all values and numbers one after another.
 use Rattle.std.specs.Prelude.{◌≡◌, ℤ, List, [], ◌∷◌, length, take, drop, sum_by}
 use Rattle.fixed_num.specs.declared.value.Value.{Value}
-use Rattle.cm_model.specs.Ran.{Ran}
-use Rattle.cm_model.specs.declared.ran.RanHead.{RanHead}
-use Rattle.cm_model.specs.declared.ran.RanRef.{RanRef}
+use Rattle.cm_storage.specs.Ran.{Ran}
+use Rattle.cm_storage.specs.declared.ran.RanHead.{RanHead}
+use Rattle.cm_storage.specs.declared.ran.RanRef.{RanRef}
 
 -- each head takes as many values and numbers as it counts
 abbrev pub rans : List RanHead → List Value → List ℤ → List Ran

@@ -6,12 +6,12 @@ use Rattle.std.proofs.lemmas.List.{take_all, take-append-le, drop-append-le}
 use Rattle.std.proofs.lemmas.List.Sums.{sum_by-cons, sum_by-append}
 use Rattle.fixed_num.specs.declared.value.Value.{Value}
 use Rattle.sequence.proofs.ListLemmas.{not_empty}
-use Rattle.cm_model.specs.Held.{nothing_in, happened_in_parts, tells_nothing}
-use Rattle.cm_model.specs.Ran.{Ran}
-use Rattle.cm_model.specs.Rans.{rans, IsWhole}
-use Rattle.cm_model.specs.declared.ran.RanHead.{RanHead}
-use Rattle.cm_model.specs.declared.record.CycleParts.{CycleParts}
-use Rattle.cm_model.specs.declared.record.FailedPart.{FailedPart}
+use Rattle.cm_storage.specs.Held.{nothing_in, happened_in_parts, tells_nothing}
+use Rattle.cm_storage.specs.Ran.{Ran}
+use Rattle.cm_storage.specs.Rans.{rans, IsWhole}
+use Rattle.cm_storage.specs.declared.ran.RanHead.{RanHead}
+use Rattle.cm_storage.specs.declared.record.CycleParts.{CycleParts}
+use Rattle.cm_storage.specs.declared.record.FailedPart.{FailedPart}
 use Rattle.fixed_num.specs.declared.value.BodyState.{BodyState}
 
 -- what a head stands for with these values and numbers

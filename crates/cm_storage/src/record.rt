@@ -1,7 +1,7 @@
 //! What happened in one cycle.
 
 ghost use Rattle.std.specs.Prelude.{◌≡◌, [], IfOk};
-ghost use Rattle.cm_model.specs.Ran.{Ran};
+ghost use Rattle.cm_storage.specs.Ran.{Ran};
 
 use crate::ran::{RanList, Rans};
 use fixed_num::BodyState;
@@ -36,7 +36,7 @@ pub struct CycleParts {
 const _: () = prove!(size_of::<CycleParts>() == 152);
 
 impl CycleParts {
-    ghost use Rattle.cm_model.specs.Held.{tells_nothing, happened_in_parts};
+    ghost use Rattle.cm_storage.specs.Held.{tells_nothing, happened_in_parts};
 
     /// Whether there is nothing to tell but the cycle's number.
     pub(crate) fn tells_nothing(&self) -> bool
@@ -65,17 +65,17 @@ enum Held {
 }
 
 impl Model for CycleRecord {
-    ghost use Rattle.cm_model.specs.Happened.{Happened};
+    ghost use Rattle.cm_storage.specs.Happened.{Happened};
 
     ghost Value = { Happened };
 
-    ghost use Rattle.cm_model.specs.Held.{happened};
+    ghost use Rattle.cm_storage.specs.Held.{happened};
 
     ghost view = { λ kept. happened kept.held };
 }
 
 impl CycleRecord {
-    ghost use Rattle.cm_model.specs.Held.{happened_in_parts, tells_nothing};
+    ghost use Rattle.cm_storage.specs.Held.{happened_in_parts, tells_nothing};
 
     /// The record of a cycle of which there is nothing to tell. It takes no memory.
     pub fn quiet(cycle: u64) -> CycleRecord

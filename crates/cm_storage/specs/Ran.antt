@@ -1,7 +1,7 @@
 -- What a cycle tells of a controller that it updated, and a list of these while it is filled.
 use Rattle.std.specs.Prelude.{◌≡◌, ℕ, ℤ, ◌-◌, ◌<◌, ◌≤◌, ◌^◌, List, length}
 use Rattle.fixed_num.specs.declared.value.Value.{Value}
-use Rattle.cm_model.specs.declared.ran.Done.{Done}
+use Rattle.cm_storage.specs.declared.ran.Done.{Done}
 
 -- One updated controller: its serial, how the update went, what it gave out and what it published.
 pub record Ran : Type 0 where
