@@ -14,7 +14,7 @@ use Rattle.cm_hardware.specs.Shown.{HasLinesFor}
 use Rattle.cm_hardware.specs.Wiring.{Wired, Mounted, most_failures, all_joints}
 use Rattle.cm_hardware.specs.declared.lists.Lists.{Lists}
 use Rattle.cm_hardware.proofs.ListLemmas.{state_is}
-use Rattle.ctl_rack.specs.Stocks.{total}
+use Rattle.cm_model.specs.Blanks.{no_blanks, total}
 use Rattle.request_plan.specs.Requests.{Asked}
 use Rattle.ctl_slots.specs.Slots.{Slotted}
 use Rattle.stop_plan.specs.Ending.{members_in_order}
@@ -72,16 +72,16 @@ loans_count s w is = ap length is.loans ∙ length-map s.values _ ∙ sym (lengt
 -- room for the lists of the hardware at start is room for those of its description
 pub lines_at_start : (d : Description) (w : Wired) (l : Lists) → ((blanks : Blanks) (sessions : ℕ) → IsHardwareOf (boot d blanks sessions) w) → HasLinesFor w l → HasLines d l
 lines_at_start d w l starts room =
-    let is = starts (record { forward = 0; passthrough = 0; pid = 0; trajectory = 0; broadcaster = 0; mock = 0 }) 0 in record {
+    let is = starts no_blanks 0 in record {
       components = omega (arith, room.components, ap length is.wired.components, length-map w.components (λ (m : Mounted). m.hardware.description));
-      interfaces = omega (arith, room.interfaces, loans_count (boot d (record { forward = 0; passthrough = 0; pid = 0; trajectory = 0; broadcaster = 0; mock = 0 }) 0) w is);
+      interfaces = omega (arith, room.interfaces, loans_count (boot d no_blanks 0) w is);
     }
 
 -- and there is as much to tell as is described
 pub size_at_start : (d : Description) (w : Wired) → ((blanks : Blanks) (sessions : ℕ) → IsHardwareOf (boot d blanks sessions) w) → (size : HardwareSize) → size.failures ≡ most_failures w.components
     → size.joints ≡ all_joints w.components → IsSizeOf d size
 size_at_start d w starts size failures joints =
-    let is = starts (record { forward = 0; passthrough = 0; pid = 0; trajectory = 0; broadcaster = 0; mock = 0 }) 0 in record {
+    let is = starts no_blanks 0 in record {
       failures = failures ∙ most_of d w is.wired.components;
       joints = joints ∙ joints_of d w is.wired.components;
     }

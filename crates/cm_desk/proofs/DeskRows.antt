@@ -6,6 +6,7 @@ use Rattle.cm_document.specs.declared.call.Call.{Call}
 use Rattle.cm_document.specs.declared.call.Call.TheVariants.{Load, Unload, Told, Await, Close}
 use Rattle.cm_document.specs.declared.description.CtlKind.TheVariants as kind
 use Rattle.cm_document.specs.declared.description.Params.TheVariants.{Mock}
+use Rattle.cm_model.specs.Blanks.{no_blanks, with_count}
 use Rattle.cm_model.specs.Boundary.{all_concluded}
 use Rattle.cm_model.specs.Machine.{LegalFrom, step}
 use Rattle.cm_model.specs.State.{State, boot, fresh}
@@ -19,7 +20,7 @@ use Rattle.cm_desk.specs.Desk.{GoesOnWithoutLoop, now_of, owed, hands_out, seen}
 -- ---- A day with one mock
 
 abbrev stock : Blanks
-stock = record { forward = 0; passthrough = 0; pid = 0; trajectory = 0; broadcaster = 0; mock = 2 }
+stock = with_count no_blanks kind.Mock 2
 
 -- at boot, with one session
 abbrev opening : State

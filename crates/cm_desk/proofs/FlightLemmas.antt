@@ -19,7 +19,8 @@ use Rattle.cm_model.specs.declared.member.Member.{Member}
 use Rattle.cm_storage.specs.declared.record_room.RecordRoom.{RecordRoom}
 use Rattle.chain_order.specs.Links.{linked}
 use Rattle.ctl_places.specs.Placed.{Placed}
-use Rattle.ctl_slots.specs.Lives.{IsKept, publishes}
+use Rattle.cm_model.specs.Kinds.{publishes}
+use Rattle.ctl_slots.specs.Lives.{IsKept}
 use Rattle.ctl_slots.specs.Mails.{mail_in, without_mail}
 use Rattle.ctl_slots.specs.Seats.{IsSeated}
 use Rattle.ctl_slots.specs.Updates.{HasTime}

@@ -8,7 +8,7 @@ use Rattle.sequence.proofs.ListLemmas.{head_same, tail_same}
 use Rattle.cm_model.specs.State.{State, Loaded, is_active}
 use Rattle.cm_model.specs.declared.blanks.Blanks.{Blanks}
 use Rattle.cm_model.specs.declared.member.Member.{Member}
-use Rattle.ctl_rack.specs.Stocks.{total}
+use Rattle.cm_model.specs.Blanks.{total}
 use Rattle.sound_laws.proofs.SerialLemmas.{serials_set}
 use Rattle.ctl_slots.specs.Fit.{AreFit}
 use Rattle.stop_plan.specs.Ending.{members_in_order}

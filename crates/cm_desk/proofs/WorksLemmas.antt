@@ -1,5 +1,5 @@
 -- What the desk's calls make of the loaded controllers.
-use Rattle.std.proofs.Common.{◌≡◌, ℕ, zero, suc, ◌+◌, ◌<◌, Bool, true, false, Result, Ok, Err, List, [], ◌∷◌, length, get_or, take, drop, set, Option, Some, None, refl, sym, subst, ap, ◌∙◌, arith}
+use Rattle.std.proofs.Common.{◌≡◌, ℕ, zero, suc, ◌<◌, Bool, true, false, Result, Ok, Err, List, [], ◌∷◌, length, get_or, take, drop, set, Option, Some, None, refl, sym, subst, ap, ◌∙◌, arith}
 use Rattle.std.specs.Prelude.{◌==◌, ◌↔◌, slice_get, option_map, IsSomeAnd, OnOk, OnErr}
 use Rattle.std.specs.List.{All, remove}
 use Rattle.std.proofs.lemmas.List.{set-get_or}
@@ -8,7 +8,6 @@ use Rattle.std.proofs.lemmas.Option.{same_Some, slice_get_within, slice_get_read
 use Rattle.cm_document.specs.Params.{kind_of}
 use Rattle.cm_document.specs.declared.description.CtlDesc.{CtlDesc}
 use Rattle.cm_document.specs.declared.description.CtlKind.{CtlKind}
-use Rattle.cm_document.specs.declared.description.CtlKind.TheVariants.{Forward, Passthrough, Pid, Trajectory, Broadcaster, Mock}
 use Rattle.cm_document.specs.declared.description.Description.{Description}
 use Rattle.cm_document.specs.declared.description.Params.{Params}
 use Rattle.cm_model.specs.Console.{unless_refused, controller_in, controller_of, slot_of, reply_on, with_changed, without_slot, unload_refusals, unload_reply, moves_out}
@@ -16,12 +15,11 @@ use Rattle.cm_model.specs.Controllers.{configured, CanBeConfigured}
 use Rattle.cm_model.specs.Kinds.{are_ranged, is_refused}
 use Rattle.cm_model.specs.Machine.{is_sold_out_at}
 use Rattle.cm_model.specs.Order.{divisor}
-use Rattle.cm_model.specs.State.{State, Loaded, blanks_of, with_one_less, is_active}
-use Rattle.cm_model.specs.declared.blanks.Blanks.{Blanks}
+use Rattle.cm_model.specs.Blanks.{blanks_of}
+use Rattle.cm_model.specs.State.{State, Loaded, is_active}
 use Rattle.cm_model.specs.declared.data.CtlData.{CtlData}
 use Rattle.cm_model.specs.declared.reply.Reply.TheVariants as reply
 use Rattle.cm_model.specs.declared.reply.Why.{Why}
-use Rattle.ctl_rack.specs.Stocks.{total}
 use Rattle.ctl_slots.proofs.LifeLemmas.{none_is}
 use Rattle.ctl_slots.specs.Slots.{Slotted}
 use Rattle.cm_desk.specs.Works.{IsAsDescribed, IsDivided, IsConfigured}
@@ -50,15 +48,6 @@ pub kept_there : (d : Description) (ls : List Loaded) (i : ℕ) (l : Loaded) →
 kept_there d ls i l described there = subst (IsAsDescribed d) (get_or_from_slice_get ls i l l there) (described i l (slice_get_within ls i l there))
 
 -- ---- Blanks
-
--- each load takes a blank, so that loads and blanks stay as many together
-pub one_less : (b : Blanks) (kind : CtlKind) → 0 < blanks_of b kind → total (with_one_less b kind) + 1 ≡ total b
-one_less b Forward some = omega (arith, some)
-one_less b Passthrough some = omega (arith, some)
-one_less b Pid some = omega (arith, some)
-one_less b Trajectory some = omega (arith, some)
-one_less b Broadcaster some = omega (arith, some)
-one_less b Mock some = omega (arith, some)
 
 -- no blank of its kind is left for the controller that is described at a place, or some are
 pub sold_out : (s : State) (place : ℕ) (c : CtlDesc) → slice_get s.description.controllers place ≡ Some c

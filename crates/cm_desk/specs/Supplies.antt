@@ -5,13 +5,13 @@ use Rattle.std.specs.List.{All, AllByRecursion}
 use Rattle.cm_document.specs.Params.{kind_of}
 use Rattle.cm_document.specs.declared.description.CompDesc.{CompDesc}
 use Rattle.cm_document.specs.declared.description.Description.{Description}
+use Rattle.cm_model.specs.Kinds.{publishes}
 use Rattle.cm_model.specs.Order.{controller_at}
 use Rattle.cm_model.specs.declared.member.Member.{Member}
 use Rattle.cm_storage.specs.declared.record_room.RecordRoom.{RecordRoom}
 use Rattle.cm_hardware.specs.Wiring.{Wired, one_if, can_fail}
 use Rattle.chain_order.specs.Links.{linked}
 use Rattle.ctl_places.specs.Placed.{Placed, placed_of}
-use Rattle.ctl_slots.specs.Lives.{publishes}
 use Rattle.rt_flight.specs.Flights.{TellsNothing}
 use Rattle.rt_flight.specs.Stations.{Standing, IsFitted}
 use Rattle.rt_flight.specs.declared.craft.Craft.{Craft}

@@ -22,7 +22,7 @@ use Rattle.cm_hardware.specs.Wiring.{Wired}
 use Rattle.cm_hardware.specs.Holding.{IsHardwareOf, IsMoved}
 use Rattle.cm_hardware.specs.Listed.{with_hardware}
 use Rattle.ctl_places.specs.Placed.{Placed, placed_of}
-use Rattle.ctl_rack.specs.Stocks.{total}
+use Rattle.cm_model.specs.Blanks.{total}
 use Rattle.ctl_slots.specs.Commits.{TellCommit}
 use Rattle.ctl_slots.specs.Seats.{widest}
 use Rattle.switch_plan.specs.Relations.{relations_of}

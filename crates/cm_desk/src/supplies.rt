@@ -8,11 +8,12 @@ ghost use Rattle.cm_desk.specs.Supplies.{AreKept, AreStandsOf, AreStations, AreS
 
 use crate::bay::Spare;
 use crate::works::described_at;
-use cm_document::{Checked, Params};
+use cm_document::Checked;
 use cm_model::Member;
 use cm_storage::{CycleParts, RecordRoom, RecordSize};
 use ctl_places::CtlPlaces;
 use ctl_slots::MailAloft;
+use ctl_trait::publishes;
 use fixed_num::Memory;
 use rt_flight::{Craft, Station};
 use std::alloc::Global;
@@ -280,9 +281,10 @@ fn numbers_of(checked: &Checked, places: &CtlPlaces, member: &Member) -> usize
     requires places { length places.now.reads ≡ length checked.now.controllers }
     ensures { result ≡ numbers_at checked.now places.now member.now }
 {
-    match described_at(checked, member.place as usize).params {
-        Params::Broadcaster { .. } => places.reads(member.place).len(),
-        _ => 0,
+    if publishes(described_at(checked, member.place as usize).params.kind()) {
+        places.reads(member.place).len()
+    } else {
+        0
     }
 }
 

@@ -5,11 +5,13 @@ use Rattle.std.specs.List.{list_any}
 use Rattle.iface_names.specs.Interfaces.{same_interface}
 use Rattle.iface_names.specs.declared.interface.IfaceName.{IfaceName}
 use Rattle.iface_names.specs.declared.interface.IfaceName.TheVariants.{Joint, Reference}
+use Rattle.cm_document.specs.Params.{exports_of}
 use Rattle.cm_document.specs.declared.description.CompDesc.{CompDesc}
 use Rattle.cm_document.specs.declared.description.CtlDesc.{CtlDesc}
+use Rattle.cm_document.specs.declared.description.Exports.{Exports}
+use Rattle.cm_document.specs.declared.description.Exports.TheVariants.{Nothing, FirstRead, EachClaim}
 use Rattle.cm_document.specs.declared.description.JointDesc.{JointDesc}
 use Rattle.cm_document.specs.declared.description.Params.{Params}
-use Rattle.cm_document.specs.declared.description.Params.TheVariants.{Passthrough, Pid}
 
 -- ---- Interfaces of components
 
@@ -33,12 +35,20 @@ abbrev pub reference_for : List ℕ → IfaceName → IfaceName
 reference_for controller (Joint joint kind) = Reference controller joint kind
 reference_for controller (Reference other joint kind) = Reference controller joint kind
 
--- The interfaces for which a controller of this kind exports references: a passthrough its claims, a pid what it reads
--- first.
+-- the interfaces for which a controller exports references, if this is what it exports
+abbrev pub exported_as : Exports → CtlDesc → List IfaceName
+exported_as Nothing c = []
+exported_as FirstRead c = take 1 c.reads
+exported_as EachClaim c = c.claims
+
+-- it exports references at all
+abbrev pub exports_any : Exports → Bool
+exports_any Nothing = false
+exports_any _ = true
+
+-- the interfaces for which a controller with these parameters exports references
 abbrev pub exported_for : Params → CtlDesc → List IfaceName
-exported_for (Passthrough outs) c = c.claims
-exported_for (Pid kp ki kd imax omax) c = take 1 c.reads
-exported_for _ c = []
+exported_for params c = exported_as (exports_of params) c
 
 -- the references that a controller exports, in order
 abbrev pub refs_of : CtlDesc → List IfaceName

@@ -2,7 +2,7 @@
 
 ghost use Rattle.std.specs.Prelude.{◌≡◌, take, IfOk};
 ghost use Rattle.cm_document.specs.Links.{exported_for, reference_for};
-ghost use Rattle.cm_document.specs.Params.{kind_of};
+ghost use Rattle.cm_document.specs.Params.{kind_of, exports_of};
 ghost use Rattle.cm_document.specs.Places.{kinds_of};
 
 use crate::cycles::Cycles;
@@ -108,6 +108,17 @@ pub enum CtlKind {
     Mock,
 }
 
+/// Which references a controller exports.
+#[derive(Clone, Copy, Debug, PartialEq, Eq)]
+pub enum Exports {
+    /// None.
+    Nothing,
+    /// One for what it reads first.
+    FirstRead,
+    /// One for each claim.
+    EachClaim,
+}
+
 /// A described controller.
 #[derive(Clone, Debug, PartialEq, Eq, Drop)]
 pub struct CtlDesc {
@@ -131,14 +142,14 @@ impl CtlDesc {
         self.reads.get().as_slice()
     }
 
-    /// The interfaces for which it exports references, one for each: a passthrough its claims, a pid what it reads first.
+    /// The interfaces for which it exports references, one for each.
     pub fn exported_for(&self) -> &[IfaceName]
         ensures { result.now ≡ exported_for self.now.params self.now }
     {
-        match &self.params {
-            Params::Passthrough { .. } => self.claims.as_slice(),
-            Params::Pid { .. } => first(self.reads()),
-            _ => &[],
+        match self.params.exports() {
+            Exports::Nothing => &[],
+            Exports::FirstRead => first(self.reads()),
+            Exports::EachClaim => self.claims.as_slice(),
         }
     }
 
@@ -223,6 +234,17 @@ impl Params {
             Params::Trajectory { .. } => CtlKind::Trajectory,
             Params::Broadcaster { .. } => CtlKind::Broadcaster,
             Params::Mock { .. } => CtlKind::Mock,
+        }
+    }
+
+    /// Which references a controller with these parameters exports.
+    pub fn exports(&self) -> Exports
+        ensures { result ≡ exports_of self.now }
+    {
+        match self {
+            Params::Passthrough { .. } => Exports::EachClaim,
+            Params::Pid { .. } => Exports::FirstRead,
+            _ => Exports::Nothing,
         }
     }
 }

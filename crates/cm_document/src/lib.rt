@@ -5,7 +5,9 @@
 pub use call::{Call, Mail, Point2, SwitchRequest};
 pub use checked::Checked;
 pub use cycles::Cycles;
-pub use description::{CompDesc, CompKind, CtlDesc, CtlKind, Description, JointDesc, Params};
+pub use description::{
+    CompDesc, CompKind, CtlDesc, CtlKind, Description, Exports, JointDesc, Params,
+};
 pub use document::Document;
 pub use faults::{CheckFault, DescFault, DescProblem, DocumentFault, ScriptFault, What, Wrong};
 pub use life::Life;

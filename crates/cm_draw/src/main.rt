@@ -5,7 +5,8 @@
 ghost use Rattle.std.specs.Prelude.{◌≡◌, ◌≢◌, ◌≤◌, length};
 ghost use Rattle.cm_document.specs.declared.limits.TheConstants.{LONGEST_DOCUMENT};
 ghost use Rattle.cm_document.specs.ScriptLaws.{MeetsRules};
-ghost use Rattle.cm_program.specs.Stock.{AreBlanks, blanks_of_each};
+ghost use Rattle.cm_model.specs.Blanks.{blanks_of_each};
+ghost use Rattle.ctl_rack.specs.Stocks.{AreBlanks};
 ghost use Rattle.cm_program.specs.declared.stock.TheConstants.{BLANKS};
 ghost use Rattle.cm_words.specs.declared.job.JobKind.TheVariants as job_kind;
 
@@ -13,14 +14,14 @@ use crate::unkept::Unkept;
 use cm_document::{CtlKind, Description, Document, DocumentFault, LONGEST_DOCUMENT, Script};
 use cm_model::Entry;
 use cm_picture::{page_of, whys_of};
-use cm_program::stock::{BLANKS, add};
+use cm_program::stock::BLANKS;
 use cm_top::{Status, read_document, run_document};
 use cm_words::{Job, JobKind};
 use ctl_bcast::Broadcaster;
 use ctl_forward::{Forward, Passthrough};
 use ctl_mock::Mock;
 use ctl_pid::PidCtl;
-use ctl_rack::Stock;
+use ctl_rack::{Stock, add};
 use ctl_trait::Controller;
 use ctl_traj::TrajCtl;
 use fixed_num::Memory;

@@ -23,6 +23,7 @@ use Rattle.cm_document.specs.declared.life.Life.{Life}
 use Rattle.cm_model.specs.Components.{is_available, read_succeeds, body_at_start, bodies_at_start, measured_states, interfaces_from, claimed_by}
 use Rattle.cm_model.specs.State.{State, boot, lives_at_start, all_bodies_at_start, values_at_start, owner, available, active}
 use Rattle.cm_model.specs.Values.{InterfaceValue, unset, running, read_of, after_reads}
+use Rattle.cm_model.specs.Blanks.{no_blanks}
 use Rattle.cm_model.specs.declared.blanks.Blanks.{Blanks}
 use Rattle.hw_component.specs.Hardware.{CanBeMade}
 use Rattle.loan_board.specs.Loans.{idle_of, made_available}
@@ -372,10 +373,6 @@ sound_loans own there none (v ∷ vs) = (free-IsSound (loan_of own there v) (non
 few_joints : (cs : List CompDesc) → AllByRecursion CanBeMade cs → AreFew (map mounted cs)
 few_joints [] all = tt
 few_joints (c ∷ cs) all = (all.0.joints, few_joints cs all.1)
-
--- no blank at all
-no_blanks : Blanks
-no_blanks = record { forward = 0; passthrough = 0; pid = 0; trajectory = 0; broadcaster = 0; mock = 0 }
 
 -- What was made of the description is kept so.
 pub managed_is : (d : Description) (w : Wired) (first : ℕ) → IsMade d w → first ≡ all_states w.components → length w.loans ≡ length (interfaces_of d)

@@ -8,15 +8,18 @@ use Rattle.std.proofs.lemmas.Option.{IfSome_then}
 use Rattle.cm_document.proofs.DistinctLemmas.{all_so, all_map}
 use Rattle.fixed_num.specs.declared.value.Value.TheVariants.{Unset}
 use Rattle.iface_names.specs.declared.interface.IfaceName.{IfaceName}
-use Rattle.cm_document.specs.Links.{reference_for, exported_for, refs_of, is_among}
+use Rattle.cm_document.specs.Links.{reference_for, exported_as, exports_any, exported_for, refs_of, is_among}
+use Rattle.cm_document.specs.Params.{exports_of}
 use Rattle.cm_document.specs.Places.{Whose, of_joint, of_controller}
 use Rattle.cm_document.specs.declared.description.CtlDesc.{CtlDesc}
+use Rattle.cm_document.specs.declared.description.Exports.{Exports}
+use Rattle.cm_document.specs.declared.description.Exports.TheVariants.{Nothing, FirstRead, EachClaim}
 use Rattle.cm_document.specs.declared.description.Params.{Params}
-use Rattle.cm_document.specs.declared.description.Params.TheVariants.{Forward, Passthrough, Pid, Trajectory, Broadcaster, Mock}
 use Rattle.cm_document.specs.declared.life.Life.{Life}
 use Rattle.cm_document.specs.declared.life.Life.TheVariants.{Unconfigured, Inactive, Active}
 use Rattle.sequence.proofs.ListLemmas.{any_map}
 use Rattle.cm_model.proofs.InterfaceLemmas.{all_map_back, IsCommandOf, references_command}
+use Rattle.cm_model.proofs.KindLemmas.{starts_as}
 use Rattle.cm_model.proofs.LoadedLemmas.{and_false, and_swapped, has_loaded-own, has_loaded-changed, any_same, all_from}
 use Rattle.cm_model.specs.Claims.{states_for}
 use Rattle.cm_model.specs.Commit.{described_of, seen, scene_of, coming, leaving, committed, is_exported_by, is_freed, freed_of, commit}
@@ -98,19 +101,23 @@ chained_none controllers set p none (suc n) = rw (chained_none controllers set p
 refs_by : (c : CtlDesc) (params : Params) → params ≡ c.params → map (reference_for c.name) (exported_for params c) ≡ [] → refs_of c ≡ []
 refs_by c params own none = subst (λ given. map (reference_for c.name) (exported_for given c) ≡ []) own none
 
--- What starts with its own parameters is marked as it is started: a kind without references is never chained.
+-- a controller whose parameters export nothing has no references
+no_references : (c : CtlDesc) (params : Params) → params ≡ c.params → exports_of params ≡ Nothing → refs_of c ≡ []
+no_references c params own none = refs_by c params own (ap (λ (exports : Exports). map (reference_for c.name) (exported_as exports c)) none)
+
+-- a controller without references is never chained
+marked_by : (controllers : List CtlDesc) (set : Places) (place : ℕ) (params : Params) → params ≡ (controller_at controllers place).params → (exports : Exports) → exports_of params ≡ exports
+    → (exports_any exports && is_chained_in controllers set place) ≡ is_chained_in controllers set place
+marked_by controllers set place params own Nothing is =
+    sym (chained_none controllers set place (no_references (controller_at controllers place) params own is) (length controllers))
+marked_by controllers set place params own FirstRead is = refl
+marked_by controllers set place params own EachClaim is = refl
+
+-- What starts with its own parameters is marked as it is started.
 started_marked : (controllers : List CtlDesc) (set : Places) (place : ℕ) (params : Params) → params ≡ (controller_at controllers place).params → (states : List ℤ)
     → runs_chained (started params states (is_chained_in controllers set place)) ≡ is_chained_in controllers set place
-started_marked controllers set place (Forward outs) own states =
-    sym (chained_none controllers set place (refs_by (controller_at controllers place) _ own refl) (length controllers))
-started_marked controllers set place (Passthrough outs) own states = refl
-started_marked controllers set place (Pid kp ki kd imax omax) own states = refl
-started_marked controllers set place (Trajectory outs) own states =
-    sym (chained_none controllers set place (refs_by (controller_at controllers place) _ own refl) (length controllers))
-started_marked controllers set place (Broadcaster ins) own states =
-    sym (chained_none controllers set place (refs_by (controller_at controllers place) _ own refl) (length controllers))
-started_marked controllers set place (Mock outs refuse_config not_ready fail_update) own states =
-    sym (chained_none controllers set place (refs_by (controller_at controllers place) _ own refl) (length controllers))
+started_marked controllers set place params own states =
+    (starts_as params states (is_chained_in controllers set place)).marked ∙ marked_by controllers set place params own (exports_of params) refl
 
 -- what comes is marked
 come_marked : (controllers : List CtlDesc) (set : Places) (place : ℕ) (ctl : CtlData) (params : Option Params) (states : List ℤ)

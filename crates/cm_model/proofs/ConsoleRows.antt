@@ -20,6 +20,7 @@ use Rattle.cm_document.specs.declared.description.Description.{Description}
 use Rattle.cm_document.specs.declared.document.Document.{Document}
 use Rattle.cm_document.specs.declared.description.Params.{Params}
 use Rattle.cm_document.specs.declared.description.Params.TheVariants.{Forward, Pid, Trajectory, Broadcaster, Mock}
+use Rattle.cm_model.specs.Blanks.{blanks_of_each, with_one_less, with_one_more}
 use Rattle.cm_model.specs.Boundary.{all_concluded}
 use Rattle.cm_model.specs.Console.{unload_reply, moves_out}
 use Rattle.cm_model.specs.Cycle.{cycle, after_cycle}
@@ -64,7 +65,7 @@ robot = a_description 1 100 0 [] controllers
 
 -- two forwards, and one of each other kind that is described
 abbrev stock : Blanks
-stock = record { forward = 2; passthrough = 0; pid = 1; trajectory = 1; broadcaster = 1; mock = 1 }
+stock = with_one_less (with_one_more (blanks_of_each 1) kind.Forward) kind.Passthrough
 
 -- ---- Calls
 

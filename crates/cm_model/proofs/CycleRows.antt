@@ -8,6 +8,7 @@ use Rattle.fixed_num.specs.Bodies.{stepped}
 use Rattle.fixed_num.specs.Text.{number_of, spelled}
 use Rattle.iface_names.specs.Interfaces.{interface_of}
 use Rattle.cm_document.specs.Described.{tree_of, description_in, joint_table, component_table, controller_table, top_table, described_states, description_form}
+use Rattle.cm_model.specs.Blanks.{no_blanks}
 use Rattle.cm_model.specs.State.{State, boot, component_lines, interface_lines}
 use Rattle.cm_model.specs.Commit.{commit}
 use Rattle.cm_model.specs.Cycle.{cycle, after_cycle}
@@ -17,7 +18,7 @@ use Rattle.cm_model.specs.declared.blanks.Blanks.{Blanks}
 
 -- nothing is in stock
 abbrev nothing : Blanks
-nothing = record { forward = 0; passthrough = 0; pid = 0; trajectory = 0; broadcaster = 0; mock = 0 }
+nothing = no_blanks
 
 -- the two lists, as they print
 abbrev lists : Names → State → List (List ℕ)

@@ -1,3 +1,4 @@
+pub mod BlankLemmas
 pub mod AdvanceLemmas
 pub mod LegalLemmas
 pub mod StayLemmas
@@ -8,6 +9,7 @@ pub mod WholeLemmas
 pub mod EnabledLemmas
 pub mod CountLemmas
 mod Rows
+pub mod KindLemmas
 pub mod ControllerLemmas
 pub mod StillLemmas
 pub mod QuietLemmas

@@ -13,19 +13,21 @@ use Rattle.cm_document.specs.Lines.{parts_of}
 use Rattle.cm_document.specs.ScriptRules.{with_line, script_with}
 use Rattle.cm_document.specs.Grammars.{whole_grammar}
 use Rattle.cm_document.specs.Document.{accepted_description, document_of, document}
+use Rattle.cm_model.specs.Blanks.{no_blanks, with_count}
 use Rattle.cm_model.specs.Boundary.{all_concluded}
 use Rattle.cm_model.specs.Commit.{commit}
 use Rattle.cm_model.specs.Cycle.{cycle, after_cycle}
 use Rattle.cm_model.specs.Machine.{step}
 use Rattle.cm_model.specs.Scheduled.{advance, settle, settle_all, looped, with_cycle, finish, start, scheduled}
 use Rattle.cm_model.specs.Trace.{output}
+use Rattle.cm_document.specs.declared.description.CtlKind.TheVariants as kind
 use Rattle.cm_document.specs.declared.faults.DocumentFault.{DocumentFault}
 use Rattle.cm_model.specs.declared.blanks.Blanks.{Blanks}
 use Rattle.cm_document.specs.Reading.{◌>>=◌}
 
 -- the program's stock: 32 mocks
 abbrev stock : Blanks
-stock = record { forward = 0; passthrough = 0; pid = 0; trajectory = 0; broadcaster = 0; mock = 32 }
+stock = with_count no_blanks kind.Mock 32
 
 -- what `run` prints of these bytes, or the fault
 abbrev printed : List ℕ → Result (List ℕ) DocumentFault

@@ -21,7 +21,8 @@ use Rattle.cm_model.specs.Kinds.{is_refused}
 use Rattle.cm_model.specs.Machine.{is_loaded_at, is_sold_out_at, load_refusals, with_controller, with_loaded, load_effect}
 use Rattle.cm_model.specs.Order.{Places, nobody}
 use Rattle.cm_model.specs.Sound.{IsMarked, is_done}
-use Rattle.cm_model.specs.State.{State, Loaded, MailAloft, is_active, with_one_less, newly_loaded}
+use Rattle.cm_model.specs.Blanks.{with_one_less}
+use Rattle.cm_model.specs.State.{State, Loaded, MailAloft, is_active, newly_loaded}
 use Rattle.cm_model.specs.Steady.{has_loaded, IsOwn, IsSteady}
 use Rattle.cm_model.specs.declared.blanks.Blanks.{Blanks}
 use Rattle.cm_model.specs.declared.reply.Reply.{Reply}

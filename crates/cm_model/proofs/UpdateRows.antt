@@ -19,6 +19,7 @@ use Rattle.cm_document.specs.declared.description.CtlDesc.{CtlDesc}
 use Rattle.cm_document.specs.declared.description.Description.{Description}
 use Rattle.cm_document.specs.declared.description.Params.TheVariants.{Forward, Passthrough, Pid, Trajectory, Broadcaster, Mock}
 use Rattle.cm_document.specs.declared.life.Life.TheVariants.{Active, Unconfigured}
+use Rattle.cm_model.specs.Blanks.{no_blanks}
 use Rattle.cm_model.specs.Commit.{commit}
 use Rattle.cm_model.specs.Cycle.{cycle, after_cycle, begun, reaches}
 use Rattle.cm_model.specs.Items.{Names, record_items}
@@ -74,7 +75,7 @@ robot component controllers = a_description 1 100 7 (component ∷ []) controlle
 -- ---- States
 
 abbrev nothing : Blanks
-nothing = record { forward = 0; passthrough = 0; pid = 0; trajectory = 0; broadcaster = 0; mock = 0 }
+nothing = no_blanks
 
 -- controllers that are configured, the first of which stands at this place and has it as its serial
 abbrev configured_from : ℕ → List CtlDesc → List Loaded

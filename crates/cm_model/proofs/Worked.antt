@@ -15,6 +15,7 @@ use Rattle.cm_document.specs.declared.description.Params.TheVariants.{Forward, P
 use Rattle.cm_document.specs.declared.life.Life.TheVariants.{Unconfigured, Active}
 pub use Rattle.cm_model.proofs.WorkedCalls.{made}
 use Rattle.cm_model.proofs.WorkedCalls.{replies, after, ready}
+use Rattle.cm_model.specs.Blanks.{blanks_of_each}
 use Rattle.cm_model.specs.Controllers.{started}
 use Rattle.cm_model.specs.Order.{controller_at}
 use Rattle.cm_model.specs.Sound.{Moment}
@@ -53,7 +54,7 @@ abbrev pub robot : Description
 robot = a_description 1 100 6 (arm ∷ []) controllers
 
 abbrev pub stock : Blanks
-stock = record { forward = 2; passthrough = 2; pid = 2; trajectory = 2; broadcaster = 2; mock = 2 }
+stock = blanks_of_each 2
 
 -- ---- States and moments
 

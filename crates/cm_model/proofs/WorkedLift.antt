@@ -8,6 +8,7 @@ use Rattle.iface_names.specs.declared.interface.IfaceName.TheVariants.{Joint, Re
 use Rattle.iface_names.specs.declared.kind.Kind.TheVariants.{Position, Velocity, Effort}
 use Rattle.cm_document.specs.Described.{a_controller, a_description, a_joint, a_component}
 use Rattle.cm_document.specs.Places.{interfaces_of}
+use Rattle.cm_document.specs.declared.description.CtlKind.TheVariants as kind
 use Rattle.cm_document.specs.declared.call.Call.{Call}
 use Rattle.cm_document.specs.declared.description.CompDesc.{CompDesc}
 use Rattle.cm_document.specs.declared.description.CompKind.TheVariants.{System}
@@ -18,6 +19,7 @@ use Rattle.cm_document.specs.declared.description.Params.{Params}
 use Rattle.cm_document.specs.declared.description.Params.TheVariants.{Forward, Passthrough, Pid, Trajectory, Broadcaster, Mock}
 use Rattle.cm_document.specs.declared.life.Life.TheVariants.{Unconfigured, Inactive, Active, Finalized}
 use Rattle.cm_model.proofs.WorkedCalls.{replies, after, ready}
+use Rattle.cm_model.specs.Blanks.{blanks_of_each, with_one_more}
 use Rattle.cm_model.specs.State.{State, boot}
 use Rattle.cm_model.specs.Trace.{names_in}
 use Rattle.cm_model.specs.Values.{unset, after_reads}
@@ -120,7 +122,7 @@ robot = a_description 1 200 12 (lift ∷ wrist ∷ []) controllers
 
 -- one blank of each kind, and two of forwards and of passthroughs
 abbrev pub stock : Blanks
-stock = record { forward = 2; passthrough = 2; pid = 1; trajectory = 1; broadcaster = 1; mock = 1 }
+stock = with_one_more (with_one_more (blanks_of_each 1) kind.Forward) kind.Passthrough
 
 -- ---- States and calls
 

@@ -1,6 +1,6 @@
 -- The table of controllers: what each kind begins with when it is activated, what mail makes of it, and what an update
 -- gives.
-use Rattle.std.specs.Prelude.{◌≡◌, ℕ, ◌-◌, ◌≤◌, ℤ, pos, Bool, true, false, if◌then◌else◌, List, [], ◌∷◌, map, replicate}
+use Rattle.std.specs.Prelude.{◌≡◌, ℕ, ◌-◌, ◌≤◌, ℤ, pos, Bool, true, false, ◌&&◌, if◌then◌else◌, List, [], ◌∷◌, map, replicate}
 use Rattle.std.specs.Prelude.{Option, Some, None, option_map, IsSomeAnd}
 use Rattle.fixed_num.specs.declared.value.Value.{Value}
 use Rattle.fixed_num.specs.declared.value.Value.TheVariants.{Unset, Num}
@@ -9,10 +9,10 @@ use Rattle.cm_document.specs.declared.call.Mail.{Mail}
 use Rattle.cm_document.specs.declared.call.Mail.TheVariants.{Values, Points}
 use Rattle.cm_document.specs.declared.call.Point2.{Point2}
 use Rattle.cm_document.specs.declared.description.Params.{Params}
-use Rattle.cm_document.specs.declared.description.Params.TheVariants.{Forward, Passthrough, Pid, Trajectory}
-use Rattle.cm_document.specs.declared.description.Params.TheVariants.{Broadcaster, Mock}
+use Rattle.cm_document.specs.declared.description.Params.TheVariants.{Pid, Trajectory, Broadcaster}
 use Rattle.cm_model.specs.State.{fresh}
-use Rattle.cm_model.specs.Kinds.{shape_of, AreItsReads, are_ranged, is_ready_in, fails_in, takes}
+use Rattle.cm_model.specs.Kinds.{shape_of, has_references, publishes, follows_points, tuning_of, is_over_values}
+use Rattle.cm_model.specs.Kinds.{AreItsReads, are_ranged, is_ready_in, fails_in, takes}
 use Rattle.cm_model.specs.Pids.{Tuning, error_of, integrated, derivative_of, corrected}
 use Rattle.cm_model.specs.Ways.{led}
 use Rattle.cm_model.specs.declared.data.CtlData.{CtlData}
@@ -26,20 +26,24 @@ use Rattle.cm_model.specs.declared.tick.Tick.{Tick}
 -- ---- The running part
 
 -- The running part at activation, with the states of that moment: no value set, nothing integrated, the states to hold
--- or to publish. A passthrough and a pid keep whether they are chained; the others have no references to take.
+-- or to publish. A controller that exports references keeps whether it is chained; the others have none to take.
 abbrev pub started : Params → List ℤ → Bool → RunData
-started (Forward outs) states chained = run.Set false (replicate outs Unset)
-started (Passthrough outs) states chained = run.Set chained (replicate outs Unset)
 started (Pid kp ki kd imax omax) states chained = run.Pid chained Unset (pos 0) None
 started (Trajectory outs) states chained = run.Trajectory states false 0 states []
 started (Broadcaster ins) states chained = run.Broadcaster states
-started (Mock outs refuse_config not_ready fail_update) states chained = run.Set false (replicate outs Unset)
+started params states chained =
+    run.Set (has_references params && chained) (replicate (shape_of params).claims Unset)
 
 -- it takes its references from the interfaces, and no mail
 abbrev pub runs_chained : RunData → Bool
 runs_chained (run.Set chained set) = chained
 runs_chained (run.Pid chained set integral last) = chained
 runs_chained _ = false
+
+-- what runs is what was published last
+abbrev pub tells_last : RunData → Bool
+tells_last (run.Broadcaster last) = true
+tells_last _ = false
 
 -- Mail replaces the values that were set, or the points, which are fresh then.
 abbrev pub with_mail : RunData → Mail → RunData
@@ -88,22 +92,46 @@ trajectory_update time_us states hold true start_us from points =
 trajectory_update time_us states hold false start_us from points =
     gives (run.Trajectory hold false start_us from points) (map Num (led (time_us - start_us) hold from points))
 
--- The table, a row for each kind: by the running part and the tick, the states read and the references as they stand.
+-- The outputs that a controller over set values makes of what is wanted of it, one for each claim: a forward, a
+-- passthrough and a mock give just that.
+abbrev pub shaped : Params → List Value → List Value
+shaped params values = values
+
+-- in a cycle in which it fails it gives nothing, else these
+abbrev pub set_update : Bool → RunData → List Value → Updated
+set_update failing part outs = if failing then fails part else gives part outs
+
+-- a loop is closed with its gains and limits
+abbrev pub loop_update : Option Tuning → Bool → Value → ℤ → Option ℤ → ℕ → List Value → List ℤ → Updated
+loop_update (Some tuning) chained set integral last dt_us targets states =
+    pid_update tuning chained set integral last dt_us targets states
+loop_update None chained set integral last dt_us targets states = gives (run.Pid chained set integral last) []
+
+-- the states that are read become what was published last
+abbrev pub publishes_states : List ℤ → Updated
+publishes_states states = record { run = run.Broadcaster states; outs = []; published = states; done = done.Ok }
+
+-- what runs gives this if it is of the kind that the parameters are of, else nothing
+abbrev pub only_if : Bool → RunData → Updated → Updated
+only_if own part given = if own then given else gives part []
+
+-- the table, by what runs
+abbrev pub updated_from : RunData → Params → Tick → List ℤ → List Value → Updated
+updated_from (run.Set chained set) params tick states refs =
+    only_if (is_over_values params) (run.Set chained set)
+    (set_update (fails_in params tick.cycle) (run.Set chained set)
+    (shaped params (wanted (has_references params && chained) refs set)))
+updated_from (run.Pid chained set integral last) params tick states refs =
+    loop_update (tuning_of params) chained set integral last tick.dt_us (wanted chained refs (set ∷ [])) states
+updated_from (run.Trajectory hold fresh start_us from points) params tick states refs =
+    only_if (follows_points (kind_of params)) (run.Trajectory hold fresh start_us from points)
+    (trajectory_update tick.time_us states hold fresh start_us from points)
+updated_from (run.Broadcaster last) params tick states refs =
+    only_if (publishes (kind_of params)) (run.Broadcaster last) (publishes_states states)
+
+-- The table: an update by the parameters, what runs, the tick, the states read and the references as they stand.
 abbrev pub updated : Params → RunData → Tick → List ℤ → List Value → Updated
-updated (Forward outs) (run.Set chained set) tick states refs = gives (run.Set chained set) set
-updated (Passthrough outs) (run.Set chained set) tick states refs =
-    gives (run.Set chained set) (wanted chained refs set)
-updated (Pid kp ki kd imax omax) (run.Pid chained set integral last) tick states refs =
-    pid_update (record { kp = kp; ki = ki; kd = kd; imax = imax; omax = omax }) chained set integral last tick.dt_us
-    (wanted chained refs (set ∷ [])) states
-updated (Trajectory outs) (run.Trajectory hold fresh start_us from points) tick states refs =
-    trajectory_update tick.time_us states hold fresh start_us from points
-updated (Broadcaster ins) (run.Broadcaster last) tick states refs =
-    record { run = run.Broadcaster states; outs = []; published = states; done = done.Ok }
-updated (Mock outs refuse_config not_ready fail_update) (run.Set chained set) tick states refs =
-    if fails_in (Mock outs refuse_config not_ready fail_update) tick.cycle then fails (run.Set chained set)
-    else gives (run.Set chained set) set
-updated params part tick states refs = gives part []
+updated params part tick states refs = updated_from part params tick states refs
 
 -- ---- The data of a controller
 

@@ -1,14 +1,19 @@
 -- The kinds of controllers, by their parameters: what each has, with which parameters it is configured, and which mail
 -- it takes.
-use Rattle.std.specs.Prelude.{◌≡◌, ℕ, ℤ, Bool, true, false, not, ◌&&◌, ◌==◌, List, length, Option, Some, None}
+use Rattle.std.specs.Prelude.{◌≡◌, ℕ, ℤ, Bool, true, false, not, ◌&&◌, ◌==◌, List, length, Option, Some, None, is_none}
 use Rattle.std.specs.List.{list_all}
+use Rattle.cm_document.specs.Links.{exports_any}
+use Rattle.cm_document.specs.Params.{kind_of, exports_of}
 use Rattle.cm_document.specs.Valid.{not_negative, claims_fit}
 use Rattle.cm_document.specs.declared.call.Mail.{Mail}
 use Rattle.cm_document.specs.declared.call.Mail.TheVariants.{Values, Points}
+use Rattle.cm_document.specs.declared.description.CtlKind.{CtlKind}
+use Rattle.cm_document.specs.declared.description.CtlKind.TheVariants as kind
 use Rattle.cm_document.specs.declared.description.Params.{Params}
 use Rattle.cm_document.specs.declared.description.Params.TheVariants.{Forward, Passthrough, Pid, Trajectory}
 use Rattle.cm_document.specs.declared.description.Params.TheVariants.{Broadcaster, Mock}
 use Rattle.cm_model.specs.Components.{is_listed}
+use Rattle.cm_model.specs.Pids.{Tuning}
 use Rattle.cm_model.specs.declared.shape.Shape.{Shape}
 
 -- ---- What a controller has
@@ -23,6 +28,30 @@ shape_of (Pid kp ki kd imax omax) = record { claims = 1; reads = Some 1; referen
 shape_of (Trajectory outs) = record { claims = outs; reads = Some outs; references = 0 }
 shape_of (Broadcaster ins) = record { claims = 0; reads = Some ins; references = 0 }
 shape_of (Mock outs refuse_config not_ready fail_update) = record { claims = outs; reads = None; references = 0 }
+
+-- it exports references, and so can be chained: another controller may set them
+abbrev pub has_references : Params → Bool
+has_references params = exports_any (exports_of params)
+
+-- a controller of this kind publishes what it reads
+abbrev pub publishes : CtlKind → Bool
+publishes kind.Broadcaster = true
+publishes _ = false
+
+-- a controller of this kind is led through points in time
+abbrev pub follows_points : CtlKind → Bool
+follows_points kind.Trajectory = true
+follows_points _ = false
+
+-- the gains and the limits of a controller that closes a loop
+abbrev pub tuning_of : Params → Option Tuning
+tuning_of (Pid kp ki kd imax omax) = Some (record { kp = kp; ki = ki; kd = kd; imax = imax; omax = omax })
+tuning_of _ = None
+
+-- every other kind gives what it makes of values that are set
+abbrev pub is_over_values : Params → Bool
+is_over_values params =
+    is_none (tuning_of params) && not (follows_points (kind_of params)) && not (publishes (kind_of params))
 
 -- so many states are as many as it reads
 abbrev pub AreItsReads : Option ℕ → ℕ → Type 0

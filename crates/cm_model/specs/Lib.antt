@@ -1,9 +1,10 @@
 -- In reading order: what the manager makes of a document.
 pub mod Components
 pub mod Values
+pub mod Blanks
 pub mod State
-pub mod Kinds
 pub mod Pids
+pub mod Kinds
 pub mod Ways
 pub mod Controllers
 pub mod Order

@@ -17,7 +17,8 @@ pub use Rattle.cm_model.specs.Console.{unless_refused, place_of}
 use Rattle.cm_model.specs.Console.{configure_reply, configure_effect, cleanup_reply, cleanup_effect, unload_reply}
 use Rattle.cm_model.specs.Console.{unload_effect, rate_reply, rate_effect, send_reply, send_effect}
 use Rattle.cm_model.specs.Cycle.{cycle, after_cycle}
-use Rattle.cm_model.specs.State.{State, boot, blanks_of, with_one_less, newly_loaded, controller_lines, interface_lines}
+use Rattle.cm_model.specs.Blanks.{blanks_of, with_one_less}
+use Rattle.cm_model.specs.State.{State, boot, newly_loaded, controller_lines, interface_lines}
 use Rattle.cm_model.specs.State.{component_lines}
 use Rattle.cm_model.specs.declared.entry.Entry.{Entry}
 use Rattle.cm_model.specs.declared.reply.Reply.{Reply}

@@ -1,5 +1,5 @@
 -- The state of the manager: all that it knows at one moment, its opening, and what is read off it.
-use Rattle.std.specs.Prelude.{◌≡◌, ℕ, ◌+◌, ◌-◌, ◌==◌, Bool, false, ◌&&◌, if◌then◌else◌, List, [], ◌∷◌, map, flat_map}
+use Rattle.std.specs.Prelude.{◌≡◌, ℕ, ◌+◌, ◌==◌, Bool, false, ◌&&◌, if◌then◌else◌, List, [], ◌∷◌, map, flat_map}
 use Rattle.std.specs.Prelude.{find, slice_get, filter_map, Option, Some, None, option_map, is_some}
 use Rattle.std.specs.List.{AllByRecursion, list_any}
 use Rattle.std.specs.Option.{option_map_or}
@@ -10,8 +10,6 @@ use Rattle.cm_document.specs.Links.{is_among, precedes}
 use Rattle.cm_document.specs.Places.{Whose, of_joint, of_controller, Interface, interfaces_of}
 use Rattle.cm_document.specs.declared.call.Mail.{Mail}
 use Rattle.cm_document.specs.declared.description.CtlKind.{CtlKind}
-use Rattle.cm_document.specs.declared.description.CtlKind.TheVariants.{Forward, Passthrough, Pid, Trajectory}
-use Rattle.cm_document.specs.declared.description.CtlKind.TheVariants.{Broadcaster, Mock}
 use Rattle.cm_document.specs.declared.description.CtlDesc.{CtlDesc}
 use Rattle.cm_document.specs.declared.description.Description.{Description}
 use Rattle.cm_document.specs.declared.life.Life.{Life}
@@ -92,26 +90,6 @@ boot description blanks sessions = record {
   mails = [];
   closed = false;
 }
-
--- ---- Blanks
-
--- how many blanks of a kind are left
-abbrev pub blanks_of : Blanks → CtlKind → ℕ
-blanks_of blanks Forward = blanks.forward
-blanks_of blanks Passthrough = blanks.passthrough
-blanks_of blanks Pid = blanks.pid
-blanks_of blanks Trajectory = blanks.trajectory
-blanks_of blanks Broadcaster = blanks.broadcaster
-blanks_of blanks Mock = blanks.mock
-
--- the blanks after one of this kind was taken
-abbrev pub with_one_less : Blanks → CtlKind → Blanks
-with_one_less blanks Forward = record blanks { forward = blanks.forward - 1 }
-with_one_less blanks Passthrough = record blanks { passthrough = blanks.passthrough - 1 }
-with_one_less blanks Pid = record blanks { pid = blanks.pid - 1 }
-with_one_less blanks Trajectory = record blanks { trajectory = blanks.trajectory - 1 }
-with_one_less blanks Broadcaster = record blanks { broadcaster = blanks.broadcaster - 1 }
-with_one_less blanks Mock = record blanks { mock = blanks.mock - 1 }
 
 -- ---- Controllers
 

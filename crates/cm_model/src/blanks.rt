@@ -1,5 +1,10 @@
 //! The stock of blank controllers.
 
+ghost use Rattle.std.specs.Prelude.{◌≡◌};
+ghost use Rattle.cm_model.specs.Blanks.{blanks_of, blanks_of_each, with_count};
+
+use cm_document::CtlKind;
+
 /// How many blanks of each kind the stock holds: each load takes one.
 #[derive(Clone, Copy, Debug, PartialEq, Eq)]
 pub struct Blanks {
@@ -15,4 +20,50 @@ pub struct Blanks {
     pub broadcaster: u32,
     /// Blanks of the kind mock.
     pub mock: u32,
+}
+
+impl Blanks {
+    /// So many of each kind.
+    pub fn of_each(count: u32) -> Blanks
+        ensures { result ≡ blanks_of_each count }
+    {
+        Blanks {
+            forward: count,
+            passthrough: count,
+            pid: count,
+            trajectory: count,
+            broadcaster: count,
+            mock: count,
+        }
+    }
+
+    /// How many of a kind there are.
+    pub fn of(self, kind: CtlKind) -> u32
+        ensures { result ≡ blanks_of self kind }
+    {
+        match kind {
+            CtlKind::Forward => self.forward,
+            CtlKind::Passthrough => self.passthrough,
+            CtlKind::Pid => self.pid,
+            CtlKind::Trajectory => self.trajectory,
+            CtlKind::Broadcaster => self.broadcaster,
+            CtlKind::Mock => self.mock,
+        }
+    }
+
+    /// The same, but so many of this kind.
+    pub fn with(self, kind: CtlKind, count: u32) -> Blanks
+        ensures { result ≡ with_count self kind count }
+    {
+        let mut changed = self;
+        match kind {
+            CtlKind::Forward => changed.forward = count,
+            CtlKind::Passthrough => changed.passthrough = count,
+            CtlKind::Pid => changed.pid = count,
+            CtlKind::Trajectory => changed.trajectory = count,
+            CtlKind::Broadcaster => changed.broadcaster = count,
+            CtlKind::Mock => changed.mock = count,
+        }
+        changed
+    }
 }

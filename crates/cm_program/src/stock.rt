@@ -1,12 +1,10 @@
 //! The program's stock, a box for each blank.
 
-ghost use Rattle.std.specs.Prelude.{◌≡◌, IfOk, OnOk, OnErr};
-ghost use Rattle.cm_model.specs.State.{fresh};
-ghost use Rattle.cm_model.specs.declared.blanks.Blanks.{Blanks};
-ghost use Rattle.ctl_rack.specs.Stocks.{with_one_more};
+ghost use Rattle.std.specs.Prelude.{◌≡◌, IfOk, OnErr};
 ghost use Rattle.cm_top.specs.Calls.Run.{source_facts, sink_facts, MindsFaults};
 ghost use Rattle.cm_top.specs.Status.{ComesBeforeWriting};
-ghost use Rattle.cm_program.specs.Stock.{AreBlanks, blanks_of_each};
+ghost use Rattle.cm_model.specs.Blanks.{blanks_of_each};
+ghost use Rattle.ctl_rack.specs.Stocks.{AreBlanks};
 
 use cm_document::CtlKind;
 use cm_top::{Status, run};
@@ -14,7 +12,7 @@ use ctl_bcast::Broadcaster;
 use ctl_forward::{Forward, Passthrough};
 use ctl_mock::Mock;
 use ctl_pid::PidCtl;
-use ctl_rack::Stock;
+use ctl_rack::{Stock, add};
 use ctl_trait::Controller;
 use ctl_traj::TrajCtl;
 use fixed_num::Memory;
@@ -106,15 +104,4 @@ where
         &OpenGate,
     );
     status
-}
-
-/// One blank more, of this kind. Without memory the blanks stay as they were.
-pub fn add<C: Controller>(blanks: &mut Vec<C>, kind: CtlKind, blank: C) -> Result<(), Memory>
-    requires { C.meaning blank ≡ fresh kind }
-    ensures counted { OnOk result ((b : Blanks) → AreBlanks C.meaning blanks.old.items b
-        → AreBlanks C.meaning blanks.new.items (with_one_more b kind)) }
-    ensures kept { OnErr result (blanks.new.items ≡ blanks.old.items) }
-{
-    blanks.push(blank)?;
-    Ok(())
 }

@@ -85,6 +85,7 @@ fn answer_to(call: &Call) -> Answer {
 impl Port for Console {
     ghost use Rattle.std.specs.Prelude.{ℕ, [], None};
     ghost use Rattle.cm_document.specs.Described.{a_description};
+    ghost use Rattle.cm_model.specs.Blanks.{no_blanks};
     ghost use Rattle.cm_model.specs.State.{boot};
 
     ghost Ground = { ℕ };
@@ -93,8 +94,7 @@ impl Port for Console {
 
     ghost tells = { λ c. record {
       who = 0;
-      opening = boot (a_description 1 100 0 [] [])
-          (record { forward = 0; passthrough = 0; pid = 0; trajectory = 0; broadcaster = 0; mock = 0 }) 1;
+      opening = boot (a_description 1 100 0 [] []) no_blanks 1;
       made = c.made.items;
       waited = c.waited;
       whole = None;

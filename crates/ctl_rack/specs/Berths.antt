@@ -3,7 +3,8 @@ use Rattle.std.specs.Prelude.{◌≡◌, ℕ, suc, ◌≤◌, nat_lt, ◌==◌, 
 use Rattle.std.specs.Prelude.{Some, None, IsSome, IsNone, IsSomeAnd}
 use Rattle.std.specs.List.{find, filter}
 use Rattle.cm_document.specs.declared.description.CtlKind.{CtlKind}
-use Rattle.cm_model.specs.State.{fresh, with_one_less}
+use Rattle.cm_model.specs.Blanks.{with_one_less}
+use Rattle.cm_model.specs.State.{fresh}
 use Rattle.cm_model.specs.declared.blanks.Blanks.{Blanks}
 use Rattle.cm_model.specs.declared.data.CtlData.{CtlData}
 use Rattle.ctl_rack.specs.declared.rack.Whereabouts.{Whereabouts}

@@ -1,23 +1,10 @@
 -- Blanks, counted by their kind.
-use Rattle.std.specs.Prelude.{ℕ, ◌+◌, List, [], ◌∷◌}
-use Rattle.cm_document.specs.declared.description.CtlKind.{CtlKind}
-use Rattle.cm_document.specs.declared.description.CtlKind.TheVariants.{Forward, Passthrough, Pid, Trajectory}
-use Rattle.cm_document.specs.declared.description.CtlKind.TheVariants.{Broadcaster, Mock}
+use Rattle.std.specs.Prelude.{◌≡◌, List, [], ◌∷◌, length, map}
+use Rattle.std.specs.List.{All}
+use Rattle.cm_model.specs.Blanks.{no_blanks, with_one_more, total}
+use Rattle.cm_model.specs.Controllers.{IsBlank}
 use Rattle.cm_model.specs.declared.blanks.Blanks.{Blanks}
 use Rattle.cm_model.specs.declared.data.CtlData.{CtlData}
-
--- no blank of any kind
-abbrev pub no_blanks : Blanks
-no_blanks = record { forward = 0; passthrough = 0; pid = 0; trajectory = 0; broadcaster = 0; mock = 0 }
-
--- one blank more of a kind
-abbrev pub with_one_more : Blanks → CtlKind → Blanks
-with_one_more b Forward = record b { forward = b.forward + 1 }
-with_one_more b Passthrough = record b { passthrough = b.passthrough + 1 }
-with_one_more b Pid = record b { pid = b.pid + 1 }
-with_one_more b Trajectory = record b { trajectory = b.trajectory + 1 }
-with_one_more b Broadcaster = record b { broadcaster = b.broadcaster + 1 }
-with_one_more b Mock = record b { mock = b.mock + 1 }
 
 -- these blanks and one more for each of the controllers
 abbrev pub with_each : Blanks → List CtlData → Blanks
@@ -28,6 +15,8 @@ with_each b (ctl ∷ ctls) = with_each (with_one_more b ctl.kind) ctls
 abbrev pub counts_of : List CtlData → Blanks
 counts_of ctls = with_each no_blanks ctls
 
--- how many blanks there are of all kinds together
-abbrev pub total : Blanks → ℕ
-total b = ((((b.forward + b.passthrough) + b.pid) + b.trajectory) + b.broadcaster) + b.mock
+-- These boxes are blank, and so many of each kind as this says.
+pub record AreBlanks {C : Type 0} (meaning : C → CtlData) (boxes : List C) (b : Blanks) : Type 0 where
+  pub blank : All (λ c. IsBlank (meaning c)) boxes
+  pub counted : counts_of (map meaning boxes) ≡ b
+  pub number : length boxes ≡ total b

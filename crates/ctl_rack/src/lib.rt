@@ -5,7 +5,7 @@
 pub use fault::RackFault;
 pub use piles::Piles;
 pub use rack::{Rack, Whereabouts};
-pub use stock::Stock;
+pub use stock::{Stock, add};
 
 mod berth;
 mod fault;

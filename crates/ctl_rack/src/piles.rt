@@ -1,9 +1,9 @@
 //! Blanks, a pile for each kind.
 
 ghost use Rattle.std.specs.Prelude.{◌≡◌, ◌<◌, MatchOption, IfOk, OnOk};
-ghost use Rattle.cm_model.specs.State.{blanks_of, with_one_less, fresh};
+ghost use Rattle.cm_model.specs.Blanks.{blanks_of, no_blanks, with_one_less, with_one_more};
+ghost use Rattle.cm_model.specs.State.{fresh};
 ghost use Rattle.cm_model.specs.Controllers.{IsBlank};
-ghost use Rattle.ctl_rack.specs.Stocks.{no_blanks, with_one_more};
 
 use cm_document::CtlKind;
 use ctl_trait::Controller;

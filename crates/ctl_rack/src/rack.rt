@@ -2,7 +2,7 @@
 
 ghost use Rattle.std.specs.Prelude.{◌≡◌, ◌<◌, ◌↔◌, nat_lt, [], length, Err, IfOk, OnOk, OnErr};
 ghost use Rattle.std.specs.List.{prefix_len};
-ghost use Rattle.cm_model.specs.State.{blanks_of};
+ghost use Rattle.cm_model.specs.Blanks.{blanks_of};
 ghost use Rattle.ctl_rack.specs.Calls.Load.{CanLoad};
 ghost use Rattle.ctl_rack.specs.Berths.{IsParked, IsParkedWith, IsLent, IsAt, after_load, with_parked, without};
 

@@ -7,7 +7,7 @@ use Rattle.std.proofs.Math.Nat.{div-le_self, mul-div-le, mul-le-mul_right}
 use Rattle.std.proofs.lemmas.Bool.{cases_Bool, eq-eqb, leb-false}
 use Rattle.std.proofs.lemmas.Nat.{le-div}
 use Rattle.cm_model.proofs.SteadyLemmas.{all_remove}
-use Rattle.ctl_trait.proofs.TakingLemmas.{can_take_as}
+use Rattle.ctl_trait.proofs.TakingLemmas.{can_take}
 use Rattle.cm_model.proofs.UpdateLemmas.{some_as_mapped}
 use Rattle.sequence.proofs.ListLemmas.{all_push, all_set}
 use Rattle.sequence.proofs.ListLemmas as items
@@ -133,7 +133,7 @@ marked_there (Some part) chained runs marked free = marked ∙ free
 pub sent_fits : (s : State) (i : ℕ) (l : Loaded) (mail : Mail) → IsSteady s → slice_get s.loaded i ≡ Some l → is_active l ≡ true
     → is_chained_in s.description.controllers (active s) l.place ≡ false → option_map_or (λ params. takes params mail) l.ctl.params false ≡ true → CanTake l.ctl mail
 sent_fits s i l mail steady there runs free fits =
-    can_take_as l.ctl.kind l.ctl mail (record {
+    can_take l.ctl mail (record {
       configured = takes_there l.ctl.params mail fits;
       running = marked_there l.ctl.run (is_chained_in s.description.controllers (active s) l.place) runs (items.all_at _ s.loaded i l steady.in_order.marked there) free;
     })

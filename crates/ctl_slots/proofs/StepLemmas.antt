@@ -1,20 +1,19 @@
 -- What the calls of a switch and of a cycle make of what is kept of a loaded controller.
-use Rattle.std.proofs.Common.{◌≡◌, ℕ, ℤ, Bool, true, false, List, [], ◌∷◌, Option, Some, None, refl, ap, ◌∙◌}
+use Rattle.std.proofs.Common.{◌≡◌, ℕ, ℤ, Bool, true, false, List, [], ◌∷◌, Option, Some, None, refl, sym, ap, ◌∙◌}
 use Rattle.std.specs.Prelude.{IsSomeAnd, IfSome, if◌then◌else◌}
-use Rattle.cm_model.proofs.ControllerLemmas.{step_keeps_params}
+use Rattle.cm_model.proofs.ControllerLemmas.{only_so, mail_keeps_tells, update_keeps_tells, step_keeps_params}
+use Rattle.cm_model.proofs.KindLemmas.{starts_as}
 use Rattle.fixed_num.specs.declared.value.Value.{Value}
 use Rattle.fixed_num.specs.declared.value.Value.TheVariants.{Unset, Num}
 use Rattle.cm_document.specs.Params.{kind_of}
 use Rattle.cm_document.specs.declared.call.Mail.{Mail}
 use Rattle.cm_document.specs.declared.call.Point2.{Point2}
 use Rattle.cm_document.specs.declared.description.CtlKind.{CtlKind}
-use Rattle.cm_document.specs.declared.description.CtlKind.TheVariants as kind
 use Rattle.cm_document.specs.declared.description.Params.{Params}
-use Rattle.cm_document.specs.declared.description.Params.TheVariants.{Forward, Passthrough, Pid, Trajectory, Broadcaster, Mock}
 use Rattle.cm_document.specs.declared.life.Life.{Life}
 use Rattle.cm_document.specs.declared.life.Life.TheVariants.{Unconfigured, Inactive, Active, Finalized}
-use Rattle.cm_model.specs.Controllers.{Stepped, started, with_mail, fails, gives, pid_update, trajectory_update, updated, activated, deactivated, mailed, step_with, update_step, ctl_step, IsIdle, IsRunning, IsInactiveWith, CanBeUpdated}
-use Rattle.cm_model.specs.Kinds.{fails_in}
+use Rattle.cm_model.specs.Controllers.{Stepped, Updated, started, with_mail, pid_update, loop_update, set_update, trajectory_update, publishes_states, only_if, updated, activated, deactivated, mailed, step_with, update_step, ctl_step, IsIdle, IsRunning, IsInactiveWith, CanBeUpdated}
+use Rattle.cm_model.specs.Kinds.{publishes, follows_points, tuning_of, is_over_values, fails_in}
 use Rattle.cm_model.specs.Pids.{Tuning}
 use Rattle.cm_model.specs.Scene.{is_running}
 use Rattle.cm_model.specs.declared.data.CtlData.{CtlData}
@@ -44,35 +43,14 @@ idle_once_deactivated ctl h = record { configured = h.configured; idle = refl }
 -- ---- What runs is of its kind
 
 runs_as_started : (k : CtlKind) (p : Params) (states : List ℤ) (chained : Bool) → kind_of p ≡ k → RunsAs k (started p states chained)
-runs_as_started k (Forward outs) states chained e = rw (← e) tt
-runs_as_started k (Passthrough outs) states chained e = rw (← e) tt
-runs_as_started k (Pid kp ki kd imax omax) states chained e = rw (← e) tt
-runs_as_started k (Trajectory outs) states chained e = rw (← e) tt
-runs_as_started k (Broadcaster ins) states chained e = rw (← e) tt
-runs_as_started k (Mock outs refuse_config not_ready fail_update) states chained e = rw (← e) tt
+runs_as_started k p states chained e = sym ((starts_as p states chained).tells ∙ ap publishes e)
 
 runs_as_mailed : (k : CtlKind) (part : RunData) (mail : Mail) → RunsAs k part → RunsAs k (with_mail part mail)
-runs_as_mailed kind.Forward part mail h = tt
-runs_as_mailed kind.Passthrough part mail h = tt
-runs_as_mailed kind.Pid part mail h = tt
-runs_as_mailed kind.Trajectory part mail h = tt
-runs_as_mailed kind.Broadcaster (run.Broadcaster last) mail h = tt
-runs_as_mailed kind.Broadcaster (run.Set chained set) mail h = absurd h
-runs_as_mailed kind.Broadcaster (run.Pid chained set integral last) mail h = absurd h
-runs_as_mailed kind.Broadcaster (run.Trajectory hold fresh start_us from points) mail h = absurd h
-runs_as_mailed kind.Mock part mail h = tt
+runs_as_mailed k part mail h = h ∙ sym (mail_keeps_tells part mail)
 
-runs_as_updated : (k : CtlKind) (p : Params) (part : RunData) (tick : Tick) (states : List ℤ) (refs : List Value) → kind_of p ≡ k → RunsAs k part
+runs_as_updated : (k : CtlKind) (p : Params) (part : RunData) (tick : Tick) (states : List ℤ) (refs : List Value) → RunsAs k part
     → RunsAs k (updated p part tick states refs).run
-runs_as_updated k (Forward outs) part tick states refs e h = rw (← e) tt
-runs_as_updated k (Passthrough outs) part tick states refs e h = rw (← e) tt
-runs_as_updated k (Pid kp ki kd imax omax) part tick states refs e h = rw (← e) tt
-runs_as_updated k (Trajectory outs) part tick states refs e h = rw (← e) tt
-runs_as_updated k (Broadcaster ins) (run.Broadcaster last) tick states refs e h = rw (← e) tt
-runs_as_updated k (Broadcaster ins) (run.Set chained set) tick states refs e h = h
-runs_as_updated k (Broadcaster ins) (run.Pid chained set integral last) tick states refs e h = h
-runs_as_updated k (Broadcaster ins) (run.Trajectory hold fresh start_us from points) tick states refs e h = h
-runs_as_updated k (Mock outs refuse_config not_ready fail_update) part tick states refs e h = rw (← e) tt
+runs_as_updated k p part tick states refs h = h ∙ sym (update_keeps_tells p part tick states refs)
 
 kept_activated : (ctl : CtlData) (p : Option Params) (states : List ℤ) (chained : Bool) → ctl.params ≡ p → IsSomeAnd p (λ x. Unit {0}) → IfSome p (λ q. kind_of q ≡ ctl.kind)
     → IsKept Active (activated ctl states chained)
@@ -148,7 +126,7 @@ own_stepped : (ctl : CtlData) (p : Option Params) (r : Option RunData) (tick : T
     → IfSome p (λ q. kind_of q ≡ ctl.kind) → IfSome r (RunsAs ctl.kind) → IfSome (step_with ctl p r tick states refs).after.run (RunsAs ctl.kind)
 own_stepped ctl None r tick states refs e f own part = rw f part
 own_stepped ctl (Some q) None tick states refs e f own part = rw f tt
-own_stepped ctl (Some q) (Some x) tick states refs e f own part = runs_as_updated ctl.kind q x tick states refs own part
+own_stepped ctl (Some q) (Some x) tick states refs e f own part = runs_as_updated ctl.kind q x tick states refs part
 
 pub kind_stepped : (ctl : CtlData) (p : Option Params) (r : Option RunData) (tick : Tick) (states : List ℤ) (refs : List Value)
     → (step_with ctl p r tick states refs).after.kind ≡ ctl.kind
@@ -212,39 +190,36 @@ trajectory_publishes_none : (time_us : ℕ) (states hold : List ℤ) (fresh : Bo
 trajectory_publishes_none time_us states hold true start_us from points = refl
 trajectory_publishes_none time_us states hold false start_us from points = refl
 
-mock_publishes_none : (fault : Bool) (part : RunData) (outs : List Value) → (if fault then fails part else gives part outs).published ≡ []
-mock_publishes_none true part outs = refl
-mock_publishes_none false part outs = refl
+set_publishes_none : (failing : Bool) (part : RunData) (outs : List Value) → (set_update failing part outs).published ≡ []
+set_publishes_none true part outs = refl
+set_publishes_none false part outs = refl
+
+loop_publishes_none : (own : Option Tuning) (chained : Bool) (set : Value) (integral : ℤ) (last : Option ℤ) (dt_us : ℕ) (targets : List Value) (states : List ℤ)
+    → (loop_update own chained set integral last dt_us targets states).published ≡ []
+loop_publishes_none None chained set integral last dt_us targets states = refl
+loop_publishes_none (Some tuning) chained set integral last dt_us targets states = pid_publishes_none tuning chained set integral last dt_us targets states
+
+-- a kind that does not publish publishes nothing
+none_published : (k : CtlKind) (states : List ℤ) → publishes k ≡ false → [] ≡ published_by k states
+none_published k states none = rw none refl
+
+own_published : (own : Bool) (last states : List ℤ) → (only_if own (run.Broadcaster last) (publishes_states states)).published ≡ (if own then states else [])
+own_published true last states = refl
+own_published false last states = refl
 
 published_updated : (k : CtlKind) (p : Params) (part : RunData) (tick : Tick) (states : List ℤ) (refs : List Value) → kind_of p ≡ k → RunsAs k part
     → (updated p part tick states refs).published ≡ published_by k states
-published_updated k (Forward outs) (run.Set chained set) tick states refs e h = rw (← e) refl
-published_updated k (Forward outs) (run.Pid chained set integral last) tick states refs e h = rw (← e) refl
-published_updated k (Forward outs) (run.Trajectory hold fresh start_us from points) tick states refs e h = rw (← e) refl
-published_updated k (Forward outs) (run.Broadcaster last) tick states refs e h = rw (← e) refl
-published_updated k (Passthrough outs) (run.Set chained set) tick states refs e h = rw (← e) refl
-published_updated k (Passthrough outs) (run.Pid chained set integral last) tick states refs e h = rw (← e) refl
-published_updated k (Passthrough outs) (run.Trajectory hold fresh start_us from points) tick states refs e h = rw (← e) refl
-published_updated k (Passthrough outs) (run.Broadcaster last) tick states refs e h = rw (← e) refl
-published_updated k (Pid kp ki kd imax omax) (run.Set chained set) tick states refs e h = rw (← e) refl
-published_updated k (Pid kp ki kd imax omax) (run.Pid chained set integral last) tick states refs e h =
-    rw (← e) (pid_publishes_none _ chained set integral last tick.dt_us _ states)
-published_updated k (Pid kp ki kd imax omax) (run.Trajectory hold fresh start_us from points) tick states refs e h = rw (← e) refl
-published_updated k (Pid kp ki kd imax omax) (run.Broadcaster last) tick states refs e h = rw (← e) refl
-published_updated k (Trajectory outs) (run.Set chained set) tick states refs e h = rw (← e) refl
-published_updated k (Trajectory outs) (run.Pid chained set integral last) tick states refs e h = rw (← e) refl
-published_updated k (Trajectory outs) (run.Trajectory hold fresh start_us from points) tick states refs e h =
-    rw (← e) (trajectory_publishes_none tick.time_us states hold fresh start_us from points)
-published_updated k (Trajectory outs) (run.Broadcaster last) tick states refs e h = rw (← e) refl
-published_updated k (Broadcaster ins) (run.Set chained set) tick states refs e h = absurd (rw (← e) at h)
-published_updated k (Broadcaster ins) (run.Pid chained set integral last) tick states refs e h = absurd (rw (← e) at h)
-published_updated k (Broadcaster ins) (run.Trajectory hold fresh start_us from points) tick states refs e h = absurd (rw (← e) at h)
-published_updated k (Broadcaster ins) (run.Broadcaster last) tick states refs e h = rw (← e) refl
-published_updated k (Mock outs refuse_config not_ready fail_update) (run.Set chained set) tick states refs e h =
-    rw (← e) (mock_publishes_none (fails_in (Mock outs refuse_config not_ready fail_update) tick.cycle) (run.Set chained set) set)
-published_updated k (Mock outs refuse_config not_ready fail_update) (run.Pid chained set integral last) tick states refs e h = rw (← e) refl
-published_updated k (Mock outs refuse_config not_ready fail_update) (run.Trajectory hold fresh start_us from points) tick states refs e h = rw (← e) refl
-published_updated k (Mock outs refuse_config not_ready fail_update) (run.Broadcaster last) tick states refs e h = rw (← e) refl
+published_updated k p (run.Set chained set) tick states refs e h =
+    only_so (λ given. given.published ≡ []) (is_over_values p) (run.Set chained set) _ (set_publishes_none (fails_in p tick.cycle) (run.Set chained set) _) refl
+    ∙ none_published k states h
+published_updated k p (run.Pid chained set integral last) tick states refs e h =
+    loop_publishes_none (tuning_of p) chained set integral last tick.dt_us _ states ∙ none_published k states h
+published_updated k p (run.Trajectory hold fresh start_us from points) tick states refs e h =
+    only_so (λ given. given.published ≡ []) (follows_points (kind_of p)) (run.Trajectory hold fresh start_us from points) _
+    (trajectory_publishes_none tick.time_us states hold fresh start_us from points) refl
+    ∙ none_published k states h
+published_updated k p (run.Broadcaster last) tick states refs e h =
+    own_published (publishes (kind_of p)) last states ∙ ap (λ (kind : CtlKind). published_by kind states) e
 
 published_stepped : (ctl : CtlData) (p : Option Params) (r : Option RunData) (tick : Tick) (states : List ℤ) (refs : List Value)
     → IsSomeAnd p (λ x. Unit {0}) → IsSomeAnd r (λ x. Unit {0}) → IfSome p (λ q. kind_of q ≡ ctl.kind) → IfSome r (RunsAs ctl.kind)
@@ -269,10 +244,13 @@ published_is life ctl tick states refs mail n m k h can =
 
 -- ---- What it gives out after an error
 
-mock_gives_none : (fault : Bool) (part : RunData) (outs : List Value) → (if fault then fails part else gives part outs).done ≡ done.Error
-    → (if fault then fails part else gives part outs).outs ≡ []
-mock_gives_none true part outs e = refl
-mock_gives_none false part outs e = cc
+-- it gave nothing, if it failed
+abbrev GivesNone : Updated → Type 0
+GivesNone given = given.done ≡ done.Error → given.outs ≡ []
+
+set_gives_none : (failing : Bool) (part : RunData) (outs : List Value) → GivesNone (set_update failing part outs)
+set_gives_none true part outs = λ e. refl
+set_gives_none false part outs = λ e. cc
 
 pid_never_errs : (tuning : Tuning) (chained : Bool) (set : Value) (integral : ℤ) (last : Option ℤ) (dt_us : ℕ) (targets : List Value) (states : List ℤ)
     → (pid_update tuning chained set integral last dt_us targets states).done ≡ done.Error → ⊥
@@ -286,34 +264,20 @@ trajectory_never_errs : (time_us : ℕ) (states hold : List ℤ) (fresh : Bool) 
 trajectory_never_errs time_us states hold true start_us from points e = cc
 trajectory_never_errs time_us states hold false start_us from points e = cc
 
-erred_updated : (p : Params) (part : RunData) (tick : Tick) (states : List ℤ) (refs : List Value)
-    → (updated p part tick states refs).done ≡ done.Error → (updated p part tick states refs).outs ≡ []
-erred_updated (Forward outs) (run.Set chained set) tick states refs e = cc
-erred_updated (Forward outs) (run.Pid chained set integral last) tick states refs e = refl
-erred_updated (Forward outs) (run.Trajectory hold fresh start_us from points) tick states refs e = refl
-erred_updated (Forward outs) (run.Broadcaster last) tick states refs e = refl
-erred_updated (Passthrough outs) (run.Set chained set) tick states refs e = cc
-erred_updated (Passthrough outs) (run.Pid chained set integral last) tick states refs e = refl
-erred_updated (Passthrough outs) (run.Trajectory hold fresh start_us from points) tick states refs e = refl
-erred_updated (Passthrough outs) (run.Broadcaster last) tick states refs e = refl
-erred_updated (Pid kp ki kd imax omax) (run.Set chained set) tick states refs e = refl
-erred_updated (Pid kp ki kd imax omax) (run.Pid chained set integral last) tick states refs e = absurd (pid_never_errs _ chained set integral last tick.dt_us _ states e)
-erred_updated (Pid kp ki kd imax omax) (run.Trajectory hold fresh start_us from points) tick states refs e = refl
-erred_updated (Pid kp ki kd imax omax) (run.Broadcaster last) tick states refs e = refl
-erred_updated (Trajectory outs) (run.Set chained set) tick states refs e = refl
-erred_updated (Trajectory outs) (run.Pid chained set integral last) tick states refs e = refl
-erred_updated (Trajectory outs) (run.Trajectory hold fresh start_us from points) tick states refs e =
-    absurd (trajectory_never_errs tick.time_us states hold fresh start_us from points e)
-erred_updated (Trajectory outs) (run.Broadcaster last) tick states refs e = refl
-erred_updated (Broadcaster ins) (run.Set chained set) tick states refs e = refl
-erred_updated (Broadcaster ins) (run.Pid chained set integral last) tick states refs e = refl
-erred_updated (Broadcaster ins) (run.Trajectory hold fresh start_us from points) tick states refs e = refl
-erred_updated (Broadcaster ins) (run.Broadcaster last) tick states refs e = refl
-erred_updated (Mock outs refuse_config not_ready fail_update) (run.Set chained set) tick states refs e =
-    mock_gives_none (fails_in (Mock outs refuse_config not_ready fail_update) tick.cycle) (run.Set chained set) set e
-erred_updated (Mock outs refuse_config not_ready fail_update) (run.Pid chained set integral last) tick states refs e = refl
-erred_updated (Mock outs refuse_config not_ready fail_update) (run.Trajectory hold fresh start_us from points) tick states refs e = refl
-erred_updated (Mock outs refuse_config not_ready fail_update) (run.Broadcaster last) tick states refs e = refl
+loop_gives_none : (own : Option Tuning) (chained : Bool) (set : Value) (integral : ℤ) (last : Option ℤ) (dt_us : ℕ) (targets : List Value) (states : List ℤ)
+    → GivesNone (loop_update own chained set integral last dt_us targets states)
+loop_gives_none None chained set integral last dt_us targets states = λ e. refl
+loop_gives_none (Some tuning) chained set integral last dt_us targets states = λ e. absurd (pid_never_errs tuning chained set integral last dt_us targets states e)
+
+erred_updated : (p : Params) (part : RunData) (tick : Tick) (states : List ℤ) (refs : List Value) → GivesNone (updated p part tick states refs)
+erred_updated p (run.Set chained set) tick states refs =
+    only_so GivesNone (is_over_values p) (run.Set chained set) _ (set_gives_none (fails_in p tick.cycle) (run.Set chained set) _) (λ e. refl)
+erred_updated p (run.Pid chained set integral last) tick states refs = loop_gives_none (tuning_of p) chained set integral last tick.dt_us _ states
+erred_updated p (run.Trajectory hold fresh start_us from points) tick states refs =
+    only_so GivesNone (follows_points (kind_of p)) (run.Trajectory hold fresh start_us from points) _
+    (λ e. absurd (trajectory_never_errs tick.time_us states hold fresh start_us from points e)) (λ e. refl)
+erred_updated p (run.Broadcaster last) tick states refs =
+    only_so GivesNone (publishes (kind_of p)) (run.Broadcaster last) (publishes_states states) (λ e. refl) (λ e. refl)
 
 erred_stepped : (ctl : CtlData) (p : Option Params) (r : Option RunData) (tick : Tick) (states : List ℤ) (refs : List Value)
     → (step_with ctl p r tick states refs).done ≡ done.Error → (step_with ctl p r tick states refs).outs ≡ []

@@ -1,5 +1,5 @@
 -- What an update makes of the board, and what it keeps of a controller.
-use Rattle.std.proofs.Common.{◌≡◌, ℕ, ◌+◌, ◌<◌, ℤ, true, false, List, [], ◌∷◌, length, get_or, drop, Option, Some, None, option_map, refl, sym, ap, ap₂, ◌∙◌, arith}
+use Rattle.std.proofs.Common.{◌≡◌, ℕ, ◌+◌, ◌<◌, ℤ, Bool, true, false, List, [], ◌∷◌, length, get_or, drop, Option, Some, None, option_map, refl, sym, ap, ap₂, ◌∙◌, arith}
 use Rattle.std.specs.Prelude.{◌==◌, IsSomeAnd}
 use Rattle.std.specs.List.{list_any}
 use Rattle.std.proofs.lemmas.Bool.{eqb-true}
@@ -8,8 +8,6 @@ use Rattle.std.proofs.lemmas.List.{drop_more}
 use Rattle.sound_laws.proofs.UpdatedLemmas.{ctl_step_params}
 use Rattle.fixed_num.specs.declared.value.Value.{Value}
 use Rattle.cm_document.specs.declared.call.Mail.{Mail}
-use Rattle.cm_document.specs.declared.description.CtlKind.{CtlKind}
-use Rattle.cm_document.specs.declared.description.CtlKind.TheVariants as kind
 use Rattle.cm_model.proofs.ControllerLemmas.{ctl_step_keeps_chained}
 use Rattle.cm_model.specs.Controllers.{Stepped, runs_chained, ctl_step, CanBeMailed}
 use Rattle.cm_model.specs.declared.data.CtlData.{CtlData}
@@ -18,7 +16,8 @@ use Rattle.cm_storage.specs.declared.record.FailedPart.{FailedPart}
 use Rattle.cm_model.specs.declared.tick.Tick.{Tick}
 use Rattle.loan_board.specs.Loans.{with_loan, set}
 use Rattle.cm_hardware.specs.Wiring.{Wired}
-use Rattle.ctl_trait.specs.Taking.{CanTake, CanTakeAs}
+use Rattle.cm_model.specs.Kinds.{publishes}
+use Rattle.ctl_trait.specs.Taking.{CanTake, CanTakeIf}
 use Rattle.ctl_slots.specs.Lives.{once_taken}
 use Rattle.ctl_slots.specs.Updates.{put_on}
 use Rattle.ctl_slots.proofs.StepLemmas.{kind_stepped, kind_once_taken, step_is}
@@ -51,21 +50,17 @@ still_mailed : (ctl ctl' : CtlData) (mail : Mail) → ctl'.params ≡ ctl.params
     → CanBeMailed ctl' mail
 still_mailed ctl ctl' mail params marks can = record { configured = rw params can.configured; running = still_marked ctl.run ctl'.run marks can.running }
 
-still_takes_as : (k : CtlKind) (ctl ctl' : CtlData) (mail : Mail) → ctl'.params ≡ ctl.params → option_map runs_chained ctl'.run ≡ option_map runs_chained ctl.run
-    → CanTakeAs k ctl mail → CanTakeAs k ctl' mail
-still_takes_as kind.Forward ctl ctl' mail params marks can = still_mailed ctl ctl' mail params marks can
-still_takes_as kind.Passthrough ctl ctl' mail params marks can = still_mailed ctl ctl' mail params marks can
-still_takes_as kind.Pid ctl ctl' mail params marks can = still_mailed ctl ctl' mail params marks can
-still_takes_as kind.Trajectory ctl ctl' mail params marks can = still_mailed ctl ctl' mail params marks can
-still_takes_as kind.Broadcaster ctl ctl' mail params marks can = tt
-still_takes_as kind.Mock ctl ctl' mail params marks can = still_mailed ctl ctl' mail params marks can
+still_takes_if : (publishing : Bool) (ctl ctl' : CtlData) (mail : Mail) → ctl'.params ≡ ctl.params → option_map runs_chained ctl'.run ≡ option_map runs_chained ctl.run
+    → CanTakeIf publishing ctl mail → CanTakeIf publishing ctl' mail
+still_takes_if true ctl ctl' mail params marks can = tt
+still_takes_if false ctl ctl' mail params marks can = still_mailed ctl ctl' mail params marks can
 
 -- after a step it takes the mail that it took before
 pub still_takes : (ctl : CtlData) (tick : Tick) (states : List ℤ) (refs : List Value) (aloft : Option Mail) (mail : Mail) → CanTake ctl mail
     → CanTake (ctl_step ctl tick states refs aloft).after mail
 still_takes ctl tick states refs aloft mail can =
     rw (step_kind ctl tick states refs aloft)
-    (still_takes_as ctl.kind ctl (ctl_step ctl tick states refs aloft).after mail (ctl_step_params ctl tick states refs aloft)
+    (still_takes_if (publishes ctl.kind) ctl (ctl_step ctl tick states refs aloft).after mail (ctl_step_params ctl tick states refs aloft)
     (ctl_step_keeps_chained ctl tick states refs aloft) can)
 
 -- ---- Held off

@@ -1,16 +1,15 @@
 -- What is kept of a loaded controller: its lifecycle state, and what its kind says of its parameters and of what runs;
 -- when it may be updated with its mail; and what it publishes.
-use Rattle.std.specs.Prelude.{◌≡◌, ℕ, ℤ, Bool, true, false, if◌then◌else◌, List, [], Option, Some, None, IfSome}
+use Rattle.std.specs.Prelude.{◌≡◌, ℕ, ℤ, if◌then◌else◌, List, [], Option, Some, None, IfSome}
 use Rattle.cm_document.specs.Params.{kind_of}
 use Rattle.cm_document.specs.declared.call.Mail.{Mail}
 use Rattle.cm_document.specs.declared.description.CtlKind.{CtlKind}
-use Rattle.cm_document.specs.declared.description.CtlKind.TheVariants as kind
 use Rattle.cm_document.specs.declared.life.Life.{Life}
 use Rattle.cm_document.specs.declared.life.Life.TheVariants.{Unconfigured, Inactive, Active, Finalized}
-use Rattle.cm_model.specs.Controllers.{mailed, IsBlank, IsIdle, IsRunning, CanBeUpdated}
+use Rattle.cm_model.specs.Kinds.{publishes}
+use Rattle.cm_model.specs.Controllers.{tells_last, mailed, IsBlank, IsIdle, IsRunning, CanBeUpdated}
 use Rattle.cm_model.specs.declared.data.CtlData.{CtlData}
 use Rattle.cm_model.specs.declared.data.RunData.{RunData}
-use Rattle.cm_model.specs.declared.data.RunData.TheVariants as run
 use Rattle.cm_model.specs.declared.tick.Tick.{Tick}
 use Rattle.ctl_trait.specs.Taking.{CanTake}
 
@@ -24,11 +23,9 @@ IsIn Inactive ctl = IsIdle ctl
 IsIn Active ctl = IsRunning ctl
 IsIn Finalized ctl = ⊥
 
--- what runs of a broadcaster is what it published last
+-- what runs is what was published last exactly where the kind publishes
 abbrev pub RunsAs : CtlKind → RunData → Type 0
-RunsAs kind.Broadcaster (run.Broadcaster last) = Unit {0}
-RunsAs kind.Broadcaster part = ⊥
-RunsAs other part = Unit {0}
+RunsAs kind part = publishes kind ≡ tells_last part
 
 -- It is in this state, its parameters are of its kind, and so is what runs.
 pub record IsKept (life : Life) (ctl : CtlData) : Type 0 where
@@ -49,11 +46,6 @@ pub record CanBeStepped (ctl : CtlData) (tick : Tick) (states refs outs : ℕ) (
   pub counts : CanBeUpdated ctl tick states refs outs
   pub taking : IfSome mail (CanTake ctl)
 
--- a controller of this kind publishes what it reads
-abbrev pub publishes : CtlKind → Bool
-publishes kind.Broadcaster = true
-publishes other = false
-
--- what one of this kind publishes of the states that it reads
+-- what a controller of this kind publishes of the states that it reads
 abbrev pub published_by : CtlKind → List ℤ → List ℤ
 published_by k states = if publishes k then states else []

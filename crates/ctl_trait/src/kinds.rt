@@ -2,9 +2,9 @@
 
 ghost use Rattle.std.specs.Prelude.{◌≡◌};
 ghost use Rattle.std.specs.List.{list_all};
-ghost use Rattle.cm_model.specs.Kinds.{shape_of, takes, takes_none, is_for_claims};
+ghost use Rattle.cm_model.specs.Kinds.{publishes, shape_of, takes, takes_none, is_for_claims};
 
-use cm_document::{Mail, Params, Point2};
+use cm_document::{CtlKind, Mail, Params, Point2};
 use cm_model::Shape;
 use fixed_num::Fx;
 
@@ -30,6 +30,13 @@ fn shape(claims: u32, reads: Option<u32>, references: u32) -> Shape
         reads,
         references,
     }
+}
+
+/// Whether a controller of this kind publishes what it reads.
+pub fn publishes(kind: CtlKind) -> bool
+    ensures { result ≡ publishes kind }
+{
+    matches!(kind, CtlKind::Broadcaster)
 }
 
 /// Whether a controller with these parameters takes no mail at all.

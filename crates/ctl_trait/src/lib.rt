@@ -4,7 +4,7 @@
 
 pub use controller::Controller;
 pub use fault::CfgFault;
-pub use kinds::{shape_of, takes, takes_none};
+pub use kinds::{publishes, shape_of, takes, takes_none};
 pub use set_part::{SetPart, set_numbers};
 
 mod controller;

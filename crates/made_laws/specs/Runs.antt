@@ -3,7 +3,7 @@ use Rattle.std.specs.Prelude.{◌≡◌, ℕ, ◌+◌, ◌*◌, List, codes}
 use Rattle.cm_model.specs.Scheduled.{scheduled}
 use Rattle.cm_model.specs.declared.blanks.Blanks.{Blanks}
 use Rattle.cm_model.specs.declared.entry.Entry.{Entry}
-use Rattle.cm_program.specs.Stock.{blanks_of_each}
+use Rattle.cm_model.specs.Blanks.{blanks_of_each}
 use Rattle.cm_program.specs.declared.stock.TheConstants.{BLANKS}
 use Rattle.make_document.specs.Meant.{made_document}
 use Rattle.summary_text.specs.Counted.{Counted}

@@ -3,6 +3,7 @@ use Rattle.std.proofs.Common.{◌≡◌, true, false, [], ◌∷◌, refl}
 use Rattle.std.specs.Prelude.{codes, drop}
 use Rattle.cm_document.specs.Described.{a_description}
 use Rattle.cm_document.specs.declared.life.Life.TheVariants.{Inactive, Active}
+use Rattle.cm_model.specs.Blanks.{no_blanks}
 use Rattle.cm_model.specs.Boundary.{waiting, request_reply, request_effect, decisions_from, close_effect}
 use Rattle.cm_model.specs.State.{State, boot}
 use Rattle.cm_model.specs.declared.blanks.Blanks.{Blanks}
@@ -16,7 +17,7 @@ use Rattle.request_plan.specs.Requests.{Asked, with_asked}
 -- ---- Three requests, the first of which is done
 
 abbrev stock : Blanks
-stock = record { forward = 0; passthrough = 0; pid = 0; trajectory = 0; broadcaster = 0; mock = 0 }
+stock = no_blanks
 
 abbrev opening : State
 opening = boot (a_description 1 100 6 [] []) stock 1

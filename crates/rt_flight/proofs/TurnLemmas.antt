@@ -9,7 +9,7 @@ use Rattle.cm_model.specs.declared.member.Member.{Member}
 use Rattle.loan_board.specs.declared.board.Loan.{Loan}
 use Rattle.chain_order.specs.Links.{linked}
 use Rattle.ctl_places.specs.Placed.{Placed}
-use Rattle.ctl_slots.specs.Lives.{publishes}
+use Rattle.cm_model.specs.Kinds.{publishes}
 use Rattle.ctl_slots.specs.Updates.{Aloft}
 use Rattle.sequence.proofs.ListLemmas.{map_twice, head_same, tail_same}
 use Rattle.switch_plan.specs.Relations.{Related}

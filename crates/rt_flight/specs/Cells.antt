@@ -15,7 +15,8 @@ use Rattle.cm_hardware.specs.Wiring.{Wired}
 use Rattle.loan_board.specs.declared.board.Loan.{Loan}
 use Rattle.chain_order.specs.Links.{linked}
 use Rattle.ctl_places.specs.Placed.{Placed}
-use Rattle.ctl_slots.specs.Lives.{publishes, IsKept}
+use Rattle.cm_model.specs.Kinds.{publishes}
+use Rattle.ctl_slots.specs.Lives.{IsKept}
 use Rattle.ctl_slots.specs.Updates.{Aloft, put_on, board_after, with_erred}
 use Rattle.ctl_trait.specs.Taking.{CanTake}
 use Rattle.switch_plan.specs.Relations.{Related}

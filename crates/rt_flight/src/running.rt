@@ -3,14 +3,15 @@
 ghost use Rattle.std.specs.Prelude.{◌≡◌, length, IfSome};
 ghost use Rattle.cm_document.specs.declared.life.Life.TheVariants.{Active};
 ghost use Rattle.cm_model.specs.Controllers.{ctl_step};
-ghost use Rattle.ctl_slots.specs.Lives.{once_taken, publishes, CanBeStepped, IsKept};
+ghost use Rattle.cm_model.specs.Kinds.{publishes};
+ghost use Rattle.ctl_slots.specs.Lives.{once_taken, CanBeStepped, IsKept};
 ghost use Rattle.ctl_trait.specs.Taking.{CanTake};
 ghost use Rattle.rt_flight.specs.Calls.Stations.{TakesStep};
 
-use cm_document::{CtlKind, Mail};
+use cm_document::Mail;
 use cm_model::Tick;
 use cm_storage::Done;
-use ctl_trait::Controller;
+use ctl_trait::{Controller, publishes};
 use fixed_num::{Fx, Value};
 use std::marker::Model;
 
@@ -49,11 +50,11 @@ impl<C: Controller> Running<C> {
         self.ctl
     }
 
-    /// Whether it publishes what it reads: it is a broadcaster.
+    /// Whether it publishes what it reads.
     pub(crate) fn publishes(&self) -> bool
         ensures { result ≡ publishes self.now.kind }
     {
-        matches!(self.ctl.kind(), CtlKind::Broadcaster)
+        publishes(self.ctl.kind())
     }
 
     /// It takes its mail, where there is some, and then computes, from the states that it reads and from its references, a value for each of

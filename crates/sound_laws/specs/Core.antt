@@ -1,5 +1,6 @@
 -- The core of a state: what a cycle rests on. Two states with one core have the same cycle.
 use Rattle.std.specs.Prelude.{false, List, [], map, filter, None}
+use Rattle.cm_model.specs.Blanks.{no_blanks}
 use Rattle.cm_model.specs.State.{State, Loaded, is_active}
 
 -- a controller without its rate, which counts when it is configured next, and without the mail that waits for it
@@ -15,7 +16,7 @@ abbrev pub core : State → State
 core s = record {
   description = s.description;
   sessions = 0;
-  blanks = record { forward = 0; passthrough = 0; pid = 0; trajectory = 0; broadcaster = 0; mock = 0 };
+  blanks = no_blanks;
   loads = 0;
   loaded = running_ones s.loaded;
   lives = s.lives;

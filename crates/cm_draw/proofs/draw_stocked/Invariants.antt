@@ -1,5 +1,6 @@
 use Rattle.ctl_trait.specs.contracts.in_box.BoxDynControllerSendController.TheImpl.{ghosts}
-use Rattle.cm_program.specs.Stock.{AreBlanks, blanks_of_each}
+use Rattle.cm_model.specs.Blanks.{blanks_of_each}
+use Rattle.ctl_rack.specs.Stocks.{AreBlanks}
 use Rattle.cm_draw.proofs.draw_stocked.Given as goal
 use Rattle.cm_draw.proofs.draw_stocked.Hidden.{sends-own-1}
 use Rattle.cm_draw.proofs.draw_stocked.OwnLists.{own-1, lawful-own-1}

@@ -1,6 +1,5 @@
 use Rattle.cm_document.specs.declared.description.CtlKind.TheVariants.{Forward, Passthrough, Pid, Trajectory, Broadcaster}
-use Rattle.ctl_rack.specs.Stocks.{with_one_more}
-use Rattle.cm_program.specs.Stock.{blanks_of_each}
+use Rattle.cm_model.specs.Blanks.{blanks_of_each, with_one_more}
 use Rattle.cm_program.proofs.stock.run_stocked.Goals as goal
 
 -- one more of each kind

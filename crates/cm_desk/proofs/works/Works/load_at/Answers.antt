@@ -1,8 +1,9 @@
 use Rattle.std.proofs.Common.{◌≡◌, ◌<◌, None, false, refl}
 use Rattle.cm_document.specs.Params.{kind_of}
-use Rattle.cm_model.specs.State.{Loaded, blanks_of, with_one_less, is_active}
+use Rattle.cm_model.specs.Blanks.{blanks_of, with_one_less}
+use Rattle.cm_model.specs.State.{Loaded, is_active}
 use Rattle.cm_desk.proofs.KeptLemmas.{kept_after_load}
-use Rattle.cm_desk.proofs.WorksLemmas.{one_less}
+use Rattle.cm_model.proofs.BlankLemmas.{one_less}
 use Rattle.cm_desk.proofs.Insides.{base_in, state_of}
 use Rattle.cm_desk.proofs.works.Works.load_at.Goals as goal
 

@@ -12,20 +12,26 @@ use ctl_traj::TrajCtl;
 use fixed_num::{Fx, Value};
 use std::alloc::Global;
 
-/// A controller of any of the six kinds. The stocks of rows are of these and not of boxes, since no function of a library may hand out a
-/// `dyn` that it made: nothing would be known of it but its trait.
+/// A controller of any kind. A library's stocks are of these and not of boxes, because no function of a library may hand
+/// out a `dyn` that it made: nothing would be known of it but its trait.
 #[derive(Drop)]
 pub enum AnyKind {
+    /// A forward.
     Forward(Forward),
+    /// A passthrough.
     Passthrough(Passthrough),
+    /// A pid.
     Pid(PidCtl),
+    /// A trajectory.
     Trajectory(TrajCtl),
+    /// A broadcaster.
     Broadcaster(Broadcaster),
+    /// A mock.
     Mock(Mock),
 }
 
 impl Controller for AnyKind {
-    ghost use Rattle.case_calls.specs.declared.any_kind.AnyKind.TheVariants as kind;
+    ghost use Rattle.ctl_any.specs.declared.any_kind.AnyKind.TheVariants as kind;
 
     ghost meaning = { λ c. elim c [
       | kind.Forward ctl ↦ ⟦<Forward as Controller>⟧.meaning ctl

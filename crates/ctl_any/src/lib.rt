@@ -1,0 +1,8 @@
+//! A controller of any kind without a box, and stocks of all kinds: so many blanks of each.
+#![tactic(auto)]
+
+pub use any_kind::AnyKind;
+pub use stock::blanks;
+
+mod any_kind;
+mod stock;
