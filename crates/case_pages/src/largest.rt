@@ -6,7 +6,7 @@ use std::alloc::{AllocError, Global};
 use std::test::Fail;
 
 /// All limits of the checks at once: 16 components of two joints each, with every kind of command and state; and 64
-/// controllers, which export 96 references, claim 192 interfaces and read 256.
+/// controllers, which export 96 references, claim 192 interfaces and read 256, and of which each has 8 fallbacks.
 pub const AT_ALL_LIMITS: &str = r#"version = 1
 update_rate = 10000
 cycles = 100000
@@ -27,20 +27,24 @@ state = ["position", "velocity", "effort"]
 <0..3 * [[controller]]
 name = "p#"
 type = "passthrough"
+fallback = [(0..8 * "b#", )]
 claims = [(0..16 * "l#/position", "r#/position", )]
 [[controller]]
 name = "f#"
 type = "forward"
+fallback = [(0..8 * "b#", )]
 claims = [(0..16 * "l#/position", "r#/position", )]
 >\
 <0..8 * [[controller]]
 name = "b#"
 type = "broadcaster"
+fallback = [(0..8 * "m#", )]
 reads = [(0..16 * "l#/position", "r#/position", )]
 >\
 <0..50 * [[controller]]
 name = "m#"
 type = "mock"
+fallback = [(0..8 * "b#", )]
 >\
 "#;
 

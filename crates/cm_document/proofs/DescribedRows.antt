@@ -51,6 +51,7 @@ one_joint : description_in (tree_of (codes "version = 1\nupdate_rate = 100\ncycl
       controllers = record {
         name = codes "fwd";
         rate = 0;
+        fallback = [];
         claims = interface.Joint (codes "j1") Position ∷ [];
         reads = [];
         params = Forward 1;
@@ -104,6 +105,7 @@ all_states : description_in (tree_of (codes "version = 1\nupdate_rate = 100\ncyc
       controllers = record {
         name = codes "jsb";
         rate = 50;
+        fallback = [];
         claims = [];
         reads = interface.Joint (codes "j1") Velocity ∷ interface.Joint (codes "j1") Position ∷ [];
         params = Broadcaster 2;

@@ -1,9 +1,10 @@
 -- What a description is that was read and checked.
-use Rattle.std.proofs.Common.{◌≡◌, Option, Some, None, Result, Ok, Err, ◌∙◌, ap, sym, subst}
+use Rattle.std.proofs.Common.{◌≡◌, map, Option, Some, None, Result, Ok, Err, ◌∙◌, ap, sym, subst}
 use Rattle.toml.specs.Data.{Members}
 use Rattle.cm_document.specs.Reading.{◌>>=◌}
 use Rattle.cm_document.specs.Described.{states_of, description_in}
-use Rattle.cm_document.specs.Valid.{valid, few_enough, named_apart, in_range, links_exist, claimable, loop_free, IsDescribed, IsValid}
+use Rattle.cm_document.specs.Valid.{valid, few_enough, named_apart, in_range, links_exist, claimable, fallbacks_exist, loop_free, IsDescribed, IsValid}
+use Rattle.cm_document.specs.declared.description.CtlDesc.{CtlDesc}
 use Rattle.cm_document.specs.declared.description.Description.{Description}
 use Rattle.cm_document.specs.declared.faults.CheckFault.{CheckFault}
 
@@ -26,7 +27,8 @@ valid_same d e h =
     step_keeps (named_apart d) _ d e (λ _ e h.
     step_keeps (in_range d) _ d e (λ _ e h.
     step_keeps (links_exist (claimable d) (states_of d.components) d.controllers) _ d e (λ _ e h.
-    step_keeps (loop_free d.controllers) _ d e (λ _ e h. cc) h) h) h) h) h
+    step_keeps (fallbacks_exist (map (λ (c : CtlDesc). c.name) d.controllers) d.controllers) _ d e (λ _ e h.
+    step_keeps (loop_free d.controllers) _ d e (λ _ e h. cc) h) h) h) h) h) h
 
 -- a description that was read and in which no check found a fault is valid
 pub checked_IsValid : (d e : Description) → IsDescribed d → valid d ≡ Ok e → IsValid e

@@ -11,7 +11,7 @@ use Rattle.iface_names.specs.Sameness.{same_interface-IsEquivalence}
 use Rattle.iface_names.specs.declared.interface.IfaceName.{IfaceName}
 use Rattle.cm_document.specs.Described.{states_of}
 use Rattle.cm_document.specs.Links.{joints_of, commands_of, references_of, first_in_loop}
-use Rattle.cm_document.specs.Valid.{limited, few_enough, repeated_after, apart, names_apart, interfaces_apart, links_apart, named_apart, ranged, each_ranged, component_ranged, controller_ranged, in_range, claimable, links_exist, name_at, loop_free, valid, IsValid}
+use Rattle.cm_document.specs.Valid.{fallbacks_exist, limited, few_enough, repeated_after, apart, names_apart, interfaces_apart, links_apart, named_apart, ranged, each_ranged, component_ranged, controller_ranged, in_range, claimable, links_exist, name_at, loop_free, valid, IsValid}
 use Rattle.cm_document.specs.declared.description.CtlDesc.{CtlDesc}
 use Rattle.cm_document.specs.declared.description.Description.{Description}
 use Rattle.cm_document.specs.declared.faults.CheckFault.{CheckFault}
@@ -59,6 +59,8 @@ pub record ValidParts (d : Description) : Type 0 where
   pub ranges : IsWithinRanges d
   -- what is claimed can be claimed, and what is read can be read;
   pub links : links_exist (claimable d) (states_of d.components) d.controllers ≡ Ok tt
+  -- each fallback is another described controller;
+  pub fallbacks : fallbacks_exist (map (λ c. c.name) d.controllers) d.controllers ≡ Ok tt
   -- and no controller precedes itself at some distance.
   pub loop_free : first_in_loop d.controllers ≡ None
 
@@ -160,12 +162,14 @@ valid_parts d e =
     let names = bind_Ok (named_apart d) _ d few.2 in
     let ranges = bind_Ok (in_range d) _ d names.2 in
     let links = bind_Ok (links_exist (claimable d) (states_of d.components) d.controllers) _ d ranges.2 in
-    let loops = bind_Ok (loop_free d.controllers) _ d links.2 in
+    let fallbacks = bind_Ok (fallbacks_exist (map (λ (c : CtlDesc). c.name) d.controllers) d.controllers) _ d links.2 in
+    let loops = bind_Ok (loop_free d.controllers) _ d fallbacks.2 in
     record {
       few = few_parts d few.1;
       names = name_parts d names.1;
       ranges = range_parts d ranges.1;
       links = links.1;
+      fallbacks = fallbacks.1;
       loop_free = none_told (λ place. ChainLoop (name_at d.controllers place)) (first_in_loop d.controllers) loops.1;
     }
 

@@ -1,18 +1,18 @@
 -- Descriptions that were written down by hand, and what is wrong with each: computed from the definitions.
-use Rattle.std.proofs.Common.{◌≡◌, refl, List, ℕ, [], ◌∷◌, Ok, Err, pos}
+use Rattle.std.proofs.Common.{◌≡◌, refl, List, ℕ, [], ◌∷◌, Ok, Err, pos, false}
 use Rattle.std.specs.Prelude.{codes}
 use Rattle.std.specs.Fmt.{digits}
 use Rattle.iface_names.specs.declared.interface.IfaceName.TheVariants as interface
 use Rattle.iface_names.specs.declared.kind.Kind.TheVariants.{Position, Effort}
-use Rattle.cm_document.specs.Described.{a_controller, a_description, a_joint, a_component}
+use Rattle.cm_document.specs.Described.{a_controller, a_headed, a_description, a_joint, a_component}
 use Rattle.cm_document.specs.Valid.{valid}
 use Rattle.cm_document.specs.declared.description.CompDesc.{CompDesc}
 use Rattle.cm_document.specs.declared.description.CompKind.{CompKind}
 use Rattle.cm_document.specs.declared.description.CompKind.TheVariants.{Sensor, Actuator}
 use Rattle.cm_document.specs.declared.description.CtlDesc.{CtlDesc}
 use Rattle.cm_document.specs.declared.description.Description.{Description}
-use Rattle.cm_document.specs.declared.description.Params.TheVariants.{Forward, Passthrough}
-use Rattle.cm_document.specs.declared.faults.CheckFault.TheVariants.{NameTwice, BadRange, NoInterface, ChainLoop}
+use Rattle.cm_document.specs.declared.description.Params.TheVariants.{Forward, Passthrough, Mock}
+use Rattle.cm_document.specs.declared.faults.CheckFault.TheVariants.{NameTwice, BadRange, NoInterface, NoFallback, ChainLoop}
 use Rattle.cm_document.specs.declared.life.Life.TheVariants.{Unconfigured, Active}
 
 -- a passthrough that claims the reference of another
@@ -63,6 +63,30 @@ chain_of_three : valid (a_description 1 100 2 (one_joint Actuator ∷ []) (
     ∷ a_controller (codes "c") 0 (interface.Joint (codes "j1") Position ∷ []) [] (Passthrough 1) ∷ []))
 unfolding valid digits
 chain_of_three = refl
+
+-- a fallback that is not described, and the controller itself
+abbrev falls_back_on : List ℕ → List (List ℕ) → CtlDesc
+falls_back_on name others = a_headed (record { name = name; rate = 0; fallback = others }) [] [] (Mock 0 false [] [])
+
+unknown_fallback : valid (controllers_alone (falls_back_on (codes "m") (codes "k" ∷ []) ∷ falls_back_on (codes "k") (codes "m" ∷ codes "l" ∷ []) ∷ []))
+    ≡ Err (NoFallback (codes "k") (codes "l"))
+unfolding valid digits
+unknown_fallback = refl
+
+own_fallback : valid (controllers_alone (falls_back_on (codes "m") (codes "m" ∷ []) ∷ [])) ≡ Err (NoFallback (codes "m") (codes "m"))
+unfolding valid digits
+own_fallback = refl
+
+-- a fallback that stands twice, told before a ninth one would be
+fallback_twice : valid (controllers_alone (falls_back_on (codes "m") (codes "k" ∷ codes "k" ∷ []) ∷ [])) ≡ Err (NameTwice (codes "k"))
+unfolding valid digits
+fallback_twice = refl
+
+nine_fallbacks : valid (controllers_alone (falls_back_on (codes "m")
+    (codes "a" ∷ codes "b" ∷ codes "c" ∷ codes "d" ∷ codes "e" ∷ codes "f" ∷ codes "g" ∷ codes "h" ∷ codes "i" ∷ []) ∷ []))
+    ≡ Err (BadRange (codes "controller[0].fallback"))
+unfolding valid digits
+nine_fallbacks = refl
 
 -- two controllers of one name
 named_twice : valid (controllers_alone (passes_to (codes "p") (codes "p") ∷ passes_to (codes "p") (codes "q") ∷ [])) ≡ Err (NameTwice (codes "p"))

@@ -101,33 +101,46 @@ states_of components = flat_map (λ c. flat_map states_of_joint c.joints) compon
 abbrev pub count : List IfaceName → ℕ
 count interfaces = min (length interfaces) (2 ^ 32 - 1)
 
+-- what a controller of every type says of itself: its name, its rate and its fallbacks
+pub record Headed : Type 0 where
+  pub name : List ℕ
+  pub rate : ℕ
+  pub fallback : List (List ℕ)
+
 -- a controller of these values
-abbrev pub a_controller : List ℕ → ℕ → List IfaceName → List IfaceName → Params → CtlDesc
-a_controller name rate claims reads params = record {
-  name = name;
-  rate = rate;
+abbrev pub a_headed : Headed → List IfaceName → List IfaceName → Params → CtlDesc
+a_headed head claims reads params = record {
+  name = head.name;
+  rate = head.rate;
+  fallback = head.fallback;
   claims = claims;
   reads = reads;
   params = params;
 }
 
+-- a controller without fallbacks
+abbrev pub a_controller : List ℕ → ℕ → List IfaceName → List IfaceName → Params → CtlDesc
+a_controller name rate claims reads params =
+    a_headed (record { name = name; rate = rate; fallback = [] }) claims reads params
+
 -- the keys that a controller of every type has come first: its type says which others follow
-abbrev pub common : {A : Type 0} → (List ℕ → ℕ → A) → Table A
-common make = filled (λ name type rate. make name rate)
+abbrev pub common : {A : Type 0} → (Headed → A) → Table A
+common make = filled (λ name type rate fallback. make (record { name = name; rate = rate; fallback = fallback }))
     & required (codes "name") (one name_in)
     & required (codes "type") (one (word_in controller_kinds))
     & defaulted (codes "update_rate") (one whole_in) 0
+    & defaulted (codes "fallback") (list_of name_in) []
 
 -- the keys of a forward, or of another type that has claims alone
 abbrev pub claiming_table : (ℕ → Params) → Table CtlDesc
-claiming_table make = common (λ name rate claims. a_controller name rate claims [] (make (count claims)))
+claiming_table make = common (λ head claims. a_headed head claims [] (make (count claims)))
     & required (codes "claims") (list_of interface_in)
 
 -- the keys of a pid
 abbrev pub pid_table : Table CtlDesc
 pid_table =
     common
-    (λ name rate claims reads kp ki kd imax omax. a_controller name rate claims reads (params.Pid kp ki kd imax omax))
+    (λ head claims reads kp ki kd imax omax. a_headed head claims reads (params.Pid kp ki kd imax omax))
     & required (codes "claims") (list_of interface_in)
     & required (codes "reads") (list_of state_in)
     & defaulted (codes "kp") (one quantity_in) (pos 0)
@@ -139,20 +152,20 @@ pid_table =
 -- the keys of a trajectory
 abbrev pub trajectory_table : Table CtlDesc
 trajectory_table =
-    common (λ name rate claims reads. a_controller name rate claims reads (params.Trajectory (count claims)))
+    common (λ head claims reads. a_headed head claims reads (params.Trajectory (count claims)))
     & required (codes "claims") (list_of interface_in)
     & required (codes "reads") (list_of state_in)
 
 -- the keys of a broadcaster; `all` stands for these states
 abbrev pub broadcaster_table : List IfaceName → Table CtlDesc
 broadcaster_table states =
-    common (λ name rate reads. a_controller name rate [] reads (params.Broadcaster (count reads)))
+    common (λ head reads. a_headed head [] reads (params.Broadcaster (count reads)))
     & required (codes "reads") (all_or_list states)
 
 -- the keys of a mock
 abbrev pub mock_table : Table CtlDesc
-mock_table = common (λ name rate claims reads refuse_config not_ready fail_update.
-    a_controller name rate claims reads (params.Mock (count claims) refuse_config not_ready fail_update))
+mock_table = common (λ head claims reads refuse_config not_ready fail_update.
+    a_headed head claims reads (params.Mock (count claims) refuse_config not_ready fail_update))
     & defaulted (codes "claims") (list_of interface_in) []
     & defaulted (codes "reads") (list_of state_in) []
     & defaulted (codes "refuse_config") (one boolean_in) false

@@ -1,5 +1,5 @@
 -- What a description must meet besides its form, in the order in which a fault counts: counts, names, ranges,
--- interfaces, loops.
+-- interfaces, fallbacks, loops.
 use Rattle.std.specs.Prelude.{◌≡◌, ℕ, ◌+◌, ℤ, pos, int_le, Bool, true, not, ◌&&◌, nat_lt, nat_le, ◌==◌, if◌then◌else◌}
 use Rattle.std.specs.Prelude.{List, [], ◌∷◌, ◌++◌, length, sum_by, map, codes, slice_get, Option, Some, None, Result}
 use Rattle.std.specs.Prelude.{Ok, Err}
@@ -11,6 +11,7 @@ use Rattle.iface_names.specs.declared.interface.IfaceName.{IfaceName}
 use Rattle.cm_document.specs.declared.limits.TheConstants.{VERSION, HIGHEST_RATE, MOST_CYCLES, MOST_COMPONENTS}
 use Rattle.cm_document.specs.declared.limits.TheConstants.{MOST_JOINTS, MOST_STATES, MOST_COMMANDS, MOST_CONTROLLERS}
 use Rattle.cm_document.specs.declared.limits.TheConstants.{MOST_REFERENCES, MOST_CLAIMS_OF_ONE, MOST_CLAIMS, MOST_READS}
+use Rattle.cm_document.specs.declared.limits.TheConstants.{MOST_FALLBACKS}
 use Rattle.cm_document.specs.Reading.{◌>>=◌}
 use Rattle.cm_document.specs.Forms.{item_path, inside}
 use Rattle.cm_document.specs.Described.{states_of, description_form}
@@ -25,7 +26,7 @@ use Rattle.cm_document.specs.declared.description.Params.{Params}
 use Rattle.cm_document.specs.declared.description.Params.TheVariants.{Pid, Trajectory, Broadcaster, Mock}
 use Rattle.cm_document.specs.declared.faults.CheckFault.{CheckFault}
 use Rattle.cm_document.specs.declared.faults.CheckFault.TheVariants.{TooMany, NameTwice, BadRange, NoInterface}
-use Rattle.cm_document.specs.declared.faults.CheckFault.TheVariants.{ChainLoop}
+use Rattle.cm_document.specs.declared.faults.CheckFault.TheVariants.{NoFallback, ChainLoop}
 use Rattle.cm_document.specs.declared.faults.What.{What}
 use Rattle.cm_document.specs.declared.faults.What.TheVariants.{Components, Joints, States, Commands, Controllers}
 use Rattle.cm_document.specs.declared.faults.What.TheVariants.{References, Claims, Reads}
@@ -67,10 +68,14 @@ names_apart names = apart same_name (λ name. name) names
 abbrev pub interfaces_apart : List IfaceName → Result (Unit {0}) CheckFault
 interfaces_apart interfaces = apart same_interface interface_text interfaces
 
--- no controller claims an interface twice, or reads one twice
+-- no controller claims an interface twice, reads one twice, or names a fallback twice
 abbrev pub links_apart : List CtlDesc → Result (Unit {0}) CheckFault
 links_apart [] = Ok tt
-links_apart (c ∷ cs) = interfaces_apart c.claims >>= λ _. interfaces_apart c.reads >>= λ _. links_apart cs
+links_apart (c ∷ cs) =
+    interfaces_apart c.claims >>= λ _.
+    interfaces_apart c.reads >>= λ _.
+    names_apart c.fallback >>= λ _.
+    links_apart cs
 
 -- Components, joints and controllers are each named in a space of their own; references and the links of a controller
 -- differ too.
@@ -142,10 +147,11 @@ limits_ranged prefix (Pid kp ki kd imax omax) =
     ranged (not_negative omax) (prefix ++ codes "omax")
 limits_ranged prefix _ = Ok tt
 
--- the rate, then the numbers of claims and reads, then the limits
+-- the rate, then the numbers of fallbacks, claims and reads, then the limits
 abbrev pub controller_ranged : List ℕ → CtlDesc → Result (Unit {0}) CheckFault
 controller_ranged prefix c =
     ranged (nat_le c.rate HIGHEST_RATE) (prefix ++ codes "update_rate") >>= λ _.
+    ranged (nat_le (length c.fallback) MOST_FALLBACKS) (prefix ++ codes "fallback") >>= λ _.
     ranged (claims_fit c.params (length c.claims)) (prefix ++ codes "claims") >>= λ _.
     ranged (reads_fit c.params (length c.claims) (length c.reads)) (prefix ++ codes "reads") >>= λ _.
     limits_ranged prefix c.params
@@ -178,6 +184,24 @@ links_exist commands states (c ∷ cs) =
     all_among states c.name c.reads >>= λ _.
     links_exist commands states cs
 
+-- ---- Fallbacks
+
+-- a controller may stand in for another that is described
+abbrev pub can_stand_in : List (List ℕ) → CtlDesc → List ℕ → Bool
+can_stand_in described c name = list_any (same_name name) described && not (same_name name c.name)
+
+-- each of its fallbacks can: else the first that cannot is told
+abbrev pub stand_in : List (List ℕ) → CtlDesc → Result (Unit {0}) CheckFault
+stand_in described c = elim (find (λ name. not (can_stand_in described c name)) c.fallback) [
+  | None ↦ Ok tt
+  | Some name ↦ Err (NoFallback c.name name)
+]
+
+-- so can the fallbacks of each of these controllers, in order
+abbrev pub fallbacks_exist : List (List ℕ) → List CtlDesc → Result (Unit {0}) CheckFault
+fallbacks_exist described [] = Ok tt
+fallbacks_exist described (c ∷ cs) = stand_in described c >>= λ _. fallbacks_exist described cs
+
 -- ---- Loops
 
 -- the name of the controller at a place
@@ -198,6 +222,7 @@ valid d =
     named_apart d >>= λ _.
     in_range d >>= λ _.
     links_exist (claimable d) (states_of d.components) d.controllers >>= λ _.
+    fallbacks_exist (map (λ c. c.name) d.controllers) d.controllers >>= λ _.
     loop_free d.controllers >>= λ _.
     Ok d
 

@@ -126,6 +126,9 @@ pub struct CtlDesc {
     pub name: Name,
     /// Its update rate in hertz, at most 10,000; 0 is the manager's.
     pub rate: u32,
+    /// The controllers that stand in for it once its update has failed, at most 8, in the order in which they are asked
+    /// for.
+    pub fallback: Seq<Name>,
     /// The command interfaces that it claims, in written order.
     pub claims: Seq<IfaceName>,
     /// The state interfaces that it reads, in written order. `reads = "all"` stands here as its list, which all such controllers share.

@@ -94,6 +94,14 @@ pub enum CheckFault {
         /// What it claims or reads.
         interface: IfaceName,
     },
+    /// A fallback that is no described controller, or that is the controller itself.
+    #[error("no_fallback {controller} {name}")]
+    NoFallback {
+        /// The controller that it is to stand in for.
+        controller: Name,
+        /// The name that is given for it.
+        name: Name,
+    },
     /// The first controller that precedes itself at some distance.
     #[error("chain_loop {0}")]
     ChainLoop(Name),

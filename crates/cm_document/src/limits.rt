@@ -39,6 +39,9 @@ pub const MOST_CLAIMS: usize = 192;
 /// The reads of all controllers together.
 pub const MOST_READS: usize = 256;
 
+/// The fallbacks of one controller.
+pub const MOST_FALLBACKS: usize = 8;
+
 /// The bytes of a script's line, without its line feed and the carriage return that is dropped.
 pub const LONGEST_LINE: usize = 65_536;
 

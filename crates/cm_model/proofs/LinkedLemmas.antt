@@ -8,7 +8,7 @@ use Rattle.iface_names.specs.Sameness.{same_interface-Decides}
 use Rattle.iface_names.specs.declared.interface.IfaceName.{IfaceName}
 use Rattle.cm_document.specs.Described.{states_of}
 use Rattle.cm_document.specs.Links.{is_among}
-use Rattle.cm_document.specs.Valid.{interfaces_apart, links_apart, claimable, all_among, links_exist, IsValid}
+use Rattle.cm_document.specs.Valid.{interfaces_apart, names_apart, links_apart, claimable, all_among, links_exist, IsValid}
 use Rattle.cm_document.specs.declared.description.CtlDesc.{CtlDesc}
 use Rattle.cm_document.specs.declared.description.Description.{Description}
 use Rattle.cm_document.specs.declared.faults.CheckFault.TheVariants.{NoInterface}
@@ -65,7 +65,8 @@ differ_at (c ∷ cs) e zero =
 differ_at (c ∷ cs) e (suc p) =
     let claims = bind_Ok (interfaces_apart c.claims) _ tt e in
     let reads = bind_Ok (interfaces_apart c.reads) _ tt claims.2 in
-    differ_at cs reads.2 p
+    let fallbacks = bind_Ok (names_apart c.fallback) _ tt reads.2 in
+    differ_at cs fallbacks.2 p
 
 -- So it is of each controller of a valid description.
 pub links_of_valid : (d : Description) → IsValid d → (p : ℕ) → AreLinked d (controller_at d.controllers p)

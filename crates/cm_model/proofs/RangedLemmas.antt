@@ -16,7 +16,7 @@ use Rattle.cm_document.specs.declared.description.CtlKind.TheVariants as kind
 use Rattle.cm_document.specs.declared.description.Description.{Description}
 use Rattle.cm_document.specs.declared.description.Params.{Params}
 use Rattle.cm_document.specs.declared.description.Params.TheVariants.{Forward, Passthrough, Pid, Trajectory, Broadcaster, Mock}
-use Rattle.cm_document.specs.declared.limits.TheConstants.{VERSION, HIGHEST_RATE, MOST_CYCLES}
+use Rattle.cm_document.specs.declared.limits.TheConstants.{HIGHEST_RATE, MOST_FALLBACKS}
 use Rattle.cm_document.proofs.GivenLemmas.{Gives, filled_gives, next_key, any_key, defaulted_gives, walk_gives, tables_give, anything}
 use Rattle.cm_document.proofs.ReadingLemmas.{bind_keeps, bind_Ok}
 use Rattle.cm_document.proofs.ValidParts.{in_range_passes, parts_of_valid}
@@ -39,34 +39,34 @@ IsShaped c = IsShapeOf c.params c.claims c.reads
 
 claiming_gives : (make : ℕ → Params) → ((claims : List IfaceName) → IsShapeOf (make (count claims)) claims []) → Gives (claiming_table make).form.read IsShaped
 claiming_gives make holds =
-    any_key {A = List IfaceName} _ _ _ (any_key {A = ℕ} _ _ _ (any_key {A = CtlKind} _ _ _ (any_key {A = List ℕ} _ _ _ (filled_gives _ _
-    (λ name type rate claims. holds claims)))))
+    any_key {A = List IfaceName} _ _ _ (any_key {A = List (List ℕ)} _ _ _ (any_key {A = ℕ} _ _ _ (any_key {A = CtlKind} _ _ _ (any_key {A = List ℕ} _ _ _ (filled_gives _ _
+    (λ name type rate fallback claims. holds claims))))))
 
 pid_gives : Gives pid_table.form.read IsShaped
 pid_gives =
     any_key {A = ℤ} _ _ _ (any_key {A = ℤ} _ _ _ (any_key {A = ℤ} _ _ _ (any_key {A = ℤ} _ _ _ (any_key {A = ℤ} _ _ _
     (any_key {A = List IfaceName} _ _ _ (any_key {A = List IfaceName} _ _ _
-    (any_key {A = ℕ} _ _ _ (any_key {A = CtlKind} _ _ _ (any_key {A = List ℕ} _ _ _ (filled_gives _ _
-    (λ name type rate claims reads kp ki kd imax omax. tt)))))))))))
+    (any_key {A = List (List ℕ)} _ _ _ (any_key {A = ℕ} _ _ _ (any_key {A = CtlKind} _ _ _ (any_key {A = List ℕ} _ _ _ (filled_gives _ _
+    (λ name type rate fallback claims reads kp ki kd imax omax. tt))))))))))))
 
 trajectory_gives : Gives trajectory_table.form.read IsShaped
 trajectory_gives =
     any_key {A = List IfaceName} _ _ _ (any_key {A = List IfaceName} _ _ _
-    (any_key {A = ℕ} _ _ _ (any_key {A = CtlKind} _ _ _ (any_key {A = List ℕ} _ _ _ (filled_gives _ _
-    (λ name type rate claims reads. refl))))))
+    (any_key {A = List (List ℕ)} _ _ _ (any_key {A = ℕ} _ _ _ (any_key {A = CtlKind} _ _ _ (any_key {A = List ℕ} _ _ _ (filled_gives _ _
+    (λ name type rate fallback claims reads. refl)))))))
 
 broadcaster_gives : (states : List IfaceName) → Gives (broadcaster_table states).form.read IsShaped
 broadcaster_gives states =
     any_key {A = List IfaceName} _ _ _
-    (any_key {A = ℕ} _ _ _ (any_key {A = CtlKind} _ _ _ (any_key {A = List ℕ} _ _ _ (filled_gives _ _
-    (λ name type rate reads. (refl, refl))))))
+    (any_key {A = List (List ℕ)} _ _ _ (any_key {A = ℕ} _ _ _ (any_key {A = CtlKind} _ _ _ (any_key {A = List ℕ} _ _ _ (filled_gives _ _
+    (λ name type rate fallback reads. (refl, refl)))))))
 
 mock_gives : Gives mock_table.form.read IsShaped
 mock_gives =
     any_key {A = List ℕ} _ _ _ (any_key {A = List ℕ} _ _ _ (any_key {A = Bool} _ _ _
     (any_key {A = List IfaceName} _ _ _ (any_key {A = List IfaceName} _ _ _
-    (any_key {A = ℕ} _ _ _ (any_key {A = CtlKind} _ _ _ (any_key {A = List ℕ} _ _ _ (filled_gives _ _
-    (λ name type rate claims reads refuse_config not_ready fail_update. refl)))))))))
+    (any_key {A = List (List ℕ)} _ _ _ (any_key {A = ℕ} _ _ _ (any_key {A = CtlKind} _ _ _ (any_key {A = List ℕ} _ _ _ (filled_gives _ _
+    (λ name type rate fallback claims reads refuse_config not_ready fail_update. refl))))))))))
 
 -- a controller of each type is read so
 table_gives : (states : List IfaceName) (kind : CtlKind) → Gives (controller_table states kind).form.read IsShaped
@@ -160,7 +160,8 @@ params_so path (Pid kp ki kd imax omax) claims reads shape fits limits =
 controller_so : (path : List ℕ) (c : CtlDesc) → IsShaped c → controller_ranged path c ≡ Ok tt → are_ranged c.params ≡ true
 controller_so path c shaped passes =
     let rate = bind_Ok (ranged (nat_le c.rate HIGHEST_RATE) _) _ tt passes in
-    let claims = bind_Ok (ranged (claims_fit c.params (length c.claims)) _) _ tt rate.2 in
+    let fallbacks = bind_Ok (ranged (nat_le (length c.fallback) MOST_FALLBACKS) _) _ tt rate.2 in
+    let claims = bind_Ok (ranged (claims_fit c.params (length c.claims)) _) _ tt fallbacks.2 in
     let reads = bind_Ok (ranged (reads_fit c.params (length c.claims) (length c.reads)) _) _ tt claims.2 in
     params_so _ c.params c.claims c.reads shaped (in_range_passes _ _ claims.1) reads.2
 

@@ -1,5 +1,5 @@
--- The stock of blank controllers, counted by their kind. Each kind has a field: two tables say which, and all else is read
--- off them.
+-- The stock of blank controllers, counted by their kind. Each kind has a field: two tables say which, and all else is
+-- read off them.
 use Rattle.std.specs.Prelude.{ℕ, ◌+◌, ◌-◌, if◌then◌else◌}
 use Rattle.cm_document.specs.Vocabulary.{same_controller_kind}
 use Rattle.cm_document.specs.declared.description.CtlKind.{CtlKind}

@@ -1,7 +1,7 @@
 -- The table of controllers: what each kind begins with when it is activated, what mail makes of it, and what an update
 -- gives.
-use Rattle.std.specs.Prelude.{◌≡◌, ℕ, ◌-◌, ◌≤◌, ℤ, pos, Bool, true, false, ◌&&◌, if◌then◌else◌, List, [], ◌∷◌, map, replicate}
-use Rattle.std.specs.Prelude.{Option, Some, None, option_map, IsSomeAnd}
+use Rattle.std.specs.Prelude.{◌≡◌, ℕ, ◌-◌, ◌≤◌, ℤ, pos, Bool, true, false, ◌&&◌, if◌then◌else◌, List, [], ◌∷◌}
+use Rattle.std.specs.Prelude.{map, replicate, Option, Some, None, option_map, IsSomeAnd}
 use Rattle.fixed_num.specs.declared.value.Value.{Value}
 use Rattle.fixed_num.specs.declared.value.Value.TheVariants.{Unset, Num}
 use Rattle.cm_document.specs.Params.{kind_of}

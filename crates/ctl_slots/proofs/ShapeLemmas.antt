@@ -10,7 +10,7 @@ use Rattle.cm_document.specs.declared.description.CtlDesc.{CtlDesc}
 use Rattle.cm_document.specs.declared.description.Description.{Description}
 use Rattle.cm_document.specs.declared.description.Params.{Params}
 use Rattle.cm_document.specs.declared.description.Params.TheVariants.{Forward, Passthrough, Pid, Trajectory, Broadcaster, Mock}
-use Rattle.cm_document.specs.declared.limits.TheConstants.{HIGHEST_RATE, MOST_CLAIMS_OF_ONE}
+use Rattle.cm_document.specs.declared.limits.TheConstants.{HIGHEST_RATE, MOST_CLAIMS_OF_ONE, MOST_FALLBACKS}
 use Rattle.cm_document.proofs.ReadingLemmas.{bind_Ok}
 use Rattle.cm_document.proofs.ValidParts.{in_range_passes}
 use Rattle.cm_model.proofs.RangedLemmas.{IsShapeOf, IsShaped, described_shapes, controller_in_range}
@@ -75,7 +75,8 @@ controller_so : (path : List ℕ) (c : CtlDesc) → IsShaped c → controller_ra
     → IsWellShaped c
 controller_so path c shaped passes few =
     let rate = bind_Ok (ranged (nat_le c.rate HIGHEST_RATE) _) _ tt passes in
-    let claims = bind_Ok (ranged (claims_fit c.params (length c.claims)) _) _ tt rate.2 in
+    let fallbacks = bind_Ok (ranged (nat_le (length c.fallback) MOST_FALLBACKS) _) _ tt rate.2 in
+    let claims = bind_Ok (ranged (claims_fit c.params (length c.claims)) _) _ tt fallbacks.2 in
     let reads = bind_Ok (ranged (reads_fit c.params (length c.claims) (length c.reads)) _) _ tt claims.2 in
     record {
       counts = counts_by c c.params shaped (in_range_passes _ _ claims.1) (in_range_passes _ _ reads.1) few;

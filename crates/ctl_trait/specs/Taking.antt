@@ -10,7 +10,7 @@ abbrev pub CanTakeIf : Bool → CtlData → Mail → Type 0
 CanTakeIf true ctl mail = Unit {0}
 CanTakeIf false ctl mail = CanBeMailed ctl mail
 
--- It may be handed mail that fits, where it runs unchained. A controller that publishes has nothing to go for, and may be
--- handed any.
+-- It may be handed mail that fits, where it runs unchained. A controller that publishes has nothing to go for, and may
+-- be handed any.
 abbrev pub CanTake : CtlData → Mail → Type 0
 CanTake ctl mail = CanTakeIf (publishes ctl.kind) ctl mail

@@ -3,3 +3,4 @@ mod CountRows
 pub mod InterfaceLemmas
 pub mod NameLemmas
 pub mod VerdictLemmas
+pub mod FallbackLemmas

@@ -5,6 +5,7 @@
 pub use verdict::check;
 
 mod counts;
+mod fallbacks;
 mod interfaces;
 mod loops;
 mod names;

@@ -13,8 +13,8 @@ use cm_document::{CheckFault, CompDesc, CtlDesc, Description, JointDesc, Text};
 use iface_names::{IfaceName, Name};
 use std::alloc::{AllocError, Global};
 
-/// No name stands twice among the components, the joints, the controllers, the references, or the claims or reads of one
-/// controller: else NameTwice of the first that does.
+/// No name stands twice among the components, the joints, the controllers, the references, or the claims, reads or
+/// fallbacks of one controller: else NameTwice of the first that does.
 pub fn named_apart(alloc: Global, description: &Description) -> Result<(), CheckFault>
     ensures { Answers CheckFault.Memory (named_apart description.now) result }
 {
@@ -27,13 +27,14 @@ pub fn named_apart(alloc: Global, description: &Description) -> Result<(), Check
     links_apart(alloc, controllers)
 }
 
-/// No controller claims an interface twice, or reads one twice.
+/// No controller claims an interface twice, reads one twice, or names a fallback twice.
 fn links_apart(alloc: Global, controllers: &[CtlDesc]) -> Result<(), CheckFault>
     ensures { Answers CheckFault.Memory (links_apart controllers.now) result }
 {
     for controller in controllers {
         interfaces_apart(alloc, controller.claims.as_slice())?;
         interfaces_apart(alloc, controller.reads())?;
+        fallbacks_apart(alloc, controller.fallback.as_slice())?;
     }
     Ok(())
 }
@@ -41,6 +42,16 @@ fn links_apart(alloc: Global, controllers: &[CtlDesc]) -> Result<(), CheckFault>
 /// Names that differ: else NameTwice of the first that stands earlier too.
 fn names_apart(alloc: Global, names: &[&Name]) -> Result<(), CheckFault>
     ensures { Answers CheckFault.Memory (names_apart (map (λ name. name.now) names.now)) result }
+{
+    match repeated(names) {
+        Some(name) => Err(CheckFault::NameTwice(Text::from_string(format!(in alloc; "{name}")?))),
+        None => Ok(()),
+    }
+}
+
+/// Fallbacks that differ: else NameTwice of the first that stands earlier too.
+fn fallbacks_apart(alloc: Global, names: &[Name]) -> Result<(), CheckFault>
+    ensures { Answers CheckFault.Memory (names_apart names.now) result }
 {
     match repeated(names) {
         Some(name) => Err(CheckFault::NameTwice(Text::from_string(format!(in alloc; "{name}")?))),

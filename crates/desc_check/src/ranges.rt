@@ -7,7 +7,7 @@ ghost use Rattle.cm_document.specs.Valid.{ranged, not_negative, each_ranged, may
 
 use cm_document::{
     CheckFault, CompDesc, CompKind, CtlDesc, Description, HIGHEST_RATE, JointDesc,
-    MOST_CLAIMS_OF_ONE, MOST_CYCLES, Params, Text, VERSION,
+    MOST_CLAIMS_OF_ONE, MOST_CYCLES, MOST_FALLBACKS, Params, Text, VERSION,
 };
 use fixed_num::Fx;
 use std::alloc::{AllocError, Global};
@@ -112,11 +112,12 @@ fn controllers_ranged(alloc: Global, controllers: &[CtlDesc]) -> Result<(), Chec
     Ok(())
 }
 
-/// The rate, then the numbers of claims and reads, then the limits.
+/// The rate, then the numbers of fallbacks, claims and reads, then the limits.
 fn controller_ranged(alloc: Global, prefix: &str, controller: &CtlDesc) -> Result<(), CheckFault>
     ensures { Answers CheckFault.Memory (controller_ranged prefix.now controller.now) result }
 {
     let params = &controller.params;
+    let fallbacks = controller.fallback.as_slice().len();
     let claims = controller.claims.as_slice().len();
     let reads = controller.reads().len();
     ranged(
@@ -125,6 +126,7 @@ fn controller_ranged(alloc: Global, prefix: &str, controller: &CtlDesc) -> Resul
         prefix,
         "update_rate",
     )?;
+    ranged(alloc, fallbacks <= MOST_FALLBACKS, prefix, "fallback")?;
     ranged(alloc, claims_fit(params, claims), prefix, "claims")?;
     ranged(alloc, reads_fit(params, claims, reads), prefix, "reads")?;
     limits_ranged(alloc, prefix, params)

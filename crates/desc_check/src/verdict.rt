@@ -5,6 +5,7 @@ ghost use Rattle.cm_document.specs.Valid.{valid, IsDescribed};
 ghost use Rattle.desc_check.specs.Verdict.{verdict};
 
 use crate::counts::few_enough;
+use crate::fallbacks::fallbacks_exist;
 use crate::interfaces::links_exist;
 use crate::loops::loop_free;
 use crate::names::named_apart;
@@ -22,7 +23,7 @@ pub fn check(alloc: Global, description: Description) -> Result<Checked, CheckFa
     Ok(Checked::hold(description))
 }
 
-/// The description is valid, or its first fault is told: counts, then names, ranges, interfaces and loops.
+/// The description is valid, or its first fault is told: counts, then names, ranges, interfaces, fallbacks and loops.
 #[tactic(auto, unfolding(cm_document::specs::Valid::valid, crate::specs::Verdict::verdict))]
 pub(crate) fn no_fault(alloc: Global, description: &Description) -> Result<(), CheckFault>
     ensures { Answers CheckFault.Memory (verdict description.now) result }
@@ -31,5 +32,6 @@ pub(crate) fn no_fault(alloc: Global, description: &Description) -> Result<(), C
     named_apart(alloc, description)?;
     in_range(alloc, description)?;
     links_exist(alloc, description)?;
+    fallbacks_exist(description)?;
     loop_free(alloc, description)
 }

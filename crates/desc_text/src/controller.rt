@@ -1,10 +1,12 @@
 //! The table of a controller: its type says which keys it may have.
 
-ghost use Rattle.std.specs.Prelude.{◌≡◌, [], IfOk};
+ghost use Rattle.std.specs.Prelude.{◌≡◌, ◌++◌, [], codes, IfOk};
 ghost use Rattle.sequence.specs.Answers.{Answers};
+ghost use Rattle.toml.specs.Data.{get_member};
 ghost use Rattle.toml.specs.View.{table_view};
 ghost use Rattle.cm_document.specs.Described.{controller_form, claiming_table, pid_table, trajectory_table, broadcaster_table, mock_table, count};
-ghost use Rattle.cm_document.specs.Tables.{walk};
+ghost use Rattle.cm_document.specs.Forms.{list_of, name_in};
+ghost use Rattle.cm_document.specs.Tables.{defaulted_read, walk};
 ghost use Rattle.cm_document.specs.declared.description.Params.TheVariants as params;
 
 use crate::cycles::cycles_at;
@@ -15,18 +17,19 @@ use crate::values::{Boolean, Interface, Named, Quantity, Whole};
 use crate::words::{ControllerKinds, WordOf};
 use cm_document::{CtlDesc, CtlKind, DescFault, Params};
 use fixed_num::Fx;
-use iface_names::IfaceName;
+use iface_names::{IfaceName, Name};
 use sequence::{Seq, Shared};
 use std::alloc::{AllocError, Global};
 
 /// The keys that a forward or a passthrough may have.
-const CLAIMING: [&str; 4] = ["name", "type", "update_rate", "claims"];
+const CLAIMING: [&str; 5] = ["name", "type", "update_rate", "fallback", "claims"];
 
 /// The keys that a pid may have.
-const PID: [&str; 10] = [
+const PID: [&str; 11] = [
     "name",
     "type",
     "update_rate",
+    "fallback",
     "claims",
     "reads",
     "kp",
@@ -37,16 +40,17 @@ const PID: [&str; 10] = [
 ];
 
 /// The keys that a trajectory may have.
-const TRAJECTORY: [&str; 5] = ["name", "type", "update_rate", "claims", "reads"];
+const TRAJECTORY: [&str; 6] = ["name", "type", "update_rate", "fallback", "claims", "reads"];
 
 /// The keys that a broadcaster may have.
-const BROADCASTER: [&str; 4] = ["name", "type", "update_rate", "reads"];
+const BROADCASTER: [&str; 5] = ["name", "type", "update_rate", "fallback", "reads"];
 
 /// The keys that a mock may have.
-const MOCK: [&str; 8] = [
+const MOCK: [&str; 9] = [
     "name",
     "type",
     "update_rate",
+    "fallback",
     "claims",
     "reads",
     "refuse_config",
@@ -87,10 +91,12 @@ fn forward(keys: &Keys<'_>) -> Result<CtlDesc, DescFault>
     let name = keys.required("name", &One(Named))?;
     keys.required("type", &One(WordOf(ControllerKinds)))?;
     let rate = keys.defaulted("update_rate", &One(Whole), 0)?;
+    let fallback = fallback_at(keys)?;
     let claims = keys.required("claims", &ListOf(Interface))?;
     Ok(CtlDesc {
         name,
         rate,
+        fallback,
         params: Params::Forward {
             outs: count(&claims),
         },
@@ -108,10 +114,12 @@ fn passthrough(keys: &Keys<'_>) -> Result<CtlDesc, DescFault>
     let name = keys.required("name", &One(Named))?;
     keys.required("type", &One(WordOf(ControllerKinds)))?;
     let rate = keys.defaulted("update_rate", &One(Whole), 0)?;
+    let fallback = fallback_at(keys)?;
     let claims = keys.required("claims", &ListOf(Interface))?;
     Ok(CtlDesc {
         name,
         rate,
+        fallback,
         params: Params::Passthrough {
             outs: count(&claims),
         },
@@ -128,6 +136,7 @@ fn pid(keys: &Keys<'_>) -> Result<CtlDesc, DescFault>
     let name = keys.required("name", &One(Named))?;
     keys.required("type", &One(WordOf(ControllerKinds)))?;
     let rate = keys.defaulted("update_rate", &One(Whole), 0)?;
+    let fallback = fallback_at(keys)?;
     let claims = keys.required("claims", &ListOf(Interface))?;
     let reads = keys.required("reads", &ReadList)?;
     let kp = keys.defaulted("kp", &One(Quantity), Fx::ZERO)?;
@@ -138,6 +147,7 @@ fn pid(keys: &Keys<'_>) -> Result<CtlDesc, DescFault>
     Ok(CtlDesc {
         name,
         rate,
+        fallback,
         claims,
         reads,
         params: Params::Pid {
@@ -158,11 +168,13 @@ fn trajectory(keys: &Keys<'_>) -> Result<CtlDesc, DescFault>
     let name = keys.required("name", &One(Named))?;
     keys.required("type", &One(WordOf(ControllerKinds)))?;
     let rate = keys.defaulted("update_rate", &One(Whole), 0)?;
+    let fallback = fallback_at(keys)?;
     let claims = keys.required("claims", &ListOf(Interface))?;
     let reads = keys.required("reads", &ReadList)?;
     Ok(CtlDesc {
         name,
         rate,
+        fallback,
         params: Params::Trajectory {
             outs: count(&claims),
         },
@@ -179,10 +191,12 @@ fn broadcaster(keys: &Keys<'_>, all: &Shared<Seq<IfaceName>>) -> Result<CtlDesc,
     let name = keys.required("name", &One(Named))?;
     keys.required("type", &One(WordOf(ControllerKinds)))?;
     let rate = keys.defaulted("update_rate", &One(Whole), 0)?;
+    let fallback = fallback_at(keys)?;
     let reads = keys.required("reads", &AllOrList { all })?;
     Ok(CtlDesc {
         name,
         rate,
+        fallback,
         claims: Seq::new(keys.alloc),
         params: Params::Broadcaster {
             ins: count(reads.get()),
@@ -199,6 +213,7 @@ fn mock(keys: &Keys<'_>) -> Result<CtlDesc, DescFault>
     let name = keys.required("name", &One(Named))?;
     keys.required("type", &One(WordOf(ControllerKinds)))?;
     let rate = keys.defaulted("update_rate", &One(Whole), 0)?;
+    let fallback = fallback_at(keys)?;
     let claims = keys.defaulted("claims", &ListOf(Interface), Seq::new(keys.alloc))?;
     let outs = count(&claims);
     let reads = keys.defaulted("reads", &ReadList, no_reads(keys.alloc)?)?;
@@ -208,6 +223,7 @@ fn mock(keys: &Keys<'_>) -> Result<CtlDesc, DescFault>
     Ok(CtlDesc {
         name,
         rate,
+        fallback,
         params: Params::Mock {
             outs,
             refuse_config,
@@ -217,6 +233,15 @@ fn mock(keys: &Keys<'_>) -> Result<CtlDesc, DescFault>
         claims,
         reads,
     })
+}
+
+/// The fallbacks of a controller, none if the key is missing.
+fn fallback_at(keys: &Keys<'_>) -> Result<Seq<Name>, DescFault>
+    ensures { Answers DescFault.Memory
+        (defaulted_read (list_of name_in) [] (keys.now.prefix.now ++ codes "fallback")
+        (get_member (codes "fallback") (table_view keys.now.table.now))) result }
+{
+    keys.defaulted("fallback", &ListOf(Named), Seq::new(keys.alloc))
 }
 
 /// A controller that reads nothing.

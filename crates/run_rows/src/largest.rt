@@ -72,7 +72,7 @@ list controllers
 list components
 <0..100 * list interfaces
 >\
-=> 16887 bytes: 13242110 9fd4f7c6";
+=> 20855 bytes: 13242110 9fd4f7c6";
 
 /// Behind the description at all limits, but for its cycles: its 50 mocks, its passthroughs and its forwards are loaded and configured, and
 /// a best effort of 128 names brings on the mocks and one passthrough of 32 claims, which is sent 32 values; then 2,000 cycles tell of 51
@@ -90,4 +90,4 @@ configure f#
 switch best<0..72 *  -n#> +p0<0..50 *  +m#><0..3 *  +f#> +p1 +p2
 send p0<0..32 *  0.5>
 list interfaces
-=> 16721 bytes: 4254010 a39bf168";
+=> 20689 bytes: 4254010 a39bf168";

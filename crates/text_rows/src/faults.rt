@@ -33,6 +33,7 @@ description: name_twice pid/j1/position
 description: bad_range version
 description: no_interface fwd j1/velocity
 description: no_interface traj pid/j1/effort
+description: no_fallback mk fwd
 description: chain_loop pid
 description: out of memory
 script: bad_line 30
@@ -136,6 +137,11 @@ fn push_checks(alloc: Global, printed: &mut String) -> Result<(), Fail> {
     push_check(printed, CheckFault::BadRange(text(alloc, "version")?))?;
     push_check(printed, no_interface(alloc, b"fwd", b"j1/velocity")?)?;
     push_check(printed, no_interface(alloc, b"traj", b"pid/j1/effort")?)?;
+    let fallback = CheckFault::NoFallback {
+        controller: Name::read(alloc, b"mk")?,
+        name: Name::read(alloc, b"fwd")?,
+    };
+    push_check(printed, fallback)?;
     push_check(printed, CheckFault::ChainLoop(Name::read(alloc, b"pid")?))?;
     push_check(printed, CheckFault::Memory)
 }

@@ -1,10 +1,10 @@
 """Answers: does the program run what is at all limits at once? `scripts/replay sizes` has each limit by itself, and one more of each.
 
-The document has as many components, joints, states, commands, controllers, references, claims and reads as it may have, names as long as
-names may be, as many sessions, calls and turns as a script may have, with as many names in a switch, values in a list and points in a send,
-a line as long as lines may be, and as many bytes as a document may have. It is run by each job that the program has: for a few cycles,
-compared with another implementation if one is named, and for many, of which the lines are counted. With `--whole` it is also run for as
-many cycles as there may be, which takes a gigabyte.
+The document has as many components, joints, states, commands, controllers, references, claims, reads and fallbacks as it may have, names
+as long as names may be, as many sessions, calls and turns as a script may have, with as many names in a switch, values in a list and
+points in a send, a line as long as lines may be, and as many bytes as a document may have. It is run by each job that the program has: for
+a few cycles, compared with another implementation if one is named, and for many, of which the lines are counted. With `--whole` it is
+also run for as many cycles as there may be, which takes a gigabyte.
 Prints a line a run, with the processor's seconds, and last `N passed, M failed`. The exit status is 1 if one failed.
 """
 
@@ -14,7 +14,8 @@ from ..tool import Tally
 from . import programs
 from .other import STAGE, judge
 from .sizes.parts import (
-    CALLS, CLAIMS_OF_ONE, CONTROLLERS, CYCLES, JOINTS, KINDS, LINE, LONGEST, NAME, RATE, SESSIONS, component, controller, head, joint, limit)
+    CALLS, CLAIMS_OF_ONE, CONTROLLERS, CYCLES, JOINTS, KINDS, LINE, LONGEST, NAME, RATE, SESSIONS, component, controller, head, joint, limit,
+    quoted)
 from .streams import LEAST, USAGE
 
 FEW, MANY = 20, 2_000  # cycles
@@ -22,7 +23,7 @@ LIMIT = 600  # seconds
 JOBS = ("run", "steps", "live")
 COMPONENTS, NAMES = limit("cm_document::MOST_COMPONENTS"), limit("cm_document::MOST_NAMES")
 READS, VALUES = limit("cm_document::MOST_READS"), limit("cm_document::MOST_VALUES")
-POINTS = limit("cm_document::MOST_POINTS")
+POINTS, FALLBACKS = limit("cm_document::MOST_POINTS"), limit("cm_document::MOST_FALLBACKS")
 PASSTHROUGHS = limit("cm_document::MOST_REFERENCES") // CLAIMS_OF_ONE
 FORWARDS = limit("cm_document::MOST_CLAIMS") // CLAIMS_OF_ONE - PASSTHROUGHS
 BROADCASTERS = READS // CLAIMS_OF_ONE
@@ -47,10 +48,12 @@ def described(cycles):
         component(name, [joint(it, KINDS, KINDS) for it in JOINT_NAMES[k * share: (k + 1) * share]])
         for k, name in enumerate(named("c", COMPONENTS))]
     positions = [f"{name}/position" for name in JOINT_NAMES[:CLAIMS_OF_ONE]]
-    parts += [controller(name, "passthrough", positions) for name in named("p", PASSTHROUGHS)]
-    parts += [controller(name, "forward", positions) for name in named("f", FORWARDS)]
-    parts += [controller(name, "broadcaster", reads=positions) for name in named("b", BROADCASTERS)]
-    parts += [controller(name, "mock") for name in named("m", MOCKS)]
+    readers, mocks = named("b", BROADCASTERS), named("m", MOCKS)
+    by_mocks, by_readers = (f"fallback = [{', '.join(quoted(names[:FALLBACKS]))}]\n" for names in (mocks, readers))
+    parts += [controller(name, "passthrough", positions, more=by_readers) for name in named("p", PASSTHROUGHS)]
+    parts += [controller(name, "forward", positions, more=by_readers) for name in named("f", FORWARDS)]
+    parts += [controller(name, "broadcaster", reads=positions, more=by_mocks) for name in readers]
+    parts += [controller(name, "mock", more=by_readers) for name in mocks]
     return head(cycles, RATE) + "".join(parts)
 
 

@@ -28,6 +28,29 @@ reads = ["j1/position"]
 => no_interface m j1/position
 
 [[controller]]
+name = "m"
+type = "mock"
+fallback = ["k"]
+[[controller]]
+name = "k"
+type = "mock"
+fallback = ["m", "l"]
+=> no_fallback k l
+
+[[controller]]
+name = "m"
+type = "mock"
+fallback = ["m"]
+=> no_fallback m m
+
+[[controller]]
+name = "m"
+type = "mock"
+fallback = ["k"]
+reads = ["j1/position"]
+=> no_interface m j1/position
+
+[[controller]]
 name = "p"
 type = "passthrough"
 claims = ["q/j1/position"]

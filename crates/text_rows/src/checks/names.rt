@@ -88,6 +88,19 @@ reads = ["j1/position", "j1/position"]
 => name_twice j1/position
 
 [[controller]]
+name = "m"
+type = "mock"
+fallback = ["k", "k"]
+=> name_twice k
+
+[[controller]]
+name = "m"
+type = "mock"
+fallback = ["k", "k"]
+reads = ["j1/position", "j1/position"]
+=> name_twice j1/position
+
+[[controller]]
 name = "f"
 type = "forward"
 claims = ["j1/position"]

@@ -12,6 +12,20 @@ claims = ["j9/effort"]
 => no_interface f j9/effort
 
 [[controller]]
+name = "p"
+type = "passthrough"
+fallback = ["q"]
+claims = ["p/j1/position"]
+=> no_fallback p q
+
+[[controller]]
+name = "f"
+type = "forward"
+fallback = ["a", "b", "c", "d", "e", "f", "g", "h", "i"]
+claims = []
+=> bad_range controller[0].fallback
+
+[[controller]]
 name = "f"
 type = "forward"
 claims = ["j9/effort"]

@@ -146,6 +146,18 @@ update_rate = 10001
 [[controller]]
 name = "m"
 type = "mock"
+fallback = ["a", "b", "c", "d", "e", "f", "g", "h", "i"]
+=> bad_range controller[0].fallback
+
+[[controller]]
+name = "m"
+type = "mock"
+fallback = ["a", "b", "c", "d", "e", "f", "g", "h"]
+=> no_fallback m a
+
+[[controller]]
+name = "m"
+type = "mock"
 claims = []
 => valid"#;
 

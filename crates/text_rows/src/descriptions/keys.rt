@@ -210,7 +210,8 @@ kind => rkkkkkkk";
 const OF_EVERY_TYPE: &str = "\
 name => kbbrbbbb
 type => kbbbbbbb
-update_rate => rrfbbbbb";
+update_rate => rrfbbbbb
+fallback => rbbbbbrb";
 
 /// The further keys of a forward and of a passthrough, and some of other types.
 const CLAIMING: &str = "\

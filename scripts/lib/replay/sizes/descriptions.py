@@ -2,7 +2,7 @@
 
 from .parts import (
     CLAIMS_OF_ONE, COMMANDS, CYCLES, DECIMALS, JOINTS, KINDS, RATE, STATES, Case, activated, arm, case, component, controller,
-    every, head, joint, named, of_joints, of_type)
+    every, head, joint, named, of_joints, of_type, quoted)
 
 
 def components(size):
@@ -97,6 +97,15 @@ def claims_of_one(kind, size):
 def reads(size):
     parts = [controller(f"b{k // STATES}", "broadcaster", reads=of_joints(min(size - k, STATES))) for k in range(0, size, STATES)]
     return case(head() + arm(JOINTS, (), KINDS) + "".join(parts), activated(named("b", len(parts))))
+
+
+def fallbacks(size):
+    """A mock that names others, all configured, and whose update fails in cycle 1."""
+    names = named("m", size)
+    failing = controller("x", "mock", more=f"fallback = [{', '.join(quoted(names))}]\nfail_update = [1]\n")
+    ready = [line for name in ["x", *names] for line in (f"load {name}", f"configure {name}")]
+    lines = ["session a", *ready, "switch strict +x", "await 3", "list controllers"]
+    return case(head(4) + failing + "".join(controller(name, "mock") for name in names), lines)
 
 
 def manager_rate(size):

@@ -85,6 +85,8 @@ def rows_of_descriptions():
     for kind in ("forward", "passthrough", "trajectory"):
         yield Row(f"claims of a {kind}", CLAIMS_OF_ONE, of(descriptions.claims_of_one, kind), out_of_range, 1, out_of_range)
     yield Row("claims of a mock", CLAIMS_OF_ONE, of(descriptions.claims_of_one, "mock"), out_of_range)
+    too_many_of_one = bad_range("controller[0].fallback")
+    yield Row("fallbacks", limit("cm_document::MOST_FALLBACKS"), descriptions.fallbacks, too_many_of_one)
     yield Row("manager's rate", RATE, descriptions.manager_rate, bad_range("update_rate"), 1, bad_range("update_rate"))
     yield Row("described rate", RATE, descriptions.described_rate, bad_range("controller[0].update_rate"))
     yield Row("cycles", CYCLES, descriptions.cycles, bad_range("cycles"))

@@ -10,6 +10,7 @@ returns c =
       c.in_ok-name.ensures,
       c.in_ok-required.ensures,
       c.in_ok-rate.ensures,
+      c.in_ok-fallback.ensures,
       claims,
       reads,
       c.in_ok-refuse_config.ensures,
