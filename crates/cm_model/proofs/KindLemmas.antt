@@ -1,8 +1,8 @@
--- What holds of each kind, a line for each: all else that is said of what runs goes by what runs alone.
+-- What holds of each kind: all else that is said of what runs goes by what runs alone.
 use Rattle.std.proofs.Common.{◌≡◌, ℤ, Bool, ◌&&◌, List, refl}
 use Rattle.cm_document.specs.Params.{kind_of}
 use Rattle.cm_document.specs.declared.description.Params.{Params}
-use Rattle.cm_document.specs.declared.description.Params.TheVariants.{Forward, Passthrough, Pid, Trajectory, Broadcaster, Mock}
+use Rattle.cm_document.specs.declared.description.Params.TheVariants.{Pid}
 use Rattle.cm_model.specs.Controllers.{started, runs_chained, tells_last}
 use Rattle.cm_model.specs.Kinds.{has_references, publishes}
 
@@ -12,9 +12,5 @@ pub record StartsAs (params : Params) (states : List ℤ) (chained : Bool) : Typ
   pub tells : tells_last (started params states chained) ≡ publishes (kind_of params)
 
 pub starts_as : (params : Params) (states : List ℤ) (chained : Bool) → StartsAs params states chained
-starts_as (Forward outs) states chained = record { marked = refl; tells = refl }
-starts_as (Passthrough outs) states chained = record { marked = refl; tells = refl }
 starts_as (Pid kp ki kd imax omax) states chained = record { marked = refl; tells = refl }
-starts_as (Trajectory outs) states chained = record { marked = refl; tells = refl }
-starts_as (Broadcaster ins) states chained = record { marked = refl; tells = refl }
-starts_as (Mock outs refuse_config not_ready fail_update) states chained = record { marked = refl; tells = refl }
+starts_as _ states chained = record { marked = refl; tells = refl }
