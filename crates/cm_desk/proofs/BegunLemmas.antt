@@ -3,6 +3,7 @@ use Rattle.std.proofs.Common.{◌≡◌, ℕ, Bool, true, false, List, [], ◌�
 use Rattle.std.specs.Prelude.{not, ◌&&◌, is_some, IfSome, IsSomeAnd}
 use Rattle.cm_document.specs.declared.call.Call.{Call}
 use Rattle.cm_document.specs.declared.call.Call.TheVariants.{Load, Configure, Cleanup, Unload, Rate, Send, Switch, Hardware, ListControllers, ListInterfaces, ListComponents, Begin, End, Close}
+use Rattle.cm_storage.specs.Happened.{Happened}
 use Rattle.cm_model.specs.Commit.{commit}
 use Rattle.cm_model.specs.Cycle.{after_cycle}
 use Rattle.cm_model.specs.Machine.{LegalFrom, state_after, step}
@@ -20,7 +21,7 @@ use Rattle.rt_flight.specs.Flights.{FlightFacts, IsAloft, IsComputed, StaysAloft
 use Rattle.rt_flight.proofs.AlikeLemmas.{stays_aloft}
 use Rattle.sound_laws.proofs.BetweenLemmas.{HasBegun, goes_on}
 use Rattle.sound_laws.proofs.MomentLemmas.{legal_step}
-use Rattle.cm_desk.specs.Desk.{History, begun_among, begun_of, now_of, Grows, IsOut, MayLand, IsFlown, IsAloftAlike, CanBeCalled}
+use Rattle.cm_desk.specs.Desk.{History, begun_among, begun_of, now_of, Grows, IsOut, MayLand, IsAtHand, IsFlown, IsAloftAlike, CanBeCalled}
 use Rattle.cm_desk.specs.End.{CanLand}
 
 -- the moment of an entry that is a step
@@ -185,6 +186,18 @@ may_land h f f' out made = each (begun_of h) out.aloft
     each (Some b) stays = λ s alike. made s (stays s alike)
 
 -- ---- The flight
+
+none_told : (o : Option Happened) → o ≡ None → is_some o ≡ true → ⊥
+none_told None none some = cc
+none_told (Some told) none some = cc
+
+-- a flight that is out is at hand,
+pub out_at_hand : (h : History) (f : FlightFacts) → IsOut h f → IsAtHand h f
+out_at_hand h f out = record { before = λ none. out; after = λ some. absurd (none_told f.outcome out.not_yet some) }
+
+-- and so is what it is once it is computed
+pub computed_at_hand : (h : History) (f f' : FlightFacts) → IsOut h f → ((s : State) → IsAloft s f → IsComputed s f') → is_some f'.outcome ≡ true → IsAtHand h f'
+computed_at_hand h f f' out made some = record { before = λ none. absurd (none_told f'.outcome none some); after = λ told. may_land h f f' out made }
 
 -- the flight stays that of the cycle that is aloft
 pub flown_alike : (old new : History) (o : Option FlightFacts) → IsAloftAlike old new → IsFlown old o → IsFlown new o

@@ -1,7 +1,8 @@
 -- What a history says of the loop: what is counted in it, how it stands after entries of others, and what a landing tells.
 use Rattle.std.proofs.Common.{◌≡◌, ℕ, suc, ◌+◌, Bool, true, false, List, [], ◌∷◌, ◌++◌, length, length-append, Option, Some, refl, sym, ap, subst, ◌∙◌, cond, arith}
-use Rattle.std.specs.Prelude.{◌==◌, ◌&&◌}
+use Rattle.std.specs.Prelude.{◌-◌, ◌≤◌, ◌==◌, nat_lt, not, ◌&&◌}
 use Rattle.std.proofs.Math.Nat.{zero-add}
+use Rattle.std.proofs.lemmas.Bool.Decides.{nat_tests}
 use Rattle.std.proofs.lemmas.List.{append_cancel_left}
 use Rattle.std.proofs.lemmas.List.Elements.{filter-append}
 use mathlib.Core.List.{append-nil, append_assoc}
@@ -29,6 +30,24 @@ use Rattle.sound_laws.proofs.CoreLemmas.{core_cycle}
 use Rattle.sound_laws.proofs.ToldLemmas.{tickets_from}
 use Rattle.cm_desk.specs.Desk.{History, begun_of, now_of, AreFew, Grows, GoesOnWithoutLoop, IsRight, Keeps, StandsAlike}
 use Rattle.cm_desk.proofs.BegunLemmas.{after_cons, called_alike, has_begun, moments_cons}
+
+-- ---- When the loop goes on
+
+-- with none aloft, none closed and cycles left a cycle can begin,
+pub begins_where : (aloft closed : Bool) (ended cycles : ℕ) → aloft ≡ false → closed ≡ false → 1 ≤ cycles - ended
+    → (((not aloft && not closed) && ended == ended) && nat_lt ended cycles) ≡ true
+begins_where true closed ended cycles home unclosed left = cc
+begins_where false true ended cycles home unclosed left = cc
+begins_where false false ended cycles home unclosed left =
+    let same : (ended == ended) ≡ true = grind (arith, nat_tests) in
+    let more : nat_lt ended cycles ≡ true = grind (arith, nat_tests) in
+    rw (same, more) refl
+
+-- and the loop can close
+pub closes_where : (aloft closed : Bool) → aloft ≡ false → closed ≡ false → (not aloft && not closed) ≡ true
+closes_where true closed home unclosed = cc
+closes_where false true home unclosed = cc
+closes_where false false home unclosed = refl
 
 -- ---- What is counted
 

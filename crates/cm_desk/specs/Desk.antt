@@ -70,6 +70,11 @@ pub record IsOut (h : History) (f : FlightFacts) : Type 0 where
 abbrev pub MayLand : History → FlightFacts → Type 0
 MayLand h f = IsSomeAnd (begun_of h) (λ begun. StaysComputed begun f)
 
+-- It is at hand: not computed yet, or so that it may land.
+pub record IsAtHand (h : History) (f : FlightFacts) : Type 0 where
+  pub before : f.outcome ≡ None → IsOut h f
+  pub after : is_some f.outcome ≡ true → MayLand h f
+
 -- Where a cycle is aloft in a desk of this history, its flight is here and may land.
 pub record IsFlown (h : History) (flight : Option FlightFacts) : Type 0 where
   pub there : is_some flight ≡ (now_of h).aloft

@@ -20,7 +20,7 @@ use Rattle.cm_model.specs.Boundary.{begin_reply, begin_effect, close_reply, clos
 use Rattle.cm_model.specs.Commit.{commit}
 use Rattle.cm_model.specs.Cycle.{cycle, after_cycle}
 use Rattle.cm_model.specs.Machine.{step, can_begin, can_end, can_close}
-use Rattle.cm_model.specs.Scheduled.{Session, Advanced, Progress, with_entry, ticket_in, next_call, after_call, stepped_on, called_on, advance, settle, settle_from, settle_all, looped, with_cycle, cycles, cycles_from, finish, start, scheduled, with_advance, advanced_once, turned, turns, landed, cycles_left, scheduled_in_steps}
+use Rattle.cm_model.specs.Scheduled.{Session, Advanced, Progress, with_entry, next_call, after_call, stepped_on, called_on, advance, settle, settle_from, settle_all, looped, with_cycle, cycles, cycles_from, finish, start, scheduled, with_advance, advanced_once, turned, turns, landed, cycles_left, scheduled_in_steps}
 use Rattle.cm_model.specs.Sessions.{entries_by, calls_of, is_told, with_its_told, asked, Comes, Follows, cycle_calls, loop_calls, IsWhole}
 use Rattle.cm_model.specs.State.{State, boot}
 use Rattle.cm_model.specs.declared.blanks.Blanks.{Blanks}

@@ -1,7 +1,7 @@
 -- The trace: one line for each entry of a history. It is a function of the description, the script's sessions and the
 -- history.
 use Rattle.std.specs.Prelude.{ℕ, List, [], ◌∷◌, ◌++◌, map, flat_map, filter_map, codes, decimal, slice_get, Option}
-use Rattle.std.specs.Prelude.{Some, None, option_map, unwrap_or}
+use Rattle.std.specs.Prelude.{None, option_map, unwrap_or}
 use Rattle.iface_names.specs.Interfaces.{interface_text}
 use Rattle.cm_document.specs.CallText.{call_text}
 use Rattle.cm_document.specs.Links.{joints_of}

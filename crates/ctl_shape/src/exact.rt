@@ -6,10 +6,7 @@ ghost use Rattle.fixed_num.specs.Micro.{clamped};
 ghost use Rattle.fixed_num.specs.Arithmetic.{floor_div};
 ghost use Rattle.ctl_shape.specs.Transmissions.{quotient};
 
-use fixed_num::{Fx, LARGEST, MICRO};
-
-/// The largest number, in micro-units.
-const TOP: i64 = LARGEST as i64;
+use fixed_num::{Fx, LARGEST, MICRO, floor, wide_floor};
 
 /// An actuator's value divided by a reduction, rounded down. Nearly always the product fits 64 bits, which divide far
 /// faster than 128.
@@ -29,36 +26,11 @@ pub(crate) fn quotient(u: Fx, reduction: Fx) -> i128
 }
 
 /// A whole number of micro-units and an offset, in the range.
-#[tactic(auto, unfolding(fixed_num::specs::Micro::clamped))]
 pub(crate) fn shifted(n: i128, offset: Fx) -> Fx
     requires small { nat_abs n ≤ LARGEST * MICRO }
     ensures { result ≡ clamped (n +ℤ offset) }
 {
-    in_range(n + i128::from(offset.micro()))
-}
-
-/// The nearest number in the range.
-#[tactic(auto, unfolding(fixed_num::specs::Micro::clamped))]
-fn in_range(n: i128) -> Fx
-    ensures { result ≡ clamped n }
-{
-    Fx::from_micro(n.max(-i128::from(TOP)).min(i128::from(TOP)) as i64)
-}
-
-#[tactic(auto, unfolding(fixed_num::specs::Arithmetic::floor_div))]
-fn floor(product: i64, den: i64) -> i64
-    requires positive { pos 0 <ℤ den }
-    ensures { result ≡ floor_div product den }
-{
-    product.div_euclid(den)
-}
-
-#[tactic(auto, unfolding(fixed_num::specs::Arithmetic::floor_div))]
-fn wide_floor(product: i128, den: i128) -> i128
-    requires positive { pos 0 <ℤ den }
-    ensures { result ≡ floor_div product den }
-{
-    product.div_euclid(den)
+    Fx::from_wide(n + i128::from(offset.micro()))
 }
 
 /// The half of a sum of two numbers, rounded down.

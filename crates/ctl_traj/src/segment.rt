@@ -1,10 +1,10 @@
 //! The segment from one value to the next, straight, exact on whole micro-units and rounded down.
 
-ghost use Rattle.std.specs.Prelude.{◌≡◌, ◌<◌, ◌≤◌, ◌*◌, ◌*ℤ◌, ◌<ℤ◌, pos, nat_abs, IfSome};
+ghost use Rattle.std.specs.Prelude.{◌≡◌, ◌<◌, ◌≤◌, ◌*◌, ◌*ℤ◌, pos, nat_abs, IfSome};
 ghost use Rattle.fixed_num.specs.Arithmetic.{floor_div};
 ghost use Rattle.cm_model.specs.Ways.{on_segment};
 
-use fixed_num::{Fx, LARGEST};
+use fixed_num::{Fx, LARGEST, floor, wide_floor};
 
 /// The value at the time `t`, on the segment from one at `t0` to one at `t1`.
 #[tactic(auto, using(crate::proofs::SegmentLemmas::sizes))]
@@ -31,7 +31,6 @@ fn share(way: i64, gone: u64, time: u64) -> i64
 }
 
 /// In 64 bits, where all fits them.
-#[tactic(auto, unfolding(fixed_num::specs::Arithmetic::floor_div))]
 fn narrow_share(way: i64, gone: u64, time: u64) -> Option<i64>
     requires part { gone < time }
     ensures { IfSome result (λ share. share ≡ floor_div (way *ℤ pos gone) (pos time)) }
@@ -39,7 +38,7 @@ fn narrow_share(way: i64, gone: u64, time: u64) -> Option<i64>
     let gone = i64::try_from(gone).ok()?;
     let time = i64::try_from(time).ok()?;
     let product = way.checked_mul(gone)?;
-    Some(product.div_euclid(time))
+    Some(floor(product, time))
 }
 
 /// In 128 bits, where all fits.
@@ -48,12 +47,4 @@ fn wide_share(way: i64, gone: u64, time: u64) -> i128
     ensures { result ≡ floor_div (way *ℤ pos gone) (pos time) }
 {
     wide_floor(way as i128 * gone as i128, time as i128)
-}
-
-#[tactic(auto, unfolding(fixed_num::specs::Arithmetic::floor_div))]
-fn wide_floor(product: i128, den: i128) -> i128
-    requires { pos 0 <ℤ den }
-    ensures { result ≡ floor_div product den }
-{
-    product.div_euclid(den)
 }

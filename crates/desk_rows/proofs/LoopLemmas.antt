@@ -1,7 +1,6 @@
 -- What calls of the loop make of what its console tells.
-use Rattle.std.proofs.Common.{◌≡◌, ℕ, ◌+◌, ◌≤◌, Bool, true, false, refl, sym, ap, ap₂, ◌∙◌, arith}
-use Rattle.std.specs.Prelude.{◌-◌, ◌==◌, nat_lt, not, ◌&&◌}
-use Rattle.std.proofs.lemmas.Bool.Decides.{nat_tests}
+use Rattle.std.proofs.Common.{◌≡◌, ℕ, ◌+◌, true, refl, sym, ap, ap₂, ◌∙◌, arith}
+use Rattle.std.specs.Prelude.{◌-◌}
 use Rattle.cm_document.specs.declared.call.Call.{Call}
 use Rattle.cm_document.specs.declared.call.Call.TheVariants.{Begin, End, Close}
 use Rattle.cm_model.specs.Boundary.{begin_reply, close_reply}
@@ -19,28 +18,15 @@ use Rattle.cm_model.proofs.HistoryLemmas.{description_stays}
 use Rattle.cm_model.proofs.StayLemmas.{boundary-SameLoop, step-IsStep}
 use Rattle.cm_model.proofs.WholeLemmas.{own_entry}
 use Rattle.cm_desk.specs.Desk.{History, now_of, Grows, IsRight}
+use Rattle.cm_desk.proofs.LoopLemmas.{begins_where, closes_where}
 use Rattle.desk_rows.specs.Loops.{loop_console}
 
 -- ---- When
-
-begins_where : (aloft closed : Bool) (ended cycles : ℕ) → aloft ≡ false → closed ≡ false → 1 ≤ cycles - ended
-    → (((not aloft && not closed) && ended == ended) && nat_lt ended cycles) ≡ true
-begins_where true closed ended cycles home unclosed left = cc
-begins_where false true ended cycles home unclosed left = cc
-begins_where false false ended cycles home unclosed left =
-    let same : (ended == ended) ≡ true = grind (arith, nat_tests) in
-    let more : nat_lt ended cycles ≡ true = grind (arith, nat_tests) in
-    rw (same, more) refl
 
 -- where the console says that a cycle can begin, it can
 pub can_begin_there : (h : History) → CanBegin (loop_console h) → can_begin (now_of h) (now_of h).ended ≡ true
 can_begin_there h can =
     rw (description_stays h.made h.opening) (begins_where (now_of h).aloft (now_of h).closed (now_of h).ended h.opening.description.cycles can.home can.not_closed can.left)
-
-closes_where : (aloft closed : Bool) → aloft ≡ false → closed ≡ false → (not aloft && not closed) ≡ true
-closes_where true closed home unclosed = cc
-closes_where false true home unclosed = cc
-closes_where false false home unclosed = refl
 
 pub can_close_there : (h : History) → CanClose (loop_console h) → can_close (now_of h) ≡ true
 can_close_there h can = closes_where (now_of h).aloft (now_of h).closed can.home can.not_closed

@@ -6,36 +6,23 @@ use Rattle.cm_storage.specs.Happened.{Happened}
 use Rattle.cm_model.specs.State.{State}
 use Rattle.cm_model.specs.declared.cause.Outcome.{Outcome}
 use Rattle.cm_model.specs.declared.reply.Reply.TheVariants as reply
-use Rattle.cm_desk.specs.Desk.{History, begun_of, now_of, Grows, Waits, GrowsWhere, IsAloftAlike, IsOut, MayLand}
-use Rattle.cm_desk.proofs.BegunLemmas.{may_land, called_alike}
-use Rattle.rt_flight.specs.Flights.{FlightFacts, IsAloft, IsComputed, StaysAloft, StaysComputed}
-use Rattle.desk_rows.specs.Tables.{IsAtHand}
+use Rattle.cm_desk.specs.Desk.{History, begun_of, now_of, Grows, Waits, GrowsWhere, IsAloftAlike, IsAtHand, IsOut}
+use Rattle.cm_desk.proofs.BegunLemmas.{called_alike}
+use Rattle.rt_flight.specs.Flights.{FlightFacts, StaysAloft, StaysComputed}
 
 pub not_told : (o : Option Happened) → is_some o ≡ false → o ≡ None
 not_told None none = refl
 not_told (Some told) none = cc
 
-none_told : (o : Option Happened) → o ≡ None → is_some o ≡ true → ⊥
-none_told None none some = cc
-none_told (Some told) none some = cc
-
--- a flight at hand that is not computed is out,
+-- a flight at hand that is not computed is out
 pub is_out : (h : History) (f : FlightFacts) → IsAtHand h f → is_some f.outcome ≡ false → IsOut h f
-is_out h f at none = let not_yet = not_told f.outcome none in record { aloft = at.before not_yet; not_yet = not_yet }
-
--- one that is out is at hand,
-pub out_at_hand : (h : History) (f : FlightFacts) → IsOut h f → IsAtHand h f
-out_at_hand h f out = record { before = λ none. out.aloft; after = λ some. absurd (none_told f.outcome out.not_yet some) }
-
--- and so is what it is once it is computed
-pub computed_at_hand : (h : History) (f f' : FlightFacts) → IsOut h f → ((s : State) → IsAloft s f → IsComputed s f') → is_some f'.outcome ≡ true → IsAtHand h f'
-computed_at_hand h f f' out made some = record { before = λ none. absurd (none_told f'.outcome none some); after = λ told. may_land h f f' out made }
+is_out h f at none = at.before (not_told f.outcome none)
 
 -- the flight at hand stays that of the cycle that is aloft
 pub hand_alike : (old new : History) (o : Option FlightFacts) → IsAloftAlike old new → IfSome o (IsAtHand old) → IfSome o (IsAtHand new)
 hand_alike old new None alike at = tt
 hand_alike old new (Some f) alike at = record {
-  before = λ none. subst (λ (b : Option State). IsSomeAnd b (λ begun. StaysAloft begun f)) (sym alike.begun) (at.before none);
+  before = λ none. record { aloft = subst (λ (b : Option State). IsSomeAnd b (λ begun. StaysAloft begun f)) (sym alike.begun) (at.before none).aloft; not_yet = none };
   after = λ some. subst (λ (b : Option State). IsSomeAnd b (λ begun. StaysComputed begun f)) (sym alike.begun) (at.after some);
 }
 

@@ -67,7 +67,7 @@ impl<C: Controller> LoopPort for DeskLoop<C> {
     ghost use Rattle.std.specs.Prelude.{is_some, true, None};
     ghost use Rattle.cm_model.specs.State.{State};
     ghost use Rattle.desk_rows.specs.Loops.{loop_console};
-    ghost use Rattle.desk_rows.specs.Tables.{IsAtHand};
+    ghost use Rattle.cm_desk.specs.Desk.{IsAtHand};
 
     type Flight = Flight<C>;
 

@@ -28,7 +28,7 @@ pub struct Table<C: Controller> {
 impl<C: Controller> Model for Table<C> {
     ghost use Rattle.std.specs.Prelude.{IfSome};
     ghost use Rattle.cm_desk.specs.Desk.{History};
-    ghost use Rattle.desk_rows.specs.Tables.{IsAtHand};
+    ghost use Rattle.cm_desk.specs.Desk.{IsAtHand};
 
     ghost Value = { History };
 

@@ -139,8 +139,9 @@ impl Fx {
 }
 
 impl Fx {
+    /// The number of `n` micro-units, which may be more than 64 bits hold; past either end of the range it is that end.
     #[tactic(auto, unfolding(crate::specs::Micro::clamped))]
-    fn from_wide(n: i128) -> Fx
+    pub fn from_wide(n: i128) -> Fx
         ensures { result ≡ clamped n }
     {
         Fx {
@@ -149,17 +150,19 @@ impl Fx {
     }
 }
 
+/// The quotient, rounded down.
 #[tactic(auto, unfolding(crate::specs::Arithmetic::floor_div))]
-fn floor(product: i64, den: i64) -> i64
+pub fn floor(product: i64, den: i64) -> i64
     requires positive { pos 0 <ℤ den }
     ensures { result ≡ floor_div product den }
 {
     product.div_euclid(den)
 }
 
-// A division of 128 bits takes six times as long as one of 64, so it stands apart for products that do not fit 64.
+/// The quotient of a product that does not fit 64 bits, rounded down. It stands apart, because a division of 128 bits
+/// takes six times as long as one of 64.
 #[tactic(auto, unfolding(crate::specs::Arithmetic::floor_div))]
-fn wide_floor(product: i128, den: i128) -> i128
+pub fn wide_floor(product: i128, den: i128) -> i128
     requires positive { pos 0 <ℤ den }
     ensures { result ≡ floor_div product den }
 {

@@ -2,7 +2,7 @@
 //! Everything that measures, commands or reports a quantity of the robot speaks in `Fx`.
 #![tactic(auto)]
 
-pub use fx::Fx;
+pub use fx::{Fx, floor, wide_floor};
 pub use memory::Memory;
 pub use read::FxFault;
 pub use stored::StoredValue;

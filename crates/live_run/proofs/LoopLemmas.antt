@@ -3,7 +3,6 @@ use Rattle.std.proofs.Common.{◌≡◌, ℕ, suc, ◌+◌, List, [], ◌∷◌,
 use Rattle.std.specs.Prelude.{◌-◌, ◌<◌, OnOk, OnErr, MatchResult}
 use denote.Ref.{MutBor}
 use denote.Param.Members.{Shared}
-use Rattle.std.proofs.lemmas.List.{map-append}
 use Rattle.std.proofs.lemmas.List.Elements.{filter-append}
 use Rattle.cm_document.specs.declared.call.Call.{Call}
 use Rattle.cm_document.specs.declared.call.Call.TheVariants.{Begin, End, Close}
@@ -14,10 +13,8 @@ use Rattle.cm_model.specs.Sessions.{calls_of, cycle_calls, loop_calls}
 use Rattle.cm_model.specs.declared.entry.Entry.{Entry}
 use Rattle.cm_model.specs.declared.reply.Reply.{Reply}
 use Rattle.cm_model.specs.declared.ports.LoopPort.{Ghosts}
+use Rattle.cm_model.proofs.ComesLemmas.{calls_more}
 use Rattle.live_run.specs.Loops.{IsAtFirst, MakesCycle, HasMade, HasLooped, HasStopped, Computes, MayLoop}
-
-calls_more : (es : List Entry) (who : ℕ) (call : Call) (r : Reply) → calls_of (with_entry es who call r) ≡ calls_of es ++ call ∷ []
-calls_more es who call r = map-append (λ (each : Entry). each.call) es (record { who = who; call = call; reply = r } ∷ [])
 
 ends_split : (es : List Entry) (who : ℕ) (call : Call) (r : Reply) → ends_in (with_entry es who call r) ≡ ends_in es + ends_in (with_entry [] who call r)
 ends_split es who call r =
@@ -38,8 +35,8 @@ cycle_made old mid new begins lands =
     let landed : new.made ≡ with_entry mid.made mid.who (End n) lands.made.r =
     lands.made.made ∙ ap (λ (k : ℕ). with_entry mid.made mid.who (End k) lands.made.r) ended in
     record {
-      made = ap calls_of landed ∙ calls_more mid.made mid.who (End n) lands.made.r
-          ∙ ap (λ calls. calls ++ End n ∷ []) (ap calls_of begins.made.made ∙ calls_more old.made old.who (Begin n) begins.made.r)
+      made = ap calls_of landed ∙ calls_more mid.made (record { who = mid.who; call = End n; reply = lands.made.r })
+          ∙ ap (λ calls. calls ++ End n ∷ []) (ap calls_of begins.made.made ∙ calls_more old.made (record { who = old.who; call = Begin n; reply = begins.made.r }))
           ∙ append_assoc (calls_of old.made) (Begin n ∷ []) (End n ∷ []);
       ended = ap ends_in landed ∙ end_ends_one mid.made mid.who n lands.made.r ∙ ap (λ (k : ℕ). k + 1) ended;
       left = lands.left ∙ ap (λ (k : ℕ). k - 1) begins.left;
@@ -59,7 +56,7 @@ one_more_cycle calls more n so_far behind =
 -- and of the close
 pub close_made : (old new : LoopConsole) (n : ℕ) → calls_of old.made ≡ cycle_calls n → Closes old new → calls_of new.made ≡ loop_calls n
 close_made old new n so_far closes =
-    ap calls_of closes.made.made ∙ calls_more old.made old.who Close closes.made.r ∙ ap (λ calls. calls ++ Close ∷ []) so_far
+    ap calls_of closes.made.made ∙ calls_more old.made (record { who = old.who; call = Close; reply = closes.made.r }) ∙ ap (λ calls. calls ++ Close ∷ []) so_far
 
 -- ---- The loop so far
 

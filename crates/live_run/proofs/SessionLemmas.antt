@@ -1,67 +1,27 @@
 -- What a session makes over its console follows its lines.
-use Rattle.std.proofs.Common.{◌≡◌, ℕ, zero, suc, List, [], ◌∷◌, ◌++◌, map, drop, All, Option, Some, None, Result, Ok, Err, true, false, refl, sym, subst, ap, ◌∙◌, append_assoc, append-nil, arith}
-use Rattle.std.specs.Prelude.{flat_map, not, is_none, IfOk, OnErr}
+use Rattle.std.proofs.Common.{◌≡◌, ℕ, zero, suc, List, [], ◌∷◌, ◌++◌, map, drop, All, Option, Some, None, Result, Ok, Err, true, false, refl, sym, subst, ap, ◌∙◌, append-nil, arith}
+use Rattle.std.specs.Prelude.{is_none, IfOk, OnErr}
 use Rattle.std.specs.List.{AllByRecursion, AllZip}
-use Rattle.std.proofs.lemmas.List.{map-append}
-use Rattle.std.proofs.lemmas.List.Concat.{flat_map-append}
-use Rattle.std.proofs.lemmas.List.Elements.{filter-append}
 use Rattle.std.proofs.lemmas.Option.{same_Some}
 use Rattle.cm_document.specs.declared.call.Call.{Call}
 use Rattle.cm_document.specs.declared.call.Call.TheVariants.{Told}
 use Rattle.cm_model.specs.Ports.{Console}
-use Rattle.cm_model.specs.Scheduled.{Session as WrittenSession, with_entry, ticket_in, next_call, after_call}
-use Rattle.cm_model.specs.Sessions.{calls_of, is_told, told_of, with_its_told, asked, Follows}
+use Rattle.cm_model.specs.Scheduled.{Session as WrittenSession, with_entry, next_call, after_call}
+use Rattle.cm_model.specs.Sessions.{is_told, Comes, Follows}
 use Rattle.cm_model.specs.declared.entry.Entry.{Entry}
 use Rattle.cm_model.specs.declared.reply.Reply.{Reply}
+use Rattle.cm_model.proofs.ComesLemmas.{none_comes, told_comes, line_comes}
 use Rattle.console_session.specs.Sessions.{IsLine, AreLines, SessionState, left_of, next_of, HasRun as HasAdvanced, Advances, HasStopped}
 use Rattle.console_session.specs.declared.session.Progress.{Progress}
 use Rattle.console_session.specs.declared.session.Progress.TheVariants as progress
 use Rattle.fixed_num.specs.declared.memory.Memory.{Memory}
-use Rattle.live_run.specs.Sessions.{IsAtItsStart, Comes, GoesOn, KeepsOn, HasFollowed, HasRunLive, EachHasRun}
-
--- ---- One entry more
-
-calls_more : (es : List Entry) (e : Entry) → calls_of (es ++ e ∷ []) ≡ calls_of es ++ e.call ∷ []
-calls_more es e = map-append (λ (each : Entry). each.call) es (e ∷ [])
-
--- a Told is not among what is asked
-asked_told : (es : List Entry) (who ticket : ℕ) (r : Reply) → asked (with_entry es who (Told ticket) r) ≡ asked es
-asked_told es who ticket r =
-    filter-append (λ (each : Entry). not (is_told each.call)) es (record { who = who; call = Told ticket; reply = r } ∷ []) ∙ append-nil (asked es)
-
--- any other call is
-asked_more : (es : List Entry) (e : Entry) → is_told e.call ≡ false → asked (es ++ e ∷ []) ≡ asked es ++ e ∷ []
-asked_more es e no_told = filter-append (λ (each : Entry). not (is_told each.call)) es (e ∷ []) ∙ rw no_told refl
-
-told_more : (es : List Entry) (e : Entry) → flat_map with_its_told (es ++ e ∷ []) ≡ flat_map with_its_told es ++ with_its_told e
-told_more es e = flat_map-append with_its_told es (e ∷ []) ∙ ap (λ last. flat_map with_its_told es ++ last) (append-nil (with_its_told e))
+use Rattle.live_run.specs.Sessions.{IsAtItsStart, GoesOn, KeepsOn, HasFollowed, HasRunLive, EachHasRun}
 
 -- ---- Where a session has come
 
 -- before its first line it has made none
-none_comes : (es : List Entry) (lines : List Call) (line : ℕ) (ticket : Option ℕ) → es ≡ [] → line ≡ 0 → ticket ≡ None → Comes es lines (drop line lines) ticket
-none_comes es lines line ticket none first free = rw (none, first, free) (record { in_order = refl; each_told = refl })
-
--- it is told of its ticket
-told_comes : (es : List Entry) (lines rest : List Call) (who ticket : ℕ) (r : Reply) → Comes es lines rest (Some ticket) → Comes (with_entry es who (Told ticket) r) lines rest None
-told_comes es lines rest who ticket r comes = record {
-  in_order = rw (asked_told es who ticket r) comes.in_order;
-  each_told = append-nil _ ∙ calls_more es (record { who = who; call = Told ticket; reply = r }) ∙ comes.each_told ∙ ap (flat_map with_its_told) (sym (asked_told es who ticket r));
-}
-
--- it makes its next line
-line_comes : (es : List Entry) (lines rest : List Call) (who : ℕ) (call : Call) (r : Reply) → is_told call ≡ false → Comes es lines (call ∷ rest) None
-    → Comes (with_entry es who call r) lines rest (ticket_in r)
-line_comes es lines rest who call r no_told comes =
-    let e : Entry = record { who = who; call = call; reply = r } in
-    let more = asked_more es e no_told in
-    let so_far : calls_of es ≡ flat_map with_its_told (asked es) = sym (append-nil (calls_of es)) ∙ comes.each_told in
-    record {
-      in_order = ap (λ (made : List Entry). calls_of made ++ rest) more ∙ ap (λ calls. calls ++ rest) (calls_more (asked es) e)
-          ∙ append_assoc (calls_of (asked es)) (call ∷ []) rest ∙ comes.in_order;
-      each_told = ap (λ calls. calls ++ told_of (ticket_in r)) (calls_more es e) ∙ append_assoc (calls_of es) (call ∷ []) (told_of (ticket_in r))
-          ∙ ap (λ front. front ++ call ∷ told_of (ticket_in r)) so_far ∙ sym (told_more (asked es) e) ∙ ap (flat_map with_its_told) (sym more);
-    }
+begins_so : (es : List Entry) (lines : List Call) (line : ℕ) (ticket : Option ℕ) → es ≡ [] → line ≡ 0 → ticket ≡ None → Comes es lines (drop line lines) ticket
+begins_so es lines line ticket none first free = rw (none, first, free) (none_comes lines)
 
 -- no line of a session is a Told
 line_no_told : (call : Call) → IsLine call → is_told call ≡ false
@@ -113,7 +73,7 @@ module _ {P Ground : Type 0} (footing : P → Ground) (tells : P → Console) wh
     still = refl;
     each = are.each;
     lines = refl;
-    comes = none_comes (tells p.1).made p.0.lines p.0.line p.0.ticket start.none start.line start.ticket;
+    comes = begins_so (tells p.1).made p.0.lines p.0.line p.0.ticket start.none start.line start.ticket;
   }
 
   -- an advance that made an entry

@@ -1,11 +1,9 @@
 -- A session over its console, before a live run and after it.
-use Rattle.std.specs.Prelude.{◌≡◌, ℕ, ◌<◌, true, List, [], ◌++◌, length, flat_map, slice_index_or}
-use Rattle.std.specs.Prelude.{Option, None, is_none}
+use Rattle.std.specs.Prelude.{◌≡◌, ℕ, ◌<◌, true, List, [], length, slice_index_or}
+use Rattle.std.specs.Prelude.{None, is_none}
 use Rattle.std.specs.List.{AllByRecursion}
-use Rattle.cm_document.specs.declared.call.Call.{Call}
 use Rattle.cm_model.specs.Ports.{Console}
-use Rattle.cm_model.specs.Sessions.{calls_of, told_of, with_its_told, asked, Follows}
-use Rattle.cm_model.specs.declared.entry.Entry.{Entry}
+use Rattle.cm_model.specs.Sessions.{Comes, Follows}
 use Rattle.console_session.specs.Sessions.{SessionState, IsLine, left_of, next_of}
 
 -- A session before its first line, over a console that has made no entry.
@@ -33,12 +31,6 @@ module _ {P Ground : Type 0} (footing : P → Ground) (tells : P → Console) wh
         → i < length old → HasRunLive (slice_index_or old i d) (slice_index_or new i d)
 
 -- ---- While it runs
-
--- A session's entries so far: without its Told entries they are the lines that it has made, and each Told stands where
--- it belongs, but for that of the ticket of which the session has still to be told.
-pub record Comes (entries : List Entry) (lines left : List Call) (ticket : Option ℕ) : Type 0 where
-  pub in_order : calls_of (asked entries) ++ left ≡ lines
-  pub each_told : calls_of entries ++ told_of ticket ≡ flat_map with_its_told (asked entries)
 
 module _ {P Ground : Type 0} (footing : P → Ground) (tells : P → Console) where
   -- Where a session has come over its console, since it was before its first line.

@@ -1,18 +1,16 @@
 -- What a turn makes of what the console over its pass tells.
 use Rattle.std.proofs.Common.{◌≡◌, ℕ, ◌+◌, ◌^◌, ◌<◌, ◌≤◌, Bool, true, false, List, [], ◌∷◌, Option, Some, None, Result, Ok, Err, IfOk, refl, sym, ap, subst, ◌∙◌, arith, le-add_right}
-use Rattle.std.proofs.lemmas.Bool.Decides.{nat_tests}
-use Rattle.std.specs.Prelude.{◌-◌, ◌==◌, nat_lt, not, ◌&&◌, is_some, min, MatchOption, OnOk, OnErr}
+use Rattle.std.specs.Prelude.{◌-◌, min, MatchOption, OnOk, OnErr}
 use Rattle.cm_document.specs.declared.call.Call.{Call}
 use Rattle.cm_document.specs.declared.call.Call.TheVariants.{Told, Await, Begin, End, Close}
-use Rattle.cm_desk.specs.Desk.{History, Grows, IsOut, StandsAlike, now_of}
-use Rattle.cm_desk.proofs.BegunLemmas.{may_land}
-use Rattle.cm_desk.proofs.LoopLemmas.{stands_alike}
+use Rattle.cm_desk.specs.Desk.{History, Grows, IsAtHand, IsOut, StandsAlike, now_of}
+use Rattle.cm_desk.proofs.BegunLemmas.{out_at_hand}
+use Rattle.cm_desk.proofs.LoopLemmas.{begins_where, closes_where, stands_alike}
 use Rattle.cm_model.specs.Boundary.{begin_reply, close_reply}
 use Rattle.cm_model.specs.Commit.{commit}
 use Rattle.cm_model.specs.Cycle.{cycle, after_cycle}
-use Rattle.cm_storage.specs.Happened.{Happened}
 use Rattle.cm_model.specs.Histories.{ends_in}
-use Rattle.cm_model.specs.Machine.{LegalFrom, can_begin, can_close, step}
+use Rattle.cm_model.specs.Machine.{LegalFrom, step}
 use Rattle.cm_model.specs.Ports.{Console, IsSameConsole, Makes, MakesNone, MakesOpen, MakesWhere, IsNotYet, CanBegin, CanClose, MakesLoopCall, Begins, Lands, Closes}
 use Rattle.cm_model.specs.Scheduled.{with_entry}
 use Rattle.cm_model.specs.Sessions.{entries_by}
@@ -26,7 +24,7 @@ use Rattle.cm_model.proofs.CountLemmas.{ends_append, ends_are_the_loops}
 use Rattle.cm_model.proofs.HistoryLemmas.{description_stays}
 use Rattle.cm_model.proofs.StayLemmas.{boundary-SameLoop, step-IsStep}
 use Rattle.cm_model.proofs.WholeLemmas.{own_entry}
-use Rattle.rt_flight.specs.Flights.{FlightFacts, IsAloft, IsComputed}
+use Rattle.rt_flight.specs.Flights.{FlightFacts}
 use Rattle.turn_lock.specs.declared.kept.Kept.{Ghosts}
 use Rattle.turn_lock.specs.declared.kept.Shown.{Shown}
 use Rattle.turn_lock.specs.declared.lock.TurnLock.{TurnLock}
@@ -37,23 +35,8 @@ use Rattle.turn_lock.specs.Views.{loaded}
 use Rattle.shared_desk.specs.Calls.Looping.{CanBeginHere, CanCloseHere, BeginsThere, LandsThere, ClosesThere, stand_of}
 use Rattle.shared_desk.specs.Calls.Sessions.{Calls, CallsWhere, LooksInVain}
 use Rattle.shared_desk.specs.Passes.{history_of, IsAt, IsSessionPass, IsLoopPass}
-use Rattle.shared_desk.specs.Ports.{ground_of, console_of, loop_console_of, IsAtHand, Watches}
+use Rattle.shared_desk.specs.Ports.{ground_of, console_of, loop_console_of, Watches}
 use Rattle.shared_desk.specs.Turns.{TakesTurn, Stays}
-
--- ---- Flights
-
-none_told : (o : Option Happened) → o ≡ None → is_some o ≡ true → ⊥
-none_told None none some = cc
-none_told (Some told) none some = cc
-
--- a flight that is out is at hand,
-pub out_at_hand : (h : History) (f : FlightFacts) → IsOut h f → IsAtHand h f
-out_at_hand h f out = record { before = λ none. out; after = λ some. absurd (none_told f.outcome out.not_yet some) }
-
--- and so is what it is once it is computed
-pub computed_at_hand : (h : History) (f f' : FlightFacts) → IsAtHand h f → f.outcome ≡ None → ((s : State) → IsAloft s f → IsComputed s f') → is_some f'.outcome ≡ true → IsAtHand h f'
-computed_at_hand h f f' at not_yet made some =
-    record { before = λ none. absurd (none_told f'.outcome none some); after = λ told. may_land h f f' (at.before not_yet) made }
 
 -- ---- Numbers
 
@@ -66,20 +49,7 @@ cancelled a b c n one other = omega (arith, one, other)
 one_less : (cycles ended : ℕ) → cycles - (ended + 1) ≡ (cycles - ended) - 1
 one_less cycles ended = omega arith
 
--- ---- Tests
-
-begins_where : (aloft closed : Bool) (ended cycles : ℕ) → aloft ≡ false → closed ≡ false → 1 ≤ cycles - ended → (((not aloft && not closed) && ended == ended) && nat_lt ended cycles) ≡ true
-begins_where true closed ended cycles home unclosed left = cc
-begins_where false true ended cycles home unclosed left = cc
-begins_where false false ended cycles home unclosed left =
-    let same : (ended == ended) ≡ true = grind (arith, nat_tests) in
-    let more : nat_lt ended cycles ≡ true = grind (arith, nat_tests) in
-    rw (same, more) refl
-
-closes_where : (aloft closed : Bool) → aloft ≡ false → closed ≡ false → (not aloft && not closed) ≡ true
-closes_where true closed home unclosed = cc
-closes_where false true home unclosed = cc
-closes_where false false home unclosed = refl
+-- ---- What can be made again
 
 -- a call that leaves the state can be made again
 open_still : (s after : State) (who : ℕ) (call : Call) (r : Reply) → after ≡ s → step s who call ≡ Some (after, r) → step after who call ≡ None → ⊥

@@ -1,12 +1,11 @@
 -- What the consoles over passes tell of themselves, and what no call of them changes.
-use Rattle.std.specs.Prelude.{◌≡◌, ℕ, ◌-◌, true, Some, None, is_some}
+use Rattle.std.specs.Prelude.{◌≡◌, ℕ, ◌-◌, Some, None}
 use Rattle.atomic_table.specs.Seated.{TableId}
-use Rattle.cm_desk.specs.Desk.{History, IsOut, MayLand}
+use Rattle.cm_desk.specs.Desk.{History}
 use Rattle.cm_model.specs.Ports.{Console, LoopConsole}
 use Rattle.cm_model.specs.Sessions.{entries_by}
 use Rattle.cm_model.specs.State.{State}
 use Rattle.cm_model.specs.declared.entry.Entry.{Entry}
-use Rattle.rt_flight.specs.Flights.{FlightFacts}
 use Rattle.turn_lock.specs.declared.kept.Kept.{Ghosts}
 use Rattle.turn_lock.specs.declared.lock.TurnLock.{TurnLock}
 use Rattle.turn_lock.specs.declared.pass.TurnPass.{TurnPass}
@@ -19,11 +18,6 @@ pub record PortGround : Type 0 where
   pub lock : TableId
   pub who : ℕ
   pub opening : State
-
--- The flight is that of the cycle which the history has begun and not ended: not computed yet, or so that it may land.
-pub record IsAtHand (h : History) (f : FlightFacts) : Type 0 where
-  pub before : f.outcome ≡ None → IsOut h f
-  pub after : is_some f.outcome ≡ true → MayLand h f
 
 module _ {K : Type 0} {g : Ghosts K Entry State} where
   -- that of the console over a pass

@@ -117,7 +117,8 @@ impl<'a, R: Wait, C: Controller> LoopEnd<'a, R, C> {
 impl<'a, R: Wait, C: Controller> LoopPort for LoopEnd<'a, R, C> {
     ghost use Rattle.std.specs.Prelude.{is_some, true, None};
     ghost use Rattle.shared_desk.specs.Passes.{history_of};
-    ghost use Rattle.shared_desk.specs.Ports.{PortGround, ground_of, loop_console_of, IsAtHand};
+    ghost use Rattle.cm_desk.specs.Desk.{IsAtHand};
+    ghost use Rattle.shared_desk.specs.Ports.{PortGround, ground_of, loop_console_of};
 
     type Flight = Flight<C>;
 

@@ -1,5 +1,5 @@
 use Rattle.desk_rows.proofs.LoopLemmas.{can_begin_there, begins_there}
-use Rattle.desk_rows.proofs.TableLemmas.{out_at_hand}
+use Rattle.cm_desk.proofs.BegunLemmas.{out_at_hand}
 use Rattle.desk_rows.proofs.looping.DeskLoopLoopPort.begin.Goals as goal
 
 pub begin-requires : goal.begin-requires

@@ -1,5 +1,6 @@
 use Rattle.std.proofs.Common.{sym, ◌∙◌}
-use Rattle.desk_rows.proofs.TableLemmas.{is_out, computed_at_hand, at_hand, held}
+use Rattle.cm_desk.proofs.BegunLemmas.{computed_at_hand}
+use Rattle.desk_rows.proofs.TableLemmas.{is_out, at_hand, held}
 use Rattle.desk_rows.proofs.tables.Table.compute_aside.Goals as goal
 
 -- the flight was out, and now it is computed
