@@ -1,8 +1,8 @@
 -- In reading order: how a description is read and checked, then how a script is, then both together.
 pub mod Reading
+pub mod Params
 pub mod Vocabulary
 pub mod Cycles
-pub mod Params
 pub mod Forms
 pub mod Tables
 pub mod Described

@@ -4,17 +4,19 @@ use Rattle.std.specs.Prelude.{◌≡◌, ℕ, ◌+◌, ℤ, pos, int_le, Bool, t
 use Rattle.std.specs.Prelude.{List, [], ◌∷◌, ◌++◌, length, sum_by, map, codes, slice_get, Option, Some, None, Result}
 use Rattle.std.specs.Prelude.{Ok, Err}
 use Rattle.std.specs.List.{list_any, find}
+use Rattle.std.specs.Option.{option_map_or}
 use Rattle.toml.specs.Data.{Members}
 use Rattle.iface_names.specs.Names.{same_name}
 use Rattle.iface_names.specs.Interfaces.{same_interface, interface_text}
 use Rattle.iface_names.specs.declared.interface.IfaceName.{IfaceName}
 use Rattle.cm_document.specs.declared.limits.TheConstants.{VERSION, HIGHEST_RATE, MOST_CYCLES, MOST_COMPONENTS}
 use Rattle.cm_document.specs.declared.limits.TheConstants.{MOST_JOINTS, MOST_STATES, MOST_COMMANDS, MOST_CONTROLLERS}
-use Rattle.cm_document.specs.declared.limits.TheConstants.{MOST_REFERENCES, MOST_CLAIMS_OF_ONE, MOST_CLAIMS, MOST_READS}
+use Rattle.cm_document.specs.declared.limits.TheConstants.{MOST_REFERENCES, MOST_CLAIMS, MOST_READS}
 use Rattle.cm_document.specs.declared.limits.TheConstants.{MOST_FALLBACKS}
 use Rattle.cm_document.specs.Reading.{◌>>=◌}
 use Rattle.cm_document.specs.Forms.{item_path, inside}
 use Rattle.cm_document.specs.Described.{states_of, description_form}
+use Rattle.cm_document.specs.Params.{fewest_claims, most_claims, reads_beside, limits_at}
 use Rattle.cm_document.specs.Links.{joints_of, commands_of, references_of, is_among, first_in_loop}
 use Rattle.cm_document.specs.declared.description.CompDesc.{CompDesc}
 use Rattle.cm_document.specs.declared.description.CompKind.{CompKind}
@@ -23,7 +25,6 @@ use Rattle.cm_document.specs.declared.description.CtlDesc.{CtlDesc}
 use Rattle.cm_document.specs.declared.description.Description.{Description}
 use Rattle.cm_document.specs.declared.description.JointDesc.{JointDesc}
 use Rattle.cm_document.specs.declared.description.Params.{Params}
-use Rattle.cm_document.specs.declared.description.Params.TheVariants.{Pid, Trajectory, Broadcaster, Mock}
 use Rattle.cm_document.specs.declared.faults.CheckFault.{CheckFault}
 use Rattle.cm_document.specs.declared.faults.CheckFault.TheVariants.{TooMany, NameTwice, BadRange, NoInterface}
 use Rattle.cm_document.specs.declared.faults.CheckFault.TheVariants.{NoFallback, ChainLoop}
@@ -127,25 +128,23 @@ component_ranged prefix c =
     ranged (joint_count_fits c.kind (length c.joints)) (prefix ++ codes "joint") >>= λ _.
     each_ranged (joint_ranged c.kind) (prefix ++ codes "joint") 0 c.joints
 
--- how many claims a controller of this kind may have
+-- so many claims are as many as a controller with these parameters may have
 abbrev pub claims_fit : Params → ℕ → Bool
-claims_fit (Pid kp ki kd imax omax) count = count == 1
-claims_fit (Broadcaster ins) count = true
-claims_fit (Mock outs refuse_config not_ready fail_update) count = nat_le count MOST_CLAIMS_OF_ONE
-claims_fit _ count = nat_le 1 count && nat_le count MOST_CLAIMS_OF_ONE
+claims_fit params count = nat_le (fewest_claims params) count && nat_le count (most_claims params)
 
--- how many reads beside so many claims: a pid has one, a trajectory as many as claims
+-- and so many reads beside so many claims
 abbrev pub reads_fit : Params → ℕ → ℕ → Bool
-reads_fit (Pid kp ki kd imax omax) claims count = count == 1
-reads_fit (Trajectory outs) claims count = count == claims
-reads_fit _ claims count = true
+reads_fit params claims count = option_map_or (λ reads. count == reads) (reads_beside params claims) true
 
--- the limits of a pid are not negative
+-- none of these numbers is negative: else the first that is negative is told, at its key
+abbrev pub none_negative : List ℕ → List (List ℕ × ℤ) → Result (Unit {0}) CheckFault
+none_negative prefix [] = Ok tt
+none_negative prefix (each ∷ others) =
+    ranged (not_negative each.1) (prefix ++ each.0) >>= λ _. none_negative prefix others
+
+-- the limits are not negative
 abbrev pub limits_ranged : List ℕ → Params → Result (Unit {0}) CheckFault
-limits_ranged prefix (Pid kp ki kd imax omax) =
-    ranged (not_negative imax) (prefix ++ codes "imax") >>= λ _.
-    ranged (not_negative omax) (prefix ++ codes "omax")
-limits_ranged prefix _ = Ok tt
+limits_ranged prefix params = none_negative prefix (limits_at params)
 
 -- the rate, then the numbers of fallbacks, claims and reads, then the limits
 abbrev pub controller_ranged : List ℕ → CtlDesc → Result (Unit {0}) CheckFault

@@ -2,11 +2,10 @@
 use Rattle.std.specs.Prelude.{ℕ, Bool, true, false, not, if◌then◌else◌, List, [], ◌∷◌, map, find, Option, Some, None}
 use Rattle.std.specs.Option.{option_map_or}
 use Rattle.iface_names.specs.Names.{same_name}
+use Rattle.cm_document.specs.Params.{same_controller_kind}
 use Rattle.cm_document.specs.declared.description.CompKind.{CompKind}
 use Rattle.cm_document.specs.declared.description.CompKind.TheVariants.{Sensor, Actuator, System}
 use Rattle.cm_document.specs.declared.description.CtlKind.{CtlKind}
-use Rattle.cm_document.specs.declared.description.CtlKind.TheVariants.{Forward, Passthrough, Pid, Trajectory}
-use Rattle.cm_document.specs.declared.description.CtlKind.TheVariants.{Broadcaster, Mock}
 use Rattle.cm_document.specs.declared.life.Life.{Life}
 use Rattle.cm_document.specs.declared.life.Life.TheVariants.{Unconfigured, Inactive, Active, Finalized}
 use Rattle.cm_document.specs.declared.script.Verb.{Verb}
@@ -59,16 +58,6 @@ same_component_kind _ _ = false
 -- the word beside what a component is for
 abbrev pub component_word : CompKind → List ℕ
 component_word kind = option_map_or (λ row. row.0.now) (find (λ row. same_component_kind row.1 kind) COMPONENT_KINDS) []
-
--- the two kinds are one
-abbrev pub same_controller_kind : CtlKind → CtlKind → Bool
-same_controller_kind Forward Forward = true
-same_controller_kind Passthrough Passthrough = true
-same_controller_kind Pid Pid = true
-same_controller_kind Trajectory Trajectory = true
-same_controller_kind Broadcaster Broadcaster = true
-same_controller_kind Mock Mock = true
-same_controller_kind _ _ = false
 
 -- the word beside a kind of controller
 abbrev pub controller_word : CtlKind → List ℕ

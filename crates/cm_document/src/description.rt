@@ -2,11 +2,12 @@
 
 ghost use Rattle.std.specs.Prelude.{◌≡◌, take, IfOk};
 ghost use Rattle.cm_document.specs.Links.{exported_for, reference_for};
-ghost use Rattle.cm_document.specs.Params.{kind_of, exports_of};
+ghost use Rattle.cm_document.specs.Params.{kind_of, exports_of, fewest_claims, most_claims, reads_beside};
 ghost use Rattle.cm_document.specs.Places.{kinds_of};
 
 use crate::cycles::Cycles;
 use crate::life::Life;
+use crate::limits::MOST_CLAIMS_OF_ONE;
 use fixed_num::Fx;
 use iface_names::{IfaceName, Kind, Name};
 use sequence::{Seq, Shared};
@@ -248,6 +249,38 @@ impl Params {
             Params::Passthrough { .. } => Exports::EachClaim,
             Params::Pid { .. } => Exports::FirstRead,
             _ => Exports::Nothing,
+        }
+    }
+
+    /// How many claims such a controller has at least.
+    pub fn fewest_claims(&self) -> usize
+        ensures { result ≡ fewest_claims self.now }
+    {
+        match self {
+            Params::Broadcaster { .. } | Params::Mock { .. } => 0,
+            _ => 1,
+        }
+    }
+
+    /// How many claims it has at most.
+    pub fn most_claims(&self) -> usize
+        ensures { result ≡ most_claims self.now }
+    {
+        match self {
+            Params::Pid { .. } => 1,
+            Params::Broadcaster { .. } => 0,
+            _ => MOST_CLAIMS_OF_ONE,
+        }
+    }
+
+    /// How many reads it has beside so many claims; None if it may have any number.
+    pub fn reads_beside(&self, claims: usize) -> Option<usize>
+        ensures { result ≡ reads_beside self.now claims }
+    {
+        match self {
+            Params::Pid { .. } => Some(1),
+            Params::Trajectory { .. } => Some(claims),
+            _ => None,
         }
     }
 }

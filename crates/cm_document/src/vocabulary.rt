@@ -2,7 +2,8 @@
 
 ghost use Rattle.std.specs.Prelude.{◌≡◌, map, find, option_copied};
 ghost use Rattle.iface_names.specs.Names.{same_name};
-ghost use Rattle.cm_document.specs.Vocabulary.{listed, same_component_kind, component_word, same_controller_kind, controller_word, same_life, life_word, same_verb, verb_word, bool_eq, strictness_word};
+ghost use Rattle.cm_document.specs.Params.{same_controller_kind};
+ghost use Rattle.cm_document.specs.Vocabulary.{listed, same_component_kind, component_word, controller_word, same_life, life_word, same_verb, verb_word, bool_eq, strictness_word};
 
 use crate::description::{CompKind, CtlKind};
 use crate::life::Life;

@@ -1,14 +1,15 @@
 -- A controller of a valid description has parameters with which it can be configured.
 use Rattle.std.proofs.Common.{◌≡◌, ℕ, zero, suc, ◌+◌, ◌≤◌, ◌^◌, ◌-◌, ℤ, Bool, true, List, [], ◌∷◌, length, min, Some, Ok, refl, subst, ◌∙◌, arith}
 use Rattle.std.specs.Prelude.{IfOk, codes, nat_le, ◌&&◌, slice_get}
-use Rattle.std.specs.List.{AllByRecursion}
+use Rattle.std.specs.List.{AllByRecursion, list_all}
 use Rattle.std.proofs.lemmas.Bool.{leb-true, and_parts}
 use Rattle.std.proofs.lemmas.Option.{same_Some}
 use Rattle.sequence.proofs.ListLemmas.{all_at}
 use Rattle.iface_names.specs.declared.interface.IfaceName.{IfaceName}
 use Rattle.cm_document.specs.Forms.{item_path, inside, tables_of}
 use Rattle.cm_document.specs.Described.{count, a_description, claiming_table, pid_table, trajectory_table, broadcaster_table, mock_table, controller_table, controller_form, type_of, top_table, described_states, description_form}
-use Rattle.cm_document.specs.Valid.{not_negative, ranged, each_ranged, controller_ranged, claims_fit, reads_fit, limits_ranged, IsDescribed, IsValid}
+use Rattle.cm_document.specs.Params.{fewest_claims, most_claims, limits_at}
+use Rattle.cm_document.specs.Valid.{not_negative, ranged, each_ranged, controller_ranged, claims_fit, reads_fit, none_negative, limits_ranged, IsDescribed, IsValid}
 use Rattle.cm_document.specs.declared.description.CompDesc.{CompDesc}
 use Rattle.cm_document.specs.declared.description.CtlDesc.{CtlDesc}
 use Rattle.cm_document.specs.declared.description.CtlKind.{CtlKind}
@@ -20,7 +21,7 @@ use Rattle.cm_document.specs.declared.limits.TheConstants.{HIGHEST_RATE, MOST_FA
 use Rattle.cm_document.proofs.GivenLemmas.{Gives, filled_gives, next_key, any_key, defaulted_gives, walk_gives, tables_give, anything}
 use Rattle.cm_document.proofs.ReadingLemmas.{bind_keeps, bind_Ok}
 use Rattle.cm_document.proofs.ValidParts.{in_range_passes, parts_of_valid}
-use Rattle.cm_model.specs.Kinds.{are_ranged}
+use Rattle.cm_model.specs.Kinds.{shape_of, limits_fit, are_ranged}
 
 -- ---- Parameters count the links
 
@@ -126,36 +127,46 @@ in_range_at key k (first ∷ later) passes (suc place) c there =
 pub controller_in_range : (d : Description) → IsValid d → (place : ℕ) (c : CtlDesc) → slice_get d.controllers place ≡ Some c → IsRanged c
 controller_in_range d ok = in_range_at (codes "controller") 0 d.controllers (parts_of_valid d ok).ranges.controllers
 
--- at most 32 claims are counted
-few : (n : ℕ) → n ≤ 32 → min n (2 ^ 32 - 1) ≡ n
-few n le = omega (arith, le)
-
--- from one to 32 of them
-some_few : (outs n : ℕ) → outs ≡ min n (2 ^ 32 - 1) → (nat_le 1 n && nat_le n 32) ≡ true → ((nat_le 1 outs && nat_le outs 32) && true) ≡ true
-some_few outs n counted fits =
-    let both = and_parts (nat_le 1 n) (nat_le n 32) fits in
-    let same : outs ≡ n = counted ∙ few n (leb-true n 32 both.1) in
-    rw (same, both.0, both.1) refl
-
--- none, or up to 32
-not_many : (outs n : ℕ) → outs ≡ min n (2 ^ 32 - 1) → nat_le n 32 ≡ true → (nat_le outs 32 && true) ≡ true
-not_many outs n counted fits =
-    let same : outs ≡ n = counted ∙ few n (leb-true n 32 fits) in
-    rw (same, fits) refl
-
 both_true : (first b : Bool) → first ≡ true → b ≡ true → (first && b) ≡ true
 both_true first b one other = rw (one, other) refl
 
+-- no controller may have more claims than any may
+pub at_most : (params : Params) → most_claims params ≤ 32
+at_most (Pid kp ki kd imax omax) = omega arith
+at_most (Broadcaster ins) = omega arith
+at_most _ = omega arith
+
+-- as many as may be are counted
+few : (n : ℕ) → n ≤ 32 → min n (2 ^ 32 - 1) ≡ n
+few n le = omega (arith, le)
+
+counted_fit : (params : Params) (outs n : ℕ) → outs ≡ min n (2 ^ 32 - 1) → claims_fit params n ≡ true → claims_fit params outs ≡ true
+counted_fit params outs n counted fits =
+    let both = and_parts (nat_le (fewest_claims params) n) (nat_le n (most_claims params)) fits in
+    let small : n ≤ 32 = omega (arith, leb-true n (most_claims params) both.1, at_most params) in
+    let same : outs ≡ n = counted ∙ few n small in
+    rw same fits
+
+-- the claims that its parameters tell of are as many as there may be
+claims_so : (params : Params) (claims reads : List IfaceName) → IsShapeOf params claims reads → claims_fit params (length claims) ≡ true → claims_fit params (shape_of params).claims ≡ true
+claims_so (Forward outs) claims reads shape fits = counted_fit (Forward outs) outs (length claims) shape.0 fits
+claims_so (Passthrough outs) claims reads shape fits = counted_fit (Passthrough outs) outs (length claims) shape.0 fits
+claims_so (Pid kp ki kd imax omax) claims reads shape fits = refl
+claims_so (Trajectory outs) claims reads shape fits = counted_fit (Trajectory outs) outs (length claims) shape fits
+claims_so (Broadcaster ins) claims reads shape fits = refl
+claims_so (Mock outs refuse_config not_ready fail_update) claims reads shape fits = counted_fit (Mock outs refuse_config not_ready fail_update) outs (length claims) shape fits
+
+-- limits that were found so are not negative
+limits_so : (path : List ℕ) (limits : List (List ℕ × ℤ)) → none_negative path limits ≡ Ok tt → list_all (λ (limit : List ℕ × ℤ). not_negative limit.1) limits ≡ true
+limits_so path [] passes = refl
+limits_so path (limit ∷ limits) passes =
+    let first = bind_Ok (ranged (not_negative limit.1) _) _ tt passes in
+    both_true (not_negative limit.1) (list_all (λ (each : List ℕ × ℤ). not_negative each.1) limits) (in_range_passes _ _ first.1) (limits_so path limits first.2)
+
 params_so : (path : List ℕ) (params : Params) (claims reads : List IfaceName) → IsShapeOf params claims reads → claims_fit params (length claims) ≡ true
     → limits_ranged path params ≡ Ok tt → are_ranged params ≡ true
-params_so path (Forward outs) claims reads shape fits limits = some_few outs (length claims) shape.0 fits
-params_so path (Passthrough outs) claims reads shape fits limits = some_few outs (length claims) shape.0 fits
-params_so path (Trajectory outs) claims reads shape fits limits = some_few outs (length claims) shape fits
-params_so path (Mock outs refuse_config not_ready fail_update) claims reads shape fits limits = not_many outs (length claims) shape fits
-params_so path (Broadcaster ins) claims reads shape fits limits = refl
-params_so path (Pid kp ki kd imax omax) claims reads shape fits limits =
-    let integral = bind_Ok (ranged (not_negative imax) _) _ tt limits in
-    both_true (not_negative imax) (not_negative omax) (in_range_passes _ _ integral.1) (in_range_passes _ _ integral.2)
+params_so path params claims reads shape fits limits =
+    both_true (claims_fit params (shape_of params).claims) (limits_fit params) (claims_so params claims reads shape fits) (limits_so path (limits_at params) limits)
 
 controller_so : (path : List ℕ) (c : CtlDesc) → IsShaped c → controller_ranged path c ≡ Ok tt → are_ranged c.params ≡ true
 controller_so path c shaped passes =

@@ -1,7 +1,7 @@
 -- The stock of blank controllers, counted by their kind. Each kind has a field: two tables say which, and all else is
 -- read off them.
 use Rattle.std.specs.Prelude.{ℕ, ◌+◌, ◌-◌, if◌then◌else◌}
-use Rattle.cm_document.specs.Vocabulary.{same_controller_kind}
+use Rattle.cm_document.specs.Params.{same_controller_kind}
 use Rattle.cm_document.specs.declared.description.CtlKind.{CtlKind}
 use Rattle.cm_document.specs.declared.description.CtlKind.TheVariants.{Forward, Passthrough, Pid, Trajectory}
 use Rattle.cm_document.specs.declared.description.CtlKind.TheVariants.{Broadcaster, Mock}

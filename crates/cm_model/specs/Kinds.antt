@@ -3,7 +3,7 @@
 use Rattle.std.specs.Prelude.{◌≡◌, ℕ, ℤ, Bool, true, false, not, ◌&&◌, ◌==◌, List, length, Option, Some, None, is_none}
 use Rattle.std.specs.List.{list_all}
 use Rattle.cm_document.specs.Links.{exports_any}
-use Rattle.cm_document.specs.Params.{kind_of, exports_of}
+use Rattle.cm_document.specs.Params.{kind_of, exports_of, limits_at}
 use Rattle.cm_document.specs.Valid.{not_negative, claims_fit}
 use Rattle.cm_document.specs.declared.call.Mail.{Mail}
 use Rattle.cm_document.specs.declared.call.Mail.TheVariants.{Values, Points}
@@ -60,10 +60,9 @@ AreItsReads (Some reads) count = count ≡ reads
 
 -- ---- What it may be configured with
 
--- the limits of a pid are not negative
+-- its limits are not negative
 abbrev pub limits_fit : Params → Bool
-limits_fit (Pid kp ki kd imax omax) = not_negative imax && not_negative omax
-limits_fit _ = true
+limits_fit params = list_all (λ limit. not_negative limit.1) (limits_at params)
 
 -- The parameters are in the ranges that a description keeps: as many claims as a controller of the kind may have, and
 -- the limits.

@@ -3,17 +3,17 @@ use Rattle.std.proofs.Common.{◌≡◌, ℕ, ◌≤◌, ◌^◌, ◌-◌, true,
 use Rattle.std.specs.Prelude.{nat_le, ◌&&◌, slice_get}
 use Rattle.std.proofs.lemmas.Bool.{leb-true, eqb-true, and_parts}
 use Rattle.std.proofs.lemmas.List.{length-map}
-use Rattle.iface_names.specs.declared.interface.IfaceName.{IfaceName}
 use Rattle.cm_document.specs.Links.{reference_for, exported_for, refs_of}
+use Rattle.cm_document.specs.Params.{fewest_claims, most_claims}
 use Rattle.cm_document.specs.Valid.{ranged, controller_ranged, claims_fit, reads_fit, IsValid}
 use Rattle.cm_document.specs.declared.description.CtlDesc.{CtlDesc}
 use Rattle.cm_document.specs.declared.description.Description.{Description}
 use Rattle.cm_document.specs.declared.description.Params.{Params}
 use Rattle.cm_document.specs.declared.description.Params.TheVariants.{Forward, Passthrough, Pid, Trajectory, Broadcaster, Mock}
-use Rattle.cm_document.specs.declared.limits.TheConstants.{HIGHEST_RATE, MOST_CLAIMS_OF_ONE, MOST_FALLBACKS}
+use Rattle.cm_document.specs.declared.limits.TheConstants.{HIGHEST_RATE, MOST_FALLBACKS}
 use Rattle.cm_document.proofs.ReadingLemmas.{bind_Ok}
 use Rattle.cm_document.proofs.ValidParts.{in_range_passes}
-use Rattle.cm_model.proofs.RangedLemmas.{IsShapeOf, IsShaped, described_shapes, controller_in_range}
+use Rattle.cm_model.proofs.RangedLemmas.{at_most, IsShapeOf, IsShaped, described_shapes, controller_in_range}
 use Rattle.cm_model.specs.Controllers.{AreItsCounts}
 
 -- ---- Ranges
@@ -22,29 +22,34 @@ use Rattle.cm_model.specs.Controllers.{AreItsCounts}
 counted : (outs n : ℕ) → outs ≡ min n (2 ^ 32 - 1) → n ≤ 256 → n ≡ outs
 counted outs n is few = omega (arith, is, few)
 
--- at most 32 of them
-up_to : (n : ℕ) → nat_le n MOST_CLAIMS_OF_ONE ≡ true → n ≤ 256
-up_to n fits = let few : n ≤ 32 = leb-true n MOST_CLAIMS_OF_ONE fits in omega (arith, few)
+-- no more are claimed than one may claim
+few_by : (p : Params) (n : ℕ) → claims_fit p n ≡ true → n ≤ 32
+few_by p n fits =
+    let both = and_parts (nat_le (fewest_claims p) n) (nat_le n (most_claims p)) fits in omega (arith, leb-true n (most_claims p) both.1, at_most p)
 
-some_up_to : (n : ℕ) → (nat_le 1 n && nat_le n MOST_CLAIMS_OF_ONE) ≡ true → n ≤ 256
-some_up_to n fits = up_to n (and_parts (nat_le 1 n) (nat_le n MOST_CLAIMS_OF_ONE) fits).1
+up_to : (p : Params) (n : ℕ) → claims_fit p n ≡ true → n ≤ 256
+up_to p n fits = omega (arith, few_by p n fits)
+
+-- a pid has one claim
+just_one : (n : ℕ) → (nat_le 1 n && nat_le n 1) ≡ true → n ≡ 1
+just_one n fits = let both = and_parts (nat_le 1 n) (nat_le n 1) fits in omega (arith, leb-true 1 n both.0, leb-true n 1 both.1)
 
 counts_by : (c : CtlDesc) (p : Params) → IsShapeOf p c.claims c.reads → claims_fit p (length c.claims) ≡ true → reads_fit p (length c.claims) (length c.reads) ≡ true → length c.reads ≤ 256
     → AreItsCounts p (length c.reads) (length (map (reference_for c.name) (exported_for p c))) (length c.claims)
 counts_by c (Forward outs) shape claims reads few = record {
   reads = ap length shape.1;
   references = refl;
-  claims = counted outs (length c.claims) shape.0 (some_up_to (length c.claims) claims);
+  claims = counted outs (length c.claims) shape.0 (up_to (Forward outs) (length c.claims) claims);
 }
 counts_by c (Passthrough outs) shape claims reads few =
-    let all = counted outs (length c.claims) shape.0 (some_up_to (length c.claims) claims) in
+    let all = counted outs (length c.claims) shape.0 (up_to (Passthrough outs) (length c.claims) claims) in
     record { reads = ap length shape.1; references = length-map c.claims (reference_for c.name) ∙ all; claims = all }
 counts_by c (Pid kp ki kd imax omax) shape claims reads few =
     let one : length c.reads ≡ 1 = eqb-true (length c.reads) 1 reads in
     let first : length (take 1 c.reads) ≡ 1 = omega (arith, length-take 1 c.reads, one) in
-    record { reads = one; references = length-map (take 1 c.reads) (reference_for c.name) ∙ first; claims = eqb-true (length c.claims) 1 claims }
+    record { reads = one; references = length-map (take 1 c.reads) (reference_for c.name) ∙ first; claims = just_one (length c.claims) claims }
 counts_by c (Trajectory outs) shape claims reads few =
-    let all = counted outs (length c.claims) shape (some_up_to (length c.claims) claims) in
+    let all = counted outs (length c.claims) shape (up_to (Trajectory outs) (length c.claims) claims) in
     record { reads = eqb-true (length c.reads) (length c.claims) reads ∙ all; references = refl; claims = all }
 counts_by c (Broadcaster ins) shape claims reads few = record {
   reads = counted ins (length c.reads) shape.0 few;
@@ -54,17 +59,8 @@ counts_by c (Broadcaster ins) shape claims reads few = record {
 counts_by c (Mock outs refuse_config not_ready fail_update) shape claims reads few = record {
   reads = tt;
   references = refl;
-  claims = counted outs (length c.claims) shape (up_to (length c.claims) claims);
+  claims = counted outs (length c.claims) shape (up_to (Mock outs refuse_config not_ready fail_update) (length c.claims) claims);
 }
-
--- no more are claimed than one may claim
-few_by : (p : Params) (claims reads : List IfaceName) → IsShapeOf p claims reads → claims_fit p (length claims) ≡ true → length claims ≤ 32
-few_by (Forward outs) claims reads shape fits = leb-true (length claims) 32 (and_parts (nat_le 1 (length claims)) (nat_le (length claims) 32) fits).1
-few_by (Passthrough outs) claims reads shape fits = leb-true (length claims) 32 (and_parts (nat_le 1 (length claims)) (nat_le (length claims) 32) fits).1
-few_by (Pid kp ki kd imax omax) claims reads shape fits = omega (arith, eqb-true (length claims) 1 fits)
-few_by (Trajectory outs) claims reads shape fits = leb-true (length claims) 32 (and_parts (nat_le 1 (length claims)) (nat_le (length claims) 32) fits).1
-few_by (Broadcaster ins) claims reads shape fits = let none : length claims ≡ 0 = ap length shape.1 in omega (arith, none)
-few_by (Mock outs refuse_config not_ready fail_update) claims reads shape fits = leb-true (length claims) 32 fits
 
 -- the counts of a controller are those of its parameters, and it claims no more than one may
 pub record IsWellShaped (c : CtlDesc) : Type 0 where
@@ -80,7 +76,7 @@ controller_so path c shaped passes few =
     let reads = bind_Ok (ranged (reads_fit c.params (length c.claims) (length c.reads)) _) _ tt claims.2 in
     record {
       counts = counts_by c c.params shaped (in_range_passes _ _ claims.1) (in_range_passes _ _ reads.1) few;
-      few_claims = few_by c.params c.claims c.reads shaped (in_range_passes _ _ claims.1);
+      few_claims = few_by c.params (length c.claims) (in_range_passes _ _ claims.1);
     }
 
 -- Each controller of a valid description, which reads no more than may be read, has the counts that its parameters say.

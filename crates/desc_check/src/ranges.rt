@@ -6,8 +6,8 @@ ghost use Rattle.cm_document.specs.Forms.{item_path, inside};
 ghost use Rattle.cm_document.specs.Valid.{ranged, not_negative, each_ranged, may_have, joint_ranged, joint_count_fits, component_ranged, claims_fit, reads_fit, limits_ranged, controller_ranged, in_range};
 
 use cm_document::{
-    CheckFault, CompDesc, CompKind, CtlDesc, Description, HIGHEST_RATE, JointDesc,
-    MOST_CLAIMS_OF_ONE, MOST_CYCLES, MOST_FALLBACKS, Params, Text, VERSION,
+    CheckFault, CompDesc, CompKind, CtlDesc, Description, HIGHEST_RATE, JointDesc, MOST_CYCLES,
+    MOST_FALLBACKS, Params, Text, VERSION,
 };
 use fixed_num::Fx;
 use std::alloc::{AllocError, Global};
@@ -132,26 +132,20 @@ fn controller_ranged(alloc: Global, prefix: &str, controller: &CtlDesc) -> Resul
     limits_ranged(alloc, prefix, params)
 }
 
-/// How many claims a controller of this kind may have.
+/// Whether so many claims are as many as a controller with these parameters may have.
 fn claims_fit(params: &Params, count: usize) -> bool
     ensures { result ≡ claims_fit params.now count }
 {
-    match params {
-        Params::Pid { .. } => count == 1,
-        Params::Broadcaster { .. } => true,
-        Params::Mock { .. } => count <= MOST_CLAIMS_OF_ONE,
-        _ => 1 <= count && count <= MOST_CLAIMS_OF_ONE,
-    }
+    params.fewest_claims() <= count && count <= params.most_claims()
 }
 
-/// How many reads beside so many claims: a pid has one, a trajectory as many as claims.
+/// Whether so many reads are as many beside so many claims.
 fn reads_fit(params: &Params, claims: usize, count: usize) -> bool
     ensures { result ≡ reads_fit params.now claims count }
 {
-    match params {
-        Params::Pid { .. } => count == 1,
-        Params::Trajectory { .. } => count == claims,
-        _ => true,
+    match params.reads_beside(claims) {
+        Some(reads) => count == reads,
+        None => true,
     }
 }
 
@@ -163,7 +157,8 @@ fn limits_ranged(alloc: Global, prefix: &str, params: &Params) -> Result<(), Che
         return Ok(());
     };
     ranged(alloc, not_negative(*imax), prefix, "imax")?;
-    ranged(alloc, not_negative(*omax), prefix, "omax")
+    ranged(alloc, not_negative(*omax), prefix, "omax")?;
+    Ok(())
 }
 
 /// Not below 0.
