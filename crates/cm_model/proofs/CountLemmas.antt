@@ -12,7 +12,7 @@ use Rattle.cm_model.specs.Cycle.{after_cycle}
 use Rattle.cm_model.specs.Histories.{is_end, ends_in, decided_in}
 use Rattle.cm_model.specs.Machine.{can_end, is_enabled, effect, step, LegalFrom, IsLegal, state_after}
 use Rattle.cm_model.specs.Sessions.{entries_by}
-use Rattle.cm_model.specs.Sound.{decisions_in}
+use Rattle.cm_model.specs.Sound.{decisions_in, ticketed}
 use Rattle.cm_model.specs.State.{State, boot}
 use Rattle.cm_model.specs.declared.blanks.Blanks.{Blanks}
 use Rattle.cm_model.specs.declared.entry.Entry.{Entry}
@@ -28,7 +28,7 @@ ends_append xs ys =
     ap length (filter-append (λ (e : Entry). is_end e.call) xs ys) ∙ length-append (filter (λ (e : Entry). is_end e.call) xs) (filter (λ (e : Entry). is_end e.call) ys)
 
 pub decided_append : (xs ys : List Entry) → decided_in (xs ++ ys) ≡ decided_in xs + decided_in ys
-decided_append xs ys = sum_by-append (λ (e : Entry). length (decisions_in e.reply)) xs ys
+decided_append xs ys = sum_by-append (λ (e : Entry). length (ticketed (decisions_in e.reply))) xs ys
 
 pub ends_grow : (xs ys : List Entry) → ends_in xs ≤ ends_in (xs ++ ys)
 ends_grow xs ys = subst (λ n. ends_in xs ≤ n) (sym (ends_append xs ys)) (le-add_right (ends_in xs) (ends_in ys))

@@ -1,5 +1,5 @@
 -- Worked rows of what is counted in a history, computed from the definitions alone.
-use Rattle.std.proofs.Common.{◌≡◌, ℕ, List, [], ◌∷◌, refl}
+use Rattle.std.proofs.Common.{◌≡◌, ℕ, List, [], ◌∷◌, Some, refl}
 use Rattle.std.specs.Prelude.{codes}
 use Rattle.cm_document.specs.declared.call.Call.{Call}
 use Rattle.cm_document.specs.declared.call.Call.TheVariants.{Load, Told, Begin, End, Close}
@@ -16,12 +16,12 @@ by who call r = record { who = who; call = call; reply = r }
 two_cycles : List Entry
 two_cycles =
     by 0 (Load (codes "fwd")) (reply.Serial 0)
-    ∷ by 1 (Begin 0) (reply.Decisions (record { ticket = 0; outcome = outcome.Done [] } ∷ record { ticket = 1; outcome = outcome.Done [] } ∷ []))
+    ∷ by 1 (Begin 0) (reply.Decisions (record { ticket = Some 0; outcome = outcome.Done [] } ∷ record { ticket = Some 1; outcome = outcome.Done [] } ∷ []))
     ∷ by 1 (End 0) reply.Done
     ∷ by 0 (Told 1) (reply.Outcome (outcome.Done []))
     ∷ by 1 (Begin 1) (reply.Decisions [])
     ∷ by 1 (End 1) reply.Done
-    ∷ by 1 Close (reply.Decisions (record { ticket = 2; outcome = outcome.LoopEnded } ∷ []))
+    ∷ by 1 Close (reply.Decisions (record { ticket = Some 2; outcome = outcome.LoopEnded } ∷ []))
     ∷ []
 
 nothing_ended : ends_in [] ≡ 0

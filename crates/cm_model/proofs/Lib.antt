@@ -31,6 +31,7 @@ mod WorkedLift
 mod LiftSwitchRows
 mod LiftRows
 mod BoundaryRows
+mod FallbackRows
 mod ScheduleRows
 mod StepRows
 mod SoundRows

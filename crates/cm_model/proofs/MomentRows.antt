@@ -1,5 +1,5 @@
 -- Worked rows of what a begin decides: moments of two states and a reply, written down by hand, that are right, and others that are not.
-use Rattle.std.proofs.Common.{◌≡◌, ℕ, Bool, true, false, List, [], ◌∷◌, length, map, pos, Option, Some, None, refl, sym, ap, ◌∙◌, true≢false, arith}
+use Rattle.std.proofs.Common.{◌≡◌, ℕ, Bool, true, false, List, [], ◌∷◌, length, map, pos, Option, Some, None, refl, sym, ap, subst, ◌∙◌, true≢false, arith}
 use Rattle.std.specs.Prelude.{codes, ◌==◌, ◌&&◌, is_some}
 use Rattle.std.specs.List.{list_any}
 use Rattle.std.proofs.lemmas.Option.{same_Some}
@@ -13,7 +13,7 @@ use Rattle.cm_model.proofs.Worked.{j1_position, runs, rests, with_running}
 use Rattle.cm_model.specs.Boundary.{life_at}
 use Rattle.cm_model.specs.Deciding.{AreRelated, IsSwitched, is_let_go, IsLetGo, asked_set, on_both, without_mail, apart_from_mail}
 use Rattle.cm_model.specs.Order.{Places}
-use Rattle.cm_model.specs.Sound.{Moment, DecidesRightly}
+use Rattle.cm_model.specs.Sound.{Moment, AreStoodIn, DecidesFrom, DecidesRightly}
 use Rattle.cm_model.specs.State.{State, Loaded, is_active, active}
 use Rattle.cm_model.specs.Values.{InterfaceValue}
 use Rattle.cm_model.specs.declared.cause.Cause.TheVariants as cause
@@ -41,11 +41,11 @@ told loaded what became = record (asked loaded what) { outcomes = became ∷ [] 
 -- a begin that tells this outcome and leaves this state
 abbrev begin_of : State → Outcome → State → Moment
 begin_of before became after =
-    record { before = before; call = Begin 0; reply = reply.Decisions (record { ticket = 0; outcome = became } ∷ []); after = record after { aloft = true } }
+    record { before = before; call = Begin 0; reply = reply.Decisions (record { ticket = Some 0; outcome = became } ∷ []); after = record after { aloft = true } }
 
--- whether it is right
+-- whether it is right, where nobody is to stand in
 abbrev IsRight : Moment → Type 0
-IsRight moment = DecidesRightly moment moment.call
+IsRight moment = DecidesFrom moment.before moment
 
 -- the forward is to come, to leave, and to restart; the pid is to restart
 abbrev forward_request : SwitchRequest
@@ -100,6 +100,12 @@ first_run (l ∷ ls) = l.ctl.run
 abbrev has_last : Option RunData → Bool
 has_last (Some (run.Pid chained set integral last)) = is_some last
 has_last _ = false
+
+-- so it is right as a whole
+right_as_a_whole : (moment : Moment) → moment.before.fallbacks ≡ [] → moment.call ≡ Begin 0 → IsRight moment → DecidesRightly moment moment.call
+right_as_a_whole moment nobody begins right =
+    subst (DecidesRightly moment) (sym begins)
+    (moment.before, subst (λ (names : List (List ℕ)). AreStoodIn moment.before names moment.before) (sym nobody) refl, right)
 
 -- ---- A switch that is done
 

@@ -1,4 +1,4 @@
--- Where nobody asked for anything and no controller is active, a begin puts a cycle aloft, the close closes, and neither decides anything.
+-- Where nobody asked for anything or is to stand in, and no controller is active, a begin puts a cycle aloft, the close closes, and neither decides anything.
 use Rattle.std.proofs.Common.{◌≡◌, true, false, List, [], ◌∷◌, ◌++◌, map, append-nil, refl, sym, ap, ap₂, ◌∙◌}
 use Rattle.std.specs.Prelude.{filter_map}
 use Rattle.std.specs.List.{AllByRecursion}
@@ -17,13 +17,13 @@ mail_stays : (s : State) (ls : List Loaded) → AllByRecursion (λ (l : Loaded).
 mail_stays s [] still = refl
 mail_stays s (l ∷ ls) still = rw still.0 (ap (λ later. l ∷ later) (mail_stays s ls still.1))
 
-module _ (s : State) (none : s.requests ≡ []) (undecided : s.outcomes ≡ []) where
+module _ (s : State) (none : s.requests ≡ []) (undecided : s.outcomes ≡ []) (nobody : s.fallbacks ≡ []) where
   nothing_waits : waiting s ≡ []
   nothing_waits = rw (none, undecided) refl
 
   boundary_stays : boundary s ≡ s
   unfolding all_concluded
-  boundary_stays = rw nothing_waits refl
+  boundary_stays = rw nobody (rw nothing_waits refl)
 
   -- an idle begin puts a cycle aloft
   pub quiet_begin : IsStill s → s.mails ≡ [] → begin_effect s ≡ record s { aloft = true }
@@ -34,7 +34,7 @@ module _ (s : State) (none : s.requests ≡ []) (undecided : s.outcomes ≡ []) 
 
   -- and decides nothing
   pub quiet_begin_reply : begin_reply s ≡ reply.Decisions []
-  quiet_begin_reply = rw (boundary_stays, undecided) refl
+  quiet_begin_reply = rw (boundary_stays, nobody, undecided) refl
 
   -- the close closes
   pub quiet_close : close_effect s ≡ record s { closed = true }

@@ -5,7 +5,7 @@ use Rattle.std.proofs.lemmas.Option.{same_Some}
 use Rattle.cm_document.specs.declared.call.Call.{Call}
 use Rattle.cm_document.specs.declared.call.Call.TheVariants.{Load, Configure, Cleanup, Unload, Rate, Send, Switch, Hardware, Begin, End, Close}
 use Rattle.cm_document.specs.declared.description.CtlDesc.{CtlDesc}
-use Rattle.cm_model.specs.Boundary.{waiting, request_effect, Concluded, with_switch, component_place, move_fault, with_move_unless, with_move, concluded, with_outcome, all_concluded, boundary}
+use Rattle.cm_model.specs.Boundary.{waiting, standing_in, after_standing_in, after_fallbacks, request_effect, Concluded, with_switch, component_place, move_fault, with_move_unless, with_move, concluded, with_outcome, all_concluded, boundary}
 use Rattle.cm_model.specs.BestEffort.{decided}
 use Rattle.cm_model.specs.Commit.{scene_of, commit}
 use Rattle.cm_model.specs.Console.{place_of, slot_of, where_done, with_slot, with_changed, without_slot, after_configure, after_cleanup, after_rate, after_send}
@@ -120,9 +120,17 @@ all_concluded-SameLoop s (asked ∷ requests) =
     let next = with_outcome (concluded s asked) in
     same-trans s next _ (outcome-SameLoop s (concluded s asked) (concluded-SameLoop s asked)) (all_concluded-SameLoop next requests)
 
+-- so do those that stand in
+standing-SameLoop : (s : State) (names : List (List ℕ)) → SameLoop s (after_standing_in s names)
+standing-SameLoop s [] = same s
+standing-SameLoop s (name ∷ names) =
+    let stood = concluded-SameLoop (record s { fallbacks = [] }) (standing_in (name ∷ names)) in
+    record { sessions = stood.sessions; description = stood.description; ended = stood.ended; aloft = stood.aloft; closed = stood.closed }
+
 -- what is decided between two cycles leaves the loop as it is
 pub boundary-SameLoop : (s : State) → SameLoop s (boundary s)
-boundary-SameLoop s = all_concluded-SameLoop s (waiting s)
+boundary-SameLoop s =
+    same-trans s (after_fallbacks s) _ (standing-SameLoop s s.fallbacks) (all_concluded-SameLoop (after_fallbacks s) (waiting (after_fallbacks s)))
 
 -- ---- Steps
 

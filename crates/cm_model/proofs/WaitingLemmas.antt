@@ -13,7 +13,7 @@ use Rattle.cm_document.specs.declared.call.Call.TheVariants.{Load, Configure, Cl
 use Rattle.cm_document.specs.declared.description.CtlDesc.{CtlDesc}
 use Rattle.cm_document.specs.declared.life.Life.{Life}
 use Rattle.cm_model.specs.BestEffort.{decided}
-use Rattle.cm_model.specs.Boundary.{waiting, is_full, request_reply, request_effect, with_switch, component_place, move_fault, with_move_unless, with_move, concluded, with_outcome, all_concluded, boundary, close_effect}
+use Rattle.cm_model.specs.Boundary.{waiting, standing_in, after_standing_in, after_fallbacks, is_full, request_reply, request_effect, with_switch, component_place, move_fault, with_move_unless, with_move, concluded, with_outcome, all_concluded, boundary, close_effect}
 use Rattle.cm_model.specs.Commit.{scene_of, commit}
 use Rattle.cm_model.specs.Console.{unless_refused, place_of, slot_of, controller_of, reply_on, where_done, with_slot, with_changed, without_slot, after_configure, after_cleanup, after_rate, after_send, configure_refusals, cleanup_refusals, unload_refusals, rate_refusals, send_refusals}
 use Rattle.cm_model.specs.Machine.{is_enabled, reply_of, with_controller, with_loaded, load_effect, load_refusals, effect, answered, step}
@@ -147,11 +147,10 @@ asks s Close r console is = absurd console
 
 -- ---- The loop's calls
 
--- what is decided between two cycles was asked before
-all_concluded-requests : (s : State) (requests : List Request) → (all_concluded s requests).requests ≡ s.requests
-unfolding all_concluded commit
-all_concluded-requests s [] = refl
-all_concluded-requests s (asked ∷ later) = all_concluded-requests (with_outcome (concluded s asked)) later ∙ one_concluded asked
+-- to conclude a request asks for none
+concluded-requests : (s : State) (asked : Request) → (concluded s asked).state.requests ≡ s.requests
+unfolding commit
+concluded-requests s asked = one_concluded asked
   where
     by_switch : (d : Decided) → (with_switch s d).state.requests ≡ s.requests
     by_switch (refused because) = refl
@@ -169,8 +168,19 @@ all_concluded-requests s (asked ∷ later) = all_concluded-requests (with_outcom
     one_concluded (request.Switch asked) = by_switch (decided (scene_of s) asked)
     one_concluded (request.Hardware component target) = by_move component target (component_place s.description component)
 
+-- what is decided between two cycles was asked before
+all_concluded-requests : (s : State) (requests : List Request) → (all_concluded s requests).requests ≡ s.requests
+unfolding all_concluded
+all_concluded-requests s [] = refl
+all_concluded-requests s (asked ∷ later) = all_concluded-requests (with_outcome (concluded s asked)) later ∙ concluded-requests s asked
+
+-- and those that stand in ask for nothing
+standing-requests : (s : State) (names : List (List ℕ)) → (after_standing_in s names).requests ≡ s.requests
+standing-requests s [] = refl
+standing-requests s (name ∷ names) = concluded-requests (record s { fallbacks = [] }) (standing_in (name ∷ names))
+
 pub boundary-requests : (s : State) → (boundary s).requests ≡ s.requests
-boundary-requests s = all_concluded-requests s (waiting s)
+boundary-requests s = all_concluded-requests (after_fallbacks s) (waiting (after_fallbacks s)) ∙ standing-requests s s.fallbacks
 
 -- after the close each request has an outcome
 pub close-decides : (s : State) → length (close_effect s).requests ≤ length (close_effect s).outcomes

@@ -1,7 +1,7 @@
--- Between two cycles: the requests that wait are decided, one after the other, and mail goes aloft with the cycle that
--- begins.
-use Rattle.std.specs.Prelude.{ℕ, ◌+◌, ◌==◌, nat_le, nat_lt, Bool, true, not, if◌then◌else◌, List, [], ◌∷◌, ◌++◌, length}
-use Rattle.std.specs.Prelude.{map, drop, find, position, slice_get, slice_index_or, slice_set, Option, Some, None}
+-- Between two cycles: those are asked for that stand in for a controller whose update failed; then the requests that
+-- wait are decided, one after the other; and mail goes aloft with the cycle that begins.
+use Rattle.std.specs.Prelude.{ℕ, ◌+◌, ◌==◌, nat_le, nat_lt, Bool, true, false, not, if◌then◌else◌, List, [], ◌∷◌, ◌++◌}
+use Rattle.std.specs.Prelude.{length, map, drop, find, position, slice_get, slice_index_or, slice_set, Option, Some, None}
 use Rattle.std.specs.Prelude.{option_map}
 use Rattle.std.specs.Option.{option_or}
 use Rattle.iface_names.specs.Names.{same_name}
@@ -123,19 +123,49 @@ unfoldable pub all_concluded : State → List Request → State
 all_concluded s [] = s
 all_concluded s (asked ∷ later) = all_concluded (with_outcome (concluded s asked)) later
 
--- The state after all requests that waited are decided, in the order of their tickets.
+-- ---- Those that stand in
+
+-- what is asked for those that are to stand in: that as many of them become active as can
+abbrev pub standing_in : List (List ℕ) → Request
+standing_in names = request.Switch (record { on = names; off = []; strict = false })
+
+-- what becomes of them, in a state in which nobody is to stand in any more
+abbrev pub stood_in : State → List (List ℕ) → Concluded
+stood_in s names = concluded (record s { fallbacks = [] }) (standing_in names)
+
+-- the state after that; where nobody is to stand in it is the same
+abbrev pub after_standing_in : State → List (List ℕ) → State
+after_standing_in s [] = s
+after_standing_in s (name ∷ names) = (stood_in s (name ∷ names)).state
+
+-- the state in which the requests are decided
+abbrev pub after_fallbacks : State → State
+after_fallbacks s = after_standing_in s s.fallbacks
+
+-- what is told of it: one decision, without a ticket
+abbrev pub told_of_fallbacks : State → List (List ℕ) → List Decision
+told_of_fallbacks s [] = []
+told_of_fallbacks s (name ∷ names) = record {
+  ticket = None;
+  outcome = (stood_in s (name ∷ names)).outcome;
+} ∷ []
+
+-- ---- All of it
+
+-- The state after all that waited is decided: those that stand in first, and then the requests in the order of their
+-- tickets.
 abbrev pub boundary : State → State
-boundary s = all_concluded s (waiting s)
+boundary s = all_concluded (after_fallbacks s) (waiting (after_fallbacks s))
 
 -- outcomes by ticket, the first of which has this one
 abbrev pub decisions_from : ℕ → List Outcome → List Decision
 decisions_from ticket [] = []
 decisions_from ticket (became ∷ later) = record {
-  ticket = ticket;
+  ticket = Some ticket;
   outcome = became;
 } ∷ decisions_from (ticket + 1) later
 
--- what was decided on the way from one state to another, by ticket
+-- what became of requests on the way from one state to another, by ticket
 abbrev pub decisions_between : State → State → List Decision
 decisions_between before after = decisions_from (length before.outcomes) (drop (length before.outcomes) after.outcomes)
 
@@ -147,7 +177,7 @@ begin_effect s = begun (boundary s)
 
 -- The answer to a begin: what was decided.
 abbrev pub begin_reply : State → Reply
-begin_reply s = reply.Decisions (decisions_between s (boundary s))
+begin_reply s = reply.Decisions (told_of_fallbacks s s.fallbacks ++ decisions_between s (boundary s))
 
 -- ---- The close
 

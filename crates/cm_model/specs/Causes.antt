@@ -1,5 +1,5 @@
 -- How causes and outcomes print.
-use Rattle.std.specs.Prelude.{ℕ, List, [], ◌∷◌, ◌++◌, flat_map, codes, decimal}
+use Rattle.std.specs.Prelude.{ℕ, List, [], ◌∷◌, ◌++◌, flat_map, codes, decimal, Option, Some, None}
 use Rattle.iface_names.specs.Interfaces.{interface_text}
 use Rattle.cm_model.specs.declared.cause.Cause.{Cause}
 use Rattle.cm_model.specs.declared.cause.Cause.TheVariants as cause
@@ -39,6 +39,11 @@ outcome_text (outcome.Done dropped) = codes "done" ++ drops_text dropped
 outcome_text (outcome.Refused name cause) = codes "refused " ++ name ++ codes " " ++ cause_text cause
 outcome_text outcome.LoopEnded = codes "loop_ended"
 
--- a decided request, as `0 done`
+-- what was decided: a request by its ticket, or those that stand in
+abbrev pub decided_text : Option ℕ → List ℕ
+decided_text (Some ticket) = decimal ticket
+decided_text None = codes "fallback"
+
+-- a decision, as `0 done` or `fallback done`
 abbrev pub decision_text : Decision → List ℕ
-decision_text decision = decimal decision.ticket ++ codes " " ++ outcome_text decision.outcome
+decision_text decision = decided_text decision.ticket ++ codes " " ++ outcome_text decision.outcome

@@ -1,8 +1,8 @@
 -- One cycle: the components are read, the controllers updated, the components written, and every body steps by one
 -- period; what follows at its end; and what goes aloft at its begin.
 use Rattle.std.specs.Prelude.{◌≡◌, ℕ, zero, suc, ◌+◌, ◌*◌, ◌/◌, ◌==◌, Bool, true, false, not, ◌&&◌, ◌||◌, if◌then◌else◌}
-use Rattle.std.specs.Prelude.{List, [], ◌∷◌, ◌++◌, length, map, filter, filter_map, find, zip, take, drop, slice_get}
-use Rattle.std.specs.Prelude.{Option, None, option_map, unwrap_or, is_some}
+use Rattle.std.specs.Prelude.{List, [], ◌∷◌, ◌++◌, length, map, flat_map, filter, filter_map, find, zip, take, drop}
+use Rattle.std.specs.Prelude.{slice_get, Option, None, option_map, unwrap_or, is_some}
 use Rattle.std.specs.List.{list_any, range_with_len}
 use Rattle.std.specs.Option.{option_map_or}
 use Rattle.fixed_num.specs.declared.value.BodyState.{BodyState}
@@ -237,14 +237,24 @@ moved s lives = record s { lives = lives; values = after_moves s.lives lives s.b
 abbrev pub lives_after : State → List Life
 lives_after s = map (λ each. life_after each.0 each.1 s.ended) (zip s.description.components s.lives)
 
--- The controllers, values and bodies are those after the cycle, the components that failed have moved, one cycle more
--- has ended, and nothing is aloft.
+-- the described fallbacks of the controller that is loaded under this serial
+abbrev pub fallbacks_of : State → ℕ → List (List ℕ)
+fallbacks_of s serial = option_map_or (λ l. (described_of s l).fallback) (find (λ l. l.serial == serial) s.loaded) []
+
+-- Those that are to stand in after a cycle: for each controller whose update failed, in the order of the record, its
+-- fallbacks in their order. A controller that stops for another reason brings none.
+abbrev pub fallbacks_after : State → List Ran → List (List ℕ)
+fallbacks_after s ran = flat_map (fallbacks_of s) (erred_in ran)
+
+-- The controllers, values and bodies are those after the cycle, the components that failed have moved, those wait that
+-- are to stand in, one cycle more has ended, and nothing is aloft.
 abbrev pub landed : State → CycleResult → State
 landed s cycled =
     moved (record s {
       loaded = cycled.loaded;
       values = cycled.values;
       bodies = cycled.bodies;
+      fallbacks = fallbacks_after s cycled.happened.ran;
       ended = s.ended + 1;
       aloft = false;
       mails = [];

@@ -1,9 +1,9 @@
--- What is read off a history: how many cycles have ended in it, and how many decisions it tells of. And the loop's part
--- of a state.
+-- What is read off a history: how many cycles have ended in it, and of how many requests it tells the decision. And the
+-- loop's part of a state.
 use Rattle.std.specs.Prelude.{◌≡◌, ℕ, Bool, true, false, List, length, filter, sum_by}
 use Rattle.cm_document.specs.declared.call.Call.{Call}
 use Rattle.cm_document.specs.declared.call.Call.TheVariants.{End}
-use Rattle.cm_model.specs.Sound.{decisions_in}
+use Rattle.cm_model.specs.Sound.{decisions_in, ticketed}
 use Rattle.cm_model.specs.State.{State}
 use Rattle.cm_model.specs.declared.entry.Entry.{Entry}
 
@@ -16,9 +16,9 @@ is_end _ = false
 abbrev pub ends_in : List Entry → ℕ
 ends_in entries = length (filter (λ e. is_end e.call) entries)
 
--- how many decisions they tell of
+-- of how many requests they tell the decision
 abbrev pub decided_in : List Entry → ℕ
-decided_in entries = sum_by (λ e. length (decisions_in e.reply)) entries
+decided_in entries = sum_by (λ e. length (ticketed (decisions_in e.reply))) entries
 
 -- The loop's part of two states is the same: as many cycles have ended, one is aloft in both or in none, and both are
 -- open or closed; with the description and the number of sessions, which no step changes.

@@ -2,7 +2,7 @@
 -- once, predecessors first; one configuration holds from a begin to its end; each request is decided once, and a strict
 -- switch whole or not at all, with a cause that is true; an unload leaves nothing behind.
 use Rattle.std.specs.Prelude.{◌≡◌, ℕ, ◌==◌, Bool, true, false, not, ◌&&◌, ◌||◌, List, [], ◌∷◌, ◌++◌, map, find, Option}
-use Rattle.std.specs.Prelude.{Some, None, option_map, IfSome}
+use Rattle.std.specs.Prelude.{length, filter, Some, None, option_map, is_some, IfSome}
 use Rattle.std.specs.List.{list_any, AllByRecursion, IsDistinct}
 use Rattle.std.specs.Option.{option_map_or}
 use Rattle.fixed_num.specs.declared.value.BodyState.{BodyState}
@@ -13,8 +13,8 @@ use Rattle.cm_document.specs.declared.life.Life.{Life}
 use Rattle.cm_model.specs.Boundary.{waiting, decisions_from}
 use Rattle.cm_model.specs.Components.{is_listed}
 use Rattle.cm_model.specs.Console.{controller_of}
-use Rattle.cm_model.specs.Cycle.{active_order, is_due_now, is_held_off, cycle}
-use Rattle.cm_model.specs.Deciding.{AreDecided}
+use Rattle.cm_model.specs.Cycle.{active_order, is_due_now, is_held_off, is_error, fallbacks_of, cycle}
+use Rattle.cm_model.specs.Deciding.{lasting, IsDoneInPart, AreDecided}
 pub use Rattle.cm_model.specs.Loans.{names_at, reads_at, is_there, CanRunTogether, is_number, IsEmptyUnless}
 pub use Rattle.cm_model.specs.Loans.{IsUnsetUnlessClaimed, IsMarked, LoansHold}
 use Rattle.cm_model.specs.Machine.{step}
@@ -23,7 +23,9 @@ use Rattle.cm_model.specs.State.{State, Loaded, MailAloft, boot, is_active}
 use Rattle.cm_model.specs.Values.{InterfaceValue}
 use Rattle.cm_model.specs.declared.blanks.Blanks.{Blanks}
 use Rattle.cm_model.specs.declared.cause.Decision.{Decision}
+use Rattle.cm_model.specs.declared.cause.Dropped.{Dropped}
 use Rattle.cm_model.specs.declared.cause.Outcome.{Outcome}
+use Rattle.cm_model.specs.declared.cause.Outcome.TheVariants as outcome
 use Rattle.cm_model.specs.declared.data.CtlData.{CtlData}
 use Rattle.cm_model.specs.declared.entry.Entry.{Entry}
 use Rattle.cm_model.specs.declared.reply.Reply.{Reply}
@@ -148,14 +150,21 @@ abbrev pub decisions_in : Reply → List Decision
 decisions_in (reply.Decisions decisions) = decisions
 decisions_in _ = []
 
--- what it tells that became of them, in order
+-- the decisions that have a ticket
+abbrev pub ticketed : List Decision → List Decision
+ticketed decisions = filter (λ decision. is_some decision.ticket) decisions
+
+-- what it tells that became of requests, in order
 abbrev pub outcomes_in : Reply → List Outcome
-outcomes_in r = map (λ decision. decision.outcome) (decisions_in r)
+outcomes_in r = map (λ decision. decision.outcome) (ticketed (decisions_in r))
+
+-- the decision is of this ticket
+abbrev pub is_of_ticket : ℕ → Decision → Bool
+is_of_ticket ticket decision = option_map_or (λ own. own == ticket) decision.ticket false
 
 -- the outcome that was told of a ticket
 abbrev pub outcome_of : List Decision → ℕ → Option Outcome
-outcome_of decisions ticket =
-    option_map (λ decision. decision.outcome) (find (λ decision. decision.ticket == ticket) decisions)
+outcome_of decisions ticket = option_map (λ decision. decision.outcome) (find (is_of_ticket ticket) decisions)
 
 -- who asks for a ticket is told the outcome that a begin or the close has told
 abbrev pub IsToldRightly : List Decision → Call → Reply → Type 0
@@ -166,25 +175,73 @@ IsToldRightly so_far _ r = Unit {0}
 -- After these decisions were told: with those of this call they are, by ticket, the outcomes of all requests that have
 -- one; and who asks is told so.
 pub record TicketsAreRight (so_far : List Decision) (moment : Moment) : Type 0 where
-  pub each_once : so_far ++ decisions_in moment.reply ≡ decisions_from 0 moment.after.outcomes
+  pub each_once : so_far ++ ticketed (decisions_in moment.reply) ≡ decisions_from 0 moment.after.outcomes
   pub told : IsToldRightly so_far moment.call moment.reply
 
 abbrev pub TicketsFrom : List Decision → List Moment → Type 0
 TicketsFrom so_far [] = Unit {0}
 TicketsFrom so_far (moment ∷ moments) =
-    TicketsAreRight so_far moment × TicketsFrom (so_far ++ decisions_in moment.reply) moments
+    TicketsAreRight so_far moment × TicketsFrom (so_far ++ ticketed (decisions_in moment.reply)) moments
 
--- A begin decides those that waited, one after the other, with the outcomes that it tells, and so comes to the state
--- after it.
+-- Those that were to stand in were asked for, from one state to the next: as many of them as can came to be active, as
+-- by a switch of best effort that deactivates none; what no request changes is as it was, and nobody waits to stand in
+-- any more.
+pub record HaveStoodIn (before : State) (names : List (List ℕ)) (after : State) : Type 0 where
+  pub switched : IsDoneInPart before (record { on = names; off = []; strict = false }) after
+  pub same : lasting after ≡ lasting (record before { fallbacks = [] })
+  pub outcomes : after.outcomes ≡ before.outcomes
+
+-- where nobody was to stand in nothing happened
+abbrev pub AreStoodIn : State → List (List ℕ) → State → Type 0
+AreStoodIn before [] after = after ≡ before
+AreStoodIn before (name ∷ names) after = HaveStoodIn before (name ∷ names) after
+
+-- from this state the requests that waited were decided, with the outcomes that are told, to the state after it
+abbrev pub DecidesFrom : State → Moment → Type 0
+DecidesFrom stood moment = AreDecided stood (waiting moment.before) (outcomes_in moment.reply) moment.after
+
+-- A begin asks for those that are to stand in, and then decides the requests that waited, one after the other, with the
+-- outcomes that it tells, and so comes to the state after it.
 abbrev pub DecidesRightly : Moment → Call → Type 0
 DecidesRightly moment (call.Begin _) =
-    AreDecided moment.before (waiting moment.before) (outcomes_in moment.reply) moment.after
+    (stood : State) × AreStoodIn moment.before moment.before.fallbacks stood × DecidesFrom stood moment
 DecidesRightly moment _ = Unit {0}
 
--- Each ticket is decided once, and told so; and each begin decides rightly.
+-- Where fallbacks are owed, the first decision has no ticket and is done, and the others have one. Else all have one.
+abbrev pub IsLed : Bool → List Decision → Type 0
+IsLed true [] = ⊥
+IsLed true (d ∷ ds) =
+    (d.ticket ≡ None) × ((dropped : List Dropped) × (d.outcome ≡ outcome.Done dropped)) × (ticketed ds ≡ ds)
+IsLed false ds = ticketed ds ≡ ds
+
+-- a begin tells first of those that stand in, where they are owed; no other call tells of any
+abbrev pub IsLedAt : Bool → Moment → Call → Type 0
+IsLedAt owed moment (call.Begin _) = IsLed owed (decisions_in moment.reply)
+IsLedAt owed moment _ = IsLed false (decisions_in moment.reply)
+
+-- in the record of a cycle the update of a controller failed that has fallbacks
+abbrev pub calls_for_fallbacks : State → Reply → Bool
+calls_for_fallbacks s (reply.Cycle happened) =
+    list_any (λ ran. is_error ran.done && not (length (fallbacks_of s ran.serial) == 0)) happened.ran
+calls_for_fallbacks s _ = false
+
+-- whether they are owed after this call: such an end owes them, and the begin behind it tells of them
+abbrev pub owed_after : Bool → Moment → Call → Bool
+owed_after owed moment (call.Begin _) = false
+owed_after owed moment (call.End _) = calls_for_fallbacks moment.before moment.reply
+owed_after owed moment _ = owed
+
+-- Fallbacks are told of by the begin behind an end that owes them, and by no other call.
+abbrev pub LedFrom : Bool → List Moment → Type 0
+LedFrom owed [] = Unit {0}
+LedFrom owed (moment ∷ moments) =
+    IsLedAt owed moment moment.call × LedFrom (owed_after owed moment moment.call) moments
+
+-- Each ticket is decided once, and told so; each begin decides rightly; and fallbacks are told of where they are owed.
 pub record RequestsAreDecidedOnce (moments : List Moment) : Type 0 where
   pub tickets : TicketsFrom [] moments
   pub whole : AllByRecursion (λ moment. DecidesRightly moment moment.call) moments
+  pub fallbacks : LedFrom false moments
 
 -- ---- Fifth: an unload leaves nothing behind
 

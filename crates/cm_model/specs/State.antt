@@ -42,7 +42,8 @@ pub record MailAloft : Type 0 where
 -- The state: the description, which nothing changes; the number of sessions, which is also the loop's number as a
 -- caller; the blanks that are left; how many loads were given a serial; the loaded controllers, by serial; the
 -- lifecycle states of the components, the bodies of the joints, and the interfaces with what they hold, each by place;
--- all requests by ticket, and the outcomes of the first of them, for the others wait; how many cycles have ended;
+-- all requests by ticket, and the outcomes of the first of them, for the others wait; the names of those that are to
+-- stand in for controllers whose update failed, which the next begin asks for; how many cycles have ended;
 -- whether one has begun that has not ended, and the mails that went aloft with it; whether the loop is closed.
 pub record State : Type 0 where
   pub description : Description
@@ -55,6 +56,7 @@ pub record State : Type 0 where
   pub values : List InterfaceValue
   pub requests : List Request
   pub outcomes : List Outcome
+  pub fallbacks : List (List ℕ)
   pub ended : ℕ
   pub aloft : Bool
   pub mails : List MailAloft
@@ -72,7 +74,8 @@ all_bodies_at_start d = flat_map bodies_at_start d.components
 abbrev pub values_at_start : Description → List InterfaceValue
 values_at_start d = after_reads (running (lives_at_start d)) (all_bodies_at_start d) (map unset (interfaces_of d))
 
--- At boot nothing is loaded, asked, aloft or ended, the loop is open, and the hardware is as at start.
+-- At boot nothing is loaded, asked, aloft or ended, nobody is to stand in, the loop is open, and the hardware is as at
+-- start.
 abbrev pub boot : Description → Blanks → ℕ → State
 boot description blanks sessions = record {
   description = description;
@@ -85,6 +88,7 @@ boot description blanks sessions = record {
   values = values_at_start description;
   requests = [];
   outcomes = [];
+  fallbacks = [];
   ended = 0;
   aloft = false;
   mails = [];

@@ -58,11 +58,11 @@ pub enum Outcome {
     LoopEnded,
 }
 
-/// A decided request.
+/// What a begin or the close decided: a request, or that those are asked for that stand in for a controller whose update failed.
 #[derive(Clone, Debug, PartialEq, Eq, Drop)]
 pub struct Decision {
-    /// The request's number, from 0.
-    pub ticket: u32,
+    /// The request's number, from 0; none where it is of those that stand in.
+    pub ticket: Option<u32>,
     /// What became of it.
     pub outcome: Outcome,
 }

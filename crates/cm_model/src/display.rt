@@ -142,8 +142,10 @@ impl Display for Decision {
     ghost output = { λ decision. Some (decision_text decision) };
 
     fn fmt<W: Write>(&self, f: &mut Formatter<W>) -> fmt::Result {
-        let ticket = self.ticket;
         let outcome = &self.outcome;
-        write!(f, "{ticket} {outcome}")
+        match self.ticket {
+            Some(ticket) => write!(f, "{ticket} {outcome}"),
+            None => write!(f, "fallback {outcome}"),
+        }
     }
 }
