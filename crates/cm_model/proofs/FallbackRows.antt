@@ -87,13 +87,13 @@ abbrev of_a_request : Decision
 of_a_request = record { ticket = Some 0; outcome = outcome.Done [] }
 
 told_first : IsLed true (of_fallbacks ∷ of_a_request ∷ [])
-told_first = (refl, (([], refl), refl))
+told_first = (refl, ([], refl), refl)
 
 owed_and_not_told : IsLed true (of_a_request ∷ []) → ⊥
 owed_and_not_told led = true≢false (ap (λ ticket. is_some ticket) led.0)
 
 told_behind_a_request : IsLed true (of_fallbacks ∷ of_fallbacks ∷ []) → ⊥
-told_behind_a_request led = let fewer : ◌≡◌ {A = ℕ} 0 1 = ap (λ decisions. length decisions) led.1.1 in omega (arith, fewer)
+told_behind_a_request led = let fewer : ◌≡◌ {A = ℕ} 0 1 = ap (λ decisions. length decisions) led.2 in omega (arith, fewer)
 
 told_and_not_owed : IsLed false (of_fallbacks ∷ []) → ⊥
 told_and_not_owed led = let fewer : ◌≡◌ {A = ℕ} 0 1 = ap (λ decisions. length decisions) led in omega (arith, fewer)

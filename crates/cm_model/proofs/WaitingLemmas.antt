@@ -175,7 +175,7 @@ all_concluded-requests s [] = refl
 all_concluded-requests s (asked ∷ later) = all_concluded-requests (with_outcome (concluded s asked)) later ∙ concluded-requests s asked
 
 -- and those that stand in ask for nothing
-standing-requests : (s : State) (names : List (List ℕ)) → (after_standing_in s names).requests ≡ s.requests
+pub standing-requests : (s : State) (names : List (List ℕ)) → (after_standing_in s names).requests ≡ s.requests
 standing-requests s [] = refl
 standing-requests s (name ∷ names) = concluded-requests (record s { fallbacks = [] }) (standing_in (name ∷ names))
 

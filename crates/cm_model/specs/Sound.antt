@@ -187,7 +187,7 @@ TicketsFrom so_far (moment ∷ moments) =
 -- by a switch of best effort that deactivates none; what no request changes is as it was, and nobody waits to stand in
 -- any more.
 pub record HaveStoodIn (before : State) (names : List (List ℕ)) (after : State) : Type 0 where
-  pub switched : IsDoneInPart before (record { on = names; off = []; strict = false }) after
+  pub switched : IsDoneInPart (record before { fallbacks = [] }) (record { on = names; off = []; strict = false }) after
   pub same : lasting after ≡ lasting (record before { fallbacks = [] })
   pub outcomes : after.outcomes ≡ before.outcomes
 

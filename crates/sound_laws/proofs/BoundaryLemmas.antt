@@ -1,10 +1,10 @@
 -- What is decided between two cycles keeps a state steady, and so does the begin of a cycle.
-use Rattle.std.proofs.Common.{Bool, true, false, List, [], ◌∷◌}
+use Rattle.std.proofs.Common.{ℕ, Bool, true, false, List, [], ◌∷◌}
 use Rattle.std.specs.Prelude.{if◌then◌else◌}
 use Rattle.cm_document.specs.declared.call.SwitchRequest.{SwitchRequest}
 use Rattle.cm_model.proofs.SteadyLemmas.{begun_steady}
 use Rattle.cm_model.specs.BestEffort.{best}
-use Rattle.cm_model.specs.Boundary.{waiting, component_place, with_switch, Concluded, concluded, with_outcome, all_concluded, boundary, begin_effect}
+use Rattle.cm_model.specs.Boundary.{waiting, standing_in, after_standing_in, after_fallbacks, component_place, with_switch, Concluded, concluded, with_outcome, all_concluded, boundary, begin_effect}
 use Rattle.cm_model.specs.Commit.{scene_of}
 use Rattle.cm_model.specs.State.{State}
 use Rattle.cm_model.specs.Steady.{IsSteady}
@@ -34,8 +34,16 @@ unfolding all_concluded
 all_steady s [] steady = steady
 all_steady s (r ∷ rs) steady = all_steady (with_outcome (concluded s r)) rs (outcome_steady (concluded s r) (concluded_steady s r steady))
 
+-- so do those that stand in
+pub emptied_steady : (s : State) → IsSteady s → IsSteady (record s { fallbacks = [] })
+emptied_steady s steady = record { in_order = steady.in_order; together = steady.together }
+
+pub standing_steady : (s : State) (names : List (List ℕ)) → IsSteady s → IsSteady (after_standing_in s names)
+standing_steady s [] steady = steady
+standing_steady s (name ∷ names) steady = concluded_steady (record s { fallbacks = [] }) (standing_in (name ∷ names)) (emptied_steady s steady)
+
 pub boundary_steady : (s : State) → IsSteady s → IsSteady (boundary s)
-boundary_steady s steady = all_steady s (waiting s) steady
+boundary_steady s steady = all_steady (after_fallbacks s) (waiting (after_fallbacks s)) (standing_steady s s.fallbacks steady)
 
 -- The begin of a cycle leaves a steady state.
 pub begin_steady : (s : State) → IsSteady s → IsSteady (begin_effect s)

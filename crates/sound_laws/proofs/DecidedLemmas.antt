@@ -16,7 +16,7 @@ use Rattle.cm_document.specs.declared.life.Life.{Life}
 use Rattle.cm_model.proofs.CommitLemmas.{scene_active}
 use Rattle.cm_model.proofs.StayLemmas.{IsStep}
 use Rattle.cm_model.specs.BestEffort.{best, decided}
-use Rattle.cm_model.specs.Boundary.{waiting, with_switch, component_place, user_of, life_at, move_fault, with_move_unless, with_move, Concluded, concluded, with_outcome, all_concluded, begin_effect, begin_reply}
+use Rattle.cm_model.specs.Boundary.{waiting, standing_in, after_standing_in, after_fallbacks, with_switch, component_place, user_of, life_at, move_fault, with_move_unless, with_move, Concluded, concluded, with_outcome, all_concluded, begin_effect, begin_reply}
 use Rattle.cm_model.specs.CauseIsTrue.{is_used_by, is_true_of_move, strict_set}
 use Rattle.cm_model.specs.Claims.{uses}
 use Rattle.cm_model.specs.Commit.{described_of, scene_of, commit}
@@ -27,7 +27,7 @@ use Rattle.cm_model.specs.Faults.{cause_if}
 use Rattle.cm_model.specs.Loans.{CanRunTogether}
 use Rattle.cm_model.specs.Order.{Places}
 use Rattle.cm_model.specs.Scene.{named}
-use Rattle.cm_model.specs.Sound.{outcomes_in, DecidesRightly}
+use Rattle.cm_model.specs.Sound.{outcomes_in, AreStoodIn, DecidesRightly}
 use Rattle.cm_model.specs.State.{State, Loaded, is_active, active}
 use Rattle.cm_model.specs.Steady.{IsInOrder, IsSteady}
 use Rattle.cm_model.specs.Switches.{Decided, refused, done, strict}
@@ -44,13 +44,13 @@ use Rattle.switch_plan.proofs.DecisionLemmas.{strict_done, strict_refused}
 use Rattle.switch_plan.proofs.ElementLemmas.{or_some, map_some, any_from, found}
 use Rattle.sound_laws.proofs.ActiveLemmas.{from_active_order}
 use Rattle.sound_laws.proofs.BestLemmas.{leaving, effort, effort_together, effort_params, best_came, best_asked_off, best_left, not_staying, idle_not_staying}
-use Rattle.sound_laws.proofs.BoundaryLemmas.{concluded_steady, outcome_steady}
+use Rattle.sound_laws.proofs.BoundaryLemmas.{concluded_steady, outcome_steady, emptied_steady, standing_steady}
 use Rattle.sound_laws.proofs.MomentLemmas.{moment_of}
 use Rattle.sound_laws.proofs.MovedLemmas.{move_lasts, component_moved}
 use Rattle.sound_laws.proofs.ParamsLemmas.{HaveParams, params_loaded, params_configured}
 use Rattle.sound_laws.proofs.StrictLemmas.{params, strict_either}
 use Rattle.sound_laws.proofs.SwitchedLemmas.{map_leaves, commit_lasts, commit_switched}
-use Rattle.sound_laws.proofs.TicketLemmas.{concluded_keeps, outcomes_from, begin_outcomes}
+use Rattle.sound_laws.proofs.TicketLemmas.{concluded_keeps, outcomes_from, waiting_stays, begin_outcomes}
 
 -- what has an outcome more is as it was
 unchanged : (s : State) (became : Outcome) → NothingChanges s (with_outcome (record { state = s; outcome = became }))
@@ -101,30 +101,37 @@ module _ (s : State) (steady : IsSteady s) (r : SwitchRequest) where
     abbrev again : Places
     again p = leaving s steady r.off r.on p && set p
 
-    abbrev reached : State
-    reached = with_outcome (with_switch s (done dropped set again))
+    -- whichever state it reaches
+    in_part_at : (reached : State) → HasSwitched s set again reached → IsDoneInPart s r reached
+    in_part_at reached switched =
+        let active_is : active reached ≡ set = fun_ext switched.set_is in
+        record {
+          again = again;
+          named_again = λ p both.
+              let parts = and_parts (leaving s steady r.off r.on p) (set p) both in
+              and_from (named (scene_of s) r.off p) (named (scene_of s) r.on p) (best_asked_off s steady r.off r.on p parts.0)
+              (best_came s steady r.off r.on before p parts.1 (not_staying s steady r.off r.on p parts.0));
+          switched = subst (λ f. HasSwitched s f again reached) (sym active_is) switched;
+          together = subst (CanRunTogether s.description s.lives) (sym active_is) (effort_together s steady r.off r.on before);
+          came = λ p idle runs. best_came s steady r.off r.on before p (sym (switched.set_is p) ∙ runs) (idle_not_staying s steady r.off r.on p idle);
+          left = λ p ran gone. best_asked_off s steady r.off r.on p (best_left s steady r.off r.on before p ran (sym (switched.set_is p) ∙ gone));
+        }
 
-    effort_switched : HasSwitched s set again reached
-    effort_switched = told_switched s set again (with_switch s (done dropped set again)) (set_switched set again (effort_params s steady r.off r.on before))
+    effort_switched : HasSwitched s set again (with_switch s (done dropped set again)).state
+    effort_switched = set_switched set again (effort_params s steady r.off r.on before)
 
-    active_is : active reached ≡ set
-    active_is = fun_ext effort_switched.set_is
+    in_part : IsDoneInPart s r (with_outcome (with_switch s (done dropped set again)))
+    in_part = in_part_at _ (told_switched s set again (with_switch s (done dropped set again)) effort_switched)
 
-    in_part : IsDoneInPart s r reached
-    in_part = record {
-      again = again;
-      named_again = λ p both.
-          let parts = and_parts (leaving s steady r.off r.on p) (set p) both in
-          and_from (named (scene_of s) r.off p) (named (scene_of s) r.on p) (best_asked_off s steady r.off r.on p parts.0)
-          (best_came s steady r.off r.on before p parts.1 (not_staying s steady r.off r.on p parts.0));
-      switched = subst (λ f. HasSwitched s f again reached) (sym active_is) effort_switched;
-      together = subst (CanRunTogether s.description s.lives) (sym active_is) (effort_together s steady r.off r.on before);
-      came = λ p idle runs. best_came s steady r.off r.on before p (sym (effort_switched.set_is p) ∙ runs) (idle_not_staying s steady r.off r.on p idle);
-      left = λ p ran gone. best_asked_off s steady r.off r.on p (best_left s steady r.off r.on before p ran (sym (effort_switched.set_is p) ∙ gone));
-    }
+    untold_in_part : IsDoneInPart s r (with_switch s (done dropped set again)).state
+    untold_in_part = in_part_at _ effort_switched
 
   best_right : AsMuchAsCanBe s r (with_outcome (with_switch s (best (scene_of s) r.off r.on))) (with_switch s (best (scene_of s) r.off r.on)).outcome
   best_right = in_part _ _
+
+  -- and so it is of a best effort that no request asked for
+  pub best_untold : IsDoneInPart s r (with_switch s (best (scene_of s) r.off r.on)).state
+  best_untold = untold_in_part _ _
 
   switch_right : IsSwitchDecided r.strict s r (with_outcome (with_switch s (decided (scene_of s) r))) (with_switch s (decided (scene_of s) r)).outcome
   switch_right = either r.strict
@@ -246,14 +253,37 @@ all_decided s [] steady = begun_apart s
 all_decided s (r ∷ rs) steady =
     (with_outcome (concluded s r), decision s r steady, all_decided (with_outcome (concluded s r)) rs (outcome_steady (concluded s r) (concluded_steady s r steady)))
 
--- Each begin decides all that waited rightly, and tells so.
-pub begin_decides : (s : State) → IsSteady s → AreDecided s (waiting s) (outcomes_in (begin_reply s)) (begin_effect s)
-begin_decides s steady = subst (λ os. AreDecided s (waiting s) os (begin_effect s)) (sym (begin_outcomes s)) (all_decided s (waiting s) steady)
+-- Those that are to stand in come as far as they can.
+stand_in_right : (s : State) (names : List (List ℕ)) → IsSteady s → AreStoodIn s names (after_standing_in s names)
+stand_in_right s [] steady = refl
+stand_in_right s (name ∷ names) steady =
+    let emptied = record s { fallbacks = [] } in
+    let asked = standing_in (name ∷ names) in
+    record {
+      switched = best_untold emptied (emptied_steady s steady) (record { on = name ∷ names; off = []; strict = false });
+      same = concluded_lasts emptied asked;
+      outcomes = concluded_keeps emptied asked;
+    }
+
+-- Each begin asks for those that are to stand in, decides all that waited rightly, and tells so.
+pub begin_decides : (s : State) → IsSteady s
+    → (stood : State) × AreStoodIn s s.fallbacks stood × AreDecided stood (waiting s) (outcomes_in (begin_reply s)) (begin_effect s)
+begin_decides s steady =
+    let stood = after_fallbacks s in (
+      stood,
+      stand_in_right s s.fallbacks steady,
+      subst (λ os. AreDecided stood (waiting s) os (begin_effect s)) (sym (begin_outcomes s))
+          (subst (λ (rs : List Request). AreDecided stood rs (outcomes_from stood (waiting stood)) (begin_effect s)) (waiting_stays s)
+          (all_decided stood (waiting stood) (standing_steady s s.fallbacks steady))),
+    )
 
 -- So does each that is made.
 pub decides_rightly : (s : State) (call : Call) (made : State × Reply) → IsSteady s → IsStep s call made → DecidesRightly (moment_of s call made) call
 decides_rightly s (Begin number) made steady is =
-    subst (λ t. AreDecided s (waiting s) (outcomes_in made.1) t) (sym is.next)
-    (subst (λ answer. AreDecided s (waiting s) (outcomes_in answer) (begin_effect s)) (same_Some (begin_reply s) made.1 is.replied)
-    (begin_decides s steady))
+    let decides = begin_decides s steady in (
+      decides.0,
+      decides.1,
+      subst (λ t. AreDecided decides.0 (waiting s) (outcomes_in made.1) t) (sym is.next)
+          (subst (λ answer. AreDecided decides.0 (waiting s) (outcomes_in answer) (begin_effect s)) (same_Some (begin_reply s) made.1 is.replied) decides.2),
+    )
 decides_rightly s _ made steady is = tt

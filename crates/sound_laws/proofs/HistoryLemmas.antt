@@ -25,6 +25,7 @@ use Rattle.sound_laws.proofs.BetweenLemmas.{configuration_from}
 use Rattle.sound_laws.proofs.BootLemmas.{boot_steady}
 use Rattle.sound_laws.proofs.BoundaryLemmas.{begin_steady}
 use Rattle.sound_laws.proofs.CycleLemmas.{after_steady}
+use Rattle.sound_laws.proofs.FallbackLemmas.{led_from}
 use Rattle.sound_laws.proofs.GoneLemmas.{unloads_from}
 use Rattle.sound_laws.proofs.LoanLemmas.{loans_hold}
 use Rattle.sound_laws.proofs.DecidedLemmas.{decides_rightly}
@@ -116,7 +117,11 @@ module _ (d : Description) (blanks : Blanks) (sessions : ℕ) (history : List En
 
   -- Each request is decided once, a strict switch whole or not at all.
   pub requests_decided_once : RequestsAreDecidedOnce (moments (boot d blanks sessions) history)
-  requests_decided_once = record { tickets = tickets_from (boot d blanks sessions) [] history refl legal; whole = begins_right }
+  requests_decided_once = record {
+    tickets = tickets_from (boot d blanks sessions) [] history refl legal;
+    whole = begins_right;
+    fallbacks = led_from (boot d blanks sessions) false history refl legal;
+  }
 
 -- An unload leaves nothing behind.
 pub unloads_leave_nothing : (d : Description) (blanks : Blanks) (sessions : ℕ) (history : List Entry) → IsLegal d blanks sessions history

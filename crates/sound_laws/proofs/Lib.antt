@@ -24,6 +24,7 @@ pub mod RunLemmas
 pub mod ReplyLemmas
 pub mod GoneLemmas
 pub mod ToldLemmas
+pub mod FallbackLemmas
 pub mod CoreLemmas
 pub mod BetweenLemmas
 pub mod HistoryLemmas

@@ -1,10 +1,10 @@
 -- What holds of each reply that a call can have in a state.
-use Rattle.std.proofs.Common.{◌≡◌, Bool, true, false, List, [], ◌∷◌, Option, Some, None, subst}
+use Rattle.std.proofs.Common.{◌≡◌, Bool, true, false, List, [], ◌∷◌, ◌++◌, Option, Some, None, subst}
 use Rattle.std.specs.Prelude.{if◌then◌else◌, length, slice_get}
 use Rattle.std.proofs.lemmas.Option.{same_Some}
 use Rattle.cm_document.specs.declared.call.Call.{Call}
 use Rattle.cm_document.specs.declared.call.Call.TheVariants.{Load, Configure, Cleanup, Unload, Rate, Send, Switch, Hardware, Told, Await, ListControllers, ListInterfaces, ListComponents, Begin, End, Close}
-use Rattle.cm_model.specs.Boundary.{request_refusals, request_reply, boundary, decisions_between, begin_reply, close_effect, close_reply}
+use Rattle.cm_model.specs.Boundary.{request_refusals, request_reply, told_of_fallbacks, boundary, decisions_between, begin_reply, close_effect, close_reply}
 use Rattle.cm_model.specs.Console.{unless_refused, place_of, controller_of, configure_refusals, cleanup_refusals, unload_refusals, rate_refusals, send_refusals, reply_on, configure_reply, cleanup_reply, unload_reply, rate_reply, send_reply}
 use Rattle.cm_model.specs.Cycle.{cycle}
 use Rattle.cm_model.specs.Machine.{load_refusals, reply_of}
@@ -66,6 +66,6 @@ of_reply s P (Await cycles) each r told = subst P (same_Some reply.Done r told) 
 of_reply s P ListControllers each r told = subst P (same_Some (reply.Controllers (controller_lines s)) r told) each.controllers
 of_reply s P ListInterfaces each r told = subst P (same_Some (reply.Interfaces (interface_lines s)) r told) each.interfaces
 of_reply s P ListComponents each r told = subst P (same_Some (reply.Components (component_lines s)) r told) each.components
-of_reply s P (Begin number) each r told = subst P (same_Some (begin_reply s) r told) (each.decisions tt (decisions_between s (boundary s)))
+of_reply s P (Begin number) each r told = subst P (same_Some (begin_reply s) r told) (each.decisions tt (told_of_fallbacks s s.fallbacks ++ decisions_between s (boundary s)))
 of_reply s P (End number) each r told = subst P (same_Some (reply.Cycle (cycle s).happened) r told) each.cycle
 of_reply s P Close each r told = subst P (same_Some (close_reply s) r told) (each.decisions tt (decisions_between s (close_effect s)))

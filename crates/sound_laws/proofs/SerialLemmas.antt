@@ -14,7 +14,7 @@ use Rattle.cm_document.specs.declared.life.Life.{Life}
 use Rattle.cm_model.proofs.SteadyLemmas.{all_remove, distinct_remove}
 use Rattle.cm_model.proofs.UpdateLemmas.{updates_keep}
 use Rattle.cm_model.specs.BestEffort.{decided}
-use Rattle.cm_model.specs.Boundary.{waiting, request_effect, with_switch, component_place, move_fault, with_move_unless, with_move, concluded, with_outcome, all_concluded, boundary, begin_effect}
+use Rattle.cm_model.specs.Boundary.{waiting, standing_in, after_standing_in, after_fallbacks, request_effect, with_switch, component_place, move_fault, with_move_unless, with_move, concluded, with_outcome, all_concluded, boundary, begin_effect}
 use Rattle.cm_model.specs.Commit.{coming, leaving, committed, scene_of, commit}
 use Rattle.cm_model.specs.Console.{place_of, slot_of, description_of, configured_with, after_configure, after_cleanup, after_rate, after_send, where_done, with_slot, with_changed, without_slot}
 use Rattle.cm_model.specs.Components.{read_succeeds}
@@ -209,11 +209,21 @@ mail_keeps_serial : (s : State) (goes : Bool) (l : Loaded) → (if goes then rec
 mail_keeps_serial s true l = refl
 mail_keeps_serial s false l = refl
 
+standing_keep : (s : State) (names : List (List ℕ)) → KeepsSerials s (after_standing_in s names)
+standing_keep s [] = record { loads = refl; serials = refl }
+standing_keep s (name ∷ names) =
+    let one = concluded_keeps (record s { fallbacks = [] }) (standing_in (name ∷ names)) in
+    record { loads = one.loads; serials = one.serials }
+
 begin_renumbered : (s : State) → AreRenumbered s (begin_effect s)
 begin_renumbered s =
-    let kept = all_keep s (waiting s) in
+    let stood = standing_keep s s.fallbacks in
+    let kept = all_keep (after_fallbacks s) (waiting (after_fallbacks s)) in
     let after = boundary s in
-    inl (kept.loads, serials_map (without_mail_off after) (λ l. mail_keeps_serial after (is_active l && is_due_now after l) l) after.loaded ∙ kept.serials)
+    inl (
+      kept.loads ∙ stood.loads,
+      serials_map (without_mail_off after) (λ l. mail_keeps_serial after (is_active l && is_due_now after l) l) after.loaded ∙ kept.serials ∙ stood.serials,
+    )
 
 -- ---- Steps
 

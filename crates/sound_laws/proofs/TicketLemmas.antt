@@ -1,12 +1,13 @@
 -- Each ticket is decided once, and told so.
-use Rattle.std.proofs.Common.{◌≡◌, ℕ, zero, suc, ◌+◌, true, false, List, [], ◌∷◌, ◌++◌, length, drop, map, cond, Option, Some, None, refl, sym, ◌∙◌, ap, append_assoc, append-nil, arith}
+use Rattle.std.proofs.Common.{◌≡◌, ℕ, zero, suc, ◌+◌, true, false, List, [], ◌∷◌, ◌++◌, length, drop, map, cond, Option, Some, None, refl, sym, ◌∙◌, ap, ap₂, append_assoc, append-nil, arith}
 use Rattle.std.specs.Prelude.{◌==◌, find, option_map, slice_get}
 use Rattle.std.proofs.lemmas.Bool.{eq-eqb, ne_eqb}
-use Rattle.cm_model.specs.Boundary.{waiting, with_switch, component_place, move_fault, with_move_unless, with_move, Concluded, concluded, with_outcome, all_concluded, boundary, decisions_from, decisions_between, begin_effect, begin_reply, close_effect, close_reply, told_reply}
+use Rattle.cm_model.proofs.WaitingLemmas.{standing-requests}
+use Rattle.cm_model.specs.Boundary.{waiting, standing_in, after_standing_in, after_fallbacks, told_of_fallbacks, with_switch, component_place, move_fault, with_move_unless, with_move, Concluded, concluded, with_outcome, all_concluded, boundary, decisions_from, decisions_between, begin_effect, begin_reply, close_effect, close_reply, told_reply}
 use Rattle.cm_document.specs.declared.life.Life.{Life}
 use Rattle.cm_model.specs.BestEffort.{decided}
 use Rattle.cm_model.specs.Commit.{scene_of, commit}
-use Rattle.cm_model.specs.Sound.{decisions_in, outcomes_in, outcome_of}
+use Rattle.cm_model.specs.Sound.{decisions_in, ticketed, outcomes_in, is_of_ticket, outcome_of}
 use Rattle.cm_model.specs.State.{State}
 use Rattle.cm_model.specs.Switches.{Decided, refused, done}
 use Rattle.cm_model.specs.declared.cause.Cause.{Cause}
@@ -57,7 +58,7 @@ decisions_append : (n : ℕ) (xs ys : List Outcome) → decisions_from n (xs ++ 
 decisions_append n [] ys = let same : n ≡ n + 0 = omega arith in ap (λ k. decisions_from k ys) same
 decisions_append n (x ∷ xs) ys =
     let next : (n + 1) + length xs ≡ n + suc (length xs) = omega arith in
-    let first : Decision = record { ticket = n; outcome = x } in
+    let first : Decision = record { ticket = Some n; outcome = x } in
     ap (λ (ds : List Decision). first ∷ ds) (decisions_append (n + 1) xs ys ∙ ap (λ k. decisions_from (n + 1) xs ++ decisions_from k ys) next)
 
 drop_before : (xs ys : List Outcome) → drop (length xs) (xs ++ ys) ≡ ys
@@ -74,12 +75,51 @@ told_between before after told is =
     ∙ sym (ap (λ k. decisions_from 0 before.outcomes ++ decisions_from k told) first)
     ∙ sym (decisions_append 0 before.outcomes told) ∙ sym (ap (decisions_from 0) is)
 
--- A begin tells of each ticket that it decides, and so does the close.
-pub begin_tells : (s : State) → decisions_from 0 s.outcomes ++ decisions_in (begin_reply s) ≡ decisions_from 0 (begin_effect s).outcomes
-begin_tells s = told_between s (boundary s) (outcomes_from s (waiting s)) (all_add s (waiting s))
+-- ---- Those that stand in
 
-pub close_tells : (s : State) → decisions_from 0 s.outcomes ++ decisions_in (close_reply s) ≡ decisions_from 0 (close_effect s).outcomes
-close_tells s = told_between s (close_effect s) (map (λ r. outcome.LoopEnded) (waiting s)) refl
+-- they change no outcome,
+standing_outcomes : (s : State) (names : List (List ℕ)) → (after_standing_in s names).outcomes ≡ s.outcomes
+standing_outcomes s [] = refl
+standing_outcomes s (name ∷ names) = concluded_keeps (record s { fallbacks = [] }) (standing_in (name ∷ names))
+
+-- so the same requests wait behind them
+pub waiting_stays : (s : State) → waiting (after_fallbacks s) ≡ waiting s
+waiting_stays s =
+    ap₂ (λ (os : List Outcome) (rs : List Request). drop (length os) rs) (standing_outcomes s s.fallbacks) (standing-requests s s.fallbacks)
+
+-- the outcomes of a begin stand behind those before it
+begin_adds : (s : State) → (boundary s).outcomes ≡ s.outcomes ++ outcomes_from (after_fallbacks s) (waiting (after_fallbacks s))
+begin_adds s =
+    all_add (after_fallbacks s) (waiting (after_fallbacks s))
+    ∙ ap (λ (os : List Outcome). os ++ outcomes_from (after_fallbacks s) (waiting (after_fallbacks s))) (standing_outcomes s s.fallbacks)
+
+-- outcomes by ticket have all a ticket
+pub all_ticketed : (n : ℕ) (os : List Outcome) → ticketed (decisions_from n os) ≡ decisions_from n os
+all_ticketed n [] = refl
+all_ticketed n (o ∷ os) =
+    let first : Decision = record { ticket = Some n; outcome = o } in ap (λ (ds : List Decision). first ∷ ds) (all_ticketed (n + 1) os)
+
+-- and what is told of those that stand in has none
+none_ticketed : (s : State) (names : List (List ℕ)) (ds : List Decision) → ticketed (told_of_fallbacks s names ++ ds) ≡ ticketed ds
+none_ticketed s [] ds = refl
+none_ticketed s (name ∷ names) ds = refl
+
+pub between_ticketed : (before after : State) → ticketed (decisions_between before after) ≡ decisions_between before after
+between_ticketed before after = all_ticketed (length before.outcomes) (drop (length before.outcomes) after.outcomes)
+
+begin_ticketed : (s : State) → ticketed (decisions_in (begin_reply s)) ≡ decisions_between s (boundary s)
+begin_ticketed s = none_ticketed s s.fallbacks (decisions_between s (boundary s)) ∙ between_ticketed s (boundary s)
+
+-- A begin tells of each ticket that it decides, and so does the close.
+pub begin_tells : (s : State) → decisions_from 0 s.outcomes ++ ticketed (decisions_in (begin_reply s)) ≡ decisions_from 0 (begin_effect s).outcomes
+begin_tells s =
+    ap (λ (ds : List Decision). decisions_from 0 s.outcomes ++ ds) (begin_ticketed s)
+    ∙ told_between s (boundary s) (outcomes_from (after_fallbacks s) (waiting (after_fallbacks s))) (begin_adds s)
+
+pub close_tells : (s : State) → decisions_from 0 s.outcomes ++ ticketed (decisions_in (close_reply s)) ≡ decisions_from 0 (close_effect s).outcomes
+close_tells s =
+    ap (λ (ds : List Decision). decisions_from 0 s.outcomes ++ ds) (between_ticketed s (close_effect s))
+    ∙ told_between s (close_effect s) (map (λ r. outcome.LoopEnded) (waiting s)) refl
 
 -- the outcomes that are told by ticket
 told_outcomes : (n : ℕ) (os : List Outcome) → map (λ (d : Decision). d.outcome) (decisions_from n os) ≡ os
@@ -87,27 +127,29 @@ told_outcomes n [] = refl
 told_outcomes n (o ∷ os) = ap (λ (rest : List Outcome). o ∷ rest) (told_outcomes (n + 1) os)
 
 -- A begin tells what became of those that waited, in order.
-pub begin_outcomes : (s : State) → outcomes_in (begin_reply s) ≡ outcomes_from s (waiting s)
+pub begin_outcomes : (s : State) → outcomes_in (begin_reply s) ≡ outcomes_from (after_fallbacks s) (waiting (after_fallbacks s))
 begin_outcomes s =
-    ap (λ (os : List Outcome). map (λ (d : Decision). d.outcome) (decisions_from (length s.outcomes) (drop (length s.outcomes) os))) (all_add s (waiting s))
-    ∙ ap (λ (os : List Outcome). map (λ (d : Decision). d.outcome) (decisions_from (length s.outcomes) os)) (drop_before s.outcomes (outcomes_from s (waiting s)))
-    ∙ told_outcomes (length s.outcomes) (outcomes_from s (waiting s))
+    let told = outcomes_from (after_fallbacks s) (waiting (after_fallbacks s)) in
+    ap (map (λ (d : Decision). d.outcome)) (begin_ticketed s)
+    ∙ ap (λ (os : List Outcome). map (λ (d : Decision). d.outcome) (decisions_from (length s.outcomes) (drop (length s.outcomes) os))) (begin_adds s)
+    ∙ ap (λ (os : List Outcome). map (λ (d : Decision). d.outcome) (decisions_from (length s.outcomes) os)) (drop_before s.outcomes told)
+    ∙ told_outcomes (length s.outcomes) told
 
 -- ---- Who asks
 
 found_first : (ticket n : ℕ) (o : Outcome) (rest : Option Decision) → (n == ticket) ≡ true
-    → option_map (λ (d : Decision). d.outcome) (cond (n == ticket) (Some (record { ticket = n; outcome = o })) rest) ≡ Some o
+    → option_map (λ (d : Decision). d.outcome) (cond (n == ticket) (Some (record { ticket = Some n; outcome = o })) rest) ≡ Some o
 found_first ticket n o rest same = rw same refl
 
 found_later : (ticket n : ℕ) (o : Outcome) (rest : Option Decision) → (n == ticket) ≡ false
-    → option_map (λ (d : Decision). d.outcome) (cond (n == ticket) (Some (record { ticket = n; outcome = o })) rest) ≡ option_map (λ (d : Decision). d.outcome) rest
+    → option_map (λ (d : Decision). d.outcome) (cond (n == ticket) (Some (record { ticket = Some n; outcome = o })) rest) ≡ option_map (λ (d : Decision). d.outcome) rest
 found_later ticket n o rest other = rw other refl
 
 told_from : (n : ℕ) (os : List Outcome) (k ticket : ℕ) → n + k ≡ ticket → outcome_of (decisions_from n os) ticket ≡ slice_get os k
 told_from n [] k ticket is = refl
-told_from n (o ∷ os) zero ticket is = found_first ticket n o (find (λ (d : Decision). d.ticket == ticket) (decisions_from (n + 1) os)) (eq-eqb n ticket (omega (arith, is)))
+told_from n (o ∷ os) zero ticket is = found_first ticket n o (find (is_of_ticket ticket) (decisions_from (n + 1) os)) (eq-eqb n ticket (omega (arith, is)))
 told_from n (o ∷ os) (suc k) ticket is =
-    found_later ticket n o (find (λ (d : Decision). d.ticket == ticket) (decisions_from (n + 1) os)) (ne_eqb n ticket (λ (e : n ≡ ticket). omega (arith, is, e)))
+    found_later ticket n o (find (is_of_ticket ticket) (decisions_from (n + 1) os)) (ne_eqb n ticket (λ (e : n ≡ ticket). omega (arith, is, e)))
     ∙ told_from (n + 1) os k ticket (omega (arith, is))
 
 -- Who asks for a ticket is told what was told of it.

@@ -11,7 +11,7 @@ use Rattle.cm_model.specs.Commit.{commit}
 use Rattle.cm_model.specs.Console.{place_of, slot_of, after_configure, after_cleanup, after_rate, after_send, where_done, with_slot, with_changed, without_slot}
 use Rattle.cm_model.specs.Cycle.{after_cycle}
 use Rattle.cm_model.specs.Machine.{LegalFrom, reply_of, with_controller, with_loaded, load_effect, effect}
-use Rattle.cm_model.specs.Sound.{moments, decisions_in, IsToldRightly, TicketsAreRight, TicketsFrom}
+use Rattle.cm_model.specs.Sound.{moments, decisions_in, ticketed, IsToldRightly, TicketsAreRight, TicketsFrom}
 use Rattle.cm_model.specs.State.{State, Loaded}
 use Rattle.cm_model.specs.declared.cause.Decision.{Decision}
 use Rattle.cm_model.specs.declared.entry.Entry.{Entry}
@@ -23,58 +23,88 @@ use Rattle.sound_laws.proofs.MomentLemmas.{moment_of, legal_step}
 use Rattle.sound_laws.proofs.ReplyLemmas.{Decides, of_reply}
 use Rattle.sound_laws.proofs.TicketLemmas.{begin_tells, close_tells, told_rightly}
 
--- ---- Outcomes stay
+-- ---- Outcomes and those that are to stand in stay
 
-load_stays : (s : State) (place : ℕ) (o : Option CtlDesc) → (with_controller s place o).outcomes ≡ s.outcomes
-load_stays s place None = refl
-load_stays s place (Some c) = refl
+-- both are as they were
+pub record Stays (s after : State) : Type 0 where
+  pub outcomes : after.outcomes ≡ s.outcomes
+  pub fallbacks : after.fallbacks ≡ s.fallbacks
 
-loaded_stays : (s : State) (place : Option ℕ) → (with_loaded s place).outcomes ≡ s.outcomes
-loaded_stays s None = refl
+same : (s : State) → Stays s s
+same s = record { outcomes = refl; fallbacks = refl }
+
+load_stays : (s : State) (place : ℕ) (o : Option CtlDesc) → Stays s (with_controller s place o)
+load_stays s place None = same s
+load_stays s place (Some c) = record { outcomes = refl; fallbacks = refl }
+
+loaded_stays : (s : State) (place : Option ℕ) → Stays s (with_loaded s place)
+loaded_stays s None = same s
 loaded_stays s (Some place) = load_stays s place (slice_get s.description.controllers place)
 
-load_effect_stays : (s : State) (name : List ℕ) (r : Reply) → (load_effect s name r).outcomes ≡ s.outcomes
+load_effect_stays : (s : State) (name : List ℕ) (r : Reply) → Stays s (load_effect s name r)
 load_effect_stays s name (reply.Serial serial) = loaded_stays s (place_of s name)
-load_effect_stays s name _ = refl
+load_effect_stays s name _ = same s
 
-slot_stays : (s : State) (i : ℕ) (o : Option Loaded) → (with_slot s i o).outcomes ≡ s.outcomes
-slot_stays s i None = refl
-slot_stays s i (Some l) = refl
+slot_stays : (s : State) (i : ℕ) (o : Option Loaded) → Stays s (with_slot s i o)
+slot_stays s i None = same s
+slot_stays s i (Some l) = record { outcomes = refl; fallbacks = refl }
 
-changed_stays : (s : State) (change : Loaded → Loaded) (slot : Option ℕ) → (with_changed change s slot).outcomes ≡ s.outcomes
-changed_stays s change None = refl
+changed_stays : (s : State) (change : Loaded → Loaded) (slot : Option ℕ) → Stays s (with_changed change s slot)
+changed_stays s change None = same s
 changed_stays s change (Some i) = slot_stays s i (option_map change (slice_get s.loaded i))
 
-without_stays : (s : State) (slot : Option ℕ) → (without_slot s slot).outcomes ≡ s.outcomes
-without_stays s None = refl
-without_stays s (Some i) = refl
+without_stays : (s : State) (slot : Option ℕ) → Stays s (without_slot s slot)
+without_stays s None = same s
+without_stays s (Some i) = record { outcomes = refl; fallbacks = refl }
 
-where_done_stays : (s after : State) (r : Reply) → after.outcomes ≡ s.outcomes → (where_done r after s).outcomes ≡ s.outcomes
+where_done_stays : (s after : State) (r : Reply) → Stays s after → Stays s (where_done r after s)
 where_done_stays s after reply.Done stays = stays
-where_done_stays s after _ stays = refl
+where_done_stays s after _ stays = same s
 
-request_stays : (s : State) (asked : Request) (r : Reply) → (request_effect s asked r).outcomes ≡ s.outcomes
-request_stays s asked (reply.Queued ticket) = refl
-request_stays s asked _ = refl
+request_stays : (s : State) (asked : Request) (r : Reply) → Stays s (request_effect s asked r)
+request_stays s asked (reply.Queued ticket) = record { outcomes = refl; fallbacks = refl }
+request_stays s asked _ = same s
 
--- a call that decides nothing leaves them as they are
+-- a call that neither decides nor ends a cycle
+abbrev pub IsPlain : Call → Type 0
+IsPlain (Begin number) = ⊥
+IsPlain (End number) = ⊥
+IsPlain Close = ⊥
+IsPlain _ = Unit {0}
+
+-- leaves both as they are
+pub plain_stays : (s : State) (call : Call) (r : Reply) → IsPlain call → Stays s (effect s call r)
+plain_stays s (Load name) r plain = load_effect_stays s name r
+plain_stays s (Configure name) r plain = where_done_stays s _ r (changed_stays s (after_configure s) (slot_of s name))
+plain_stays s (Cleanup name) r plain = where_done_stays s _ r (changed_stays s after_cleanup (slot_of s name))
+plain_stays s (Unload name) r plain = where_done_stays s _ r (without_stays s (slot_of s name))
+plain_stays s (Rate name hz) r plain = where_done_stays s _ r (changed_stays s (after_rate hz) (slot_of s name))
+plain_stays s (Send name mail) r plain = where_done_stays s _ r (changed_stays s (after_send mail) (slot_of s name))
+plain_stays s (Switch asked) r plain = request_stays s (request.Switch asked) r
+plain_stays s (Hardware component target) r plain = request_stays s (request.Hardware component target) r
+plain_stays s (Begin number) r plain = absurd plain
+plain_stays s (End number) r plain = absurd plain
+plain_stays s Close r plain = absurd plain
+plain_stays s _ r plain = same s
+
+-- a call that decides nothing leaves the outcomes as they are
 effect_stays : (s : State) (call : Call) (r : Reply) → (Decides call → ⊥) → (effect s call r).outcomes ≡ s.outcomes
 unfolding after_cycle commit
-effect_stays s (Load name) r never = load_effect_stays s name r
-effect_stays s (Configure name) r never = where_done_stays s _ r (changed_stays s (after_configure s) (slot_of s name))
-effect_stays s (Cleanup name) r never = where_done_stays s _ r (changed_stays s after_cleanup (slot_of s name))
-effect_stays s (Unload name) r never = where_done_stays s _ r (without_stays s (slot_of s name))
-effect_stays s (Rate name hz) r never = where_done_stays s _ r (changed_stays s (after_rate hz) (slot_of s name))
-effect_stays s (Send name mail) r never = where_done_stays s _ r (changed_stays s (after_send mail) (slot_of s name))
-effect_stays s (Switch asked) r never = request_stays s (request.Switch asked) r
-effect_stays s (Hardware component target) r never = request_stays s (request.Hardware component target) r
 effect_stays s (Begin number) r never = absurd (never tt)
 effect_stays s (End number) r never = refl
 effect_stays s Close r never = absurd (never tt)
+effect_stays s (Load name) r never = (plain_stays s (Load name) r tt).outcomes
+effect_stays s (Configure name) r never = (plain_stays s (Configure name) r tt).outcomes
+effect_stays s (Cleanup name) r never = (plain_stays s (Cleanup name) r tt).outcomes
+effect_stays s (Unload name) r never = (plain_stays s (Unload name) r tt).outcomes
+effect_stays s (Rate name hz) r never = (plain_stays s (Rate name hz) r tt).outcomes
+effect_stays s (Send name mail) r never = (plain_stays s (Send name mail) r tt).outcomes
+effect_stays s (Switch asked) r never = (plain_stays s (Switch asked) r tt).outcomes
+effect_stays s (Hardware component target) r never = (plain_stays s (Hardware component target) r tt).outcomes
 effect_stays s _ r never = refl
 
 -- and tells of no decision
-none_told : (s : State) (call : Call) (r : Reply) → (Decides call → ⊥) → reply_of s call ≡ Some r → decisions_in r ≡ []
+pub none_told : (s : State) (call : Call) (r : Reply) → (Decides call → ⊥) → reply_of s call ≡ Some r → decisions_in r ≡ []
 none_told s call r never told = of_reply s (λ r. decisions_in r ≡ []) call (record {
   refused = λ reason. refl;
   done = refl;
@@ -93,17 +123,17 @@ none_told s call r never told = of_reply s (λ r. decisions_in r ≡ []) call (r
 module _ (s : State) (made : State × Reply) where
   -- what was told before, with what this call tells, is told of all that have an outcome then
   abbrev TellsRest : Type 0
-  TellsRest = decisions_from 0 s.outcomes ++ decisions_in made.1 ≡ decisions_from 0 made.0.outcomes
+  TellsRest = decisions_from 0 s.outcomes ++ ticketed (decisions_in made.1) ≡ decisions_from 0 made.0.outcomes
 
   plain_tells : (call : Call) → IsStep s call made → (Decides call → ⊥) → TellsRest
   plain_tells call is never =
-      ap (λ decisions. decisions_from 0 s.outcomes ++ decisions) (none_told s call made.1 never is.replied) ∙ append-nil (decisions_from 0 s.outcomes)
+      ap (λ (ds : List Decision). decisions_from 0 s.outcomes ++ ticketed ds) (none_told s call made.1 never is.replied) ∙ append-nil (decisions_from 0 s.outcomes)
       ∙ ap (decisions_from 0) (sym (ap (λ (t : State). t.outcomes) is.next ∙ effect_stays s call made.1 never))
 
   -- with the reply that it has, and the state that it leaves
-  as_made : (r : Reply) (t : State) → r ≡ made.1 → made.0 ≡ t → decisions_from 0 s.outcomes ++ decisions_in r ≡ decisions_from 0 t.outcomes → TellsRest
+  as_made : (r : Reply) (t : State) → r ≡ made.1 → made.0 ≡ t → decisions_from 0 s.outcomes ++ ticketed (decisions_in r) ≡ decisions_from 0 t.outcomes → TellsRest
   as_made r t same next tells =
-      ap (λ answer. decisions_from 0 s.outcomes ++ decisions_in answer) (sym same) ∙ tells ∙ ap (λ (t : State). decisions_from 0 t.outcomes) (sym next)
+      ap (λ (answer : Reply). decisions_from 0 s.outcomes ++ ticketed (decisions_in answer)) (sym same) ∙ tells ∙ ap (λ (t : State). decisions_from 0 t.outcomes) (sym next)
 
   deciding : (call : Call) → (Decides call) ⊎ (Decides call → ⊥)
   deciding (Begin number) = inl tt
@@ -140,7 +170,7 @@ pub tickets_from : (s : State) (so_far : List Decision) (history : List Entry) �
 tickets_from s so_far [] are legal = tt
 tickets_from s so_far (e ∷ es) are legal =
     let first = legal_step s e es legal in
-    let all : so_far ++ decisions_in first.made.1 ≡ decisions_from 0 first.made.0.outcomes =
-    ap (λ told. told ++ decisions_in first.made.1) are ∙ tells s first.made e.call first.is in
+    let all : so_far ++ ticketed (decisions_in first.made.1) ≡ decisions_from 0 first.made.0.outcomes =
+    ap (λ told. told ++ ticketed (decisions_in first.made.1)) are ∙ tells s first.made e.call first.is in
     subst (TicketsFrom so_far) (sym first.are)
-    (call_right s first.made so_far are e.call first.is, tickets_from first.made.0 (so_far ++ decisions_in first.made.1) es all first.later)
+    (call_right s first.made so_far are e.call first.is, tickets_from first.made.0 (so_far ++ ticketed (decisions_in first.made.1)) es all first.later)
