@@ -14,7 +14,7 @@ use Rattle.cm_model.specs.Cycle.{cycle}
 use Rattle.cm_model.specs.Histories.{decided_in, SameLoop}
 use Rattle.cm_model.specs.Machine.{LegalFrom, IsLegal, can_begin, can_end, can_close, is_enabled, state_after, step}
 use Rattle.cm_model.specs.Sessions.{IsConsole, entries_by}
-use Rattle.cm_model.specs.Sound.{moments, decisions_in, TicketsFrom}
+use Rattle.cm_model.specs.Sound.{moments, decisions_in, ticketed, TicketsFrom}
 use Rattle.cm_model.specs.State.{State, boot}
 use Rattle.cm_model.specs.declared.blanks.Blanks.{Blanks}
 use Rattle.cm_model.specs.declared.cause.Decision.{Decision}
@@ -68,11 +68,11 @@ decided_from [] s so_far are legal right = sym (length_decisions 0 s.outcomes) �
 decided_from (e ∷ made) s so_far are legal right =
     let first = step_of (step s e.who e.call) e.reply (λ each. LegalFrom each made) legal in
     let told = subst (TicketsFrom so_far) (moments_cons s first.0 e made first.1) right in
-    let all : length (so_far ++ decisions_in e.reply) ≡ length so_far + length (decisions_in e.reply) = length-append so_far (decisions_in e.reply) in
-    let rest = decided_from made first.0 (so_far ++ decisions_in e.reply) told.0.each_once first.2 told.1 in
+    let all : length (so_far ++ ticketed (decisions_in e.reply)) ≡ length so_far + length (ticketed (decisions_in e.reply)) = length-append so_far (ticketed (decisions_in e.reply)) in
+    let rest = decided_from made first.0 (so_far ++ ticketed (decisions_in e.reply)) told.0.each_once first.2 told.1 in
     ap (λ (t : State). length t.outcomes) (after_cons s first.0 e made first.1)
-    ∙ sum_of (length so_far) (length (so_far ++ decisions_in e.reply)) (length (state_after first.0 made).outcomes) (length (decisions_in e.reply)) (decided_in made) (decided_in (e ∷ made)) all rest
-    (decided_append (e ∷ []) made ∙ ap (λ n. n + decided_in made) (zero-add (length (decisions_in e.reply))))
+    ∙ sum_of (length so_far) (length (so_far ++ ticketed (decisions_in e.reply))) (length (state_after first.0 made).outcomes) (length (ticketed (decisions_in e.reply))) (decided_in made) (decided_in (e ∷ made)) all rest
+    (decided_append (e ∷ []) made ∙ ap (λ n. n + decided_in made) (zero-add (length (ticketed (decisions_in e.reply)))))
 
 -- After a legal history from boot as many requests are decided as it tells decisions.
 pub decided_after : (d : Description) (blanks : Blanks) (sessions : ℕ) (made : List Entry) → IsLegal d blanks sessions made

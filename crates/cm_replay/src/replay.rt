@@ -182,11 +182,14 @@ impl<'a> Replay<'a> {
 
     fn read_decision(&mut self, decision: &'a Decision) -> Result<(), Memory> {
         let number = self.answered.len();
-        let asked = self.present.asked_under(decision.ticket);
+        let asked = match decision.ticket {
+            Some(ticket) => self.present.asked_under(ticket),
+            None => None,
+        };
         let cycle = self.present.ended;
         self.answered.push(Answered {
             cycle,
-            ticket: Some(decision.ticket),
+            ticket: decision.ticket,
             asked,
             became: Became::Decided(&decision.outcome),
         })?;

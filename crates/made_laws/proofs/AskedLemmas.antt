@@ -116,7 +116,7 @@ module _ (cycles : ℕ) (loaded : List Loaded) (h : Held) (asked : Asked) (n cou
   one_decided r = ap (all_concluded (between cycles loaded h (with_request asked r) n)) (one_waits r)
 
   pub one_told : (r : Request) (after : State) → after.outcomes ≡ asked.outcomes ++ outcome.Done [] ∷ []
-      → decisions_between (between cycles loaded h (with_request asked r) n) after ≡ record { ticket = length asked.outcomes; outcome = outcome.Done [] } ∷ []
+      → decisions_between (between cycles loaded h (with_request asked r) n) after ≡ record { ticket = Some (length asked.outcomes); outcome = outcome.Done [] } ∷ []
   one_told r after is =
       ap (λ (os : List Outcome). decisions_from (length asked.outcomes) (drop (length asked.outcomes) os)) is
       ∙ ap (decisions_from (length asked.outcomes)) (left_behind asked.outcomes (outcome.Done [] ∷ []) (length asked.outcomes) refl)

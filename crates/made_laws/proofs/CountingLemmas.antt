@@ -1,5 +1,5 @@
 -- What each entry of a made run adds to the counts.
-use Rattle.std.proofs.Common.{◌≡◌, ℕ, zero, suc, ◌+◌, List, [], ◌∷◌, ◌++◌, length, refl, ap, ◌∙◌, arith}
+use Rattle.std.proofs.Common.{◌≡◌, ℕ, zero, suc, ◌+◌, List, [], ◌∷◌, ◌++◌, length, Some, refl, ap, ◌∙◌, arith}
 use Rattle.cm_document.specs.declared.call.Call.{Call}
 use Rattle.cm_storage.specs.Happened.{Happened}
 use Rattle.cm_model.specs.Scheduled.{with_entry}
@@ -80,7 +80,7 @@ told_adds = record { cycles_more = λ c. refl; entries_same = λ c. refl; update
 pub nothing_adds : Adds (reply.Decisions []) 0 0 0
 nothing_adds = record { cycles_more = λ c. refl; entries_same = λ c. refl; updates_more = λ c. refl; done_more = λ c. refl; refused_same = λ c. refl; ended_same = λ c. refl }
 
-pub one_adds : (ticket : ℕ) → Adds (reply.Decisions (record { ticket = ticket; outcome = outcome.Done [] } ∷ [])) 0 0 1
+pub one_adds : (ticket : ℕ) → Adds (reply.Decisions (record { ticket = Some ticket; outcome = outcome.Done [] } ∷ [])) 0 0 1
 one_adds ticket = record { cycles_more = λ c. refl; entries_same = λ c. refl; updates_more = λ c. refl; done_more = λ c. one_over c.done; refused_same = λ c. refl; ended_same = λ c. refl }
 
 -- a cycle of so many updates

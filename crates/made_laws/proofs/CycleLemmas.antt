@@ -1,5 +1,5 @@
 -- The cycles of a made run: that in which a controller is stopped, that in which it is started again, and the others.
-use Rattle.std.proofs.Common.{◌≡◌, ℕ, suc, ◌<◌, List, [], ◌∷◌, length, ℤ, refl, ap, ap₂, ◌∙◌}
+use Rattle.std.proofs.Common.{◌≡◌, ℕ, suc, ◌<◌, List, [], ◌∷◌, length, ℤ, Some, refl, ap, ap₂, ◌∙◌}
 use Rattle.fixed_num.specs.declared.value.Value.{Value}
 use Rattle.fixed_num.specs.declared.value.Value.TheVariants.{Unset, Num}
 use Rattle.cm_document.specs.declared.call.Call.TheVariants as call
@@ -59,7 +59,7 @@ module _ (a b cycles n count : ℕ) (round : RoundOf a b) (held : ℕ → List V
         flying = eight (but_stopped b (running held));
         holding = h₁;
         mails = record { serial = a; mail = one_value z } ∷ [];
-        decisions = record { ticket = length asked.outcomes; outcome = outcome.Done [] } ∷ [];
+        decisions = record { ticket = Some (length asked.outcomes); outcome = outcome.Done [] } ∷ [];
         begins = ap begun decided ∙ begun_is s₁ (round.due held z)
             ∙ ap₂ (λ (loaded : List Loaded) (mails : List MailAloft). aloft_with mails (between cycles loaded h₁ told n)) (round.mailed held z).0 (round.mailed held z).1;
         tells = ap (λ (after : State). decisions_between s after) decided
@@ -82,7 +82,7 @@ module _ (a b cycles n count : ℕ) (round : RoundOf a b) (held : ℕ → List V
         flying = eight (running (with_values b (Unset ∷ []) held));
         holding = h₁;
         mails = [];
-        decisions = record { ticket = length asked.outcomes; outcome = outcome.Done [] } ∷ [];
+        decisions = record { ticket = Some (length asked.outcomes); outcome = outcome.Done [] } ∷ [];
         begins = ap begun decided ∙ begun_is s₁ (refl, (refl, (refl, (refl, (refl, (refl, (refl, (refl, tt))))))));
         tells = ap (λ (after : State). decisions_between s after) decided
             ∙ one_told cycles (eight (but_stopped b (running held))) h asked n count are starting s₁ refl;

@@ -93,7 +93,7 @@ opening_flies cycles =
       flying = eight (running unset_each);
       holding = h₁;
       mails = [];
-      decisions = record { ticket = 0; outcome = outcome.Done [] } ∷ [];
+      decisions = record { ticket = Some 0; outcome = outcome.Done [] } ∷ [];
       begins = ap begun decided ∙ begun_is s₁ (refl, (refl, (refl, (refl, (refl, (refl, (refl, (refl, tt))))))));
       tells = ap (decisions_between s) decided;
       adds = one_adds 0;

@@ -1,5 +1,5 @@
 -- Worked rows of requests as the desk keeps them, computed from the definitions alone: what is written down here is by hand.
-use Rattle.std.proofs.Common.{◌≡◌, true, false, [], ◌∷◌, refl}
+use Rattle.std.proofs.Common.{◌≡◌, true, false, [], ◌∷◌, Some, refl}
 use Rattle.std.specs.Prelude.{codes, drop}
 use Rattle.cm_document.specs.Described.{a_description}
 use Rattle.cm_document.specs.declared.life.Life.TheVariants.{Inactive, Active}
@@ -60,5 +60,5 @@ refused = (refl, refl, refl)
 closed :
     (close_effect (with_asked opening two_wait false) ≡ with_asked opening (record two_wait { outcomes = outcome.Done [] ∷ outcome.LoopEnded ∷ outcome.LoopEnded ∷ [] }) true)
     × (decisions_from 1 (drop 1 (outcome.Done [] ∷ outcome.LoopEnded ∷ outcome.LoopEnded ∷ []))
-    ≡ record { ticket = 1; outcome = outcome.LoopEnded } ∷ record { ticket = 2; outcome = outcome.LoopEnded } ∷ [])
+    ≡ record { ticket = Some 1; outcome = outcome.LoopEnded } ∷ record { ticket = Some 2; outcome = outcome.LoopEnded } ∷ [])
 closed = (refl, refl)

@@ -1,6 +1,6 @@
 //! The plan for all requests that wait.
 
-ghost use Rattle.std.specs.Prelude.{◌≡◌, ◌+◌, ◌<◌, ◌^◌, length, map, IfOk};
+ghost use Rattle.std.specs.Prelude.{◌≡◌, ◌+◌, ◌<◌, ◌^◌, length, map, Some, IfOk};
 ghost use Rattle.cm_model.specs.Boundary.{decisions_from};
 ghost use Rattle.cm_model.specs.State.{State};
 ghost use Rattle.request_plan.specs.Calls.Conclude.{CanDecide, Concludes};
@@ -118,10 +118,10 @@ fn decisions_of(
 
 /// That this became of the request of a ticket.
 fn decision(ticket: u32, outcome: &Outcome) -> Result<Decision, Memory>
-    ensures { IfOk result (λ decision. decision ≡ record { ticket = ticket; outcome = outcome.now }) }
+    ensures { IfOk result (λ decision. decision ≡ record { ticket = Some ticket; outcome = outcome.now }) }
 {
     Ok(Decision {
-        ticket,
+        ticket: Some(ticket),
         outcome: outcome.clone()?,
     })
 }

@@ -190,7 +190,7 @@ fn tell_ended(decisions: &mut Vec<Decision>, first: u32, waiting: &[Request])
     let mut ticket = first;
     for _request in waiting {
         decisions.push_reserved(Decision {
-            ticket,
+            ticket: Some(ticket),
             outcome: Outcome::LoopEnded,
         });
         ticket += 1;

@@ -1,6 +1,6 @@
 -- Each step keeps a state steady, so loans hold along each legal history, each due controller runs once in each cycle, and an unload
 -- leaves nothing behind.
-use Rattle.std.proofs.Common.{◌≡◌, ℕ, List, [], Some, None, refl, sym, ◌∙◌, subst, ap}
+use Rattle.std.proofs.Common.{◌≡◌, ℕ, List, [], Some, None, refl, sym, ◌∙◌, subst, ap, false}
 use Rattle.std.specs.List.{AllByRecursion, IsDistinct}
 use Rattle.std.proofs.lemmas.Option.{same_Some}
 use Rattle.cm_document.specs.Valid.{IsValid}

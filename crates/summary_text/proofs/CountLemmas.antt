@@ -1,29 +1,33 @@
 -- What an entry adds to the counts.
-use Rattle.std.proofs.Common.{◌≡◌, ℕ, ◌+◌, ◌<◌, ◌^◌, List, [], ◌∷◌, length, refl, ◌∙◌, arith}
+use Rattle.std.proofs.Common.{◌≡◌, ℕ, ◌+◌, ◌<◌, ◌≤◌, ◌^◌, List, [], ◌∷◌, length, Option, Some, None, refl, ◌∙◌, arith}
 use Rattle.cm_storage.specs.Happened.{Happened}
 use Rattle.cm_model.specs.declared.cause.Decision.{Decision}
 use Rattle.cm_model.specs.declared.cause.Outcome.{Outcome}
 use Rattle.cm_model.specs.declared.cause.Outcome.TheVariants as outcome
-use Rattle.summary_text.specs.Counted.{Counted, with_outcome, with_decisions, with_cycle}
+use Rattle.summary_text.specs.Counted.{Counted, with_outcome, with_decided, with_decisions, with_cycle}
 use Rattle.summary_text.specs.Few.{AreFew, outcomes}
 
--- so many outcomes more, and nothing else counted
+-- at most so many outcomes more, and nothing else counted
 record AddsOutcomes (n : ℕ) (old new : Counted) : Type 0 where
   cycles : new.cycles ≡ old.cycles
   entries : new.entries ≡ old.entries
   updates : new.updates ≡ old.updates
-  outcomes : outcomes new ≡ outcomes old + n
+  outcomes : outcomes new ≤ outcomes old + n
 
 outcome_adds : (o : Outcome) (c : Counted) → AddsOutcomes 1 c (with_outcome o c)
 outcome_adds (outcome.Done dropped) c = record { cycles = refl; entries = refl; updates = refl; outcomes = omega arith }
 outcome_adds (outcome.Refused name cause) c = record { cycles = refl; entries = refl; updates = refl; outcomes = omega arith }
 outcome_adds outcome.LoopEnded c = record { cycles = refl; entries = refl; updates = refl; outcomes = omega arith }
 
+decided_adds : (ticket : Option ℕ) (o : Outcome) (c : Counted) → AddsOutcomes 1 c (with_decided ticket o c)
+decided_adds (Some ticket) o c = outcome_adds o c
+decided_adds None o c = record { cycles = refl; entries = refl; updates = refl; outcomes = omega arith }
+
 decisions_add : (ds : List Decision) (c : Counted) → AddsOutcomes (length ds) c (with_decisions ds c)
 decisions_add [] c = record { cycles = refl; entries = refl; updates = refl; outcomes = omega arith }
 decisions_add (d ∷ ds) c =
-    let one = outcome_adds d.outcome c in
-    let more = decisions_add ds (with_outcome d.outcome c) in
+    let one = decided_adds d.ticket d.outcome c in
+    let more = decisions_add ds (with_decided d.ticket d.outcome c) in
     record {
       cycles = more.cycles ∙ one.cycles;
       entries = more.entries ∙ one.entries;

@@ -1,5 +1,5 @@
 -- Small histories with the summaries that were written down for them by hand: computed from the definitions.
-use Rattle.std.proofs.Common.{◌≡◌, refl, ℕ, List, [], ◌∷◌, pos}
+use Rattle.std.proofs.Common.{◌≡◌, refl, ℕ, List, [], ◌∷◌, Some, pos}
 use Rattle.std.specs.Prelude.{codes}
 use Rattle.std.specs.Fmt.{digits}
 use Rattle.fixed_num.specs.Text.{spelled}
@@ -39,7 +39,7 @@ at x = record { x = pos x; v = pos 0; f = pos 0 }
 
 -- a decided request
 abbrev decided : ℕ → Outcome → Decision
-decided ticket became = record { ticket = ticket; outcome = became }
+decided ticket became = record { ticket = Some ticket; outcome = became }
 
 -- of no entry all counts are 0, and each joint is where it is described
 of_nothing : summary robot [] ≡ codes "cycles 0\nentries 0\nupdates 0\nasks 0 done 0 refused 0 ended 0\njoint j1 0.500000\njoint j2 0.500000\n"

@@ -1,5 +1,5 @@
 -- What is counted of a history.
-use Rattle.std.specs.Prelude.{ℕ, ◌+◌, List, [], ◌∷◌, length}
+use Rattle.std.specs.Prelude.{ℕ, ◌+◌, List, [], ◌∷◌, length, Option, Some, None}
 use Rattle.fixed_num.specs.declared.value.BodyState.{BodyState}
 use Rattle.cm_storage.specs.Happened.{Happened}
 use Rattle.cm_model.specs.declared.cause.Decision.{Decision}
@@ -30,10 +30,15 @@ with_outcome (outcome.Done _) c = record c { done = c.done + 1 }
 with_outcome (outcome.Refused _ _) c = record c { refused = c.refused + 1 }
 with_outcome outcome.LoopEnded c = record c { ended = c.ended + 1 }
 
+-- a decision more: what has no ticket was asked for by nobody, and is not counted
+abbrev pub with_decided : Option ℕ → Outcome → Counted → Counted
+with_decided (Some ticket) became c = with_outcome became c
+with_decided None became c = c
+
 -- each decided request more
 abbrev pub with_decisions : List Decision → Counted → Counted
 with_decisions [] c = c
-with_decisions (d ∷ ds) c = with_decisions ds (with_outcome d.outcome c)
+with_decisions (d ∷ ds) c = with_decisions ds (with_decided d.ticket d.outcome c)
 
 -- a cycle more, with as many updates as its record tells of; the bodies are those after it
 abbrev pub with_cycle : Happened → Counted → Counted

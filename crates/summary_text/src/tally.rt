@@ -2,7 +2,7 @@
 
 ghost use Rattle.std.specs.Prelude.{◌≡◌, ◌+◌, ◌-◌, ◌<◌, ◌≤◌, ◌^◌, length};
 ghost use Rattle.summary_text.specs.Calls.Count.{CanCount};
-ghost use Rattle.summary_text.specs.Counted.{Counted, nothing, counted, with_entry, with_cycle, with_decisions, with_outcome};
+ghost use Rattle.summary_text.specs.Counted.{Counted, nothing, counted, with_entry, with_cycle, with_decided, with_decisions, with_outcome};
 ghost use Rattle.summary_text.specs.Few.{AreFew, outcomes};
 
 use cm_model::{Decision, Entry, Outcome, Reply};
@@ -108,6 +108,17 @@ impl<'a> Tally<'a> {
         ensures fits { length decisions.now < 2 ^ 64 }
     {
         for decision in decisions {
+            self.count_decision(decision);
+        }
+    }
+
+    fn count_decision(&mut self, decision: &Decision)
+        requires { outcomes self.old < 2 ^ 128 - 1 }
+        ensures counted { self.new ≡ with_decided decision.now.ticket decision.now.outcome self.old }
+        ensures more { outcomes self.new ≤ outcomes self.old + 1 }
+    {
+        // Nobody asked for what has no ticket.
+        if let Some(_) = decision.ticket {
             self.count_outcome(&decision.outcome);
         }
     }

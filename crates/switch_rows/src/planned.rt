@@ -229,7 +229,7 @@ fn hold_decision(
     decision: &Decision,
 ) -> Result<(), Fail> {
     let concluded = conclusions.get(ticket).ok_or("more is told")?;
-    if decision.ticket as usize != ticket || decision.outcome != concluded.outcome {
+    if decision.ticket != u32::try_from(ticket).ok() || decision.outcome != concluded.outcome {
         return Err(Fail::new("another outcome is told"));
     }
     Ok(())
