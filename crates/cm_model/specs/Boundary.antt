@@ -1,8 +1,8 @@
 -- Between two cycles: those are asked for that stand in for a controller whose update failed; then the requests that
 -- wait are decided, one after the other; and mail goes aloft with the cycle that begins.
-use Rattle.std.specs.Prelude.{ℕ, ◌+◌, ◌==◌, nat_le, nat_lt, Bool, true, false, not, if◌then◌else◌, List, [], ◌∷◌, ◌++◌}
-use Rattle.std.specs.Prelude.{length, map, drop, find, position, slice_get, slice_index_or, slice_set, Option, Some, None}
-use Rattle.std.specs.Prelude.{option_map}
+use Rattle.std.specs.Prelude.{ℕ, ◌+◌, ◌==◌, nat_le, nat_lt, Bool, true, false, not, if◌then◌else◌, List, [], ◌∷◌}
+use Rattle.std.specs.Prelude.{◌++◌, length, map, drop, find, position, slice_get, slice_index_or, slice_set, Option}
+use Rattle.std.specs.Prelude.{Some, None, option_map}
 use Rattle.std.specs.Option.{option_or}
 use Rattle.iface_names.specs.Names.{same_name}
 use Rattle.cm_document.specs.declared.description.Description.{Description}

@@ -21,10 +21,10 @@ pub fn begins_decide_rightly()
 /// Where all outcomes were told by ticket, they still are after a begin with what it tells, and after the close with what that tells;
 /// and who asks for a ticket is told what was told of it.
 pub fn each_ticket_is_told_once()
-    ensures begin { (s : State)
-        → decisions_from 0 s.outcomes ++ ticketed (decisions_in (begin_reply s)) ≡ decisions_from 0 (begin_effect s).outcomes }
-    ensures close { (s : State)
-        → decisions_from 0 s.outcomes ++ ticketed (decisions_in (close_reply s)) ≡ decisions_from 0 (close_effect s).outcomes }
+    ensures begin { (s : State) → decisions_from 0 s.outcomes ++ ticketed (decisions_in (begin_reply s))
+        ≡ decisions_from 0 (begin_effect s).outcomes }
+    ensures close { (s : State) → decisions_from 0 s.outcomes ++ ticketed (decisions_in (close_reply s))
+        ≡ decisions_from 0 (close_effect s).outcomes }
     ensures told { (s : State) (ticket : ℕ)
         → option_map (λ o. reply.Outcome o) (outcome_of (decisions_from 0 s.outcomes) ticket) ≡ told_reply s ticket }
 {}
