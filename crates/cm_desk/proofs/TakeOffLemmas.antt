@@ -213,13 +213,12 @@ module _ (s : State) (slots : Slotted) (run : List ℕ) (b : Bay) (boxes : List 
   -- ---- The flight
 
   pub equipped : (k : Craft) → IsFittedOut s.description b.plant.value.places (members_in_order (begun s)) k
-      → IsEquipped (seated (begun s).mails (active_order (begun s)) b.spare.stations.items) k.order.items b.plant.value b.ending.value b.spare_lists.value k.erred.items (vec_capacity k.erred)
+      → IsEquipped (seated (begun s).mails (active_order (begun s)) b.spare.stations.items) k.order.items b.plant.value b.ending.value b.spare_lists.value (vec_capacity k.erred)
   equipped k out = record {
     order = out.order ∙ sym (members_are (begun s).mails (active_order (begun s)) b.spare.stations.items can.supplied.stations.stands);
     fitted = cells_fitted b.plant.value.places (begun s).mails (active_order (begun s)) b.spare.stations.items can.supplied.stations.fitted;
     flags = flags_in s.description b.plant.value.relations b.ending.value can.worked_out.1.related can.flags;
     lines = lines_for (begun s) b.plant.value.hardware b.spare_lists.value can.hardware can.spare_lines;
-    none_erred = out.none_erred;
     erred = omega (arith, cells_count (begun s).mails (active_order (begun s)) b.spare.stations.items can.supplied.stations.stands, out.erred, length-map {B = Member} (active_order (begun s)) (λ (l : Loaded). record { serial = l.serial; place = l.place }));
   }
 

@@ -204,7 +204,7 @@ module _ (s : State) (f : FlightFacts) (order : List Member) (r made told : Reco
 
   pub computed_is : (lists : Lists) (outcome : Happened) → Shows g.hardware lists
       → outcome ≡ record { cycle = f.number; failed = told.failed.items; ran = told.ran.rans; bodies = told.bodies.items; stops = told.stops.items }
-      → IsComputed s (record { number = f.number; cells = cells; plant = g; ending = ending; lists = lists; has_failed = failed; outcome = Some outcome })
+      → IsComputed s (record { number = f.number; cells = cells; plant = g; ending = ending; lists = lists; has_failed = failed; erred = erred; outcome = Some outcome })
   computed_is lists outcome shown is_told = record {
     number = is.over.number;
     outcome = ap Some (is_told
@@ -219,6 +219,7 @@ module _ (s : State) (f : FlightFacts) (order : List Member) (r made told : Reco
     related = related;
     timed = ap (λ (x : Plant). x.period_us) leaves.plant ∙ is.over.timed;
     quiet = quiet;
+    erred = has.erred;
     ending = λ some. (decides some).ending s told_so;
   }
 
@@ -255,16 +256,15 @@ pub lines_in : (w : Wired) (l l' : Lists) → HasLinesFor w l
 lines_in w l l' lines same = record { components = omega (arith, same.0, lines.components); interfaces = omega (arith, same.1, lines.interfaces) }
 
 -- so all that a flight keeps is kept once the cycle is made
-pub equipped_after : (cells cells' : List Seat) (members : List Member) (g g' : Plant) (r made : RecordRoom) (before ending : Ending) (l l' : Lists) (serials none : List ℕ) (capacity most later : ℕ)
-    → IsEquipped cells members g before l serials capacity → LeavesFlight cells cells' g g' r made capacity most → HasFlags (length g'.relations.leaders) ending → HasLinesFor g'.hardware l'
-    → none ≡ [] → later ≡ most → IsEquipped cells' members g' ending l' none later
-equipped_after cells cells' members g g' r made before ending l l' serials none capacity most later is leaves flags lines empty same =
+pub equipped_after : (cells cells' : List Seat) (members : List Member) (g g' : Plant) (r made : RecordRoom) (before ending : Ending) (l l' : Lists) (capacity most : ℕ)
+    → IsEquipped cells members g before l capacity → LeavesFlight cells cells' g g' r made capacity most → HasFlags (length g'.relations.leaders) ending → HasLinesFor g'.hardware l'
+    → IsEquipped cells' members g' ending l' most
+equipped_after cells cells' members g g' r made before ending l l' capacity most is leaves flags lines =
     let count : length cells' ≡ length cells = sym (length-map cells' member_in) ∙ ap length leaves.order ∙ length-map cells member_in in
     record {
       order = is.order ∙ sym leaves.order;
       fitted = subst (λ (p : Placed). AllByRecursion (λ c. IsFitted p c.station) cells') (sym (ap (λ (x : Plant). x.places) leaves.plant)) leaves.fitted;
       flags = flags;
       lines = lines;
-      none_erred = empty;
-      erred = omega (arith, is.erred, count, same, leaves.capacity);
+      erred = omega (arith, is.erred, count, leaves.capacity);
     }

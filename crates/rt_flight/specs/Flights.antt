@@ -29,8 +29,9 @@ use Rattle.rt_flight.specs.declared.craft.Craft.{Craft}
 use Rattle.rt_flight.specs.declared.plant.Plant.{Plant}
 
 -- What is seen of a flight: the number of its cycle; its cells in the order of updates; the hardware, with what is
--- worked out of the description; the sets of the end, and whether something failed; the lists of the hardware, which
--- are written down as it is computed; and the record of the cycle, once it is.
+-- worked out of the description; the sets of the end, and whether something failed; the serials of the controllers
+-- whose update failed; the lists of the hardware, which are written down as it is computed; and the record of the
+-- cycle, once it is.
 pub record FlightFacts : Type 0 where
   pub number : ℕ
   pub cells : List Seat
@@ -38,6 +39,7 @@ pub record FlightFacts : Type 0 where
   pub ending : Ending
   pub lists : Lists
   pub has_failed : Bool
+  pub erred : List ℕ
   pub outcome : Option Happened
 
 -- ---- Of a state
@@ -105,7 +107,8 @@ AreSeatsAfter loaded _ _ = ⊥
 
 -- The flight is computed: its record is that of the cycle of the state; the cells are those of the active controllers,
 -- in the order of updates, with the data after the cycle; and the hardware is that of the state when the cycle has
--- landed, before it is settled who stops: the lists show it. The sets say who does, where something failed.
+-- landed, before it is settled who stops: the lists show it. It tells whose update failed, and the sets say who stops,
+-- where something failed.
 pub record IsComputed (s : State) (f : FlightFacts) : Type 0 where
   pub number : f.number ≡ s.ended
   pub outcome : f.outcome ≡ Some (cycle s).happened
@@ -117,6 +120,7 @@ pub record IsComputed (s : State) (f : FlightFacts) : Type 0 where
   pub related : f.plant.relations ≡ relations_of s.description
   pub timed : f.plant.period_us ≡ period s.description
   pub quiet : f.has_failed ≡ false → (failed_in s ≡ []) × (erred_in (told_in s) ≡ [])
+  pub erred : f.erred ≡ erred_in (told_in s)
   pub ending : f.has_failed ≡ true → IsEndingOf s f.ending
 
 -- and once it is computed, it stays so
@@ -130,15 +134,13 @@ abbrev pub member_in : Seat → Member
 member_in c = record { serial = c.station.serial; place = c.station.place }
 
 -- Computed or not, it is known who flies; each station is fitted; the sets of the end have a flag for each described
--- controller; there is room for the lists of its hardware; and for the serial of each controller that flies, of which
--- none stands there.
+-- controller; there is room for the lists of its hardware; and for the serial of each controller that flies.
 pub record IsEquipped (cells : List Seat) (members : List Member) (g : Plant) (ending : Ending) (lists : Lists)
-    (serials : List ℕ) (capacity : ℕ) : Type 0 where
+    (capacity : ℕ) : Type 0 where
   pub order : members ≡ map member_in cells
   pub fitted : AllByRecursion (λ c. IsFitted g.places c.station) cells
   pub flags : HasFlags (length g.relations.leaders) ending
   pub lines : HasLinesFor g.hardware lists
-  pub none_erred : serials ≡ []
   pub erred : length cells ≤ capacity
 
 -- what is the same for all its updates, before a read failed
@@ -188,10 +190,11 @@ pub record IsReady (number : ℕ) (cells : List Seat) (members : List Member) (g
   pub settles : CanSettle g.relations members r
   pub empty : TellsNothing r
 
--- With this craft, a flight has room to tell of its cycle until it has the record of it. Room that is left then tells
--- nothing.
+-- With this craft, a flight has room to tell of its cycle until it has the record of it, and no update failed yet. Room
+-- that is left then tells nothing.
 pub record IsFlight (number : ℕ) (cells : List Seat) (k : Craft) : Type 0 where
-  pub equipped : IsEquipped cells k.order.items k.plant k.ending k.lists k.erred.items (vec_capacity k.erred)
+  pub equipped : IsEquipped cells k.order.items k.plant k.ending k.lists (vec_capacity k.erred)
+  pub none_erred : is_some k.record ≡ false → k.erred.items ≡ []
   pub ready : is_some k.record ≡ false → IsSomeAnd k.room (IsReady number cells k.order.items k.plant)
   pub left : is_some k.record ≡ true → IfSome k.room TellsNothing
 
@@ -204,19 +207,21 @@ facts_with number cells k = record {
   ending = k.ending;
   lists = k.lists;
   has_failed = k.has_failed;
+  erred = k.erred.items;
   outcome = k.record;
 }
 
--- What a flight brings home: all that it took along as it is then, the record of its cycle, and whether something
--- failed; and room that is left tells nothing.
+-- What a flight brings home: all that it took along as it is then, the record of its cycle, whether something failed,
+-- and whose update did; and room that is left tells nothing.
 pub record ComesHome (f : FlightFacts) (seats : List Seat) (k : Craft) (happened : Happened) : Type 0 where
   pub cells : seats ≡ f.cells
   pub plant : k.plant ≡ f.plant
   pub ending : k.ending ≡ f.ending
   pub lists : k.lists ≡ f.lists
   pub has_failed : k.has_failed ≡ f.has_failed
+  pub erred : k.erred.items ≡ f.erred
   pub told : Some happened ≡ f.outcome
-  pub equipped : IsEquipped seats k.order.items k.plant k.ending k.lists k.erred.items (vec_capacity k.erred)
+  pub equipped : IsEquipped seats k.order.items k.plant k.ending k.lists (vec_capacity k.erred)
   pub left : IfSome k.room TellsNothing
 
 -- ---- In parts

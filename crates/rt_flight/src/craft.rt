@@ -18,7 +18,8 @@ pub struct Craft {
     pub lists: Lists,
     /// The running controllers by serial and place, in the order of updates; at home those that ran last.
     pub order: Vec<Member>,
-    /// No serial, and room for those of the updates that fail.
+    /// The serials of the controllers whose update failed, once the cycle is computed, with room for each that flies; at home those of the
+    /// cycle that landed last.
     pub erred: Vec<u32>,
     /// Whether a component or an update failed.
     pub has_failed: bool,

@@ -57,8 +57,8 @@ impl<C: Controller> Flight<C> {
     /// A flight with this payload. It takes no memory.
     pub fn take_off(payload: Payload<C>) -> Flight<C>
         requires equipped { IsEquipped payload.cells.items payload.craft.value.order.items payload.craft.value.plant
-            payload.craft.value.ending payload.craft.value.lists payload.craft.value.erred.items
-            (vec_capacity payload.craft.value.erred) }
+            payload.craft.value.ending payload.craft.value.lists (vec_capacity payload.craft.value.erred) }
+        requires none_erred { payload.craft.value.erred.items ≡ [] }
         requires ready { IsSomeAnd payload.craft.value.room
             (IsReady payload.number payload.cells.items payload.craft.value.order.items payload.craft.value.plant) }
         ensures { result ≡ record {
@@ -68,6 +68,7 @@ impl<C: Controller> Flight<C> {
           ending = payload.craft.value.ending;
           lists = payload.craft.value.lists;
           has_failed = false;
+          erred = [];
           outcome = None;
         } }
     {
@@ -124,7 +125,6 @@ impl<C: Controller> Flight<C> {
             &craft.erred,
             room,
         );
-        craft.erred.clear();
         craft.plant.hardware.show(&mut craft.lists);
         let flies = !self.cells.is_empty();
         craft.record = Some(told(self.number, flies, &mut craft.room, &mut craft.left_over));

@@ -1,5 +1,5 @@
 use Rattle.std.proofs.Common.{◌≡◌, ℕ, true, false, List, length, Option, sym, ap, subst, ◌∙◌, arith}
-use Rattle.std.specs.Prelude.{is_some, vec_capacity, None, IsSomeAnd}
+use Rattle.std.specs.Prelude.{is_some, vec_capacity, None, Some, IsSomeAnd}
 use Rattle.std.proofs.lemmas.List.{with_items_is}
 use Rattle.cm_storage.specs.Happened.{Happened}
 use Rattle.cm_storage.specs.declared.record_room.RecordRoom.{RecordRoom}
@@ -7,7 +7,7 @@ use Rattle.stop_plan.specs.Ending.{HasFlags}
 use Rattle.switch_plan.specs.Relations.{Related}
 use Rattle.rt_flight.specs.Calls.Cycles.{LeavesFlight}
 use Rattle.rt_flight.specs.Cells.{Seat}
-use Rattle.rt_flight.specs.Flights.{facts_with, IsReady, IsAloft, IsAloftOver, IsFlight, HasMade}
+use Rattle.rt_flight.specs.Flights.{facts_with, IsReady, IsAloft, IsAloftOver, IsComputed, IsFlight, HasMade}
 use Rattle.rt_flight.specs.declared.craft.Craft.{Craft}
 use Rattle.rt_flight.specs.declared.plant.Plant.{Plant}
 use Rattle.rt_flight.proofs.CycleLemmas.{computed_is, flags_after, lines_after, lines_in, equipped_after}
@@ -37,7 +37,8 @@ invariant_of-self g c =
     rw (with_items_is a.cells c.make_cycle.new.cells long)
     (record {
       equipped = equipped_after a.cells.items c.make_cycle.new.cells k.order.items k.plant c.make_cycle.new.plant c.in-Some.room c.make_cycle.new.room k.ending c.settle-craft.new.ending
-          k.lists c.show.new.lists k.erred.items c.clear.new.self.items (vec_capacity k.erred) (vec_capacity c.make_cycle.new.erred) (vec_capacity c.clear.new.self) equipped leaves flags lines c.clear.ensures.items c.clear.ensures.capacity;
+          k.lists c.show.new.lists (vec_capacity k.erred) (vec_capacity c.make_cycle.new.erred) equipped leaves flags lines;
+      none_erred = λ (not_yet : true ≡ false). cc;
       ready = λ (not_yet : true ≡ false). cc;
       left = λ yes. c.told.ensures.left;
     })
@@ -60,6 +61,16 @@ returns-clause-cycle g c = λ s aloft.
     let over = subst (λ (cs : List Seat). IsAloftOver s a.number cs k.plant) (sym c.as_mut_slice.ensures.value) is.over in
     let made = subst (λ (ns : List ℕ). HasMade s c.make_cycle.new.cells c.make_cycle.new.plant ns c.make_cycle.new.room) (sym c.deref-2.ensures.value) (c.make_cycle.ensures.made s over ready.empty) in
     rw (with_items_is a.cells c.make_cycle.new.cells long)
+    (subst (λ (ns : List ℕ). IsComputed s (record {
+      number = a.number;
+      cells = c.make_cycle.new.cells;
+      plant = c.make_cycle.new.plant;
+      ending = c.settle-craft.new.ending;
+      lists = c.show.new.lists;
+      has_failed = c.settle-craft.result;
+      erred = ns;
+      outcome = Some c.told.result;
+    })) c.deref-2.ensures.value
     (computed_is s (facts_with a.number a.cells.items k) c.deref.result.now c.in-Some.room c.make_cycle.new.room c.settle-craft.new.room c.make_cycle.new.cells c.make_cycle.new.plant c.deref-2.result.now k.ending
     c.settle-craft.new.ending c.settle-craft.result (vec_capacity k.erred) (vec_capacity c.make_cycle.new.erred) is (c.deref.ensures.value ∙ equipped.order) ready.empty made leaves
-    c.settle-craft.ensures.quiet c.settle-craft.ensures.decided c.show.new.lists c.told.result c.show.ensures.shown c.told.ensures.told)
+    c.settle-craft.ensures.quiet c.settle-craft.ensures.decided c.show.new.lists c.told.result c.show.ensures.shown c.told.ensures.told))
