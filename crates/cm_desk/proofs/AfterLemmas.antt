@@ -45,7 +45,7 @@ use Rattle.cm_desk.proofs.StayLemmas.{all_staying, commit_stays, landed_stays, c
 pub record IsSameBase (before after : Base) : Type 0 where
   pub plant : after.plant ≡ record before.plant { hardware = after.plant.hardware }
   pub ending : after.ending ≡ before.ending
-  pub home : IsSomeAnd after.hangar (IsHome after.plant after.ending after.members after.spare_lists)
+  pub home : IsSomeAnd after.hangar (IsHome after.plant after.ending after.members after.erred after.spare_lists)
   pub mails : after.mails ≡ before.mails
   pub stations : after.stations ≡ before.stations
   pub members : after.members ≡ before.members
@@ -72,7 +72,7 @@ rewired b b' berths is = record {
 }
 
 -- where what works in a cycle comes to rest again, with other hardware
-pub at_rest : (b left b' : Bay) (k r : Box Craft Global) (h : Craft) → IsHome b.plant.value b.ending.value b.members.value.items b.spare_lists.value k → left ≡ record b { hangar = None; room = left.room } → left.room ≡ b.room
+pub at_rest : (b left b' : Bay) (k r : Box Craft Global) (h : Craft) → IsHome b.plant.value b.ending.value b.members.value.items b.erred.value.items b.spare_lists.value k → left ≡ record b { hangar = None; room = left.room } → left.room ≡ b.room
     → h ≡ k.value → r.value ≡ record h { plant = record h.plant { hardware = r.value.plant.hardware } }
     → b' ≡ record left { hangar = Some r; plant = b'.plant; told = false } → b'.plant.value ≡ r.value.plant → IsRewired b b'
 at_rest b left b' k r h home away room taken same rests plant =
@@ -88,7 +88,7 @@ at_rest b left b' k r h home away room taken same rests plant =
     record {
       plant = plant ∙ now ∙ ap (λ (w : Wired). record b.plant.value { hardware = w }) (sym (ap (λ (g : Plant). g.hardware) plant));
       ending = ending;
-      home = subst (λ (o : Option (Box Craft Global)). IsSomeAnd o (IsHome b'.plant.value b'.ending.value b'.members.value.items b'.spare_lists.value)) (sym hangar) (record {
+      home = subst (λ (o : Option (Box Craft Global)). IsSomeAnd o (IsHome b'.plant.value b'.ending.value b'.members.value.items b'.erred.value.items b'.spare_lists.value)) (sym hangar) (record {
         plant = sym plant;
         ending = sets ∙ sym ending;
         order = ap (λ (x : Craft). x.order.items) same ∙ ap (λ (x : Craft). x.order.items) taken ∙ home.order ∙ sym members;
@@ -111,7 +111,7 @@ home_from P None some home = cc
 home_from P (Some h) some home = home
 
 pub at_home : (d : Description) (order : List Member) (b : Bay) (berths : ℕ) (aloft : Bool) → IsBased d aloft order (base_of b berths) → aloft ≡ false → IsAtHome b
-at_home d order b berths aloft based down = home_from (IsHome b.plant.value b.ending.value b.members.value.items b.spare_lists.value) b.hangar (based.home_is ∙ ap not down) based.home
+at_home d order b berths aloft based down = home_from (IsHome b.plant.value b.ending.value b.members.value.items b.erred.value.items b.spare_lists.value) b.hangar (based.home_is ∙ ap not down) based.home
 
 some_home : (P : Box Craft Global → Type 0) (o : Option (Box Craft Global)) → IsSomeAnd o P → (is_some o ≡ true) × IfSome o P
 some_home P None home = absurd home
@@ -119,7 +119,7 @@ some_home P (Some h) home = (refl, home)
 
 based_with : (d : Description) (was order : List Member) (before after : Base) → IsBased d false was before → IsSameBase before after → IsBased d false order after
 based_with d was order before after based same =
-    let home = some_home (IsHome after.plant after.ending after.members after.spare_lists) after.hangar same.home in
+    let home = some_home (IsHome after.plant after.ending after.members after.erred after.spare_lists) after.hangar same.home in
     let places : after.plant.places ≡ before.plant.places = ap (λ (g : Plant). g.places) same.plant in
     record {
       wide = same.room ∙ based.wide;
@@ -238,7 +238,7 @@ ended_fit s fit = fit_committed (landed s (cycle s)) (stays_active s (told_in s)
 
 -- What is kept of a base that is at home again.
 pub record IsHomeBase (d : Description) (before after : Base) : Type 0 where
-  pub home : IsSomeAnd after.hangar (IsHome after.plant after.ending after.members after.spare_lists)
+  pub home : IsSomeAnd after.hangar (IsHome after.plant after.ending after.members after.erred after.spare_lists)
   pub flags : HasFlags (length d.controllers) after.ending
   pub fitted : AllByRecursion (IsFitted after.plant.places) after.stations
   pub ordered : after.members ≡ map stands_for after.stations
@@ -250,7 +250,7 @@ pub record IsHomeBase (d : Description) (before after : Base) : Type 0 where
 
 based_at_home : (d : Description) (aloft : Bool) (was order : List Member) (before after : Base) → IsBased d aloft was before → IsHomeBase d before after → IsBased d false order after
 based_at_home d aloft was order before after based is =
-    let home = some_home (IsHome after.plant after.ending after.members after.spare_lists) after.hangar is.home in
+    let home = some_home (IsHome after.plant after.ending after.members after.erred after.spare_lists) after.hangar is.home in
     record {
       wide = is.room ∙ based.wide;
       flags = is.flags;
@@ -302,7 +302,7 @@ ended_view d blanks sessions loads slots slots' asked before after ended count c
 
 -- what is kept goes by these parts of a base, where no cycle is aloft
 pub kept_idle : (s : State) (names : List (List ℕ)) (before after : Base) (looked : Listed) → IsKept s names before looked → s.aloft ≡ false
-    → after.plant ≡ before.plant → after.ending ≡ before.ending → IsSomeAnd after.hangar (IsHome after.plant after.ending after.members after.spare_lists) → after.lists ≡ before.lists → after.told ≡ before.told → after.spare_lists ≡ before.spare_lists
+    → after.plant ≡ before.plant → after.ending ≡ before.ending → IsSomeAnd after.hangar (IsHome after.plant after.ending after.members after.erred after.spare_lists) → after.lists ≡ before.lists → after.told ≡ before.told → after.spare_lists ≡ before.spare_lists
     → after.size ≡ before.size → after.room ≡ before.room
     → AllByRecursion (IsFitted after.plant.places) after.stations → after.members ≡ map stands_for after.stations → IsKept s names after looked
 kept_idle s names before after looked kept down plant ending at lists told spare_lists size room fitted ordered = record {
@@ -321,13 +321,13 @@ kept_idle s names before after looked kept down plant ending at lists told spare
   based = record {
     wide = room ∙ kept.based.wide;
     flags = rw ending kept.based.flags;
-    home = (some_home (IsHome after.plant after.ending after.members after.spare_lists) after.hangar at).1;
-    home_is = (some_home (IsHome after.plant after.ending after.members after.spare_lists) after.hangar at).0 ∙ sym (ap not down);
+    home = (some_home (IsHome after.plant after.ending after.members after.erred after.spare_lists) after.hangar at).1;
+    home_is = (some_home (IsHome after.plant after.ending after.members after.erred after.spare_lists) after.hangar at).0 ∙ sym (ap not down);
     fitted = fitted;
     ordered = λ yet. ordered;
     size = rw size kept.based.size;
     lines = rw lists kept.based.lines;
-    shown = λ away. (let no : false ≡ true = sym away ∙ (some_home (IsHome after.plant after.ending after.members after.spare_lists) after.hangar at).0 in cc);
+    shown = λ away. (let no : false ≡ true = sym away ∙ (some_home (IsHome after.plant after.ending after.members after.erred after.spare_lists) after.hangar at).0 in cc);
     told = λ yes. rw (plant, lists) (kept.based.told (sym told ∙ yes));
     spare_lines = λ yet. rw spare_lists (kept.based.spare_lines yet);
     stands = λ aloft. (let no : false ≡ true = sym down ∙ aloft in cc);

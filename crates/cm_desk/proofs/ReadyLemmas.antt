@@ -14,7 +14,7 @@ use Rattle.cm_desk.specs.declared.bay.Spare.{Spare}
 use Rattle.cm_desk.specs.declared.supplies.Supplies.{Supplies}
 use Rattle.cm_desk.proofs.SuppliesLemmas.{kept_for, tells_nothing}
 
-module _ (b left b' : Bay) (k r : Box Craft Global) (h : Craft) (spare : Spare) (home : IsHome b.plant.value b.ending.value b.members.value.items b.spare_lists.value k)
+module _ (b left b' : Bay) (k r : Box Craft Global) (h : Craft) (spare : Spare) (home : IsHome b.plant.value b.ending.value b.members.value.items b.erred.value.items b.spare_lists.value k)
     (away : left ≡ record b { hangar = None }) (taken : h ≡ k.value) (back : b' ≡ record left { hangar = Some r; members = b'.members; spare = spare })
     (members : b'.members.value ≡ r.value.order) (refit : IsRefitted h r.value) where
   hangar : b'.hangar ≡ Some r
@@ -38,7 +38,7 @@ module _ (b left b' : Bay) (k r : Box Craft Global) (h : Craft) (spare : Spare) 
         kept = subst (λ (ms : List Member). AreKept b.plant.value.places b'.spare.stations.items ms) (sym (ap (λ x. x.items) members))
             (subst (λ (s : Spare). AreKept b.plant.value.places s.stations.items r.value.order.items) (sym spare_is)
             (subst (λ (g : Plant). AreKept g.places spare.stations.items r.value.order.items) aboard kept));
-        home = subst (λ (o : Option (Box Craft Global)). IsSomeAnd o (IsHome b'.plant.value b'.ending.value b'.members.value.items b'.spare_lists.value)) (sym hangar) (record {
+        home = subst (λ (o : Option (Box Craft Global)). IsSomeAnd o (IsHome b'.plant.value b'.ending.value b'.members.value.items b'.erred.value.items b'.spare_lists.value)) (sym hangar) (record {
           plant = ap (λ (x : Craft). x.plant) refit.craft ∙ aboard ∙ sym plant;
           ending = ap (λ (x : Craft). x.ending) refit.craft ∙ ap (λ (x : Craft). x.ending) taken ∙ home.ending ∙ sym ending;
           order = sym (ap (λ x. x.items) members);

@@ -1,11 +1,14 @@
 -- What a cycle works on, at home or aloft.
-use Rattle.std.specs.Prelude.{◌≡◌, ℕ, ◌≤◌, Bool, true, false, not, List, [], length, map, vec_capacity, is_some, Box}
+use Rattle.std.specs.Prelude.{◌≡◌, ℕ, ◌≤◌, ◌==◌, Bool, true, false, not, List, [], length, map, flat_map, find}
+use Rattle.std.specs.Prelude.{vec_capacity, is_some, Box}
 use Rattle.std.specs.Prelude.{Option, None, Some, IfSome, IsSomeAnd}
 use Rattle.std.specs.List.{AllByRecursion}
+use Rattle.std.specs.Option.{option_map_or}
 use Rattle.std.specs.declared.alloc.Global.{Global}
 use Rattle.cm_document.specs.Places.{interfaces_of}
 use Rattle.cm_document.specs.declared.description.Description.{Description}
 use Rattle.cm_model.specs.Cycle.{period}
+use Rattle.cm_model.specs.Order.{controller_at}
 use Rattle.cm_model.specs.State.{MailAloft, boot}
 use Rattle.cm_model.specs.declared.blanks.Blanks.{Blanks}
 use Rattle.cm_model.specs.declared.member.Member.{Member}
@@ -26,9 +29,10 @@ use Rattle.cm_desk.specs.declared.bay.Bay.{Bay}
 use Rattle.cm_desk.specs.declared.supplies.HardwareSize.{HardwareSize}
 
 -- What is seen of it: what a cycle works on and the sets of its end, as they stand at home, or as they were when they
--- left; what of it is at home; the mail that is aloft; the stations that are at home, and who stands there; the lists
--- that were written down, whether they are those of the hardware, and room for the next; and for how many of those that
--- run there is room for a box and for a station.
+-- left; what of it is at home; the mail that is aloft; the stations that are at home, and who stands there; the places
+-- of the controllers whose update failed in the cycle that landed last, where the next has not begun; the lists that were
+-- written down, whether they are those of the hardware, and room for the next; and for how many of those that run there
+-- is room for a box and for a station.
 pub record Base : Type 0 where
   pub plant : Plant
   pub ending : Ending
@@ -36,6 +40,7 @@ pub record Base : Type 0 where
   pub mails : List MailAloft
   pub stations : List Standing
   pub members : List Member
+  pub erred : List ℕ
   pub lists : Lists
   pub told : Bool
   pub spare_lists : Lists
@@ -53,6 +58,7 @@ base_of b berths = record {
   mails = b.mails.value.items;
   stations = b.spare.stations.items;
   members = b.members.value.items;
+  erred = b.erred.value.items;
   lists = b.lists;
   told = b.told;
   spare_lists = b.spare_lists.value;
@@ -62,12 +68,22 @@ base_of b berths = record {
   berths = berths;
 }
 
--- What is at home is this, with these who flew last and this room for lists; and in the room that it has for a record
--- nothing is told.
-pub record IsHome (g : Plant) (e : Ending) (members : List Member) (lists : Lists) (h : Box Craft Global) : Type 0 where
+-- the place of the controller of this serial among these
+abbrev pub place_among : List Member → ℕ → ℕ
+place_among members serial = option_map_or (λ m. m.place) (find (λ m. m.serial == serial) members) 0
+
+-- who stands in for controllers of these places, as they are described
+abbrev pub stand_ins_for : Description → List ℕ → List (List ℕ)
+stand_ins_for d places = flat_map (λ place. (controller_at d.controllers place).fallback) places
+
+-- What is at home is this, with these who flew last, the places of those whose update failed, and this room for lists;
+-- and in the room that it has for a record nothing is told.
+pub record IsHome (g : Plant) (e : Ending) (members : List Member) (erred : List ℕ) (lists : Lists)
+    (h : Box Craft Global) : Type 0 where
   pub plant : h.value.plant ≡ g
   pub ending : h.value.ending ≡ e
   pub order : h.value.order.items ≡ members
+  pub erred : h.value.erred.items ≡ erred
   pub spare_lists : h.value.lists ≡ lists
   pub told : IfSome h.value.room TellsNothing
 
@@ -77,6 +93,7 @@ pub record IsIdle (g : Plant) (e : Ending) (room : Lists) (k : Craft) : Type 0 w
   pub ending : k.ending ≡ e
   pub lists : k.lists ≡ room
   pub order : k.order.items ≡ []
+  pub erred : k.erred.items ≡ []
   pub told : k.room ≡ None
 
 -- there is room for the lists of a description
@@ -86,11 +103,13 @@ pub record HasLines (d : Description) (l : Lists) : Type 0 where
 
 -- What works in a cycle is at home, and so it is.
 abbrev pub IsAtHome : Bay → Type 0
-IsAtHome b = IsSomeAnd b.hangar (IsHome b.plant.value b.ending.value b.members.value.items b.spare_lists.value)
+IsAtHome b = IsSomeAnd b.hangar
+    (IsHome b.plant.value b.ending.value b.members.value.items b.erred.value.items b.spare_lists.value)
 
 -- The lists of its hardware can be told: where it is at home it is so, and else they were written down.
 pub record IsListing (b : Bay) : Type 0 where
-  pub home : IfSome b.hangar (IsHome b.plant.value b.ending.value b.members.value.items b.spare_lists.value)
+  pub home : IfSome b.hangar
+      (IsHome b.plant.value b.ending.value b.members.value.items b.erred.value.items b.spare_lists.value)
   pub shown : is_some b.hangar ≡ false → Shows b.plant.value.hardware b.lists
 
 -- What is kept of it, while a cycle is aloft or not, whose controllers these are: what is at home is so, and between
@@ -101,7 +120,7 @@ pub record IsListing (b : Bay) : Type 0 where
 pub record IsBased (d : Description) (aloft : Bool) (order : List Member) (b : Base) : Type 0 where
   pub wide : b.room ≡ widest
   pub flags : HasFlags (length d.controllers) b.ending
-  pub home : IfSome b.hangar (IsHome b.plant b.ending b.members b.spare_lists)
+  pub home : IfSome b.hangar (IsHome b.plant b.ending b.members b.erred b.spare_lists)
   pub home_is : is_some b.hangar ≡ not aloft
   pub fitted : AllByRecursion (IsFitted b.plant.places) b.stations
   pub ordered : aloft ≡ false → b.members ≡ map stands_for b.stations
@@ -122,6 +141,7 @@ pub record IsRewired (before after : Bay) : Type 0 where
   pub mails : after.mails.value.items ≡ before.mails.value.items
   pub spare : after.spare ≡ before.spare
   pub members : after.members.value.items ≡ before.members.value.items
+  pub erred : after.erred.value.items ≡ before.erred.value.items
   pub lists : after.lists ≡ before.lists
   pub untold : after.told ≡ false
   pub spare_lists : after.spare_lists.value ≡ before.spare_lists.value
@@ -167,7 +187,7 @@ pub record HasCastOff (before after : Bay) (h : Box Craft Global) : Type 0 where
   pub interfaces : vec_capacity after.lists.interfaces ≡ vec_capacity before.lists.interfaces
 
 -- This is at home, where the lists that it wrote down are told, which are those of its hardware where nothing failed;
--- those of before are room for the next; and no mail is aloft.
+-- those of before are room for the next; it has the places of those whose update failed; and no mail is aloft.
 pub record HasMoored (before after : Bay) (k : Craft) : Type 0 where
   pub plant : after.plant.value ≡ k.plant
   pub ending : after.ending.value ≡ k.ending
@@ -175,6 +195,7 @@ pub record HasMoored (before after : Bay) (k : Craft) : Type 0 where
   pub no_mail : after.mails.value.items ≡ []
   pub stations : after.spare.stations ≡ before.spare.stations
   pub order : after.members.value.items ≡ k.order.items
+  pub erred : after.erred.value.items ≡ map (place_among k.order.items) k.erred.items
   pub lists : after.lists ≡ k.lists
   pub told : after.told ≡ not k.has_failed
   pub spare_lists : after.spare_lists.value ≡ before.lists
@@ -188,4 +209,5 @@ pub record IsAtStart (d : Description) (b : Bay) : Type 0 where
   pub related : b.plant.value.relations ≡ relations_of d
   pub timed : b.plant.value.period_us ≡ period d
   pub no_mail : b.mails.value.items ≡ []
+  pub none_erred : b.erred.value.items ≡ []
   pub based : (berths : ℕ) → IsBased d false [] (base_of b berths)

@@ -127,11 +127,12 @@ pub record IsFittedOut (d : Description) (placed : Placed) (members : List Membe
   pub told : IsSomeAnd k.room (HasRoom d placed members)
 
 -- So it can from what cycles left over and what works in a cycle: it is known who stands at the stations, which are
--- fitted, and in the room for a record nothing is told.
+-- fitted, no update failed, and in the room for a record nothing is told.
 pub record CanSupplyFrom (d : Description) (s : HardwareSize) (order : List Member) (spare : Spare) (k : Craft) : Type 0
   where
     pub plant : CanSupply d k.plant.places s order
     pub kept : AreKept k.plant.places spare.stations.items k.order.items
+    pub none_erred : k.erred.items ≡ []
     pub told : IfSome k.room TellsNothing
 
 -- All of it is ready, in what cycles left over and in what works in a cycle.
@@ -142,7 +143,8 @@ pub record HaveSupplies (d : Description) (placed : Placed) (members : List Memb
   pub mails : loaded ≤ vec_capacity spare.mails
   pub craft : IsFittedOut d placed members k
 
--- Of what works in a cycle this alone changed, and in the room for a record nothing is told.
+-- Of what works in a cycle this alone changed, of which it is known still whose update failed, and in the room for a
+-- record nothing is told.
 pub record IsRefitted (before after : Craft) : Type 0 where
   pub craft : after ≡ record before {
     order = after.order;
@@ -150,4 +152,5 @@ pub record IsRefitted (before after : Craft) : Type 0 where
     room = after.room;
     left_over = after.left_over;
   }
+  pub erred : after.erred.items ≡ before.erred.items
   pub told : IfSome after.room TellsNothing

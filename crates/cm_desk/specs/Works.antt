@@ -32,7 +32,7 @@ use Rattle.ctl_slots.specs.Fit.{AreFit}
 use Rattle.ctl_slots.specs.Slots.{Slotted}
 use Rattle.request_plan.specs.declared.acts.Switched.{Switched}
 use Rattle.rt_flight.specs.declared.plant.Plant.{Plant}
-use Rattle.cm_desk.specs.Bay.{Base, IsAtHome, IsBased}
+use Rattle.cm_desk.specs.Bay.{Base, IsAtHome, IsBased, stand_ins_for}
 use Rattle.cm_desk.specs.Roster.{Listed, IsListedOf, TellsActive}
 use Rattle.cm_desk.specs.declared.bay.Bay.{Bay}
 use Rattle.ctl_trait.specs.declared.fault.CfgFault.{CfgFault}
@@ -55,6 +55,7 @@ state_with description blanks sessions loads slots asked base ended closed = wit
   ended = ended;
   aloft = slots.aloft;
   mails = base.mails;
+  fallbacks = stand_ins_for description base.erred;
   closed = closed;
 }) base.plant.hardware
 

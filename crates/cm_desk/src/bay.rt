@@ -1,6 +1,6 @@
 //! What a cycle works on, at home or aloft.
 
-ghost use Rattle.std.specs.Prelude.{◌≡◌, ℕ, ◌<◌, ◌≤◌, List, [], true, false, not, None, Some, length, vec_capacity, IfOk, OnOk, IfSome};
+ghost use Rattle.std.specs.Prelude.{◌≡◌, ℕ, ◌<◌, ◌≤◌, List, [], true, false, not, None, Some, length, map, vec_capacity, IfOk, OnOk, IfSome};
 ghost use Rattle.joint_body.specs.declared.TheConstants.{LONGEST_STEP};
 ghost use Rattle.cm_document.specs.declared.description.Description.{Description};
 ghost use Rattle.cm_model.specs.Cycle.{period};
@@ -9,7 +9,7 @@ ghost use Rattle.cm_model.specs.declared.member.Member.{Member};
 ghost use Rattle.cm_hardware.specs.Holding.{IsHardwareOf, MovesComponent};
 ghost use Rattle.cm_hardware.specs.Shown.{HasLinesFor, Shows};
 ghost use Rattle.stop_plan.specs.Ending.{HasFlags};
-ghost use Rattle.cm_desk.specs.Bay.{IsAtHome, IsAtStart, IsHome, IsIdle, IsListing, IsMadeReady, IsRewired, IsSupplied, CanBeSupplied, CanCastOff, HasCastOff, HasMoored};
+ghost use Rattle.cm_desk.specs.Bay.{place_among, IsAtHome, IsAtStart, IsHome, IsIdle, IsListing, IsMadeReady, IsRewired, IsSupplied, CanBeSupplied, CanCastOff, HasCastOff, HasMoored};
 ghost use Rattle.cm_desk.specs.Supplies.{AreSupplies};
 ghost use Rattle.rt_flight.specs.Flights.{TellsNothing};
 ghost use Rattle.cm_desk.specs.Works.{CanSwitch, HasSwitched, KeepsRest};
@@ -45,6 +45,9 @@ pub(crate) struct Bay {
     pub(crate) mails: Snapshot<Vec<MailAloft>>,
     /// Who flew last, as what works in a cycle has it at home. It takes no byte either.
     pub(crate) members: Snapshot<Vec<Member>>,
+    /// The places of the controllers whose update failed in the cycle that landed last, as what works in a cycle has them at home. It takes no
+    /// byte either.
+    pub(crate) erred: Snapshot<Vec<u32>>,
     /// What cycles left over.
     pub(crate) spare: Spare,
     /// The lists that are told while a cycle is aloft.
@@ -108,6 +111,7 @@ impl Bay {
             ending: Snapshot::of(&craft.ending),
             mails: Snapshot::of(&spare.mails),
             members: Snapshot::of(&craft.order),
+            erred: Snapshot::of(&craft.erred),
             spare_lists: Snapshot::of(&craft.lists),
             hangar: Some(craft),
             spare,
@@ -216,7 +220,8 @@ impl Bay {
 
     /// These come to their places, and with them all that a cycle needs is ready. It takes no memory.
     pub(crate) fn take_in(&mut self, supplies: Supplies)
-        requires { IsAtHome self.old }
+        requires home { IsAtHome self.old }
+        requires none_erred { self.old.erred.value.items ≡ [] }
         ensures supplied { (d : Description) (order : List Member) (loaded : ℕ)
             → AreSupplies d self.old.plant.value.places order loaded supplies → IsSupplied d order loaded self.new }
         ensures bay { (d : Description) (order : List Member) (loaded : ℕ)
@@ -248,6 +253,7 @@ impl Bay {
         loaded: usize,
     ) -> Result<(), Memory>
         requires home { IsAtHome self.old }
+        requires none_erred { self.old.erred.value.items ≡ [] }
         requires can { CanBeSupplied checked.now self.old order.now }
         ensures supplied { OnOk result (IsSupplied checked.now order.now loaded self.new) }
         ensures bay { IsMadeReady self.old self.new }
@@ -307,9 +313,11 @@ impl Bay {
     {
         let mut craft = craft;
         self.unload(&mut craft);
+        tell_places(&mut craft.erred, &craft.order);
         self.plant = Snapshot::of(&craft.plant);
         self.ending = Snapshot::of(&craft.ending);
         self.members = Snapshot::of(&craft.order);
+        self.erred = Snapshot::of(&craft.erred);
         self.spare_lists = Snapshot::of(&craft.lists);
         self.hangar = Some(craft);
         empty(&mut self.spare.mails);
@@ -326,11 +334,35 @@ impl Bay {
         self.told = !craft.has_failed;
     }
 
+    /// The places of the controllers whose update failed in the cycle that landed last.
+    pub(crate) fn erred(&self) -> &[u32]
+        requires { IsAtHome self.now }
+        ensures { result.now ≡ self.now.erred.value.items }
+    {
+        match &self.hangar {
+            Some(hangar) => &hangar.erred,
+            None => unreachable!(),
+        }
+    }
+
+    /// Nobody stands in for them any more. It takes no memory.
+    pub(crate) fn forget_erred(&mut self)
+        requires { IsAtHome self.old }
+        ensures home { IsAtHome self.new }
+        ensures none_erred { self.new.erred.value.items ≡ [] }
+        ensures bay { self.new ≡ record self.old { hangar = self.new.hangar; erred = self.new.erred } }
+    {
+        let mut hangar = self.leave();
+        empty(&mut hangar.erred);
+        self.erred = Snapshot::of(&hangar.erred);
+        self.hangar = Some(hangar);
+    }
+
     /// What works in a cycle leaves its place.
     pub(crate) fn leave(&mut self) -> Box<Craft>
         requires { IsAtHome self.old }
         ensures left { IsHome self.old.plant.value self.old.ending.value self.old.members.value.items
-            self.old.spare_lists.value result }
+            self.old.erred.value.items self.old.spare_lists.value result }
         ensures hangar { self.old.hangar ≡ Some result }
         ensures bay { self.new ≡ record self.old { hangar = None } }
     {
@@ -338,6 +370,25 @@ impl Bay {
             Some(hangar) => hangar,
             None => unreachable!(),
         }
+    }
+}
+
+/// Each of these serials becomes the place of the controller that has it among these. It takes no memory.
+fn tell_places(serials: &mut [u32], members: &[Member])
+    ensures { serials.new ≡ map (place_among members.now) serials.old }
+{
+    for serial in serials.iter_mut() {
+        *serial = place_among(members, *serial);
+    }
+}
+
+/// The place of the controller of this serial among these.
+fn place_among(members: &[Member], serial: u32) -> u32
+    ensures { result ≡ place_among members.now serial }
+{
+    match members.iter().find(|member| member.serial == serial) {
+        Some(member) => member.place,
+        None => 0,
     }
 }
 

@@ -103,7 +103,7 @@ pub(crate) fn supply(
         &mut spare.stations,
         &mut craft.order,
     )?;
-    make_room(&mut craft.erred, order.len())?;
+    craft.erred.reserve(order.len())?;
     make_room(&mut spare.mails, loaded)?;
     equip(
         alloc,

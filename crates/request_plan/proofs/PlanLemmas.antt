@@ -1,18 +1,21 @@
 -- Conclusions one after the other, and what is told of them.
-use Rattle.std.proofs.Common.{◌≡◌, List, [], ◌∷◌, ◌++◌, length, map, drop, refl, sym, subst, ap, ap₂, ◌∙◌, append_assoc, append-nil}
+use Rattle.std.proofs.Common.{◌≡◌, ℕ, List, [], ◌∷◌, ◌++◌, length, map, drop, Option, Some, None, refl, sym, subst, ap, ap₂, ◌∙◌, append_assoc, append-nil}
 use Rattle.std.proofs.Math.Seq.{drop-append_seam}
 use Rattle.cm_document.specs.declared.description.Description.{Description}
-use Rattle.cm_model.specs.Boundary.{concluded, with_outcome, all_concluded, decisions_from, decisions_between}
+use Rattle.cm_model.specs.Boundary.{waiting, concluded, with_outcome, all_concluded, standing_in, after_fallbacks, boundary, told_of_fallbacks, decisions_from, decisions_between}
+use Rattle.cm_model.specs.Cycle.{members_in_order}
 use Rattle.cm_model.specs.State.{State}
+use Rattle.cm_model.specs.declared.cause.Decision.{Decision}
 use Rattle.cm_model.specs.declared.cause.Outcome.{Outcome}
 use Rattle.cm_model.specs.declared.request.Request.{Request}
-use Rattle.sound_laws.proofs.BoundaryLemmas.{concluded_steady, outcome_steady}
-use Rattle.sound_laws.proofs.TicketLemmas.{concluded_keeps}
+use Rattle.sound_laws.proofs.BoundaryLemmas.{concluded_steady, outcome_steady, emptied_steady}
+use Rattle.sound_laws.proofs.TicketLemmas.{concluded_keeps, standing_outcomes, waiting_stays}
 use Rattle.request_plan.proofs.ActLemmas.{followed}
 use Rattle.request_plan.specs.Acts.{IsConclusionOf, loaded_after, lives_after}
-use Rattle.request_plan.specs.Plans.{AreConclusionsOf, AreConcluded}
+use Rattle.request_plan.specs.Plans.{AreConclusionsOf, AreConcluded, IsStandingIn, told_first, IsPlanOf, HaveStoodInBy}
 use Rattle.request_plan.specs.Stands.{IsSeenOf}
 use Rattle.request_plan.specs.declared.acts.Conclusion.{Conclusion}
+use Rattle.request_plan.specs.declared.plans.Plan.{Plan}
 use Rattle.request_plan.specs.declared.stand.Stand.{Stand}
 
 -- ---- On the way
@@ -82,3 +85,52 @@ pub told_after : (s : State) (asked : List Request) (cs : List Conclusion) → A
 told_after s asked cs each =
     let later : List Outcome = map (λ (c : Conclusion). c.outcome) cs in
     ap (decisions_from (length s.outcomes)) (sym (ap (drop (length s.outcomes)) (outcomes_after s asked cs each) ∙ drop-append_seam s.outcomes later))
+
+-- ---- Those that stand in
+
+-- where nobody is to, nothing is concluded
+pub nobody_stands : (s : State) (names : List (List ℕ)) (d : Description) (stand : Stand) → names ≡ [] → IsSeenOf s d stand → HaveStoodInBy s names None d stand
+nobody_stands s [] d stand none seen = record { first = tt; seen = seen }
+nobody_stands s (name ∷ names) d stand none seen = cc
+
+-- else they are concluded first, in a state in which nobody is to stand in any more
+pub somebody_stands : (s : State) (names : List (List ℕ)) (d : Description) (stand new : Stand) (c : Conclusion) → (names ≡ [] → ⊥)
+    → ((t : State) → IsSeenOf t d stand → IsConclusionOf t (standing_in names) c)
+    → new.loaded.items ≡ loaded_after c.act stand.loaded.items → new.lives.items ≡ lives_after c.act stand.lives.items
+    → IsSeenOf s d stand → HaveStoodInBy s names (Some c) d new
+somebody_stands s [] d stand new c some concludes loaded lives seen = absurd (some refl)
+somebody_stands s (name ∷ names) d stand new c some concludes loaded lives seen =
+    let t = record s { fallbacks = [] } in
+    let before : IsSeenOf t d stand = record { steady = emptied_steady s seen.steady; once = seen.once; scene = seen.scene } in
+    let of = concludes t before in
+    let steady = concluded_steady t (standing_in (name ∷ names)) before.steady in
+    record { first = of; seen = followed t d stand new before (concluded t (standing_in (name ∷ names))).state c.act of.act steady loaded lives }
+
+-- and so it is told of them
+told_of : (s : State) (names : List (List ℕ)) (first : Option Conclusion) → IsStandingIn s names first → told_first first ≡ told_of_fallbacks s names
+told_of s [] None is = refl
+told_of s [] (Some c) is = absurd is
+told_of s (name ∷ names) None is = absurd is
+told_of s (name ∷ names) (Some c) is = ap (λ (o : Outcome). record { ticket = None; outcome = o } ∷ []) is.outcome
+
+-- ---- The whole plan
+
+pub plan_is : (s : State) (plan : Plan) (d : Description) (between last : Stand) → HaveStoodInBy s s.fallbacks plan.first d between
+    → AreConcluded (after_fallbacks s) (waiting s) plan.conclusions.items d last
+    → plan.order.items ≡ members_in_order (all_concluded (after_fallbacks s) (waiting s))
+    → plan.decisions ≡ told_first plan.first ++ decisions_from (length s.outcomes) (map (λ c. c.outcome) plan.conclusions.items)
+    → IsPlanOf s plan
+plan_is s plan d between last stood concluded order decisions =
+    let same = waiting_stays s in
+    let made = subst (λ (rs : List Request). AreConclusionsOf (after_fallbacks s) rs plan.conclusions.items) (sym same) concluded.each in
+    let outcomes = standing_outcomes s s.fallbacks in
+    let later : List Outcome = map (λ (c : Conclusion). c.outcome) plan.conclusions.items in
+    record {
+      first = stood.first;
+      conclusions = made;
+      order = order ∙ ap (λ (rs : List Request). members_in_order (all_concluded (after_fallbacks s) rs)) (sym same);
+      decisions = decisions
+          ∙ ap₂ (λ (first later : List Decision). first ++ later) (told_of s s.fallbacks plan.first stood.first)
+          (ap (λ (os : List Outcome). decisions_from (length os) later) (sym outcomes) ∙ told_after (after_fallbacks s) (waiting (after_fallbacks s)) plan.conclusions.items made
+          ∙ ap (λ (os : List Outcome). decisions_from (length os) (drop (length os) (boundary s).outcomes)) outcomes);
+    }

@@ -1,58 +1,90 @@
-//! The plan for all requests that wait.
+//! The plan for those that are to stand in, and for all requests that wait.
 
-ghost use Rattle.std.specs.Prelude.{◌≡◌, ◌+◌, ◌<◌, ◌^◌, length, map, Some, IfOk};
-ghost use Rattle.cm_model.specs.Boundary.{decisions_from};
+ghost use Rattle.std.specs.Prelude.{◌≡◌, ◌+◌, ◌<◌, ◌^◌, ◌++◌, length, map, IfOk};
+ghost use Rattle.cm_model.specs.Boundary.{waiting, decisions_from};
 ghost use Rattle.cm_model.specs.State.{State};
 ghost use Rattle.request_plan.specs.Calls.Conclude.{CanDecide, Concludes};
 ghost use Rattle.request_plan.specs.Stands.{IsStand, IsSeenOf};
-ghost use Rattle.request_plan.specs.Plans.{IsPlanOf, AreConcluded};
+ghost use Rattle.request_plan.specs.Plans.{told_first, IsPlanOf, AreConcluded, HaveStoodInBy};
 
 use crate::acts::Conclusion;
 use crate::components::conclude_move;
 use crate::stand::{Stand, order};
 use crate::switches::conclude_switch;
-use cm_document::Checked;
+use cm_document::{Checked, SwitchRequest};
 use cm_model::{Decision, Member, Outcome, Request};
 use fixed_num::Memory;
-use sequence::Rare;
+use iface_names::Name;
+use sequence::{Rare, Seq};
 use std::alloc::Global;
 use switch_plan::Relations;
 
-/// What is planned for requests that wait.
+/// What is planned for those that are to stand in, and for requests that wait.
 #[derive(Debug, Drop)]
 pub struct Plan {
-    /// What is concluded of each, by ticket.
+    /// What is concluded of those that are to stand in, if anybody is.
+    pub first: Option<Conclusion>,
+    /// What is concluded of each request, by ticket.
     pub conclusions: Vec<Conclusion>,
     /// The active controllers after all of it, in the order of their updates.
     pub order: Vec<Member>,
-    /// What was decided, by ticket.
+    /// What was decided: on those that are to stand in, and then by ticket.
     pub decisions: Rare<Decision>,
 }
 
-/// Plans what becomes of requests, the first of which has this ticket, and what is done for them: one after the other, each in the state
-/// that the one before it left. Nothing is touched but the stand, which is used up.
+/// Plans what becomes of those that are to stand in, and then of requests, the first of which has this ticket, and what is done for them:
+/// one after the other, each in the state that the one before it left. Nothing is touched but the stand, which is used up.
 pub(crate) fn plan_all(
     alloc: Global,
     checked: &Checked,
     relations: &Relations,
     stand: Stand,
-    first: u32,
-    waiting: &[Request],
+    names: Seq<Name>,
+    ticket: u32,
+    requests: &[Request],
 ) -> Result<Plan, Memory>
     requires can { CanDecide checked.now relations.now stand }
-    requires tickets { first + length waiting.now < 2 ^ 32 }
-    ensures { IfOk result (λ plan. (s : State) → IsSeenOf s checked.now stand → length s.outcomes ≡ first
-        → IsPlanOf s waiting.now plan) }
+    requires tickets { ticket + length requests.now < 2 ^ 32 }
+    ensures { IfOk result (λ plan. (s : State) → IsSeenOf s checked.now stand → s.fallbacks ≡ names
+        → length s.outcomes ≡ ticket → waiting s ≡ requests.now → IsPlanOf s plan) }
 {
     let mut stand = stand;
-    let conclusions = conclude_all(alloc, checked, relations, &mut stand, waiting)?;
+    let first = stand_in(alloc, checked, relations, &mut stand, names)?;
+    let conclusions = conclude_all(alloc, checked, relations, &mut stand, requests)?;
     let order = order(alloc, checked, relations, &stand.loaded)?;
-    let decisions = decisions_of(alloc, first, &conclusions)?;
+    let decisions = decisions_of(alloc, &first, ticket, &conclusions)?;
     Ok(Plan {
+        first,
         conclusions,
         order,
         decisions: Rare::of(alloc, decisions)?,
     })
+}
+
+/// What is concluded of those that are to stand in: as many of them become active as can. The stand is that after it.
+fn stand_in(
+    alloc: Global,
+    checked: &Checked,
+    relations: &Relations,
+    stand: &mut Stand,
+    names: Seq<Name>,
+) -> Result<Option<Conclusion>, Memory>
+    requires { CanDecide checked.now relations.now stand.old }
+    ensures stand { IfOk result (λ _. IsStand checked.now stand.new) }
+    ensures stood { IfOk result (λ first. (s : State) → IsSeenOf s checked.now stand.old
+        → HaveStoodInBy s names first checked.now stand.new) }
+{
+    if names.as_slice().is_empty() {
+        return Ok(None);
+    }
+    let request = SwitchRequest {
+        on: names,
+        off: Seq::new(alloc),
+        strict: false,
+    };
+    let conclusion = conclude_switch(alloc, checked, relations, stand, &request)?;
+    stand.follow(&conclusion.act);
+    Ok(Some(conclusion))
 }
 
 /// What is concluded of these requests, one after the other. The stand is that after all of them.
@@ -97,31 +129,43 @@ fn conclude(
     }
 }
 
-/// What is decided with these conclusions, by ticket, the first of which has this one.
+/// What is decided with these conclusions: on those that are to stand in, and then by ticket, the first of which is this one.
 fn decisions_of(
     alloc: Global,
-    first: u32,
+    first: &Option<Conclusion>,
+    ticket: u32,
     conclusions: &[Conclusion],
 ) -> Result<Vec<Decision>, Memory>
-    requires { first + length conclusions.now < 2 ^ 32 }
+    requires { ticket + length conclusions.now < 2 ^ 32 }
     ensures { IfOk result (λ decisions. decisions.items
-        ≡ decisions_from first (map (λ c. c.outcome) conclusions.now)) }
+        ≡ told_first first.now ++ decisions_from ticket (map (λ c. c.outcome) conclusions.now)) }
 {
-    let mut decisions = Vec::with_capacity(alloc, conclusions.len())?;
-    let mut ticket = first;
+    let mut decisions = first_decision(alloc, first)?;
+    let mut next = ticket;
     for conclusion in conclusions {
-        decisions.push(decision(ticket, &conclusion.outcome)?)?;
-        ticket += 1;
+        decisions.push(decision(Some(next), &conclusion.outcome)?)?;
+        next += 1;
     }
     Ok(decisions)
 }
 
-/// That this became of the request of a ticket.
-fn decision(ticket: u32, outcome: &Outcome) -> Result<Decision, Memory>
-    ensures { IfOk result (λ decision. decision ≡ record { ticket = Some ticket; outcome = outcome.now }) }
+/// What is decided on those that are to stand in.
+fn first_decision(alloc: Global, first: &Option<Conclusion>) -> Result<Vec<Decision>, Memory>
+    ensures { IfOk result (λ decisions. decisions.items ≡ told_first first.now) }
+{
+    let mut decisions = Vec::new(alloc);
+    if let Some(conclusion) = first {
+        decisions.push(decision(None, &conclusion.outcome)?)?;
+    }
+    Ok(decisions)
+}
+
+/// That this became of the request of a ticket, or of those that are to stand in.
+fn decision(ticket: Option<u32>, outcome: &Outcome) -> Result<Decision, Memory>
+    ensures { IfOk result (λ decision. decision ≡ record { ticket = ticket; outcome = outcome.now }) }
 {
     Ok(Decision {
-        ticket: Some(ticket),
+        ticket,
         outcome: outcome.clone()?,
     })
 }

@@ -1,7 +1,7 @@
 //! The requests that were made, and what became of them.
 
 ghost use Rattle.std.specs.Prelude.{◌≡◌, ◌+◌, ◌<◌, ◌≤◌, ◌^◌, true, false, [], ◌∷◌, ◌++◌, drop, length, map, nat_le, option_map, slice_get, vec_capacity, IfOk, OnErr};
-ghost use Rattle.cm_model.specs.Boundary.{request_reply, request_effect, close_effect, close_reply, decisions_from, waiting};
+ghost use Rattle.cm_model.specs.Boundary.{request_reply, request_effect, close_effect, close_reply, decisions_from};
 ghost use Rattle.cm_model.specs.State.{State};
 ghost use Rattle.cm_model.specs.declared.reply.Reply.TheVariants as reply;
 ghost use Rattle.switch_plan.specs.Relations.{relations_of};
@@ -14,7 +14,8 @@ use crate::stand::Stand;
 use cm_document::Checked;
 use cm_model::{Decision, MOST_WAITING, Outcome, Reply, Request, Why};
 use fixed_num::Memory;
-use sequence::Rare;
+use iface_names::Name;
+use sequence::{Rare, Seq};
 use std::alloc::Global;
 use std::marker::Model;
 use switch_plan::Relations;
@@ -144,24 +145,27 @@ impl Requests {
         }
     }
 
-    /// Plans what becomes of those that wait, and what is done for them. Nothing is touched.
+    /// Plans what becomes of those that are to stand in, by these names, and of those that wait, and what is done for them. Nothing is
+    /// touched.
     pub fn plan(
         &self,
         alloc: Global,
         checked: &Checked,
         relations: &Relations,
         stand: Stand,
+        names: Seq<Name>,
     ) -> Result<Plan, Memory>
         requires relations { relations.now ≡ relations_of checked.now }
         requires stand { IsStand checked.now stand }
-        ensures { IfOk result (λ plan. (s : State) → AreAskedIn s self.now → IsSeenOf s checked.now stand
-            → IsPlanOf s (waiting s) plan) }
+        ensures { IfOk result (λ plan. (s : State) → AreAskedIn s self.now → s.fallbacks ≡ names
+            → IsSeenOf s checked.now stand → IsPlanOf s plan) }
     {
         let plan = plan_all(
             alloc,
             checked,
             relations,
             stand,
+            names,
             self.decided(),
             self.waiting(),
         )?;

@@ -78,7 +78,7 @@ told_between before after told is =
 -- ---- Those that stand in
 
 -- they change no outcome,
-standing_outcomes : (s : State) (names : List (List ℕ)) → (after_standing_in s names).outcomes ≡ s.outcomes
+pub standing_outcomes : (s : State) (names : List (List ℕ)) → (after_standing_in s names).outcomes ≡ s.outcomes
 standing_outcomes s [] = refl
 standing_outcomes s (name ∷ names) = concluded_keeps (record s { fallbacks = [] }) (standing_in (name ∷ names))
 

@@ -1,0 +1,12 @@
+use Rattle.std.proofs.Common.{◌≡◌, [], Some, sym, subst, ◌∙◌}
+use Rattle.request_plan.proofs.ActLemmas.{follows}
+use Rattle.request_plan.proofs.PlanLemmas.{nobody_stands, somebody_stands}
+use Rattle.request_plan.proofs.plans.stand_in.Goals as goal
+
+pub returns-clause-stand : goal.returns-clause-stand
+returns-clause-stand c = follows c.args.checked.now c.args.stand.now c.follow.new.self c.in_ok-conclusion.conclusion.act c.requires.stand c.follow.ensures.loaded c.follow.ensures.lives
+
+pub returns-clause-stood : goal.returns-clause-stood
+returns-clause-stood c = λ s seen.
+    somebody_stands s c.args.names c.args.checked.now c.args.stand.now c.follow.new.self c.in_ok-conclusion.conclusion ?
+    c.in_ok-conclusion.ensures.concluded c.follow.ensures.loaded c.follow.ensures.lives seen
