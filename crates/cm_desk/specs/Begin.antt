@@ -1,9 +1,9 @@
 -- How a cycle begins: how the requests that wait are decided, and how it takes off.
-use Rattle.std.specs.Prelude.{◌≡◌, ℕ, ◌<◌, ◌≤◌, ◌==◌, Bool, true, false, List, [], ◌∷◌, length, drop, None}
+use Rattle.std.specs.Prelude.{◌≡◌, ℕ, ◌<◌, ◌≤◌, ◌==◌, Bool, true, false, List, [], ◌∷◌, length, drop, Option, None}
 use Rattle.std.specs.Prelude.{vec_capacity}
 use Rattle.std.specs.List.{All}
 use Rattle.cm_document.specs.Valid.{IsValid}
-use Rattle.cm_model.specs.Boundary.{waiting, begin_effect, begin_reply}
+use Rattle.cm_model.specs.Boundary.{waiting, after_fallbacks, begin_effect, begin_reply}
 use Rattle.cm_model.specs.Cycle.{begun, members_in_order}
 use Rattle.cm_model.specs.Machine.{can_begin}
 use Rattle.cm_model.specs.Serials.{IsNumbered}
@@ -15,6 +15,7 @@ use Rattle.cm_model.specs.declared.data.CtlData.{CtlData}
 use Rattle.cm_model.specs.declared.cause.Outcome.{Outcome}
 use Rattle.cm_model.specs.declared.request.Request.{Request}
 use Rattle.request_plan.specs.Acts.{IsActOf, IsConclusionOf}
+use Rattle.request_plan.specs.Plans.{AreConclusionsOf, IsStandingIn}
 use Rattle.request_plan.specs.declared.acts.Act.{Act}
 use Rattle.request_plan.specs.declared.acts.Conclusion.{Conclusion}
 use Rattle.cm_hardware.specs.Holding.{IsHardwareOf}
@@ -37,6 +38,14 @@ none_waits requests outcomes = length (drop (length outcomes) requests) == 0
 pub record IsNext (s : State) (asked : Request) (later : List Request) (c : Conclusion) : Type 0 where
   pub first : waiting s ≡ asked ∷ later
   pub concluded : IsConclusionOf s asked c
+
+-- Of what was planned for a begin this is left to be done in a state in which nobody is to stand in any more: first what
+-- was concluded of those that were, and then of each request.
+pub record IsLeftOf (s now : State) (first : Option Conclusion) (conclusions : List Conclusion) : Type 0 where
+  pub emptied : now ≡ record s { fallbacks = [] }
+  pub steady : IsSteady s
+  pub first : IsStandingIn s s.fallbacks first
+  pub conclusions : AreConclusionsOf (after_fallbacks s) (waiting (after_fallbacks s)) conclusions
 
 -- This can be done, and leads to a steady state.
 pub record CanAct (s after : State) (done : Act) : Type 0 where

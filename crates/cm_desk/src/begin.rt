@@ -1,15 +1,17 @@
-//! The begin of a cycle: the requests that wait are decided, and what the cycle needs is taken.
+//! The begin of a cycle: those that are to stand in are asked for, the requests that wait are decided, and what the cycle needs is taken.
 
-ghost use Rattle.std.specs.Prelude.{◌≡◌, ◌<◌, ◌≤◌, ◌&&◌, [], true, false, length, map, slice_get, vec_capacity, Some, List, IfOk, OnOk, OnErr};
-ghost use Rattle.cm_model.specs.Boundary.{waiting, concluded, with_outcome, boundary};
+ghost use Rattle.std.specs.Prelude.{◌≡◌, ◌<◌, ◌≤◌, ◌==◌, ◌++◌, ◌&&◌, [], true, false, length, map, slice_get, vec_capacity, Some, List, IfOk, OnOk, OnErr};
+ghost use Rattle.cm_model.specs.Boundary.{waiting, concluded, with_outcome, after_fallbacks, boundary};
 ghost use Rattle.cm_model.specs.Commit.{seen};
+ghost use Rattle.cm_model.specs.Order.{controller_at};
 ghost use Rattle.cm_model.specs.Serials.{IsNumbered};
 ghost use Rattle.cm_model.specs.State.{State, Loaded, is_active, is_chained};
 ghost use Rattle.cm_model.specs.Steady.{IsSteady};
 ghost use Rattle.cm_model.specs.declared.request.Request.{Request};
 ghost use Rattle.request_plan.specs.Acts.{IsSwitchOf, IsMoveOf};
-ghost use Rattle.request_plan.specs.Plans.{IsPlanOf, AreConclusionsOf};
-ghost use Rattle.cm_desk.specs.Begin.{IsNext, CanAct, CanBegin, HasBegun, CanTakeOff, HasTakenOff, none_waits};
+ghost use Rattle.request_plan.specs.Plans.{IsPlanOf, IsStandingIn, AreConclusionsOf};
+ghost use Rattle.cm_desk.specs.Bay.{stand_ins_for};
+ghost use Rattle.cm_desk.specs.Begin.{IsNext, IsLeftOf, CanAct, CanBegin, HasBegun, CanTakeOff, HasTakenOff, none_waits};
 
 use crate::bay::Bay;
 use crate::boarding::board;
@@ -21,22 +23,23 @@ use cm_model::{Decision, Seen};
 use ctl_slots::{Slot, Slots};
 use ctl_trait::Controller;
 use fixed_num::Memory;
+use iface_names::Name;
 use request_plan::{Act, Conclusion, Plan, Requests, Stand, Switched};
 use rt_flight::{Cell, Flight, Payload};
-use sequence::Rare;
+use sequence::{Rare, Seq};
 use std::alloc::Global;
 use std::snapshot::Snapshot;
 
 impl<C: Controller> Works<C> {
-    /// The next cycle begins: the requests that wait are decided one after the other, each in the state that the one before it left, and the
-    /// controllers that run then go aloft in a flight, with the mail of those that are due. All memory that this and the cycle need is taken
+    /// The next cycle begins: those that are to stand in are asked for, the requests that wait are decided one after the other, each in the
+    /// state that the one before it left, and the controllers that run then go aloft in a flight, with the mail of those that are due. All memory that this and the cycle need is taken
     /// before anything changes. It hands out the flight, and tells what was decided.
     pub fn begin(&mut self, alloc: Global) -> Result<(Flight<C>, Rare<Decision>), Memory>
         requires { CanBegin self.old }
         ensures begun { IfOk result (λ begun. HasBegun self.old self.new begun.0 begun.1) }
         ensures kept { OnErr result (self.new ≡ self.old) }
     {
-        if !is_settled(&self.roster, &self.requests) {
+        if !is_settled(&self.roster, &self.requests, self.bay.erred()) {
             return self.begin_anew(alloc);
         }
         let count = self.roster.order().len();
@@ -54,7 +57,7 @@ impl<C: Controller> Works<C> {
         Ok((flight, Rare::none()))
     }
 
-    /// The same, where requests wait or others may be active than in the cycle before.
+    /// The same, where somebody may be to stand in, requests wait, or others may be active than in the cycle before.
     fn begin_anew(&mut self, alloc: Global) -> Result<(Flight<C>, Rare<Decision>), Memory>
         requires { CanBegin self.old }
         ensures begun { IfOk result (λ begun. HasBegun self.old self.new begun.0 begun.1) }
@@ -69,7 +72,8 @@ impl<C: Controller> Works<C> {
             .supplies(alloc, &self.checked, &plan.order, self.slots.len())?;
         let cells = std::mem::replace(&mut self.cells, Vec::new(alloc));
         let boxes = std::mem::replace(&mut self.boxes, Vec::new(alloc));
-        self.carry_out(plan.conclusions);
+        self.bay.forget_erred();
+        self.carry_out(plan.first, plan.conclusions);
         self.roster.put(plan.order, run, self.slots.as_slice());
         self.bay.take_in(supplies);
         self.boxes = boxes;
@@ -84,19 +88,23 @@ impl<C: Controller> Works<C> {
         Ok((flight, plan.decisions))
     }
 
-    /// What becomes of the requests that wait, and the order of updates after that. Nothing is touched.
+    /// What becomes of those that are to stand in and of the requests that wait, and the order of updates after that. Nothing is touched.
     fn plan(&self, alloc: Global) -> Result<Plan, Memory>
         requires down { self.now.aloft ≡ false }
         requires steady { IsSteady self.now }
         requires numbered { IsNumbered self.now }
-        ensures { IfOk result (λ plan. IsPlanOf self.now (waiting self.now) plan) }
+        ensures { IfOk result (λ plan. IsPlanOf self.now plan) }
     {
         let stand = self.stand(alloc)?;
         let Some(hangar) = &self.bay.hangar else {
             unreachable!();
         };
         let relations = &hangar.plant.relations;
-        Ok(self.requests.plan(alloc, &self.checked, relations, stand)?)
+        let names = stand_ins(alloc, &self.checked, &hangar.erred)?;
+        Ok(
+            self.requests
+                .plan(alloc, &self.checked, relations, stand, names)?,
+        )
     }
 
     /// What the requests are decided by.
@@ -160,9 +168,23 @@ impl<C: Controller> Works<C> {
         Ok(lives)
     }
 
-    /// All that is concluded is done, one after the other. It takes no memory.
-    fn carry_out(&mut self, conclusions: Vec<Conclusion>)
+    /// All that is concluded is done, one after the other, in a state in which nobody is to stand in any more. It takes no memory.
+    fn carry_out(&mut self, first: Option<Conclusion>, conclusions: Vec<Conclusion>)
         requires down { self.old.aloft ≡ false }
+        requires nobody { self.old.fallbacks ≡ [] }
+        requires can { (s : State) × IsLeftOf s self.old first conclusions.items }
+        ensures { (s : State) → IsLeftOf s self.old first conclusions.items → self.new ≡ boundary s }
+    {
+        if let Some(conclusion) = first {
+            self.act(&conclusion.act);
+        }
+        self.decide_all(conclusions);
+    }
+
+    /// All that is concluded of requests is done, one after the other. It takes no memory.
+    fn decide_all(&mut self, conclusions: Vec<Conclusion>)
+        requires down { self.old.aloft ≡ false }
+        requires nobody { self.old.fallbacks ≡ [] }
         requires steady { IsSteady self.old }
         requires concluded { AreConclusionsOf self.old (waiting self.old) conclusions.items }
         ensures { self.new ≡ boundary self.old }
@@ -221,11 +243,41 @@ impl<C: Controller> Works<C> {
     }
 }
 
-/// Whether no request waits, and the order of updates is the one of now.
-fn is_settled(roster: &Roster, requests: &Requests) -> bool
-    ensures { result ≡ (roster.now.fresh && none_waits (requests.now.requests) (requests.now.outcomes)) }
+/// Whether no update failed, no request waits, and the order of updates is the one of now.
+fn is_settled(roster: &Roster, requests: &Requests, erred: &[u32]) -> bool
+    ensures { result ≡ ((roster.now.fresh && none_waits (requests.now.requests) (requests.now.outcomes))
+        && length erred.now == 0) }
 {
-    roster.is_fresh() && requests.waiting().is_empty()
+    roster.is_fresh() && requests.waiting().is_empty() && erred.is_empty()
+}
+
+/// Who stands in for the controllers of these places, as they are described.
+fn stand_ins(alloc: Global, checked: &Checked, places: &[u32]) -> Result<Seq<Name>, Memory>
+    ensures { IfOk result (λ names. names ≡ stand_ins_for checked.now places.now) }
+{
+    let mut names = Seq::new(alloc);
+    for place in places {
+        push_stand_ins(checked, *place, &mut names)?;
+    }
+    Ok(names)
+}
+
+/// Appends who stands in for the controller of this place.
+fn push_stand_ins(checked: &Checked, place: u32, names: &mut Seq<Name>) -> Result<(), Memory>
+    ensures { OnOk result (names.new ≡ names.old ++ (controller_at checked.now.controllers place).fallback) }
+{
+    let Some(controller) = checked
+        .description()
+        .controllers
+        .as_slice()
+        .get(place as usize)
+    else {
+        return Ok(());
+    };
+    for name in controller.fallback.as_slice() {
+        names.push(name.clone()?)?;
+    }
+    Ok(())
 }
 
 /// There is room for the cells and the boxes of so many.
