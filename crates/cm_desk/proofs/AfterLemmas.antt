@@ -30,7 +30,7 @@ use Rattle.rt_flight.specs.Stations.{IsFitted}
 use Rattle.rt_flight.specs.declared.craft.Craft.{Craft}
 use Rattle.rt_flight.specs.declared.plant.Plant.{Plant}
 use Rattle.stop_plan.specs.Ending.{HasFlags, told_in, nobody_again}
-use Rattle.cm_desk.specs.Bay.{Base, base_of, HasLines, IsAtHome, IsBased, IsHome, IsMadeReady, IsRewired}
+use Rattle.cm_desk.specs.Bay.{Base, base_of, stand_ins_for, HasLines, IsAtHome, IsBased, IsHome, IsMadeReady, IsRewired}
 use Rattle.cm_desk.specs.End.{HasSettled}
 use Rattle.cm_desk.specs.Roster.{Listed, serial_in}
 use Rattle.cm_desk.specs.Supplies.{stands_for}
@@ -49,6 +49,7 @@ pub record IsSameBase (before after : Base) : Type 0 where
   pub mails : after.mails ≡ before.mails
   pub stations : after.stations ≡ before.stations
   pub members : after.members ≡ before.members
+  pub erred : after.erred ≡ before.erred
   pub lists : after.lists ≡ before.lists
   pub untold : after.told ≡ false
   pub spare_lists : after.spare_lists ≡ before.spare_lists
@@ -64,6 +65,7 @@ rewired b b' berths is = record {
   mails = is.mails;
   stations = ap (λ (x : Spare). x.stations.items) is.spare;
   members = is.members;
+  erred = is.erred;
   lists = is.lists;
   untold = is.untold;
   spare_lists = is.spare_lists;
@@ -83,6 +85,7 @@ at_rest b left b' k r h home away room taken same rests plant =
     let sets : r.value.ending ≡ b.ending.value = ap (λ (x : Craft). x.ending) same ∙ ap (λ (x : Craft). x.ending) taken ∙ home.ending in
     let hangar : b'.hangar ≡ Some r = ap (λ (x : Bay). x.hangar) rests in
     let members : b'.members.value.items ≡ b.members.value.items = ap (λ (x : Bay). x.members.value.items) rests ∙ ap (λ (x : Bay). x.members.value.items) away in
+    let erred : b'.erred.value.items ≡ b.erred.value.items = ap (λ (x : Bay). x.erred.value.items) rests ∙ ap (λ (x : Bay). x.erred.value.items) away in
     let spare_lists : b'.spare_lists.value ≡ b.spare_lists.value = ap (λ (x : Bay). x.spare_lists.value) rests ∙ ap (λ (x : Bay). x.spare_lists.value) away in
     let room_is : r.value.room ≡ k.value.room = ap (λ (x : Craft). x.room) same ∙ ap (λ (x : Craft). x.room) taken in
     record {
@@ -92,12 +95,14 @@ at_rest b left b' k r h home away room taken same rests plant =
         plant = sym plant;
         ending = sets ∙ sym ending;
         order = ap (λ (x : Craft). x.order.items) same ∙ ap (λ (x : Craft). x.order.items) taken ∙ home.order ∙ sym members;
+        erred = ap (λ (x : Craft). x.erred.items) same ∙ ap (λ (x : Craft). x.erred.items) taken ∙ home.erred ∙ sym erred;
         spare_lists = ap (λ (x : Craft). x.lists) same ∙ ap (λ (x : Craft). x.lists) taken ∙ home.spare_lists ∙ sym spare_lists;
         told = subst (λ (o : Option RecordRoom). IfSome o TellsNothing) (sym room_is) home.told;
       });
       mails = ap (λ (x : Bay). x.mails.value.items) rests ∙ ap (λ (x : Bay). x.mails.value.items) away;
       spare = ap (λ (x : Bay). x.spare) rests ∙ ap (λ (x : Bay). x.spare) away;
       members = members;
+      erred = erred;
       lists = ap (λ (x : Bay). x.lists) rests ∙ ap (λ (x : Bay). x.lists) away;
       untold = ap (λ (x : Bay). x.told) rests;
       spare_lists = spare_lists;
@@ -150,12 +155,17 @@ worked_with d names before after is same = record {
 
 -- with these controllers and this hardware the state is the one after the commit
 pub view_committed : (s : State) (set again : Places) (slots slots' : Slotted) (before after : Base) (looked : Listed) → s.aloft ≡ slots.aloft → s.mails ≡ before.mails
+    → s.fallbacks ≡ stand_ins_for s.description before.erred
     → HasCommitted s set again slots'.loaded after.plant.hardware looked → slots' ≡ record slots { loaded = slots'.loaded } → IsSameBase before after
-    → with_hardware (record s { loaded = slots'.loaded; aloft = slots'.aloft; mails = after.mails }) after.plant.hardware ≡ commit s set again
+    → with_hardware (record s { loaded = slots'.loaded; aloft = slots'.aloft; mails = after.mails; fallbacks = stand_ins_for s.description after.erred }) after.plant.hardware
+    ≡ commit s set again
 unfolding commit
-view_committed s set again slots slots' before after looked aloft mails made stays same =
-    ap (λ (b : Bool). with_hardware (record s { loaded = slots'.loaded; aloft = b; mails = after.mails }) after.plant.hardware) (ap (λ (x : Slotted). x.aloft) stays ∙ sym aloft)
-    ∙ ap (λ (ms : List MailAloft). with_hardware (record s { loaded = slots'.loaded; mails = ms }) after.plant.hardware) (same.mails ∙ sym mails)
+view_committed s set again slots slots' before after looked aloft mails fallbacks made stays same =
+    let fell = stand_ins_for s.description after.erred in
+    ap (λ (b : Bool). with_hardware (record s { loaded = slots'.loaded; aloft = b; mails = after.mails; fallbacks = fell }) after.plant.hardware) (ap (λ (x : Slotted). x.aloft) stays ∙ sym aloft)
+    ∙ ap (λ (ms : List MailAloft). with_hardware (record s { loaded = slots'.loaded; mails = ms; fallbacks = fell }) after.plant.hardware) (same.mails ∙ sym mails)
+    ∙ ap (λ (names : List (List ℕ)). with_hardware (record s { loaded = slots'.loaded; fallbacks = names }) after.plant.hardware)
+    (ap (stand_ins_for s.description) same.erred ∙ sym fallbacks)
     ∙ ap (λ (ls : List Loaded). with_hardware (record s { loaded = ls }) after.plant.hardware) made.loaded ∙ sym (state_is (commit s set again) after.plant.hardware made.hardware)
 
 pub kept_committed : (s : State) (set again : Places) (slots : List Loaded) (names : List (List ℕ)) (before after : Base) (was looked : Listed)
@@ -192,10 +202,12 @@ pub held_when_steady : (s : State) (lives : List Life) (w : Wired) → IsValid s
 held_when_steady s lives w valid steady is =
     moved_is_held (moved s lives) w (owned_is_available (moved s lives) valid steady.together steady.in_order.described) is
 
-pub view_moved : (s : State) (lives : List Life) (before after : Base) → s.mails ≡ before.mails → IsSameBase before after → IsHardwareOf (moved s lives) after.plant.hardware
-    → with_hardware (record s { mails = after.mails }) after.plant.hardware ≡ moved s lives
-view_moved s lives before after mails same is =
-    ap (λ (ms : List MailAloft). with_hardware (record s { mails = ms }) after.plant.hardware) (same.mails ∙ sym mails) ∙ sym (state_is (moved s lives) after.plant.hardware is)
+pub view_moved : (s : State) (lives : List Life) (before after : Base) → s.mails ≡ before.mails → s.fallbacks ≡ stand_ins_for s.description before.erred → IsSameBase before after → IsHardwareOf (moved s lives) after.plant.hardware
+    → with_hardware (record s { mails = after.mails; fallbacks = stand_ins_for s.description after.erred }) after.plant.hardware ≡ moved s lives
+view_moved s lives before after mails fallbacks same is =
+    ap (λ (ms : List MailAloft). with_hardware (record s { mails = ms; fallbacks = stand_ins_for s.description after.erred }) after.plant.hardware) (same.mails ∙ sym mails)
+    ∙ ap (λ (names : List (List ℕ)). with_hardware (record s { fallbacks = names }) after.plant.hardware) (ap (stand_ins_for s.description) same.erred ∙ sym fallbacks)
+    ∙ sym (state_is (moved s lives) after.plant.hardware is)
 
 pub kept_moved : (s : State) (lives : List Life) (names : List (List ℕ)) (before after : Base) (listed : Listed)
     → IsKept s names before listed → s.aloft ≡ false → IsHardwareOf (moved s lives) after.plant.hardware → IsSameBase before after
@@ -222,10 +234,10 @@ kept_moved s lives names before after listed kept down is same =
 
 -- with these controllers and this hardware, and nothing aloft, the state is the one after the cycle
 view_ended : (s : State) (slots : List Loaded) (w : Wired) (looked : Listed) → HasSettled s slots w looked
-    → with_hardware (record s { loaded = slots; ended = s.ended + 1; aloft = false; mails = [] }) w ≡ after_cycle s (cycle s)
+    → with_hardware (record s { loaded = slots; ended = s.ended + 1; aloft = false; mails = []; fallbacks = fallbacks_after s (told_in s) }) w ≡ after_cycle s (cycle s)
 unfolding after_cycle commit
 view_ended s slots w looked made =
-    ap (λ (ls : List Loaded). with_hardware (record s { loaded = ls; ended = s.ended + 1; aloft = false; mails = [] }) w) made.loaded
+    ap (λ (ls : List Loaded). with_hardware (record s { loaded = ls; ended = s.ended + 1; aloft = false; mails = []; fallbacks = fallbacks_after s (told_in s) }) w) made.loaded
     ∙ sym (state_is (after_cycle s (cycle s)) w made.hardware)
 
 ended_stays : (s : State) → all_staying (after_cycle s (cycle s)).loaded ≡ all_staying s.loaded
@@ -293,10 +305,11 @@ kept_ended s slots names before after was looked kept made worked is =
 pub ended_view : (d : Description) (blanks : Blanks) (sessions loads : ℕ) (slots slots' : Slotted) (asked : Asked) (before after : Base) (ended count : ℕ) (closed : Bool) (looked : Listed)
     → HasSettled (state_with d blanks sessions loads slots asked before ended closed) slots'.loaded after.plant.hardware looked
     → slots'.aloft ≡ false → after.mails ≡ [] → count ≡ ended + 1
+    → stand_ins_for d after.erred ≡ fallbacks_after (state_with d blanks sessions loads slots asked before ended closed) (told_in (state_with d blanks sessions loads slots asked before ended closed))
     → state_with d blanks sessions loads slots' asked after count closed
     ≡ after_cycle (state_with d blanks sessions loads slots asked before ended closed) (cycle (state_with d blanks sessions loads slots asked before ended closed))
-ended_view d blanks sessions loads slots slots' asked before after ended count closed looked made down none_aloft more =
-    rw (down, none_aloft, more) (view_ended (state_with d blanks sessions loads slots asked before ended closed) slots'.loaded after.plant.hardware looked made)
+ended_view d blanks sessions loads slots slots' asked before after ended count closed looked made down none_aloft more fell =
+    rw (down, none_aloft, more, fell) (view_ended (state_with d blanks sessions loads slots asked before ended closed) slots'.loaded after.plant.hardware looked made)
 
 -- ---- Between two cycles
 

@@ -10,7 +10,7 @@ use Rattle.cm_document.specs.declared.call.Call.TheVariants.{Begin}
 use Rattle.cm_document.specs.declared.description.Description.{Description}
 use Rattle.cm_document.specs.declared.life.Life.{Life}
 use Rattle.cm_model.specs.BestEffort.{decided}
-use Rattle.cm_model.specs.Boundary.{waiting, with_switch, with_move_unless, with_move, component_place, move_fault, concluded, with_outcome, all_concluded, boundary, decisions_from, decisions_between, begin_effect, begin_reply}
+use Rattle.cm_model.specs.Boundary.{waiting, with_switch, with_move_unless, with_move, component_place, move_fault, concluded, with_outcome, all_concluded, standing_in, after_standing_in, after_fallbacks, told_of_fallbacks, boundary, decisions_from, decisions_between, begin_effect, begin_reply}
 use Rattle.cm_model.specs.Commit.{scene_of, commit}
 use Rattle.cm_model.specs.Cycle.{begun, without_mail_off, is_due_now}
 use Rattle.cm_document.specs.Valid.{IsValid}
@@ -21,6 +21,7 @@ use Rattle.cm_model.specs.Steady.{IsSteady}
 use Rattle.cm_model.specs.Switches.{Decided, refused, done}
 use Rattle.cm_model.specs.declared.cause.Cause.{Cause}
 use Rattle.cm_model.specs.declared.blanks.Blanks.{Blanks}
+use Rattle.cm_model.specs.declared.cause.Decision.{Decision}
 use Rattle.cm_model.specs.declared.cause.Outcome.{Outcome}
 use Rattle.cm_model.specs.declared.member.Member.{Member}
 use Rattle.cm_model.specs.declared.reply.Reply.TheVariants as reply
@@ -29,18 +30,18 @@ use Rattle.cm_model.specs.declared.request.Request.TheVariants as request
 use Rattle.cm_model.proofs.StayLemmas.{boundary-SameLoop}
 use Rattle.cm_hardware.specs.Shown.{Shows}
 use Rattle.ctl_slots.specs.Slots.{Slotted}
-use Rattle.request_plan.specs.Plans.{AreConclusionsOf, IsPlanOf}
+use Rattle.request_plan.specs.Plans.{AreConclusionsOf, IsPlanOf, IsStandingIn}
 use Rattle.request_plan.specs.Requests.{Asked}
 use Rattle.request_plan.specs.declared.acts.Conclusion.{Conclusion}
 use Rattle.request_plan.specs.declared.plans.Plan.{Plan}
 use Rattle.stop_plan.specs.Ending.{members_in_order}
-use Rattle.sound_laws.proofs.BoundaryLemmas.{concluded_steady, outcome_steady}
+use Rattle.sound_laws.proofs.BoundaryLemmas.{concluded_steady, outcome_steady, emptied_steady}
 use Rattle.sound_laws.proofs.HistoryLemmas.{step_steady}
 use Rattle.sound_laws.proofs.SerialLemmas.{renumbered_numbered, effect_renumbered}
-use Rattle.cm_desk.specs.Begin.{none_waits, IsNext}
+use Rattle.cm_desk.specs.Begin.{none_waits, IsNext, CanAct}
 use Rattle.ctl_slots.specs.Fit.{IsTimedIn}
 use Rattle.ctl_slots.specs.Updates.{HasTime}
-use Rattle.cm_desk.specs.Bay.{Base, HasLines, IsBased}
+use Rattle.cm_desk.specs.Bay.{Base, stand_ins_for, HasLines, IsBased}
 use Rattle.cm_desk.specs.Roster.{Listed, IsListedOf, actives}
 use Rattle.cm_desk.specs.Works.{IsAsDescribed, IsKept, state_with}
 use Rattle.cm_desk.proofs.ActiveLemmas.{IsSameOne, actives_map, same_serial, same_order, hardware_stays}
@@ -93,13 +94,32 @@ nil_where (r ∷ rs) none = let none_there : length (r ∷ rs) ≡ 0 = eqb-true 
 pub nothing_waits : (s : State) → none_waits s.requests s.outcomes ≡ true → waiting s ≡ []
 nothing_waits s none = nil_where (waiting s) none
 
-pub quiet_boundary : (s : State) → waiting s ≡ [] → boundary s ≡ s
-unfolding all_concluded
-quiet_boundary s none = ap (all_concluded s) none
+-- where no update failed nobody is to stand in
+pub nobody_for : (d : Description) (places : List ℕ) → (length places == 0) ≡ true → stand_ins_for d places ≡ []
+nobody_for d [] none = refl
+nobody_for d (place ∷ places) none = let some : length (place ∷ places) ≡ 0 = eqb-true (length (place ∷ places)) 0 none in absurd (omega (arith, some))
 
-pub quiet_decisions : (s : State) → waiting s ≡ [] → decisions_between s (boundary s) ≡ []
-quiet_decisions s none =
-    ap (decisions_between s) (quiet_boundary s none) ∙ ap (decisions_from (length s.outcomes)) (drop-length s.outcomes)
+-- all that is concluded where nothing waits
+none_concluded : (s : State) → waiting s ≡ [] → all_concluded s (waiting s) ≡ s
+unfolding all_concluded
+none_concluded s none = ap (all_concluded s) none
+
+stood_nobody : (s : State) (names : List (List ℕ)) → names ≡ [] → after_standing_in s names ≡ s
+stood_nobody s [] nobody = refl
+stood_nobody s (name ∷ names) nobody = cc
+
+told_nobody : (s : State) (names : List (List ℕ)) → names ≡ [] → told_of_fallbacks s names ≡ []
+told_nobody s [] nobody = refl
+told_nobody s (name ∷ names) nobody = cc
+
+pub quiet_boundary : (s : State) → s.fallbacks ≡ [] → waiting s ≡ [] → boundary s ≡ s
+quiet_boundary s nobody none =
+    ap (λ (t : State). all_concluded t (waiting t)) (stood_nobody s s.fallbacks nobody) ∙ none_concluded s none
+
+pub quiet_decisions : (s : State) → s.fallbacks ≡ [] → waiting s ≡ [] → told_of_fallbacks s s.fallbacks ++ decisions_between s (boundary s) ≡ []
+quiet_decisions s nobody none =
+    ap₂ (λ (first later : List Decision). first ++ later) (told_nobody s s.fallbacks nobody)
+    (ap (decisions_between s) (quiet_boundary s nobody none) ∙ ap (decisions_from (length s.outcomes)) (drop-length s.outcomes))
 
 -- ---- The first that waits
 
@@ -164,19 +184,21 @@ next_waiting s asked later is =
     ∙ ap (λ n. drop n s.requests) (length_push s.outcomes o)
     ∙ (dropped_first (length s.outcomes) s.requests asked later is).1
 
-pub boundary_next : (s : State) (asked : Request) (later : List Request) → waiting s ≡ asked ∷ later → boundary s ≡ boundary (with_outcome (concluded s asked))
+-- all that wait are concluded, or the first of them and then the others
+concluded_next : (s : State) (asked : Request) (later : List Request) → waiting s ≡ asked ∷ later
+    → all_concluded s (waiting s) ≡ all_concluded (with_outcome (concluded s asked)) (waiting (with_outcome (concluded s asked)))
 unfolding all_concluded
-boundary_next s asked later is =
+concluded_next s asked later is =
     ap (all_concluded s) is ∙ ap (all_concluded (with_outcome (concluded s asked))) (sym (next_waiting s asked later is))
 
 -- ---- One conclusion after the other
 
--- What is left to be done from one state on leads to the boundary of another.
+-- What is left to be done from one state on leads to where all leads that waits in another.
 pub record IsLeft (opening s : State) (conclusions : List Conclusion) : Type 0 where
   pub down : s.aloft ≡ false
   pub steady : IsSteady s
   pub concluded : AreConclusionsOf s (waiting s) conclusions
-  pub same : boundary s ≡ boundary opening
+  pub same : all_concluded s (waiting s) ≡ all_concluded opening (waiting opening)
 
 -- the first of those that wait, and what is concluded of it
 pub record HasNext (s : State) (c : Conclusion) (cs : List Conclusion) : Type 0 where
@@ -206,15 +228,32 @@ left_next opening s t c cs left made =
       down = concluded_down s n.asked left.down;
       steady = outcome_steady (concluded s n.asked) (concluded_steady s n.asked left.steady);
       concluded = subst (λ rs. AreConclusionsOf (with_outcome (concluded s n.asked)) rs cs) (sym (next_waiting s n.asked n.others n.next.first)) n.later;
-      same = sym (boundary_next s n.asked n.others n.next.first) ∙ left.same;
+      same = sym (concluded_next s n.asked n.others n.next.first) ∙ left.same;
     })
 
 none_left : (s : State) (rs : List Request) → AreConclusionsOf s rs [] → rs ≡ []
 none_left s [] concluded = refl
 none_left s (r ∷ rs) concluded = absurd concluded
 
-pub left_none : (opening s : State) → IsLeft opening s [] → s ≡ boundary opening
-left_none opening s left = sym (quiet_boundary s (none_left s (waiting s) left.concluded)) ∙ left.same
+pub left_none : (opening s : State) → IsLeft opening s [] → s ≡ all_concluded opening (waiting opening)
+left_none opening s left = sym (none_concluded s (none_left s (waiting s) left.concluded)) ∙ left.same
+
+-- ---- Those that stand in
+
+-- where nothing was concluded of them, nobody is to stand in, and the state is as it was,
+pub stood_without : (s now : State) (names : List (List ℕ)) (cs : List Conclusion) → now ≡ record s { fallbacks = [] } → s.fallbacks ≡ names → IsStandingIn s names None
+    → now ≡ after_standing_in s names
+stood_without s now [] cs emptied is first = emptied ∙ ap (λ (ns : List (List ℕ)). record s { fallbacks = ns }) (sym is)
+stood_without s now (name ∷ names) cs emptied is first = absurd first
+
+-- else it can be done,
+pub stood_with : (s : State) (names : List (List ℕ)) (c : Conclusion) → IsSteady s → IsStandingIn s names (Some c) → CanAct (record s { fallbacks = [] }) (after_standing_in s names) c.act
+stood_with s [] c steady first = absurd first
+stood_with s (name ∷ names) c steady first =
+    let t = record s { fallbacks = [] } in record {
+      act = first.act;
+      steady = concluded_steady t (standing_in (name ∷ names)) (emptied_steady s steady);
+    }
 
 -- the state after a conclusion, with its outcome
 pub concluded_so : (s t : State) (asked : Request) (c : Conclusion) → t ≡ (concluded s asked).state → c.outcome ≡ (concluded s asked).outcome
@@ -224,10 +263,17 @@ concluded_so s t asked c same outcome =
 
 -- ---- The boundary
 
-pub boundary_stays : (s : State) (rs : List Request) → all_staying (all_concluded s rs).loaded ≡ all_staying s.loaded
+all_stay : (s : State) (rs : List Request) → all_staying (all_concluded s rs).loaded ≡ all_staying s.loaded
 unfolding all_concluded
-boundary_stays s [] = refl
-boundary_stays s (asked ∷ later) = boundary_stays (with_outcome (concluded s asked)) later ∙ concluded_stays s asked
+all_stay s [] = refl
+all_stay s (asked ∷ later) = all_stay (with_outcome (concluded s asked)) later ∙ concluded_stays s asked
+
+standing_stays : (s : State) (names : List (List ℕ)) → all_staying (after_standing_in s names).loaded ≡ all_staying s.loaded
+standing_stays s [] = refl
+standing_stays s (name ∷ names) = concluded_stays (record s { fallbacks = [] }) (standing_in (name ∷ names))
+
+pub boundary_stays : (s : State) → all_staying (boundary s).loaded ≡ all_staying s.loaded
+boundary_stays s = all_stay (after_fallbacks s) (waiting (after_fallbacks s)) ∙ standing_stays s s.fallbacks
 
 -- serials go on to differ
 begun_numbered : (s : State) → IsNumbered s → IsNumbered (begin_effect s)
@@ -266,20 +312,20 @@ has_decided s t is valid can steady numbered =
       unclosed = loop.closed ∙ begins_open s can;
       within = rw (loop.ended, loop.description) few;
       numbered = boundary_numbered s numbered;
-      counted = count_stays s.loaded (boundary s).loaded (boundary_stays s (waiting s));
+      counted = count_stays s.loaded (boundary s).loaded (boundary_stays s);
       steady_then = step_steady s s.sessions (Begin s.ended) (begin_effect s, begin_reply s) valid steady (begin_step s s.ended can);
       numbered_then = begun_numbered s numbered;
     })
 
 -- in it is updated in the order that was planned who is active in it
-pub planned_order : (s : State) (plan : Plan) → IsPlanOf s (waiting s) plan → plan.order.items ≡ members_in_order (boundary s)
+pub planned_order : (s : State) (plan : Plan) → IsPlanOf s plan → plan.order.items ≡ members_in_order (boundary s)
 planned_order s plan is = is.order
 
 -- who is active in it is described
 pub order_decided : (s : State) → All (IsAsDescribed s.description) s.loaded → All (λ m. m.place < length s.description.controllers) (members_in_order (boundary s))
 order_decided s described =
     let same = (boundary-SameLoop s).description in
-    let still = described_stay s.description s.loaded (boundary s).loaded (boundary_stays s (waiting s)) described in
+    let still = described_stay s.description s.loaded (boundary s).loaded (boundary_stays s) described in
     subst (λ (d : Description). All (λ m. m.place < length d.controllers) (members_in_order (boundary s))) same
     (order_within (boundary s) (subst (λ (d : Description). All (IsAsDescribed d) (boundary s).loaded) (sym same) still))
 
@@ -352,6 +398,6 @@ based_aloft d was order before after based size room ending away none lines show
 pub view_flown : (d : Description) (blanks : Blanks) (sessions loads : ℕ) (slots slots' : Slotted) (asked : Asked) (before after : Base) (ended : ℕ) (closed : Bool)
     → slots' ≡ record slots { loaded = (begun (state_with d blanks sessions loads slots asked before ended closed)).loaded; aloft = true }
     → after.mails ≡ (begun (state_with d blanks sessions loads slots asked before ended closed)).mails
-    → after.plant ≡ before.plant
+    → after.plant ≡ before.plant → after.erred ≡ before.erred
     → state_with d blanks sessions loads slots' asked after ended closed ≡ begun (state_with d blanks sessions loads slots asked before ended closed)
-view_flown d blanks sessions loads slots slots' asked before after ended closed left off same = rw (left, off, same) refl
+view_flown d blanks sessions loads slots slots' asked before after ended closed left off same fell = rw (left, off, same, fell) refl

@@ -1,5 +1,5 @@
 -- A flight comes home: what it brings is what the cycle leaves.
-use Rattle.std.proofs.Common.{◌≡◌, ℕ, suc, Bool, true, false, List, [], ◌∷◌, length, map, Some, vec_capacity, refl, sym, ap, subst, ◌∙◌, arith}
+use Rattle.std.proofs.Common.{◌≡◌, ℕ, suc, Bool, true, false, List, [], ◌∷◌, length, map, Some, vec_capacity, refl, sym, ap, ap₂, subst, ◌∙◌, arith}
 use Rattle.std.specs.Prelude.{not, slice_get}
 use Rattle.std.specs.List.{AllByRecursion}
 use Rattle.std.proofs.lemmas.List.{length-map}
@@ -22,8 +22,8 @@ use Rattle.rt_flight.specs.Stations.{Standing, IsFitted}
 use Rattle.rt_flight.specs.declared.craft.Craft.{Craft}
 use Rattle.rt_flight.specs.declared.plant.Plant.{Plant}
 use Rattle.rt_flight.proofs.CycleLemmas.{board_moved, components_of}
-use Rattle.stop_plan.specs.Ending.{HasFlags, IsEndingOf}
-use Rattle.cm_desk.specs.Bay.{base_of, HasLines}
+use Rattle.stop_plan.specs.Ending.{HasFlags, IsEndingOf, told_in, erred_in, member_of, members_in_order}
+use Rattle.cm_desk.specs.Bay.{base_of, place_among, HasLines}
 use Rattle.cm_desk.specs.Boarding.{CanLeave, HaveLeft}
 use Rattle.cm_desk.specs.End.{CanLand, CanComeHome, HasComeHome, CanSettle}
 use Rattle.cm_desk.specs.Roster.{Listed}
@@ -47,6 +47,15 @@ cells_run loaded [] [] after = refl
 cells_run loaded [] (c ∷ cs) after = absurd after
 cells_run loaded (l ∷ ls) [] after = absurd after
 cells_run loaded (l ∷ ls) (c ∷ cs) after = ap suc (cells_run loaded ls cs after.1)
+
+-- and who sits in them is updated in that order
+who_flew : (loaded ls : List Loaded) (cs : List Seat) → AreSeatsAfter loaded (map running_part ls) cs → map member_in cs ≡ map member_of ls
+who_flew loaded [] [] after = refl
+who_flew loaded [] (c ∷ cs) after = absurd after
+who_flew loaded (l ∷ ls) [] after = absurd after
+who_flew loaded (l ∷ ls) (c ∷ cs) after =
+    ap₂ (λ (m : Member) (ms : List Member). m ∷ ms)
+    (ap₂ (λ (serial place : ℕ). record { serial = serial; place = place }) after.0.station.serial after.0.station.place) (who_flew loaded ls cs after.1)
 
 -- the stations are fitted as they were in their cells
 stations_fitted : (placed : Placed) (cs : List Seat) → AllByRecursion (λ (c : Seat). IsFitted placed c.station) cs → AllByRecursion (IsFitted placed) (map (λ (c : Seat). c.station) cs)
@@ -125,6 +134,12 @@ module _ (s : State) (slots : Slotted) (looked : Listed) (b : Bay) (berths : ℕ
   -- it is known who stands there
   pub ordered : (stations : List Standing) (boxes : List CtlData) → HaveLeft cells stations boxes → k.order.items ≡ map stands_for stations
   ordered stations boxes left = home.equipped.order ∙ sym (who_stood cells) ∙ ap (map stands_for) (sym left.stations)
+
+  -- so it is known at which places an update failed
+  pub erred : map (place_among k.order.items) k.erred.items ≡ map (place_among (members_in_order s)) (erred_in (told_in s))
+  erred =
+      ap₂ (λ (ms : List Member) (serials : List ℕ). map (place_among ms) serials)
+      (home.equipped.order ∙ who_flew (cycle s).loaded (active_order s) cells after) (home.erred ∙ can.lands.computed.erred)
 
   -- the lists that come home are those of the hardware, and there is room for as many lines
   pub lines : HasLines s.description k.lists

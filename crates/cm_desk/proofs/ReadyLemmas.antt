@@ -1,5 +1,5 @@
 -- What works in a cycle is made ready for one, and is at home again.
-use Rattle.std.proofs.Common.{◌≡◌, ℕ, List, Option, Some, None, refl, sym, ap, ap₂, subst, ◌∙◌}
+use Rattle.std.proofs.Common.{◌≡◌, ℕ, List, [], Option, Some, None, refl, sym, ap, ap₂, subst, ◌∙◌}
 use Rattle.std.specs.Prelude.{Box, IsSomeAnd}
 use Rattle.std.specs.declared.alloc.Global.{Global}
 use Rattle.cm_document.specs.declared.description.Description.{Description}
@@ -33,6 +33,7 @@ module _ (b left b' : Bay) (k r : Box Craft Global) (h : Craft) (spare : Spare) 
   pub made_ready : AreKept h.plant.places spare.stations.items r.value.order.items → IsMadeReady b b'
   made_ready kept =
       let ending : b'.ending.value ≡ b.ending.value = ap (λ (x : Bay). x.ending.value) back ∙ ap (λ (x : Bay). x.ending.value) away in
+      let erred : b'.erred.value.items ≡ b.erred.value.items = ap (λ (x : Bay). x.erred.value.items) back ∙ ap (λ (x : Bay). x.erred.value.items) away in
       let lists : b'.spare_lists.value ≡ b.spare_lists.value = ap (λ (x : Bay). x.spare_lists.value) back ∙ ap (λ (x : Bay). x.spare_lists.value) away in
       record {
         kept = subst (λ (ms : List Member). AreKept b.plant.value.places b'.spare.stations.items ms) (sym (ap (λ x. x.items) members))
@@ -42,6 +43,7 @@ module _ (b left b' : Bay) (k r : Box Craft Global) (h : Craft) (spare : Spare) 
           plant = ap (λ (x : Craft). x.plant) refit.craft ∙ aboard ∙ sym plant;
           ending = ap (λ (x : Craft). x.ending) refit.craft ∙ ap (λ (x : Craft). x.ending) taken ∙ home.ending ∙ sym ending;
           order = sym (ap (λ x. x.items) members);
+          erred = refit.erred ∙ ap (λ (x : Craft). x.erred.items) taken ∙ home.erred ∙ sym erred;
           spare_lists = ap (λ (x : Craft). x.lists) refit.craft ∙ ap (λ (x : Craft). x.lists) taken ∙ home.spare_lists ∙ sym lists;
           told = refit.told;
         });
@@ -49,10 +51,10 @@ module _ (b left b' : Bay) (k r : Box Craft Global) (h : Craft) (spare : Spare) 
             ∙ ap₂ (λ (o : Option (Box Craft Global)) (s : Spare). record b { hangar = o; members = b'.members; spare = s }) (sym hangar) (sym spare_is);
       }
 
--- new supplies come to it,
-pub refit_new : (d : Description) (placed : Placed) (order : List Member) (loaded : ℕ) (new : Supplies) (k : Craft) → AreSupplies d placed order loaded new
+-- new supplies come to it, where no update failed,
+pub refit_new : (d : Description) (placed : Placed) (order : List Member) (loaded : ℕ) (new : Supplies) (k : Craft) → AreSupplies d placed order loaded new → k.erred.items ≡ []
     → IsRefitted k (record k { order = new.order; erred = new.erred; room = Some new.room })
-refit_new d placed order loaded new k all = record { craft = refl; told = tells_nothing d placed order new.room all.told }
+refit_new d placed order loaded new k all none = record { craft = refl; erred = all.none_erred ∙ sym none; told = tells_nothing d placed order new.room all.told }
 
 -- and are kept
 pub kept_new : (d : Description) (placed : Placed) (order : List Member) (loaded : ℕ) (new : Supplies) → AreSupplies d placed order loaded new → AreKept placed new.stations.items new.order.items

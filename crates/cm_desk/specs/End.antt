@@ -16,8 +16,8 @@ use Rattle.ctl_slots.specs.Slots.{Slotted}
 use Rattle.rt_flight.specs.Flights.{FlightFacts, IsComputed}
 use Rattle.rt_flight.specs.Stations.{IsFitted}
 use Rattle.rt_flight.specs.declared.craft.Craft.{Craft}
-use Rattle.stop_plan.specs.Ending.{HasFlags, IsEndingOf, told_in, erred_in}
-use Rattle.cm_desk.specs.Bay.{HasLines, IsAtHome}
+use Rattle.stop_plan.specs.Ending.{HasFlags, IsEndingOf, told_in, erred_in, members_in_order}
+use Rattle.cm_desk.specs.Bay.{place_among, HasLines, IsAtHome}
 use Rattle.cm_desk.specs.Roster.{Listed, IsListedOf}
 use Rattle.cm_desk.specs.Supplies.{stands_for}
 use Rattle.cm_desk.specs.Works.{IsAsDescribed}
@@ -78,7 +78,8 @@ pub record CanComeHome (s : State) (slots : Slotted) (looked : Listed) (b : Bay)
   pub stands : length looked.order ≤ vec_capacity b.spare.stations
   pub berths : length looked.order ≤ berth_room
 
--- It came home: all is as after the cycle, and at home; the lists, where they are told, are those of the hardware.
+-- It came home: all is as after the cycle, and at home, with the places of those whose update failed; the lists, where
+-- they are told, are those of the hardware.
 pub record HasComeHome (s : State) (before after : Slotted) (looked : Listed) (b b' : Bay) (flight : FlightFacts) : Type
     0 where
   pub settled : HasSettled s after.loaded b'.plant.value.hardware looked
@@ -88,6 +89,7 @@ pub record HasComeHome (s : State) (before after : Slotted) (looked : Listed) (b
   pub flags : HasFlags (length s.description.controllers) b'.ending.value
   pub fitted : AllByRecursion (IsFitted b'.plant.value.places) b'.spare.stations.items
   pub ordered : b'.members.value.items ≡ map stands_for b'.spare.stations.items
+  pub erred : b'.erred.value.items ≡ map (place_among (members_in_order s)) (erred_in (told_in s))
   pub no_mail : b'.mails.value.items ≡ []
   pub lines : HasLines s.description b'.lists
   pub told : b'.told ≡ true → Shows b'.plant.value.hardware b'.lists

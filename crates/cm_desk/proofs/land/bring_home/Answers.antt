@@ -1,12 +1,14 @@
-use Rattle.std.proofs.Common.{◌≡◌, false, Option, refl, sym, ap, ap₂, subst, ◌∙◌}
+use Rattle.std.proofs.Common.{◌≡◌, ℕ, false, List, map, Option, refl, sym, ap, ap₂, subst, ◌∙◌}
 use Rattle.std.specs.Prelude.{IfSome}
 use Rattle.cm_storage.specs.declared.record_room.RecordRoom.{RecordRoom}
 use Rattle.cm_hardware.specs.Wiring.{Wired}
+use Rattle.cm_model.specs.declared.member.Member.{Member}
 use Rattle.ctl_slots.specs.Slots.{Slotted}
 use Rattle.rt_flight.specs.Flights.{TellsNothing}
 use Rattle.rt_flight.specs.declared.craft.Craft.{Craft}
 use Rattle.rt_flight.specs.declared.plant.Plant.{Plant}
-use Rattle.cm_desk.proofs.LandLemmas.{can_leave, can_park, can_settle, flags, fitted, ordered, lines, shows, not_so}
+use Rattle.cm_desk.specs.Bay.{place_among}
+use Rattle.cm_desk.proofs.LandLemmas.{can_leave, can_park, can_settle, flags, fitted, ordered, erred, lines, shows, not_so}
 use Rattle.cm_desk.proofs.land.bring_home.Goals as goal
 
 pub come_home-cells-requires : goal.come_home-cells-requires
@@ -57,6 +59,10 @@ returns-clause-home g c = λ s is.
           (fitted s _ _ _ _ _ is _ _ _ came _ _ c.disembark.ensures.left);
       ordered = c.moor.ensures.order ∙ ap (λ (k : Craft). k.order.items) leaves ∙ ap (λ (k : Craft). k.order.items) c.deref_mut.ensures.value
           ∙ rw (ap (λ x. x.items) c.moor.ensures.stations) (ordered s _ _ _ _ _ is _ _ _ came _ _ c.disembark.ensures.left);
+      erred = c.moor.ensures.erred ∙ ap₂ (λ (ms : List Member) (serials : List ℕ). map (place_among ms) serials)
+          (ap (λ (k : Craft). k.order.items) leaves ∙ ap (λ (k : Craft). k.order.items) c.deref_mut.ensures.value)
+          (ap (λ (k : Craft). k.erred.items) leaves ∙ ap (λ (k : Craft). k.erred.items) c.deref_mut.ensures.value)
+          ∙ erred s _ _ _ _ _ is _ _ _ came;
       no_mail = c.moor.ensures.no_mail;
       lines = rw lists (lines s _ _ _ _ _ is _ _ _ came);
       told = λ yes.

@@ -16,5 +16,5 @@ returns-clause-bay c =
     let nobody : c.replace-members.new.dest.items ≡ [] = ap (λ x. x.items) c.replace-members.ensures.after ∙ c.new-2.ensures.items in
     made_ready c.args.self.now c.leave-hangar.new.self _ c.leave-hangar.result _ k (record c.leave-hangar.new.self.spare { stations = c.replace-stations.new.dest })
     c.leave-hangar.ensures.left c.leave-hangar.ensures.bay refl c.put_back.ensures.bay c.put_back.ensures.members
-    (subst (IsRefitted k) (sym filled) (record { craft = refl; told = c.leave-hangar.ensures.left.told }))
+    (subst (IsRefitted k) (sym filled) (record { craft = refl; erred = refl; told = c.leave-hangar.ensures.left.told }))
     (subst (λ (x : Craft). AreKept k.plant.places c.replace-stations.new.dest.items x.order.items) (sym filled) (record { fitted = rw none tt; ordered = rw (none, nobody) refl }))

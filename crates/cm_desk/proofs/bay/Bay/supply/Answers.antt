@@ -19,6 +19,7 @@ supply-answer-requires c =
       plant = rw (ap (λ (g : Plant). g.places) same, ap (λ (x : Bay). x.size) c.leave-hangar.ensures.bay) c.requires.can.plant;
       kept = rw (ap (λ (g : Plant). g.places) same, ap (λ (x : Bay). x.spare) c.leave-hangar.ensures.bay, ap (λ (k : Craft). k.order.items) c.deref_mut.ensures.value ∙ c.leave-hangar.ensures.left.order)
           c.requires.can.kept;
+      none_erred = ap (λ (k : Craft). k.erred.items) c.deref_mut.ensures.value ∙ c.leave-hangar.ensures.left.erred ∙ c.requires.none_erred;
       told = subst (λ (o : Option RecordRoom). IfSome o TellsNothing) (sym (ap (λ (k : Craft). k.room) c.deref_mut.ensures.value)) c.leave-hangar.ensures.left.told;
     }
 

@@ -5,6 +5,9 @@ use Rattle.cm_desk.specs.Supplies.{AreKept, IsRefitted}
 use Rattle.cm_desk.proofs.ReadyLemmas.{kept_new, made_ready, refit_new}
 use Rattle.cm_desk.proofs.bay.Bay.take_in.Goals as goal
 
+pub leave-hangar-requires : goal.leave-hangar-requires
+leave-hangar-requires c = c.requires.home
+
 -- what was at home has the new supplies, and is at home again
 pub returns-clause-bay : goal.returns-clause-bay
 returns-clause-bay c = λ d order loaded all.
@@ -17,5 +20,5 @@ returns-clause-bay c = λ d order loaded all.
     (kept_new d c.args.self.now.plant.value.places order loaded new all) in
     made_ready c.args.self.now c.leave-hangar.new.self _ c.leave-hangar.result _ k (record { stations = new.stations; mails = new.mails })
     c.leave-hangar.ensures.left c.leave-hangar.ensures.bay refl c.put_back.ensures.bay c.put_back.ensures.members
-    (subst (IsRefitted k) (sym filled) (refit_new d c.args.self.now.plant.value.places order loaded new k all))
+    (subst (IsRefitted k) (sym filled) (refit_new d c.args.self.now.plant.value.places order loaded new k all (c.leave-hangar.ensures.left.erred ∙ c.requires.none_erred)))
     (subst (λ (x : Craft). AreKept k.plant.places new.stations.items x.order.items) (sym filled) kept)

@@ -46,7 +46,7 @@ invariant_of-self g c =
     let held = held_when_steady s lives w c.self.invariant.worked_out.valid steady done.1 in
     let same = rewired a.bay after (vec_capacity a.boxes) c.move_component.ensures.bay in
     subst (λ (t : State). IsKept t a.names.items (base_of after (vec_capacity a.boxes)) a.roster)
-    (sym (view_moved s lives (base_in a) (base_of after (vec_capacity a.boxes)) refl same held))
+    (sym (view_moved s lives (base_in a) (base_of after (vec_capacity a.boxes)) refl refl same held))
     (kept_moved s lives a.names.items (base_in a) (base_of after (vec_capacity a.boxes)) a.roster c.self.invariant (rw (← c.self.view_is) at c.requires.down) held same)
 
 pub returns : goal.returns
@@ -61,4 +61,4 @@ returns g c =
     let steady : IsSteady (moved s lives) = subst IsSteady p.1.0.is p.1.1 in
     let held = held_when_steady s lives w c.self.invariant.worked_out.valid steady done.1 in
     let same = rewired a.bay after (vec_capacity a.boxes) c.move_component.ensures.bay in
-    rw (← c.self.view_is) (λ t is. view_moved s lives (base_in a) (base_of after (vec_capacity a.boxes)) refl same held ∙ sym is.is)
+    rw (← c.self.view_is) (λ t is. view_moved s lives (base_in a) (base_of after (vec_capacity a.boxes)) refl refl same held ∙ sym is.is)

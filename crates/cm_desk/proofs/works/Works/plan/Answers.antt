@@ -23,4 +23,4 @@ returns g c =
     let s = state_of a in
     let seen = seen_so s c.in_ok-stand.stand (rw (← c.self.view_is) at c.requires.steady) (rw (← c.self.view_is) at c.requires.numbered)
     (rw (← c.self.view_is) at c.in_ok-stand.ensures.loaded) (rw (← c.self.view_is) at c.in_ok-stand.ensures.lives) in
-    rw (← c.self.view_is) (c.in_ok-plan.ensures s (record { requests = refl; outcomes = refl }) seen)
+    rw (← c.self.view_is) (c.in_ok-plan.ensures s (record { requests = refl; outcomes = refl }) ? seen)

@@ -32,7 +32,7 @@ invariant_of-self g c =
     let made = c.switch.ensures.committed s p.1.again (can_switch s p.0 c.args.switched.now a.names.items (base_in a) a.roster c.self.invariant steady p.1) in
     let same = rewired a.bay after (vec_capacity a.boxes) c.switch.ensures.bay in
     subst (λ (t : State). IsKept t a.names.items (base_of after (vec_capacity a.boxes)) c.switch.new.roster)
-    (sym (view_committed s set p.1.again a.slots c.switch.new.slots (base_in a) (base_of after (vec_capacity a.boxes)) c.switch.new.roster refl refl made c.switch.ensures.rest.slots same))
+    (sym (view_committed s set p.1.again a.slots c.switch.new.slots (base_in a) (base_of after (vec_capacity a.boxes)) c.switch.new.roster refl refl refl made c.switch.ensures.rest.slots same))
     (kept_committed s set p.1.again c.switch.new.slots.loaded a.names.items (base_in a) (base_of after (vec_capacity a.boxes)) a.roster c.switch.new.roster
     c.self.invariant down made c.switch.ensures.rest.order same)
 
@@ -46,4 +46,4 @@ returns g c =
     let same = rewired a.bay after (vec_capacity a.boxes) c.switch.ensures.bay in
     rw (← c.self.view_is) (λ t is.
     let made = c.switch.ensures.committed s is.again (can_switch s t c.args.switched.now a.names.items (base_in a) a.roster c.self.invariant steady is) in
-    view_committed s set is.again a.slots c.switch.new.slots (base_in a) (base_of after (vec_capacity a.boxes)) c.switch.new.roster refl refl made c.switch.ensures.rest.slots same ∙ sym is.is)
+    view_committed s set is.again a.slots c.switch.new.slots (base_in a) (base_of after (vec_capacity a.boxes)) c.switch.new.roster refl refl refl made c.switch.ensures.rest.slots same ∙ sym is.is)
