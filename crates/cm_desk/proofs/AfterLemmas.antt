@@ -7,7 +7,7 @@ use Rattle.cm_document.specs.Valid.{IsValid}
 use Rattle.cm_document.specs.declared.description.Description.{Description}
 use Rattle.cm_document.specs.declared.life.Life.{Life}
 use Rattle.cm_model.specs.Commit.{commit}
-use Rattle.cm_model.specs.Cycle.{cycle, landed, after_cycle, moved, stays_active}
+use Rattle.cm_model.specs.Cycle.{cycle, landed, after_cycle, moved, stays_active, fallbacks_after}
 use Rattle.cm_model.specs.Order.{Places}
 use Rattle.cm_model.specs.State.{State, Loaded, MailAloft}
 use Rattle.cm_model.specs.Steady.{IsSteady}
@@ -354,7 +354,7 @@ pub used_view : {C : Type 0} (a : Inside C) (next : Bay) (berths : ℕ) → IsMa
 used_view a next berths made =
     subst (λ (x : Bay). state_with a.checked a.blanks a.sessions a.loads a.slots a.requests (base_of x berths) a.ended a.closed ≡ state_of a) (sym made.bay) refl
 
-used_idle : (s : State) (names : List (List ℕ)) (before b : Bay) (m n : ℕ) (looked : Listed) → IsKept s names (base_of before m) looked → s.aloft ≡ false → IsMadeReady before b
+pub used_idle : (s : State) (names : List (List ℕ)) (before b : Bay) (m n : ℕ) (looked : Listed) → IsKept s names (base_of before m) looked → s.aloft ≡ false → IsMadeReady before b
     → IsKept s names (base_of b n) looked
 used_idle s names before b m n looked kept down used =
     kept_idle s names (base_of before m) (base_of b n) looked kept down (ap (λ (x : Bay). x.plant.value) used.bay) (ap (λ (x : Bay). x.ending.value) used.bay) used.home

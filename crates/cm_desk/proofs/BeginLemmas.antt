@@ -87,17 +87,16 @@ down_where_closed true closed unclosed shut = let no : true ≡ false = sym shut
 
 -- ---- Where nothing waits
 
-nil_where : (rs : List Request) → (length rs == 0) ≡ true → rs ≡ []
+pub nil_where : {A : Type 0} (xs : List A) → (length xs == 0) ≡ true → xs ≡ []
 nil_where [] none = refl
-nil_where (r ∷ rs) none = let none_there : length (r ∷ rs) ≡ 0 = eqb-true (length (r ∷ rs)) 0 none in absurd (omega (arith, none_there))
+nil_where (x ∷ xs) none = let none_there : length (x ∷ xs) ≡ 0 = eqb-true (length (x ∷ xs)) 0 none in absurd (omega (arith, none_there))
 
 pub nothing_waits : (s : State) → none_waits s.requests s.outcomes ≡ true → waiting s ≡ []
 nothing_waits s none = nil_where (waiting s) none
 
 -- where no update failed nobody is to stand in
 pub nobody_for : (d : Description) (places : List ℕ) → (length places == 0) ≡ true → stand_ins_for d places ≡ []
-nobody_for d [] none = refl
-nobody_for d (place ∷ places) none = let some : length (place ∷ places) ≡ 0 = eqb-true (length (place ∷ places)) 0 none in absurd (omega (arith, some))
+nobody_for d places none = ap (stand_ins_for d) (nil_where places none)
 
 -- all that is concluded where nothing waits
 none_concluded : (s : State) → waiting s ≡ [] → all_concluded s (waiting s) ≡ s
@@ -241,10 +240,10 @@ left_none opening s left = sym (none_concluded s (none_left s (waiting s) left.c
 -- ---- Those that stand in
 
 -- where nothing was concluded of them, nobody is to stand in, and the state is as it was,
-pub stood_without : (s now : State) (names : List (List ℕ)) (cs : List Conclusion) → now ≡ record s { fallbacks = [] } → s.fallbacks ≡ names → IsStandingIn s names None
+pub stood_without : (s now : State) (names : List (List ℕ)) → now ≡ record s { fallbacks = [] } → s.fallbacks ≡ names → IsStandingIn s names None
     → now ≡ after_standing_in s names
-stood_without s now [] cs emptied is first = emptied ∙ ap (λ (ns : List (List ℕ)). record s { fallbacks = ns }) (sym is)
-stood_without s now (name ∷ names) cs emptied is first = absurd first
+stood_without s now [] emptied is first = emptied ∙ ap (λ (ns : List (List ℕ)). record s { fallbacks = ns }) (sym is)
+stood_without s now (name ∷ names) emptied is first = absurd first
 
 -- else it can be done,
 pub stood_with : (s : State) (names : List (List ℕ)) (c : Conclusion) → IsSteady s → IsStandingIn s names (Some c) → CanAct (record s { fallbacks = [] }) (after_standing_in s names) c.act
@@ -254,6 +253,11 @@ stood_with s (name ∷ names) c steady first =
       act = first.act;
       steady = concluded_steady t (standing_in (name ∷ names)) (emptied_steady s steady);
     }
+
+-- and no cycle goes aloft by it
+pub stood_down : (s : State) (names : List (List ℕ)) → s.aloft ≡ false → (after_standing_in s names).aloft ≡ false
+stood_down s [] down = down
+stood_down s (name ∷ names) down = (concluded_keeps (record s { fallbacks = [] }) (standing_in (name ∷ names))).aloft ∙ down
 
 -- the state after a conclusion, with its outcome
 pub concluded_so : (s t : State) (asked : Request) (c : Conclusion) → t ≡ (concluded s asked).state → c.outcome ≡ (concluded s asked).outcome
@@ -398,6 +402,6 @@ based_aloft d was order before after based size room ending away none lines show
 pub view_flown : (d : Description) (blanks : Blanks) (sessions loads : ℕ) (slots slots' : Slotted) (asked : Asked) (before after : Base) (ended : ℕ) (closed : Bool)
     → slots' ≡ record slots { loaded = (begun (state_with d blanks sessions loads slots asked before ended closed)).loaded; aloft = true }
     → after.mails ≡ (begun (state_with d blanks sessions loads slots asked before ended closed)).mails
-    → after.plant ≡ before.plant → after.erred ≡ before.erred
+    → after.plant ≡ before.plant → stand_ins_for d after.erred ≡ stand_ins_for d before.erred
     → state_with d blanks sessions loads slots' asked after ended closed ≡ begun (state_with d blanks sessions loads slots asked before ended closed)
 view_flown d blanks sessions loads slots slots' asked before after ended closed left off same fell = rw (left, off, same, fell) refl

@@ -140,14 +140,14 @@ kept_after_unload s names base before after i l kept there idle active order fre
 
 -- ---- The loop
 
--- A request was asked or decided, or the loop closed.
+-- A request was asked or decided, those that are to stand in were asked for, or the loop closed.
 pub kept_after_ask : (s t : State) (names : List (List ℕ)) (base : Base) (listed : Listed)
-    → IsKept s names base listed → t ≡ record s { requests = t.requests; outcomes = t.outcomes; closed = t.closed }
+    → IsKept s names base listed → t ≡ record s { requests = t.requests; outcomes = t.outcomes; fallbacks = t.fallbacks; closed = t.closed }
     → (s.aloft ≡ true → t.closed ≡ false) → IsKept t names base listed
 kept_after_ask s t names base listed kept is unclosed = subst (λ (u : State). IsKept u names base listed) (sym is) with_these
   where
     u : State
-    u = record s { requests = t.requests; outcomes = t.outcomes; closed = t.closed }
+    u = record s { requests = t.requests; outcomes = t.outcomes; fallbacks = t.fallbacks; closed = t.closed }
 
     same : IsSameFor s u
     same = record { description = refl; actives = refl; lives = refl; bodies = refl; values = refl; ended = refl; aloft = refl; mails = refl }

@@ -24,5 +24,7 @@ pub mod BootLemmas
 pub mod TimeLemmas
 pub mod SendLemmas
 pub mod AfterLemmas
+pub mod FallbackLemmas
+pub mod ForgottenLemmas
 pub mod ActingLemmas
 pub mod Crossing

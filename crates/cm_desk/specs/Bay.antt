@@ -1,14 +1,13 @@
 -- What a cycle works on, at home or aloft.
-use Rattle.std.specs.Prelude.{◌≡◌, ℕ, ◌≤◌, ◌==◌, Bool, true, false, not, List, [], length, map, flat_map, find}
+use Rattle.std.specs.Prelude.{◌≡◌, ℕ, ◌≤◌, ◌==◌, Bool, true, false, not, List, [], length, map, flat_map, find, slice_get}
 use Rattle.std.specs.Prelude.{vec_capacity, is_some, Box}
-use Rattle.std.specs.Prelude.{Option, None, Some, IfSome, IsSomeAnd}
+use Rattle.std.specs.Prelude.{Option, None, Some, option_map, unwrap_or, IfSome, IsSomeAnd}
 use Rattle.std.specs.List.{AllByRecursion}
 use Rattle.std.specs.Option.{option_map_or}
 use Rattle.std.specs.declared.alloc.Global.{Global}
 use Rattle.cm_document.specs.Places.{interfaces_of}
 use Rattle.cm_document.specs.declared.description.Description.{Description}
 use Rattle.cm_model.specs.Cycle.{period}
-use Rattle.cm_model.specs.Order.{controller_at}
 use Rattle.cm_model.specs.State.{MailAloft, boot}
 use Rattle.cm_model.specs.declared.blanks.Blanks.{Blanks}
 use Rattle.cm_model.specs.declared.member.Member.{Member}
@@ -68,13 +67,17 @@ base_of b berths = record {
   berths = berths;
 }
 
--- the place of the controller of this serial among these
+-- the place of the controller of this serial among these; 0 if none of them has it
 abbrev pub place_among : List Member → ℕ → ℕ
-place_among members serial = option_map_or (λ m. m.place) (find (λ m. m.serial == serial) members) 0
+place_among members serial = unwrap_or (option_map (λ m. m.place) (find (λ m. m.serial == serial) members)) 0
 
--- who stands in for controllers of these places, as they are described
+-- the fallbacks of the controller that is described at this place
+abbrev pub fallbacks_at : Description → ℕ → List (List ℕ)
+fallbacks_at d place = option_map_or (λ c. c.fallback) (slice_get d.controllers place) []
+
+-- who stands in for the controllers of these places, as they are described
 abbrev pub stand_ins_for : Description → List ℕ → List (List ℕ)
-stand_ins_for d places = flat_map (λ place. (controller_at d.controllers place).fallback) places
+stand_ins_for d places = flat_map (fallbacks_at d) places
 
 -- What is at home is this, with these who flew last, the places of those whose update failed, and this room for lists;
 -- and in the room that it has for a record nothing is told.
@@ -201,6 +204,12 @@ pub record HasMoored (before after : Bay) (k : Craft) : Type 0 where
   pub spare_lists : after.spare_lists.value ≡ before.lists
   pub size : after.size ≡ before.size
   pub room : after.room ≡ before.room
+
+-- The list of those whose update failed was emptied at home, and all else stays.
+pub record HasForgotten (before after : Bay) : Type 0 where
+  pub bay : after ≡ record before { hangar = after.hangar; erred = after.erred }
+  pub home : IsAtHome after
+  pub none_erred : after.erred.value.items ≡ []
 
 -- At start the hardware is that of the state at boot, whatever its blanks and sessions, and all is at home.
 pub record IsAtStart (d : Description) (b : Bay) : Type 0 where

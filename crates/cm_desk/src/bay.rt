@@ -1,6 +1,6 @@
 //! What a cycle works on, at home or aloft.
 
-ghost use Rattle.std.specs.Prelude.{◌≡◌, ℕ, ◌<◌, ◌≤◌, List, [], true, false, not, None, Some, length, map, vec_capacity, IfOk, OnOk, IfSome};
+ghost use Rattle.std.specs.Prelude.{◌≡◌, ℕ, ◌<◌, ◌≤◌, ◌==◌, List, [], true, false, not, None, Some, length, map, find, option_map, vec_capacity, IfOk, OnOk, IfSome};
 ghost use Rattle.joint_body.specs.declared.TheConstants.{LONGEST_STEP};
 ghost use Rattle.cm_document.specs.declared.description.Description.{Description};
 ghost use Rattle.cm_model.specs.Cycle.{period};
@@ -9,7 +9,7 @@ ghost use Rattle.cm_model.specs.declared.member.Member.{Member};
 ghost use Rattle.cm_hardware.specs.Holding.{IsHardwareOf, MovesComponent};
 ghost use Rattle.cm_hardware.specs.Shown.{HasLinesFor, Shows};
 ghost use Rattle.stop_plan.specs.Ending.{HasFlags};
-ghost use Rattle.cm_desk.specs.Bay.{place_among, IsAtHome, IsAtStart, IsHome, IsIdle, IsListing, IsMadeReady, IsRewired, IsSupplied, CanBeSupplied, CanCastOff, HasCastOff, HasMoored};
+ghost use Rattle.cm_desk.specs.Bay.{place_among, IsAtHome, IsAtStart, IsHome, IsIdle, IsListing, IsMadeReady, IsRewired, IsSupplied, CanBeSupplied, CanCastOff, HasCastOff, HasForgotten, HasMoored};
 ghost use Rattle.cm_desk.specs.Supplies.{AreSupplies};
 ghost use Rattle.rt_flight.specs.Flights.{TellsNothing};
 ghost use Rattle.cm_desk.specs.Works.{CanSwitch, HasSwitched, KeepsRest};
@@ -45,8 +45,8 @@ pub(crate) struct Bay {
     pub(crate) mails: Snapshot<Vec<MailAloft>>,
     /// Who flew last, as what works in a cycle has it at home. It takes no byte either.
     pub(crate) members: Snapshot<Vec<Member>>,
-    /// The places of the controllers whose update failed in the cycle that landed last, as what works in a cycle has them at home. It takes no
-    /// byte either.
+    /// The places of the controllers whose update failed in the cycle that landed last, as what works in a cycle has
+    /// them at home. It takes no byte either.
     pub(crate) erred: Snapshot<Vec<u32>>,
     /// What cycles left over.
     pub(crate) spare: Spare,
@@ -313,7 +313,7 @@ impl Bay {
     {
         let mut craft = craft;
         self.unload(&mut craft);
-        tell_places(&mut craft.erred, &craft.order);
+        place_erred(&mut craft);
         self.plant = Snapshot::of(&craft.plant);
         self.ending = Snapshot::of(&craft.ending);
         self.members = Snapshot::of(&craft.order);
@@ -340,7 +340,7 @@ impl Bay {
         ensures { result.now ≡ self.now.erred.value.items }
     {
         match &self.hangar {
-            Some(hangar) => &hangar.erred,
+            Some(hangar) => hangar.erred.as_slice(),
             None => unreachable!(),
         }
     }
@@ -348,9 +348,7 @@ impl Bay {
     /// Nobody stands in for them any more. It takes no memory.
     pub(crate) fn forget_erred(&mut self)
         requires { IsAtHome self.old }
-        ensures home { IsAtHome self.new }
-        ensures none_erred { self.new.erred.value.items ≡ [] }
-        ensures bay { self.new ≡ record self.old { hangar = self.new.hangar; erred = self.new.erred } }
+        ensures { HasForgotten self.old self.new }
     {
         let mut hangar = self.leave();
         empty(&mut hangar.erred);
@@ -373,7 +371,15 @@ impl Bay {
     }
 }
 
-/// Each of these serials becomes the place of the controller that has it among these. It takes no memory.
+/// The serials of those whose update failed become their places in the description. It takes no memory.
+fn place_erred(craft: &mut Craft)
+    ensures craft { craft.new ≡ record craft.old { erred = craft.new.erred } }
+    ensures erred { craft.new.erred.items ≡ map (place_among craft.old.order.items) craft.old.erred.items }
+{
+    tell_places(craft.erred.as_mut_slice(), craft.order.as_slice());
+}
+
+/// Each of these serials becomes the place of the controller that has it among these.
 fn tell_places(serials: &mut [u32], members: &[Member])
     ensures { serials.new ≡ map (place_among members.now) serials.old }
 {
@@ -382,14 +388,19 @@ fn tell_places(serials: &mut [u32], members: &[Member])
     }
 }
 
-/// The place of the controller of this serial among these.
+/// The place of the controller of this serial among these, and 0 if none of them has it.
 fn place_among(members: &[Member], serial: u32) -> u32
     ensures { result ≡ place_among members.now serial }
 {
-    match members.iter().find(|member| member.serial == serial) {
-        Some(member) => member.place,
-        None => 0,
-    }
+    place_of(members, serial).unwrap_or(0)
+}
+
+/// The place of the controller of this serial, if it is among these.
+fn place_of(members: &[Member], serial: u32) -> Option<u32>
+    ensures { result ≡ option_map (λ m. m.place) (find (λ m. m.serial == serial) members.now) }
+{
+    let member = members.iter().find(|member| member.serial == serial)?;
+    Some(member.place)
 }
 
 /// What works in a cycle, before the first one.

@@ -1,16 +1,15 @@
 //! The begin of a cycle: those that are to stand in are asked for, the requests that wait are decided, and what the cycle needs is taken.
 
 ghost use Rattle.std.specs.Prelude.{◌≡◌, ◌<◌, ◌≤◌, ◌==◌, ◌++◌, ◌&&◌, [], true, false, length, map, slice_get, vec_capacity, Some, List, IfOk, OnOk, OnErr};
-ghost use Rattle.cm_model.specs.Boundary.{waiting, concluded, with_outcome, after_fallbacks, boundary};
+ghost use Rattle.cm_model.specs.Boundary.{waiting, concluded, with_outcome, all_concluded, boundary};
 ghost use Rattle.cm_model.specs.Commit.{seen};
-ghost use Rattle.cm_model.specs.Order.{controller_at};
 ghost use Rattle.cm_model.specs.Serials.{IsNumbered};
 ghost use Rattle.cm_model.specs.State.{State, Loaded, is_active, is_chained};
 ghost use Rattle.cm_model.specs.Steady.{IsSteady};
 ghost use Rattle.cm_model.specs.declared.request.Request.{Request};
 ghost use Rattle.request_plan.specs.Acts.{IsSwitchOf, IsMoveOf};
 ghost use Rattle.request_plan.specs.Plans.{IsPlanOf, IsStandingIn, AreConclusionsOf};
-ghost use Rattle.cm_desk.specs.Bay.{stand_ins_for};
+ghost use Rattle.cm_desk.specs.Bay.{fallbacks_at, stand_ins_for};
 ghost use Rattle.cm_desk.specs.Begin.{IsNext, IsLeftOf, CanAct, CanBegin, HasBegun, CanTakeOff, HasTakenOff, none_waits};
 
 use crate::bay::Bay;
@@ -31,9 +30,10 @@ use std::alloc::Global;
 use std::snapshot::Snapshot;
 
 impl<C: Controller> Works<C> {
-    /// The next cycle begins: those that are to stand in are asked for, the requests that wait are decided one after the other, each in the
-    /// state that the one before it left, and the controllers that run then go aloft in a flight, with the mail of those that are due. All memory that this and the cycle need is taken
-    /// before anything changes. It hands out the flight, and tells what was decided.
+    /// The next cycle begins: those that are to stand in are asked for, the requests that wait are decided one after the
+    /// other, each in the state that the one before it left, and the controllers that run then go aloft in a flight, with
+    /// the mail of those that are due. All memory that this and the cycle need is taken before anything changes. It hands
+    /// out the flight, and tells what was decided.
     pub fn begin(&mut self, alloc: Global) -> Result<(Flight<C>, Rare<Decision>), Memory>
         requires { CanBegin self.old }
         ensures begun { IfOk result (λ begun. HasBegun self.old self.new begun.0 begun.1) }
@@ -75,6 +75,8 @@ impl<C: Controller> Works<C> {
         self.bay.forget_erred();
         self.carry_out(plan.first, plan.conclusions);
         self.roster.put(plan.order, run, self.slots.as_slice());
+        // What was carried out tells of the state alone, so only this shows that the list is still empty.
+        self.bay.forget_erred();
         self.bay.take_in(supplies);
         self.boxes = boxes;
         let flight = take_off(
@@ -96,11 +98,11 @@ impl<C: Controller> Works<C> {
         ensures { IfOk result (λ plan. IsPlanOf self.now plan) }
     {
         let stand = self.stand(alloc)?;
+        let names = stand_ins(alloc, &self.checked, self.bay.erred())?;
         let Some(hangar) = &self.bay.hangar else {
             unreachable!();
         };
         let relations = &hangar.plant.relations;
-        let names = stand_ins(alloc, &self.checked, &hangar.erred)?;
         Ok(
             self.requests
                 .plan(alloc, &self.checked, relations, stand, names)?,
@@ -171,23 +173,24 @@ impl<C: Controller> Works<C> {
     /// All that is concluded is done, one after the other, in a state in which nobody is to stand in any more. It takes no memory.
     fn carry_out(&mut self, first: Option<Conclusion>, conclusions: Vec<Conclusion>)
         requires down { self.old.aloft ≡ false }
-        requires nobody { self.old.fallbacks ≡ [] }
         requires can { (s : State) × IsLeftOf s self.old first conclusions.items }
         ensures { (s : State) → IsLeftOf s self.old first conclusions.items → self.new ≡ boundary s }
     {
-        if let Some(conclusion) = first {
-            self.act(&conclusion.act);
+        match first {
+            Some(conclusion) => {
+                self.act(&conclusion.act);
+                self.decide_all(conclusions);
+            }
+            None => self.decide_all(conclusions),
         }
-        self.decide_all(conclusions);
     }
 
     /// All that is concluded of requests is done, one after the other. It takes no memory.
     fn decide_all(&mut self, conclusions: Vec<Conclusion>)
         requires down { self.old.aloft ≡ false }
-        requires nobody { self.old.fallbacks ≡ [] }
         requires steady { IsSteady self.old }
         requires concluded { AreConclusionsOf self.old (waiting self.old) conclusions.items }
-        ensures { self.new ≡ boundary self.old }
+        ensures { self.new ≡ all_concluded self.old (waiting self.old) }
     {
         for conclusion in conclusions {
             self.conclude(conclusion);
@@ -257,24 +260,31 @@ fn stand_ins(alloc: Global, checked: &Checked, places: &[u32]) -> Result<Seq<Nam
 {
     let mut names = Seq::new(alloc);
     for place in places {
-        push_stand_ins(checked, *place, &mut names)?;
+        push_names(&mut names, fallbacks_at(checked, *place))?;
     }
     Ok(names)
 }
 
-/// Appends who stands in for the controller of this place.
-fn push_stand_ins(checked: &Checked, place: u32, names: &mut Seq<Name>) -> Result<(), Memory>
-    ensures { OnOk result (names.new ≡ names.old ++ (controller_at checked.now.controllers place).fallback) }
+/// The fallbacks of the controller that is described at this place.
+fn fallbacks_at(checked: &Checked, place: u32) -> &[Name]
+    ensures { result.now ≡ fallbacks_at checked.now place }
 {
-    let Some(controller) = checked
+    match checked
         .description()
         .controllers
         .as_slice()
         .get(place as usize)
-    else {
-        return Ok(());
-    };
-    for name in controller.fallback.as_slice() {
+    {
+        Some(controller) => controller.fallback.as_slice(),
+        None => &[],
+    }
+}
+
+/// Then these names.
+fn push_names(names: &mut Seq<Name>, further: &[Name]) -> Result<(), Memory>
+    ensures { OnOk result (names.new ≡ names.old ++ further.now) }
+{
+    for name in further {
         names.push(name.clone()?)?;
     }
     Ok(())

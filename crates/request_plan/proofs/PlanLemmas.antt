@@ -1,5 +1,7 @@
 -- Conclusions one after the other, and what is told of them.
-use Rattle.std.proofs.Common.{◌≡◌, ℕ, List, [], ◌∷◌, ◌++◌, length, map, drop, Option, Some, None, refl, sym, subst, ap, ap₂, ◌∙◌, append_assoc, append-nil}
+use Rattle.std.proofs.Common.{◌≡◌, ℕ, true, false, List, [], ◌∷◌, ◌++◌, length, map, drop, Option, Some, None, refl, sym, subst, ap, ap₂, ◌∙◌, append_assoc, append-nil, arith}
+use Rattle.std.specs.Prelude.{◌==◌}
+use Rattle.std.proofs.lemmas.Bool.{eqb-true}
 use Rattle.std.proofs.Math.Seq.{drop-append_seam}
 use Rattle.cm_document.specs.declared.description.Description.{Description}
 use Rattle.cm_model.specs.Boundary.{waiting, concluded, with_outcome, all_concluded, standing_in, after_fallbacks, boundary, told_of_fallbacks, decisions_from, decisions_between}
@@ -89,16 +91,17 @@ told_after s asked cs each =
 -- ---- Those that stand in
 
 -- where nobody is to, nothing is concluded
-pub nobody_stands : (s : State) (names : List (List ℕ)) (d : Description) (stand : Stand) → names ≡ [] → IsSeenOf s d stand → HaveStoodInBy s names None d stand
+pub nobody_stands : (s : State) (names : List (List ℕ)) (d : Description) (stand : Stand) → (length names == 0) ≡ true → IsSeenOf s d stand → HaveStoodInBy s names None d stand
 nobody_stands s [] d stand none seen = record { first = tt; seen = seen }
-nobody_stands s (name ∷ names) d stand none seen = cc
+nobody_stands s (name ∷ names) d stand none seen =
+    let none_there : length (name ∷ names) ≡ 0 = eqb-true (length (name ∷ names)) 0 none in absurd (omega (arith, none_there))
 
 -- else they are concluded first, in a state in which nobody is to stand in any more
-pub somebody_stands : (s : State) (names : List (List ℕ)) (d : Description) (stand new : Stand) (c : Conclusion) → (names ≡ [] → ⊥)
+pub somebody_stands : (s : State) (names : List (List ℕ)) (d : Description) (stand new : Stand) (c : Conclusion) → (length names == 0) ≡ false
     → ((t : State) → IsSeenOf t d stand → IsConclusionOf t (standing_in names) c)
     → new.loaded.items ≡ loaded_after c.act stand.loaded.items → new.lives.items ≡ lives_after c.act stand.lives.items
     → IsSeenOf s d stand → HaveStoodInBy s names (Some c) d new
-somebody_stands s [] d stand new c some concludes loaded lives seen = absurd (some refl)
+somebody_stands s [] d stand new c some concludes loaded lives seen = cc
 somebody_stands s (name ∷ names) d stand new c some concludes loaded lives seen =
     let t = record s { fallbacks = [] } in
     let before : IsSeenOf t d stand = record { steady = emptied_steady s seen.steady; once = seen.once; scene = seen.scene } in

@@ -10,8 +10,8 @@ use Rattle.cm_model.proofs.StayLemmas.{IsStep}
 use Rattle.cm_model.specs.BestEffort.{decided}
 use Rattle.cm_model.specs.Boundary.{waiting, standing_in, after_standing_in, after_fallbacks, told_of_fallbacks, with_switch, component_place, move_fault, with_move_unless, with_move, concluded, with_outcome, all_concluded, boundary, decisions_between, begin_effect, begin_reply, close_effect, close_reply}
 use Rattle.cm_model.specs.Commit.{scene_of, commit}
-use Rattle.cm_model.specs.Cycle.{is_error, erred_in, fallbacks_of, fallbacks_after, cycle, after_cycle}
-use Rattle.cm_model.specs.Machine.{LegalFrom, effect}
+use Rattle.cm_model.specs.Cycle.{is_error, fallbacks_of, fallbacks_after, cycle, after_cycle}
+use Rattle.cm_model.specs.Machine.{LegalFrom}
 use Rattle.cm_model.specs.Sound.{moments, decisions_in, ticketed, IsLed, IsLedAt, calls_for_fallbacks, owed_after, LedFrom}
 use Rattle.cm_model.specs.State.{State}
 use Rattle.cm_model.specs.Switches.{Decided, refused, done}
@@ -61,7 +61,7 @@ none_left : (s : State) (names : List (List ℕ)) → s.fallbacks ≡ names → 
 none_left s [] is = is
 none_left s (name ∷ names) is = concluded_leaves (record s { fallbacks = [] }) (standing_in (name ∷ names))
 
-begin_leaves_none : (s : State) → (begin_effect s).fallbacks ≡ []
+pub begin_leaves_none : (s : State) → (begin_effect s).fallbacks ≡ []
 begin_leaves_none s = all_leave (after_fallbacks s) (waiting (after_fallbacks s)) ∙ none_left s s.fallbacks refl
 
 -- ---- What is told of them

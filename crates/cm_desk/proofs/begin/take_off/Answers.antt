@@ -60,6 +60,14 @@ take_off-requires-clause-equipped g c =
     let out = subst (λ (o : Option (Box Craft Global)). IsSomeAnd o (λ h. IsFittedOut s.description c.args.bay.now.plant.value.places (members_in_order (begun s)) h.value)) c.cast_off.ensures.hangar is.supplied.craft in
     rw (cells, c.cast_off.ensures.plant, c.cast_off.ensures.ending, c.cast_off.ensures.spare_lists) (equipped s _ _ _ _ _ _ _ _ is c.cast_off.result.value out)
 
+-- no update failed in it
+pub take_off-requires-clause-none_erred : goal.take_off-requires-clause-none_erred
+take_off-requires-clause-none_erred g c =
+    let s = c.requires.0 in
+    let is = c.requires.1 in
+    let out = subst (λ (o : Option (Box Craft Global)). IsSomeAnd o (λ h. IsFittedOut s.description c.args.bay.now.plant.value.places (members_in_order (begun s)) h.value)) c.cast_off.ensures.hangar is.supplied.craft in
+    out.none_erred
+
 pub take_off-requires-clause-ready : goal.take_off-requires-clause-ready
 take_off-requires-clause-ready g c =
     let s = c.requires.0 in

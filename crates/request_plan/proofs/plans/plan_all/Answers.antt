@@ -1,5 +1,5 @@
-use Rattle.std.proofs.Common.{◌≡◌, ◌++◌, List, map, ap, ap₂, sym, subst, ◌∙◌}
-use Rattle.cm_model.specs.Boundary.{all_concluded, after_fallbacks, after_standing_in, decisions_from}
+use Rattle.std.proofs.Common.{ℕ, ◌++◌, List, map, ap, sym, subst, ◌∙◌}
+use Rattle.cm_model.specs.Boundary.{waiting, all_concluded, after_fallbacks, decisions_from}
 use Rattle.cm_model.specs.declared.request.Request.{Request}
 use Rattle.request_plan.proofs.ActLemmas.{order_seen}
 use Rattle.request_plan.proofs.PlanLemmas.{plan_is}

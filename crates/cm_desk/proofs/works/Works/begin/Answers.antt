@@ -1,19 +1,27 @@
-use Rattle.std.proofs.Common.{◌≡◌, true, length, map, refl, sym, ap, subst, ◌∙◌, arith, vec_capacity}
+use Rattle.std.proofs.Common.{◌≡◌, [], true, length, map, refl, sym, ap, subst, ◌∙◌, arith, vec_capacity}
+use Rattle.std.specs.Prelude.{◌==◌, ◌&&◌}
 use Rattle.std.proofs.lemmas.Bool.{and_parts}
 use Rattle.cm_model.specs.Cycle.{begun}
 use Rattle.cm_model.specs.State.{State}
 use Rattle.cm_model.specs.declared.reply.Reply.TheVariants as reply
-use Rattle.cm_desk.specs.Bay.{base_of}
+use Rattle.cm_desk.specs.Bay.{base_of, stand_ins_for}
 use Rattle.cm_desk.specs.Begin.{none_waits, CanTakeOff, HasTakenOff}
 use Rattle.cm_desk.specs.Works.{IsKept, state_with}
 use Rattle.cm_desk.specs.declared.bay.Bay.{Bay}
 use Rattle.cm_desk.proofs.AfterLemmas.{at_home, kept_ready, kept_with_room}
-use Rattle.cm_desk.proofs.BeginLemmas.{begins_down, nothing_waits, quiet_boundary, quiet_decisions, HasDecided, has_decided, view_flown}
+use Rattle.cm_desk.proofs.BeginLemmas.{begins_down, nil_where, nobody_for, nothing_waits, quiet_boundary, quiet_decisions, HasDecided, has_decided, view_flown}
 use Rattle.cm_desk.proofs.OrderLemmas.{order_within}
 use Rattle.cm_desk.proofs.TakeOffLemmas.{can_take_off, kept_off}
 use Rattle.cm_desk.proofs.Insides.{base_in, state_of}
 use Rattle.cm_desk.proofs.works.Works.begin.Given.{Over}
 use Rattle.cm_desk.proofs.works.Works.begin.Goals as goal
+
+-- what works in a cycle is at home
+pub erred-requires : goal.erred-requires
+erred-requires g c =
+    let a = c.self.inside in
+    let s = state_of a in
+    at_home a.checked a.roster.order a.bay (vec_capacity a.boxes) a.slots.aloft c.self.invariant.based (begins_down s (rw (← c.self.view_is) at c.requires.can))
 
 pub begin_anew-requires : goal.begin_anew-requires
 begin_anew-requires g c = c.requires
@@ -24,11 +32,19 @@ supply-requires-clause-home g c =
     let s = state_of a in
     at_home a.checked a.roster.order a.bay (vec_capacity a.boxes) a.slots.aloft c.self.invariant.based (begins_down s (rw (← c.self.view_is) at c.requires.can))
 
+-- no update failed
+pub supply-requires-clause-none_erred : goal.supply-requires-clause-none_erred
+supply-requires-clause-none_erred g c =
+    let a = c.self.inside in
+    let all = and_parts (a.roster.fresh && none_waits a.requests.requests a.requests.outcomes) (length c.erred.result.now == 0) (sym c.is_settled.ensures ∙ c.if-not-is_settled.false) in
+    sym c.erred.ensures ∙ nil_where c.erred.result.now all.1
+
 pub supply-requires-clause-can : goal.supply-requires-clause-can
 supply-requires-clause-can g c =
     let a = c.self.inside in
     let s = state_of a in
-    let settled = and_parts a.roster.fresh (none_waits a.requests.requests a.requests.outcomes) (sym c.is_settled.ensures ∙ c.if-not-is_settled.false) in record {
+    let all = and_parts (a.roster.fresh && none_waits a.requests.requests a.requests.outcomes) (length c.erred.result.now == 0) (sym c.is_settled.ensures ∙ c.if-not-is_settled.false) in
+    let settled = and_parts a.roster.fresh (none_waits a.requests.requests a.requests.outcomes) all.0 in record {
       plant = record {
         places = c.self.invariant.worked_out.placed;
         size = c.self.invariant.based.size;
@@ -50,13 +66,19 @@ invariant_of-self-in_err-supply g c =
 
 -- nobody else is active than in the cycle before, and nothing waits,
 settled : (g : Over) (c : goal.After-take_off-arg-3-1 g) → (c.self.inside.roster.fresh ≡ true) × (none_waits c.self.inside.requests.requests c.self.inside.requests.outcomes ≡ true)
-settled g c = and_parts _ _ (sym c.is_settled.ensures ∙ c.if-not-is_settled.false)
+settled g c = and_parts _ _ (and_parts _ _ (sym c.is_settled.ensures ∙ c.if-not-is_settled.false)).0
+
+-- nor is anybody to stand in,
+nobody : (g : Over) (c : goal.After-take_off-arg-3-1 g) → (state_of c.self.inside).fallbacks ≡ []
+nobody g c =
+    let none : (length c.erred.result.now == 0) ≡ true = (and_parts _ _ (sym c.is_settled.ensures ∙ c.if-not-is_settled.false)).1 in
+    ap (stand_ins_for c.self.inside.checked) (sym c.erred.ensures) ∙ nobody_for c.self.inside.checked c.erred.result.now none
 
 -- so what is decided changes nothing,
 decided : (g : Over) (c : goal.After-take_off-arg-3-1 g) → HasDecided (state_of c.self.inside) (state_of c.self.inside)
 decided g c =
     let s = state_of c.self.inside in
-    has_decided s s (sym (quiet_boundary s (nothing_waits s (settled g c).1))) c.self.invariant.worked_out.valid
+    has_decided s s (sym (quiet_boundary s (nobody g c) (nothing_waits s (settled g c).1))) c.self.invariant.worked_out.valid
     (rw (← c.self.view_is) at c.requires.can) (rw (← c.self.view_is) at c.requires.steady) (rw (← c.self.view_is) at c.requires.numbered)
 
 -- and the cycle can take off
@@ -86,6 +108,7 @@ begun_there g c off =
     let a = c.self.inside in
     view_flown a.checked a.blanks a.sessions a.loads a.slots c.take_off-flight.new.slots a.requests (base_in a) (base_of c.take_off-flight.new.bay (vec_capacity c.take_off-flight.new.boxes))
     a.ended a.closed off.slots off.mails (ap (λ (x : Bay). x.plant.value) off.bay ∙ ap (λ (x : Bay). x.plant.value) c.supply.ensures.bay.bay)
+    (ap (stand_ins_for a.checked) (ap (λ (x : Bay). x.erred.value.items) off.bay ∙ ap (λ (x : Bay). x.erred.value.items) c.supply.ensures.bay.bay))
 
 -- the cycle is aloft
 pub invariant_of-self-2 : goal.invariant_of-self-2
@@ -109,7 +132,7 @@ returns-clause-begun g c =
     let view = begun_there g c off in
     let waits = nothing_waits s (settled g before).1 in
     rw (← c.self.view_is) (record {
-      begun = view ∙ ap begun (sym (quiet_boundary s waits));
-      told = ap reply.Decisions (c.none.ensures ∙ sym (quiet_decisions s waits));
+      begun = view ∙ ap begun (sym (quiet_boundary s (nobody g before) waits));
+      told = ap reply.Decisions (c.none.ensures ∙ sym (quiet_decisions s (nobody g before) waits));
       aloft = rw view off.flight;
     })

@@ -1,20 +1,21 @@
-use Rattle.std.proofs.Common.{◌≡◌, ◌≤◌, length, map, None, refl, sym, ap, subst, ◌∙◌, arith}
+use Rattle.std.proofs.Common.{◌≡◌, ◌≤◌, [], length, map, None, refl, sym, ap, subst, ◌∙◌, arith}
 use Rattle.std.specs.Prelude.{slice_index_or, vec_capacity}
-use Rattle.cm_model.specs.Boundary.{waiting, boundary}
+use Rattle.cm_model.specs.Boundary.{boundary}
 use Rattle.cm_model.specs.Cycle.{begun}
 use Rattle.cm_model.specs.State.{State}
-use Rattle.cm_model.specs.Steady.{IsSteady}
 use Rattle.cm_model.specs.declared.reply.Reply.TheVariants as reply
 use Rattle.ctl_places.specs.Placed.{placed_of}
-use Rattle.request_plan.specs.Plans.{IsPlanOf, AreConclusionsOf}
+use Rattle.request_plan.specs.Plans.{IsPlanOf}
+use Rattle.sound_laws.proofs.FallbackLemmas.{begin_leaves_none}
 use Rattle.stop_plan.specs.Ending.{members_in_order}
-use Rattle.cm_desk.specs.Bay.{base_of, IsMadeReady}
+use Rattle.cm_desk.specs.Bay.{base_of, stand_ins_for, IsMadeReady}
 use Rattle.cm_desk.specs.Begin.{CanTakeOff, HasTakenOff}
 use Rattle.cm_desk.specs.Roster.{IsListedOf}
 use Rattle.cm_desk.specs.Supplies.{AreSupplies}
 use Rattle.cm_desk.specs.Works.{IsKept, state_with}
 use Rattle.cm_desk.specs.declared.bay.Bay.{Bay}
-use Rattle.cm_desk.proofs.AfterLemmas.{at_home, kept_ready, kept_with_room, used_view}
+use Rattle.cm_desk.proofs.AfterLemmas.{at_home, kept_ready, kept_with_room}
+use Rattle.cm_desk.proofs.ForgottenLemmas.{kept_forgotten, kept_then, left_then}
 use Rattle.cm_desk.proofs.BeginLemmas.{begins_down, planned_order, HasDecided, has_decided, order_decided, view_flown}
 use Rattle.cm_desk.proofs.OrderLemmas.{order_loaded}
 use Rattle.cm_desk.proofs.TakeOffLemmas.{can_take_off, kept_off}
@@ -39,7 +40,7 @@ pub supplies-requires-clause-can : goal.supplies-requires-clause-can
 supplies-requires-clause-can g c =
     let a = c.self.inside in
     let s = state_of a in
-    let planned : IsPlanOf s (waiting s) c.in_ok-plan.plan = subst (λ (u : State). IsPlanOf u (waiting u) c.in_ok-plan.plan) (sym c.self.view_is) c.in_ok-plan.ensures in
+    let planned : IsPlanOf s c.in_ok-plan.plan = subst (λ (u : State). IsPlanOf u c.in_ok-plan.plan) (sym c.self.view_is) c.in_ok-plan.ensures in
     let order : c.in_ok-plan.plan.order.items ≡ members_in_order (boundary s) = planned_order s c.in_ok-plan.plan planned in record {
       plant = record {
         places = c.self.invariant.worked_out.placed;
@@ -63,11 +64,15 @@ invariant_of-self-in_err-supplies g c =
     kept_ready c.self.inside c.supplies.new.self (vec_capacity c.make_places.new.boxes) c.self.invariant (begins_down (state_of c.self.inside) (rw (← c.self.view_is) at c.requires.can))
     c.supplies.ensures.bay
 
--- and so it is when all is there
+-- what works in a cycle stays at home, and forgets whose update failed,
+pub forget_erred-requires : goal.forget_erred-requires
+forget_erred-requires g c = c.supplies.ensures.bay.home
+
+-- so nobody is to stand in any more, and all else is kept
 pub invariant_of-self-2 : goal.invariant_of-self-2
 invariant_of-self-2 g c =
-    kept_ready c.self.inside c.supplies.new.self (vec_capacity c.replace-boxes.new.dest) c.self.invariant (begins_down (state_of c.self.inside) (rw (← c.self.view_is) at c.requires.can))
-    c.supplies.ensures.bay
+    kept_then c.self.inside c.supplies.new.self c.forget_erred.new.self (vec_capacity c.replace-boxes.new.dest) c.supplies.ensures.bay c.forget_erred.ensures
+    c.self.invariant (begins_down (state_of c.self.inside) (rw (← c.self.view_is) at c.requires.can))
 
 pub carry_out-requires-clause-down : goal.carry_out-requires-clause-down
 carry_out-requires-clause-down g c =
@@ -75,22 +80,16 @@ carry_out-requires-clause-down g c =
     let s = state_of a in
     begins_down s (rw (← c.self.view_is) at c.requires.can)
 
-pub carry_out-requires-clause-steady : goal.carry_out-requires-clause-steady
-carry_out-requires-clause-steady g c =
+-- what was planned is left to be done
+pub carry_out-requires-clause-can : goal.carry_out-requires-clause-can
+carry_out-requires-clause-can g c =
     let a = c.self.inside in
     let s = state_of a in
-    let berths = vec_capacity c.replace-boxes.new.dest in
-    let view = used_view a c.supplies.new.self berths c.supplies.ensures.bay in
-    subst IsSteady (sym view) (rw (← c.self.view_is) at c.requires.steady)
-
-pub carry_out-requires-clause-concluded : goal.carry_out-requires-clause-concluded
-carry_out-requires-clause-concluded g c =
-    let a = c.self.inside in
-    let s = state_of a in
-    let berths = vec_capacity c.replace-boxes.new.dest in
-    let view = used_view a c.supplies.new.self berths c.supplies.ensures.bay in
-    let planned : IsPlanOf s (waiting s) c.in_ok-plan.plan = subst (λ (u : State). IsPlanOf u (waiting u) c.in_ok-plan.plan) (sym c.self.view_is) c.in_ok-plan.ensures in
-    subst (λ (u : State). AreConclusionsOf u (waiting u) c.in_ok-plan.plan.conclusions.items) (sym view) planned.conclusions
+    let planned : IsPlanOf s c.in_ok-plan.plan = subst (λ (u : State). IsPlanOf u c.in_ok-plan.plan) (sym c.self.view_is) c.in_ok-plan.ensures in (
+      s,
+      left_then a c.supplies.new.self c.forget_erred.new.self (vec_capacity c.replace-boxes.new.dest) c.supplies.ensures.bay c.forget_erred.ensures
+          c.in_ok-plan.plan (rw (← c.self.view_is) at c.requires.steady) planned,
+    )
 
 -- ---- All is decided
 
@@ -100,10 +99,10 @@ put-requires-clause-loaded g c =
     let s = state_of a in
     let b = c.self-2.inside in
     let t = state_of b in
-    let berths = vec_capacity c.replace-boxes.new.dest in
-    let view = used_view a c.supplies.new.self berths c.supplies.ensures.bay in
-    let is : t ≡ boundary s = c.self-2.view_is ∙ c.carry_out.ensures ∙ ap boundary view in
-    let planned : IsPlanOf s (waiting s) c.in_ok-plan.plan = subst (λ (u : State). IsPlanOf u (waiting u) c.in_ok-plan.plan) (sym c.self.view_is) c.in_ok-plan.ensures in
+    let planned : IsPlanOf s c.in_ok-plan.plan = subst (λ (u : State). IsPlanOf u c.in_ok-plan.plan) (sym c.self.view_is) c.in_ok-plan.ensures in
+    let left = left_then a c.supplies.new.self c.forget_erred.new.self (vec_capacity c.replace-boxes.new.dest) c.supplies.ensures.bay c.forget_erred.ensures
+    c.in_ok-plan.plan (rw (← c.self.view_is) at c.requires.steady) planned in
+    let is : t ≡ boundary s = c.self-2.view_is ∙ c.carry_out.ensures s left in
     let order : c.in_ok-plan.plan.order.items ≡ members_in_order t = planned_order s c.in_ok-plan.plan planned ∙ ap members_in_order (sym is) in
     rw (c.as_slice.ensures, order) (order_loaded t)
 
@@ -113,18 +112,26 @@ put-requires-clause-room g c = omega (arith, c.in_ok-run.ensures.capacity, c.len
 pub put-requires-clause-few : goal.put-requires-clause-few
 put-requires-clause-few g c = omega (arith, ap length c.as_slice.ensures, c.self-2.invariant.few, c.self-2.invariant.counted)
 
--- what was supplied comes to what is at home,
-pub take_in-requires : goal.take_in-requires
-take_in-requires g c =
+-- what works in a cycle is at home then, and the list is empty,
+pub forget_erred-2-requires : goal.forget_erred-2-requires
+forget_erred-2-requires g c =
     let a = c.self.inside in
     let s = state_of a in
     let b = c.self-2.inside in
     let t = state_of b in
-    let berths = vec_capacity c.replace-boxes.new.dest in
-    let view = used_view a c.supplies.new.self berths c.supplies.ensures.bay in
-    let is : t ≡ boundary s = c.self-2.view_is ∙ c.carry_out.ensures ∙ ap boundary view in
+    let planned : IsPlanOf s c.in_ok-plan.plan = subst (λ (u : State). IsPlanOf u c.in_ok-plan.plan) (sym c.self.view_is) c.in_ok-plan.ensures in
+    let left = left_then a c.supplies.new.self c.forget_erred.new.self (vec_capacity c.replace-boxes.new.dest) c.supplies.ensures.bay c.forget_erred.ensures
+    c.in_ok-plan.plan (rw (← c.self.view_is) at c.requires.steady) planned in
+    let is : t ≡ boundary s = c.self-2.view_is ∙ c.carry_out.ensures s left in
     let after = has_decided s t is c.self.invariant.worked_out.valid (rw (← c.self.view_is) at c.requires.can) (rw (← c.self.view_is) at c.requires.steady) (rw (← c.self.view_is) at c.requires.numbered) in
     at_home b.checked b.roster.order b.bay (vec_capacity b.boxes) b.slots.aloft c.self-2.invariant.based after.down
+
+-- and so what was supplied comes to it
+pub take_in-requires-clause-home : goal.take_in-requires-clause-home
+take_in-requires-clause-home g c = c.forget_erred-2.ensures.home
+
+pub take_in-requires-clause-none_erred : goal.take_in-requires-clause-none_erred
+take_in-requires-clause-none_erred g c = c.forget_erred-2.ensures.none_erred
 
 -- ---- The cycle takes off in the state after that
 
@@ -132,17 +139,23 @@ take_in-requires g c =
 decided_there : (g : Over) (c : goal.After-take_off-arg-3-1 g) → state_of c.self-2.inside ≡ boundary (state_of c.self.inside)
 decided_there g c =
     let a = c.self.inside in
-    let berths = vec_capacity c.replace-boxes.new.dest in
-    c.self-2.view_is ∙ c.carry_out.ensures
-    ∙ ap boundary (used_view a c.supplies.new.self berths c.supplies.ensures.bay)
+    let s = state_of a in
+    let planned : IsPlanOf s c.in_ok-plan.plan = subst (λ (u : State). IsPlanOf u c.in_ok-plan.plan) (sym c.self.view_is) c.in_ok-plan.ensures in
+    c.self-2.view_is
+    ∙ c.carry_out.ensures s (left_then a c.supplies.new.self c.forget_erred.new.self (vec_capacity c.replace-boxes.new.dest) c.supplies.ensures.bay c.forget_erred.ensures
+    c.in_ok-plan.plan (rw (← c.self.view_is) at c.requires.steady) planned)
 
 decided : (g : Over) (c : goal.After-take_off-arg-3-1 g) → HasDecided (state_of c.self.inside) (state_of c.self-2.inside)
 decided g c =
     has_decided (state_of c.self.inside) (state_of c.self-2.inside) (decided_there g c) c.self.invariant.worked_out.valid
     (rw (← c.self.view_is) at c.requires.can) (rw (← c.self.view_is) at c.requires.steady) (rw (← c.self.view_is) at c.requires.numbered)
 
-planned : (g : Over) (c : goal.After-take_off-arg-3-1 g) → IsPlanOf (state_of c.self.inside) (waiting (state_of c.self.inside)) c.in_ok-plan.plan
-planned g c = subst (λ (u : State). IsPlanOf u (waiting u) c.in_ok-plan.plan) (sym c.self.view_is) c.in_ok-plan.ensures
+planned : (g : Over) (c : goal.After-take_off-arg-3-1 g) → IsPlanOf (state_of c.self.inside) c.in_ok-plan.plan
+planned g c = subst (λ (u : State). IsPlanOf u c.in_ok-plan.plan) (sym c.self.view_is) c.in_ok-plan.ensures
+
+-- nobody is to stand in in it,
+nobody : (g : Over) (c : goal.After-take_off-arg-3-1 g) → (state_of c.self-2.inside).fallbacks ≡ []
+nobody g c = ap (λ (t : State). t.fallbacks) (decided_there g c) ∙ begin_leaves_none (state_of c.self.inside)
 
 -- its controllers are listed anew,
 listed : (g : Over) (c : goal.After-take_off-arg-3-1 g) → IsListedOf (state_of c.self-2.inside) c.put.new.self
@@ -155,18 +168,28 @@ listed g c =
 
 -- what was supplied is for these,
 supplied : (g : Over) (c : goal.After-take_off-arg-3-1 g)
-    → AreSupplies (state_of c.self-2.inside).description c.self-2.inside.bay.plant.value.places c.put.new.self.order (length (state_of c.self-2.inside).loaded) c.in_ok-supplies.supplies
+    → AreSupplies (state_of c.self-2.inside).description c.forget_erred-2.new.self.plant.value.places c.put.new.self.order (length (state_of c.self-2.inside).loaded) c.in_ok-supplies.supplies
 supplied g c =
     let a = c.self.inside in
     let b = c.self-2.inside in
     let after = decided g c in
-    let placed : b.bay.plant.value.places ≡ a.bay.plant.value.places = c.self-2.invariant.worked_out.placed ∙ ap placed_of after.description ∙ sym c.self.invariant.worked_out.placed in
+    let placed : c.forget_erred-2.new.self.plant.value.places ≡ a.bay.plant.value.places =
+    ap (λ (x : Bay). x.plant.value.places) c.forget_erred-2.ensures.bay ∙ c.self-2.invariant.worked_out.placed ∙ ap placed_of after.description ∙ sym c.self.invariant.worked_out.placed in
     let for_plan : AreSupplies a.checked a.bay.plant.value.places c.in_ok-plan.plan.order.items (length a.slots.loaded) c.in_ok-supplies.supplies = rw (c.deref.ensures.value, c.len.ensures) at c.in_ok-supplies.ensures.supplies in
     rw (after.description, placed, c.put.ensures.order, after.counted) for_plan
 
 -- and all is ready
-ready : (g : Over) (c : goal.After-take_off-arg-3-1 g) → IsMadeReady c.self-2.inside.bay c.take_in.new.self
+ready : (g : Over) (c : goal.After-take_off-arg-3-1 g) → IsMadeReady c.forget_erred-2.new.self c.take_in.new.self
 ready g c = c.take_in.ensures.bay (state_of c.self-2.inside).description c.put.new.self.order (length (state_of c.self-2.inside).loaded) (supplied g c)
+
+-- over a bay that has an empty list the same is kept,
+kept : (g : Over) (c : goal.After-take_off-arg-3-1 g)
+    → IsKept (state_of c.self-2.inside) c.self-2.inside.names.items (base_of c.forget_erred-2.new.self (vec_capacity c.self-2.inside.boxes)) c.self-2.inside.roster
+kept g c =
+    let b = c.self-2.inside in
+    let after = decided g c in
+    kept_forgotten (state_of b) b.names.items b.bay c.forget_erred-2.new.self (vec_capacity b.boxes) (vec_capacity b.boxes) b.roster c.self-2.invariant after.down
+    (record { fitted = c.self-2.invariant.based.fitted; ordered = c.self-2.invariant.based.ordered after.down }) c.forget_erred-2.ensures
 
 flies : (g : Over) (c : goal.After-take_off-arg-3-1 g)
     → CanTakeOff (state_of c.self-2.inside) c.self-2.inside.slots c.run.result.now c.take_in.new.self (map g.C.Controller.meaning c.replace-boxes.result.items) (vec_capacity c.replace-boxes.result)
@@ -177,8 +200,8 @@ flies g c =
     let t = state_of b in
     let many = ap length c.put.ensures.order in
     rw (c.run.ensures)
-    (can_take_off s t b.names.items b.bay c.take_in.new.self (vec_capacity b.boxes) b.roster c.put.new.self b.slots (map g.C.Controller.meaning c.replace-boxes.result.items) (vec_capacity c.replace-boxes.result)
-    c.replace-cells.result.items (vec_capacity c.replace-cells.result) b.ended c.self-2.invariant (decided g c) (listed g c) c.put.ensures.fresh (ready g c) refl refl refl
+    (can_take_off s t b.names.items c.forget_erred-2.new.self c.take_in.new.self (vec_capacity b.boxes) b.roster c.put.new.self b.slots (map g.C.Controller.meaning c.replace-boxes.result.items) (vec_capacity c.replace-boxes.result)
+    c.replace-cells.result.items (vec_capacity c.replace-cells.result) b.ended (kept g c) (decided g c) (listed g c) c.put.ensures.fresh (ready g c) refl refl refl
     (c.take_in.ensures.supplied t.description c.put.new.self.order (length t.loaded) (supplied g c))
     (rw (c.replace-boxes.ensures.value) (ap (map g.C.Controller.meaning) c.in_ok-make_places.ensures.boxes.0)) (omega (arith, c.in_ok-make_places.ensures.boxes.1, many, c.len-count.ensures, ap vec_capacity c.replace-boxes.ensures.value))
     (rw (c.replace-cells.ensures.value) c.in_ok-make_places.ensures.cells.0) (omega (arith, c.in_ok-make_places.ensures.cells.1, many, c.len-count.ensures, ap vec_capacity c.replace-cells.ensures.value)))
@@ -194,7 +217,10 @@ begun_there : (g : Over) (c : goal.After-take_off-flight g)
 begun_there g c off =
     let b = c.self-2.inside in
     view_flown b.checked b.blanks b.sessions b.loads b.slots c.take_off-flight.new.slots b.requests (base_in b) (base_of c.take_off-flight.new.bay (vec_capacity c.take_off-flight.new.boxes))
-    b.ended b.closed off.slots off.mails (ap (λ (x : Bay). x.plant.value) off.bay ∙ ap (λ (x : Bay). x.plant.value) (ready g c.before).bay)
+    b.ended b.closed off.slots off.mails
+    (ap (λ (x : Bay). x.plant.value) off.bay ∙ ap (λ (x : Bay). x.plant.value) (ready g c.before).bay ∙ ap (λ (x : Bay). x.plant.value) c.forget_erred-2.ensures.bay)
+    (ap (stand_ins_for b.checked) (ap (λ (x : Bay). x.erred.value.items) off.bay ∙ ap (λ (x : Bay). x.erred.value.items) (ready g c.before).bay ∙ c.forget_erred-2.ensures.none_erred)
+    ∙ sym (nobody g c.before))
 
 pub invariant_of-self-3 : goal.invariant_of-self-3
 invariant_of-self-3 g c =
@@ -209,8 +235,8 @@ invariant_of-self-3 g c =
     omega (arith, c.in_ok-make_places.ensures.boxes.1, many, c.len-count.ensures, ap vec_capacity c.replace-boxes.ensures.value, c.in_ok-plan.plan.order.ok.0) in
     let same : room ≡ vec_capacity c.replace-boxes.result = c.take_off-flight.ensures.room in
     subst (λ (u : State). IsKept u b.names.items (base_of d room) c.put.new.self) (sym (begun_there g c off))
-    (kept_off s t b.names.items b.bay c.take_in.new.self d (vec_capacity b.boxes) room b.roster c.put.new.self b.slots c.take_off-flight.new.slots c.take_off-flight.result
-    c.self-2.invariant (decided g c.before) (listed g c.before) c.put.ensures.fresh (ready g c.before) off (omega (arith, fits, same)))
+    (kept_off s t b.names.items c.forget_erred-2.new.self c.take_in.new.self d (vec_capacity b.boxes) room b.roster c.put.new.self b.slots c.take_off-flight.new.slots c.take_off-flight.result
+    (kept g c.before) (decided g c.before) (listed g c.before) c.put.ensures.fresh (ready g c.before) off (omega (arith, fits, same)))
 
 -- it began in the state after all that was decided
 pub returns-clause-begun : goal.returns-clause-begun

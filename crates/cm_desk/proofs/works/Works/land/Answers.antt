@@ -3,10 +3,11 @@ use Rattle.std.proofs.lemmas.Option.{same_Some}
 use Rattle.cm_model.specs.Cycle.{cycle}
 use Rattle.cm_model.specs.State.{State}
 use Rattle.ctl_slots.specs.Slots.{Slotted}
-use Rattle.cm_desk.specs.Bay.{base_of}
+use Rattle.cm_desk.specs.Bay.{base_of, stand_ins_for}
 use Rattle.cm_desk.specs.End.{CanLand}
 use Rattle.cm_desk.specs.Works.{IsKept}
 use Rattle.cm_desk.proofs.AfterLemmas.{ended_view}
+use Rattle.cm_desk.proofs.FallbackLemmas.{stand_ins_after}
 use Rattle.cm_desk.proofs.LandLemmas.{comes_home, kept_home}
 use Rattle.cm_desk.proofs.Insides.{base_in, state_of}
 use Rattle.cm_desk.proofs.works.Works.land.Goals as goal
@@ -35,7 +36,8 @@ invariant_of-self g c =
     let b = c.bring_home-record.new.bay in
     let berths = vec_capacity c.bring_home-record.new.boxes in
     let view = ended_view a.checked a.blanks a.sessions a.loads a.slots c.bring_home-record.new.slots a.requests (base_in a) (base_of b berths) a.ended c.one_more-self-inside.result a.closed
-    c.bring_home-record.new.roster home.settled (ap (λ (x : Slotted). x.aloft) home.slots) home.no_mail c.one_more-self-inside.ensures in
+    c.bring_home-record.new.roster home.settled (ap (λ (x : Slotted). x.aloft) home.slots) home.no_mail c.one_more-self-inside.ensures
+    (ap (stand_ins_for a.checked) home.erred ∙ stand_ins_after s lands.numbered) in
     subst (λ (t : State). IsKept t a.names.items (base_of b berths) c.bring_home-record.new.roster) (sym view)
     (kept_home s a.names.items a.bay b (vec_capacity a.boxes) berths a.roster c.bring_home-record.new.roster a.slots c.bring_home-record.new.slots c.args.flight c.self.invariant lands home)
 
@@ -49,7 +51,8 @@ returns-clause-after g c =
     let berths = vec_capacity c.bring_home-record.new.boxes in
     rw (← c.self.view_is)
     (ended_view a.checked a.blanks a.sessions a.loads a.slots c.bring_home-record.new.slots a.requests (base_in a) (base_of b berths) a.ended c.one_more-self-inside.result a.closed
-    c.bring_home-record.new.roster home.settled (ap (λ (x : Slotted). x.aloft) home.slots) home.no_mail c.one_more-self-inside.ensures)
+    c.bring_home-record.new.roster home.settled (ap (λ (x : Slotted). x.aloft) home.slots) home.no_mail c.one_more-self-inside.ensures
+    (ap (stand_ins_for a.checked) home.erred ∙ stand_ins_after s lands.numbered))
 
 -- it tells what the flight tells
 pub returns-clause-told : goal.returns-clause-told

@@ -1,9 +1,17 @@
-use Rattle.std.proofs.Common.{refl, sym, ap, ◌∙◌}
+use Rattle.std.proofs.Common.{vec_capacity, refl, sym, ap, ◌∙◌}
 use Rattle.rt_flight.specs.declared.craft.Craft.{Craft}
 use Rattle.rt_flight.specs.declared.plant.Plant.{Plant}
+use Rattle.cm_desk.specs.Bay.{stand_ins_for}
 use Rattle.cm_desk.proofs.ActingLemmas.{stands_so, seen_so}
+use Rattle.cm_desk.proofs.AfterLemmas.{at_home}
 use Rattle.cm_desk.proofs.Insides.{state_of}
 use Rattle.cm_desk.proofs.works.Works.plan.Goals as goal
+
+-- what works in a cycle is at home
+pub erred-requires : goal.erred-requires
+erred-requires g c =
+    let a = c.self.inside in
+    at_home a.checked a.roster.order a.bay (vec_capacity a.boxes) a.slots.aloft c.self.invariant.based (rw (← c.self.view_is) at c.requires.down)
 
 pub plan-requires-clause-relations : goal.plan-requires-clause-relations
 plan-requires-clause-relations g c =
@@ -23,4 +31,5 @@ returns g c =
     let s = state_of a in
     let seen = seen_so s c.in_ok-stand.stand (rw (← c.self.view_is) at c.requires.steady) (rw (← c.self.view_is) at c.requires.numbered)
     (rw (← c.self.view_is) at c.in_ok-stand.ensures.loaded) (rw (← c.self.view_is) at c.in_ok-stand.ensures.lives) in
-    rw (← c.self.view_is) (c.in_ok-plan.ensures s (record { requests = refl; outcomes = refl }) ? seen)
+    let names = ap (stand_ins_for a.checked) (sym c.erred.ensures) ∙ sym c.in_ok-names.ensures in
+    rw (← c.self.view_is) (c.in_ok-plan.ensures s (record { requests = refl; outcomes = refl }) names seen)

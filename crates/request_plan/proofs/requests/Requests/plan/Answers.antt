@@ -1,4 +1,4 @@
-use Rattle.std.proofs.Common.{◌≡◌, List, length, drop, ap, ap₂, sym, ◌∙◌, arith}
+use Rattle.std.proofs.Common.{List, length, drop, ap, ap₂, sym, ◌∙◌, arith}
 use Rattle.cm_model.specs.declared.cause.Outcome.{Outcome}
 use Rattle.cm_model.specs.declared.request.Request.{Request}
 use Rattle.request_plan.proofs.requests.Requests.plan.Goals as goal
