@@ -31,7 +31,7 @@ use Rattle.cm_desk.proofs.SuppliesLemmas.{most_of, joints_of}
 pub booted : (d : Description) (blanks left : Blanks) (sessions : ℕ) (slots : Slotted) (asked : Asked) (b : Bay) (berths : ℕ) → left ≡ blanks → slots ≡ record slots { loaded = []; aloft = false }
     → asked ≡ record { requests = []; outcomes = [] } → IsAtStart d b → state_with d left sessions 0 slots asked (base_of b berths) 0 false ≡ boot d blanks sessions
 booted d blanks left sessions slots asked b berths all none nothing start =
-    rw (all, none, nothing, start.no_mail) (sym (state_is (boot d blanks sessions) b.plant.value.hardware (start.hardware blanks sessions)))
+    rw (all, none, nothing, start.no_mail, start.none_erred) (sym (state_is (boot d blanks sessions) b.plant.value.hardware (start.hardware blanks sessions)))
 
 ranked_none : (rank : Member → ℕ) (n : ℕ) → by_rank rank n [] ≡ []
 ranked_none rank zero = refl

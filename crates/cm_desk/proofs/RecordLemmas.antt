@@ -8,7 +8,7 @@ use Rattle.cm_document.specs.declared.call.Call.{Call}
 use Rattle.cm_document.specs.declared.call.Call.TheVariants.{Load, Configure, Cleanup, Unload, Rate, Send, Switch, Hardware, Told, Await, ListControllers, ListInterfaces, ListComponents, End, Close}
 use Rattle.cm_document.specs.declared.description.CtlDesc.{CtlDesc}
 use Rattle.cm_model.specs.Console.{place_of, slot_of, where_done, with_slot, with_changed, without_slot, after_configure, after_cleanup, after_rate, after_send}
-use Rattle.cm_model.specs.Boundary.{is_decided, waiting, boundary, request_effect, begin_effect, close_effect, close_reply}
+use Rattle.cm_model.specs.Boundary.{is_decided, boundary, request_effect, begin_effect, close_effect, close_reply}
 use Rattle.cm_model.specs.Commit.{commit}
 use Rattle.cm_model.specs.Components.{read_succeeds}
 use Rattle.cm_model.specs.Cycle.{CycleResult, component_is, updated_in, updates, cycle, after_cycle}
@@ -179,7 +179,7 @@ end-few s =
 -- nor does a begin
 pub begin-few : (s : State) → length (begin_effect s).loaded ≡ length s.loaded
 begin-few s =
-    count_stays (boundary s).loaded (begin_effect s).loaded (begun_stays (boundary s)) ∙ count_stays s.loaded (boundary s).loaded (boundary_stays s (waiting s))
+    count_stays (boundary s).loaded (begin_effect s).loaded (begun_stays (boundary s)) ∙ count_stays s.loaded (boundary s).loaded (boundary_stays s)
 
 -- ---- Steps
 

@@ -72,6 +72,7 @@ between cycles loaded held asked n = record {
   values = held.values;
   requests = asked.requests;
   outcomes = asked.outcomes;
+  fallbacks = [];
   ended = n;
   aloft = false;
   mails = [];

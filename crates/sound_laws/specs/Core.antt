@@ -24,6 +24,7 @@ core s = record {
   values = s.values;
   requests = [];
   outcomes = [];
+  fallbacks = [];
   ended = s.ended;
   aloft = false;
   mails = s.mails;
