@@ -1,6 +1,6 @@
 -- What a cycle works on, at home or aloft.
-use Rattle.std.specs.Prelude.{◌≡◌, ℕ, ◌≤◌, ◌==◌, Bool, true, false, not, List, [], length, map, flat_map, find, slice_get}
-use Rattle.std.specs.Prelude.{vec_capacity, is_some, Box}
+use Rattle.std.specs.Prelude.{◌≡◌, ℕ, ◌≤◌, ◌==◌, Bool, true, false, not, List, [], length, map, flat_map, find}
+use Rattle.std.specs.Prelude.{slice_get, vec_capacity, is_some, Box}
 use Rattle.std.specs.Prelude.{Option, None, Some, option_map, unwrap_or, IfSome, IsSomeAnd}
 use Rattle.std.specs.List.{AllByRecursion}
 use Rattle.std.specs.Option.{option_map_or}
@@ -29,9 +29,9 @@ use Rattle.cm_desk.specs.declared.supplies.HardwareSize.{HardwareSize}
 
 -- What is seen of it: what a cycle works on and the sets of its end, as they stand at home, or as they were when they
 -- left; what of it is at home; the mail that is aloft; the stations that are at home, and who stands there; the places
--- of the controllers whose update failed in the cycle that landed last, where the next has not begun; the lists that were
--- written down, whether they are those of the hardware, and room for the next; and for how many of those that run there
--- is room for a box and for a station.
+-- of the controllers whose update failed in the cycle that landed last, where the next has not begun; the lists that
+-- were written down, whether they are those of the hardware, and room for the next; and for how many of those that run
+-- there is room for a box and for a station.
 pub record Base : Type 0 where
   pub plant : Plant
   pub ending : Ending
@@ -170,6 +170,12 @@ pub record IsSupplied (d : Description) (order : List Member) (loaded : ℕ) (b 
 pub record CanBeSupplied (d : Description) (b : Bay) (order : List Member) : Type 0 where
   pub plant : CanSupply d b.plant.value.places b.size order
   pub kept : AreKept b.plant.value.places b.spare.stations.items b.members.value.items
+
+-- It can be supplied where it stands: it is at home, and no update failed.
+pub record CanBeSuppliedAtHome (d : Description) (b : Bay) (order : List Member) : Type 0 where
+  pub home : IsAtHome b
+  pub none_erred : b.erred.value.items ≡ []
+  pub can : CanBeSupplied d b order
 
 -- What works in a cycle can leave: it is at home, and there is room for its lists, which are those of its hardware
 -- where they are told.

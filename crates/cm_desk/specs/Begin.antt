@@ -39,8 +39,8 @@ pub record IsNext (s : State) (asked : Request) (later : List Request) (c : Conc
   pub first : waiting s ≡ asked ∷ later
   pub concluded : IsConclusionOf s asked c
 
--- Of what was planned for a begin this is left to be done in a state in which nobody is to stand in any more: first what
--- was concluded of those that were, and then of each request.
+-- Of what was planned for a begin this is left to be done in a state in which nobody is to stand in any more: first
+-- what was concluded of those that were, and then of each request.
 pub record IsLeftOf (s now : State) (first : Option Conclusion) (conclusions : List Conclusion) : Type 0 where
   pub emptied : now ≡ record s { fallbacks = [] }
   pub steady : IsSteady s

@@ -9,7 +9,7 @@ ghost use Rattle.cm_model.specs.declared.member.Member.{Member};
 ghost use Rattle.cm_hardware.specs.Holding.{IsHardwareOf, MovesComponent};
 ghost use Rattle.cm_hardware.specs.Shown.{HasLinesFor, Shows};
 ghost use Rattle.stop_plan.specs.Ending.{HasFlags};
-ghost use Rattle.cm_desk.specs.Bay.{place_among, IsAtHome, IsAtStart, IsHome, IsIdle, IsListing, IsMadeReady, IsRewired, IsSupplied, CanBeSupplied, CanCastOff, HasCastOff, HasForgotten, HasMoored};
+ghost use Rattle.cm_desk.specs.Bay.{place_among, IsAtHome, IsAtStart, IsHome, IsIdle, IsListing, IsMadeReady, IsRewired, IsSupplied, CanBeSupplied, CanBeSuppliedAtHome, CanCastOff, HasCastOff, HasForgotten, HasMoored};
 ghost use Rattle.cm_desk.specs.Supplies.{AreSupplies};
 ghost use Rattle.rt_flight.specs.Flights.{TellsNothing};
 ghost use Rattle.cm_desk.specs.Works.{CanSwitch, HasSwitched, KeepsRest};
@@ -252,9 +252,7 @@ impl Bay {
         order: &[Member],
         loaded: usize,
     ) -> Result<(), Memory>
-        requires home { IsAtHome self.old }
-        requires none_erred { self.old.erred.value.items ≡ [] }
-        requires can { CanBeSupplied checked.now self.old order.now }
+        requires { CanBeSuppliedAtHome checked.now self.old order.now }
         ensures supplied { OnOk result (IsSupplied checked.now order.now loaded self.new) }
         ensures bay { IsMadeReady self.old self.new }
     {

@@ -26,31 +26,24 @@ erred-requires g c =
 pub begin_anew-requires : goal.begin_anew-requires
 begin_anew-requires g c = c.requires
 
-pub supply-requires-clause-home : goal.supply-requires-clause-home
-supply-requires-clause-home g c =
+-- what works in a cycle can be supplied where it stands: no update failed, and who is active is described
+pub supply-requires : goal.supply-requires
+supply-requires g c =
     let a = c.self.inside in
     let s = state_of a in
-    at_home a.checked a.roster.order a.bay (vec_capacity a.boxes) a.slots.aloft c.self.invariant.based (begins_down s (rw (← c.self.view_is) at c.requires.can))
-
--- no update failed
-pub supply-requires-clause-none_erred : goal.supply-requires-clause-none_erred
-supply-requires-clause-none_erred g c =
-    let a = c.self.inside in
-    let all = and_parts (a.roster.fresh && none_waits a.requests.requests a.requests.outcomes) (length c.erred.result.now == 0) (sym c.is_settled.ensures ∙ c.if-not-is_settled.false) in
-    sym c.erred.ensures ∙ nil_where c.erred.result.now all.1
-
-pub supply-requires-clause-can : goal.supply-requires-clause-can
-supply-requires-clause-can g c =
-    let a = c.self.inside in
-    let s = state_of a in
+    let down = begins_down s (rw (← c.self.view_is) at c.requires.can) in
     let all = and_parts (a.roster.fresh && none_waits a.requests.requests a.requests.outcomes) (length c.erred.result.now == 0) (sym c.is_settled.ensures ∙ c.if-not-is_settled.false) in
     let settled = and_parts a.roster.fresh (none_waits a.requests.requests a.requests.outcomes) all.0 in record {
-      plant = record {
-        places = c.self.invariant.worked_out.placed;
-        size = c.self.invariant.based.size;
-        within = rw (c.order.ensures, c.self.invariant.listed.order settled.0) (order_within s c.self.invariant.described);
+      home = at_home a.checked a.roster.order a.bay (vec_capacity a.boxes) a.slots.aloft c.self.invariant.based down;
+      none_erred = sym c.erred.ensures ∙ nil_where c.erred.result.now all.1;
+      can = record {
+        plant = record {
+          places = c.self.invariant.worked_out.placed;
+          size = c.self.invariant.based.size;
+          within = rw (c.order.ensures, c.self.invariant.listed.order settled.0) (order_within s c.self.invariant.described);
+        };
+        kept = record { fitted = c.self.invariant.based.fitted; ordered = c.self.invariant.based.ordered down };
       };
-      kept = record { fitted = c.self.invariant.based.fitted; ordered = c.self.invariant.based.ordered (begins_down s (rw (← c.self.view_is) at c.requires.can)) };
     }
 
 -- where memory ran out the state is as before
