@@ -28,6 +28,8 @@ pub struct Present<'a> {
     lives: Vec<Option<Life>>,
     /// Whether each is chained, by place.
     chained: Vec<bool>,
+    /// Whether the update of each failed in the cycle that ended last, by place.
+    erred: Vec<bool>,
     /// The lifecycle state of each component, by place.
     pub components: Vec<Life>,
     /// How many cycles have ended.
@@ -59,6 +61,7 @@ impl<'a> Present<'a> {
             links,
             lives: same(alloc, links.len(), None)?,
             chained: same(alloc, links.len(), false)?,
+            erred: same(alloc, links.len(), false)?,
             components: initial(alloc, description)?,
             ended: 0,
             sessions,
@@ -171,6 +174,25 @@ impl<'a> Present<'a> {
             if *life == Some(Life::Active) {
                 *life = Some(Life::Inactive);
             }
+        }
+    }
+
+    /// The update of the controller at this place failed.
+    pub fn note_erred(&mut self, place: usize) {
+        if let Some(erred) = self.erred.get_mut(place) {
+            *erred = true;
+        }
+    }
+
+    /// Whether its update failed in the cycle that ended last.
+    pub fn has_erred(&self, place: usize) -> bool {
+        self.erred.get(place).copied().unwrap_or(false)
+    }
+
+    /// In the cycle that ends now no update has failed yet.
+    pub fn forget_erred(&mut self) {
+        for erred in &mut self.erred {
+            *erred = false;
         }
     }
 

@@ -29,7 +29,7 @@ pub enum Became<'a> {
 pub struct Answered<'a> {
     /// The cycle at whose begin it was decided, or before whose end the call came; the number of cycles where all had ended.
     pub cycle: u64,
-    /// The ticket of a request that got one.
+    /// The ticket of a request that got one; fallbacks are asked for without one.
     pub ticket: Option<u32>,
     /// The name of the session that asked, and what it asked, where that is known.
     pub asked: Option<Asked<'a>>,
@@ -196,11 +196,16 @@ impl<'a> Replay<'a> {
         if event_of(&decision.outcome) != Event::Done {
             self.incidents.push(Incident::Answered(number))?;
         }
-        self.count(&decision.outcome);
+        if decision.ticket.is_some() {
+            self.count(&decision.outcome);
+        }
         let column = self.columns.of_cycle(cycle);
         self.requests
             .mark(column, event_of(&decision.outcome), cycle, number);
         match &decision.outcome {
+            Outcome::Done { dropped } if decision.ticket.is_none() => {
+                self.stand_in(dropped.as_slice())
+            }
             Outcome::Done { dropped } => self.carry_out(asked, dropped.as_slice()),
             Outcome::Refused(name, _) => self.mark_refused(name, column, number),
             Outcome::LoopEnded => {}
@@ -268,7 +273,21 @@ impl<'a> Replay<'a> {
                 self.stop(name);
             }
         }
-        for name in request.on.as_slice() {
+        self.start_all(request.on.as_slice(), dropped);
+    }
+
+    /// The fallbacks of the controllers whose update failed are active, but for those that are left out.
+    fn stand_in(&mut self, dropped: &[Dropped]) {
+        let description = self.present.description;
+        for (place, controller) in description.controllers.as_slice().iter().enumerate() {
+            if self.present.has_erred(place) {
+                self.start_all(controller.fallback.as_slice(), dropped);
+            }
+        }
+    }
+
+    fn start_all(&mut self, names: &[Name], dropped: &[Dropped]) {
+        for name in names {
             if !is_left_out(name, dropped) {
                 self.present.start(name);
             }
@@ -291,6 +310,7 @@ impl<'a> Replay<'a> {
         let cycle = record.cycle();
         let column = self.columns.of_cycle(cycle);
         self.read_failures(record.failed(), column, cycle);
+        self.present.forget_erred();
         for ran in record.ran() {
             self.read_update(&ran, column, cycle);
         }
@@ -328,6 +348,7 @@ impl<'a> Replay<'a> {
             return;
         };
         if ran.done == Done::Error {
+            self.present.note_erred(place);
             self.counts.failed = self.counts.failed.saturating_add(1);
             mark_row(
                 &mut self.controllers,

@@ -38,7 +38,7 @@ pub fn push_asked(text: &mut String, answered: &Answered<'_>) -> Result<(), Memo
     match (answered.asked, answered.ticket) {
         (Some(asked), _) => write!(text, "{}", asked.call)?,
         (None, Some(ticket)) => write!(text, "request {ticket}")?,
-        (None, None) => {}
+        (None, None) => text.push_str("fallback")?,
     }
     Ok(())
 }

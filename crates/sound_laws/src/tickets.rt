@@ -8,10 +8,10 @@ ghost use Rattle.cm_model.specs.State.{State};
 ghost use Rattle.cm_model.specs.Steady.{IsSteady};
 ghost use Rattle.cm_model.specs.declared.reply.Reply.TheVariants as reply;
 
-/// In a steady state a begin first asks for those that are to stand in, as many of whom come as can. From the state that they leave it
-/// decides each request that waited rightly, and tells so: with the outcomes that it tells there is a chain of states, one step a
-/// request, to the one after it. In each step a strict switch is done whole, and else
-/// refused with a cause that is true, and a move of a component likewise; what is refused changes nothing.
+/// In a steady state a begin first asks for those that are to stand in, and then decides each request that waited rightly, and tells
+/// so: as many of the first come as can, and from there a chain of states leads to the one after the begin, one step a request, with
+/// the outcomes that it tells. In each step a strict switch is done whole, and else refused with a cause that is true, and a move of
+/// a component likewise; what is refused changes nothing.
 pub fn begins_decide_rightly()
     ensures { (s : State) → IsSteady s
         → (stood : State) × AreStoodIn s s.fallbacks stood
