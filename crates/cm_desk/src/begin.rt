@@ -1,6 +1,6 @@
 //! The begin of a cycle: those that are to stand in are asked for, the requests that wait are decided, and what the cycle needs is taken.
 
-ghost use Rattle.std.specs.Prelude.{◌≡◌, ◌<◌, ◌≤◌, ◌==◌, ◌++◌, ◌&&◌, [], true, false, length, map, slice_get, vec_capacity, Some, List, IfOk, OnOk, OnErr};
+ghost use Rattle.std.specs.Prelude.{◌≡◌, ◌<◌, ◌≤◌, ◌==◌, ◌++◌, ◌&&◌, [], false, length, map, slice_get, vec_capacity, Some, List, IfOk, OnOk, OnErr};
 ghost use Rattle.cm_model.specs.Boundary.{waiting, concluded, with_outcome, all_concluded, boundary};
 ghost use Rattle.cm_model.specs.Commit.{seen};
 ghost use Rattle.cm_model.specs.Serials.{IsNumbered};
@@ -8,7 +8,7 @@ ghost use Rattle.cm_model.specs.State.{State, Loaded, is_active, is_chained};
 ghost use Rattle.cm_model.specs.Steady.{IsSteady};
 ghost use Rattle.cm_model.specs.declared.request.Request.{Request};
 ghost use Rattle.request_plan.specs.Acts.{IsSwitchOf, IsMoveOf};
-ghost use Rattle.request_plan.specs.Plans.{IsPlanOf, IsStandingIn, AreConclusionsOf};
+ghost use Rattle.request_plan.specs.Plans.{IsPlanOf, AreConclusionsOf};
 ghost use Rattle.cm_desk.specs.Bay.{fallbacks_at, stand_ins_for};
 ghost use Rattle.cm_desk.specs.Begin.{IsNext, IsLeftOf, CanAct, CanBegin, HasBegun, CanTakeOff, HasTakenOff, none_waits};
 

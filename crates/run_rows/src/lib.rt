@@ -6,6 +6,8 @@ mod awaits;
 #[cfg(test)]
 mod console;
 #[cfg(test)]
+mod fallbacks;
+#[cfg(test)]
 mod hardware;
 #[cfg(test)]
 mod kinds;
