@@ -120,3 +120,19 @@ def documents_of_lists():
     text += END + "session a\n"
     yield "lists of 288 interfaces", text + "list interfaces\n" * 9_990
     yield "lists of 288 interfaces, and of components between", text + "list interfaces\nlist components\n" * 4_995
+
+
+def documents_of_fallbacks():
+    """Mocks that fail in each cycle and start one another: each begin asks for 256 names, and 224 of them stand there before."""
+    yield "fallbacks of mocks that fail in each cycle", failing(LETTERS[:32], 6_750)
+
+
+def failing(names, cycles):
+    """Returns a document whose mocks fail in each of these cycles. Each names the eight behind it, round about."""
+    listed = ",".join(str(cycle) for cycle in range(1, cycles + 1))
+    text = with_cycles(cycles + 2, HEAD)
+    for place, name in enumerate(names):
+        behind = ",".join(f'"{names[(place + 1 + step) % len(names)]}"' for step in range(8))
+        text += f'[[controller]]\nname="{name}"\ntype="mock"\nfallback=[{behind}]\nfail_update=[{listed}]\n'
+    text += END + "session a\n" + "".join(f"load {name}\nconfigure {name}\n" for name in names)
+    return text + f"switch strict {' '.join(f'+{name}' for name in names)}\n"

@@ -14,7 +14,8 @@ import subprocess
 import tempfile
 
 from . import programs
-from .costly import documents, documents_of_lists, documents_of_mocks, documents_of_requests, documents_of_small_tables
+from .costly import (
+    documents, documents_of_fallbacks, documents_of_lists, documents_of_mocks, documents_of_requests, documents_of_small_tables)
 
 SECONDS = 1.0
 # How many times a document's bytes its reading may take, beside 32 MiB; if its tables are many and small; if its script asks for lists.
@@ -53,7 +54,7 @@ def is_dear(program, name, text, times, seconds_allowed):
 def main(asked):
     program, wanted = programs.program(asked), set(asked.names)
     # One document at a time, since what is held here would count as the program's.
-    makers = (documents(), documents_of_requests(), documents_of_mocks())
+    makers = (documents(), documents_of_requests(), documents_of_mocks(), documents_of_fallbacks())
     usual = ((name, text, TIMES, SECONDS) for maker in makers for name, text in maker)
     small_tables = ((name, text, TIMES_IN_SMALL_TABLES, 3 * SECONDS) for name, text in documents_of_small_tables())
     lists = ((name, text, TIMES_IN_LISTS, SECONDS) for name, text in documents_of_lists())
