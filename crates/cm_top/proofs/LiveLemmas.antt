@@ -1,5 +1,5 @@
 -- A live run: from what its threads leave to one legal, sound and whole history.
-use Rattle.std.proofs.Common.{◌≡◌, ℕ, zero, suc, ◌+◌, ◌-◌, ◌≤◌, List, [], ◌∷◌, ◌++◌, length, get_or, map, All, Option, Some, None, true, false, refl, sym, ap, subst, ◌∙◌, inl, inr, ◌⊎◌, arith}
+use Rattle.std.proofs.Common.{◌≡◌, ℕ, zero, suc, ◌+◌, ◌-◌, ◌≤◌, List, [], ◌∷◌, ◌++◌, length, map, All, Option, Some, None, true, refl, sym, ap, subst, ◌∙◌, inl, inr, ◌⊎◌, arith}
 use Rattle.std.specs.Prelude.{IfSome, slice_get}
 use Rattle.std.specs.List.{AllByRecursion, AllZip, range_with_len}
 use Rattle.std.proofs.lemmas.List.{append-nil, length-append, length-map, nil_from_length}
@@ -10,7 +10,7 @@ use Rattle.cm_document.specs.declared.document.Document.{Document}
 use Rattle.cm_document.specs.declared.script.SessionText.{SessionText}
 use Rattle.cm_desk.specs.Desk.{History, now_of}
 use Rattle.cm_model.specs.Machine.{LegalFrom}
-use Rattle.cm_model.specs.Ports.{Console, LoopConsole}
+use Rattle.cm_model.specs.Ports.{LoopConsole}
 use Rattle.cm_model.specs.Sessions.{calls_of, entries_by, loop_calls, Follows}
 use Rattle.cm_model.specs.Sound.{moments, AreSound}
 use Rattle.cm_model.specs.State.{State, Loaded, boot}
@@ -19,14 +19,14 @@ use Rattle.cm_model.specs.declared.entry.Entry.{Entry}
 use Rattle.console_session.specs.Sessions.{SessionState}
 use Rattle.live_run.specs.Loops.{IsAtFirst}
 use Rattle.live_run.specs.Sessions.{IsAtItsStart, HasFollowed}
-use Rattle.shared_desk.specs.Calls.Home.{AreHandedIn, HasAllOf, ComesHome}
+use Rattle.shared_desk.specs.Calls.Home.{HasAllOf, ComesHome}
 use Rattle.shared_desk.specs.Calls.Share.{Shares}
 use Rattle.shared_desk.specs.Passes.{IsLoopPass, IsSessionPass, history_of}
 use Rattle.shared_desk.specs.Ports.{PortGround, ground_of, console_of, loop_console_of}
 use Rattle.turn_lock.proofs.Callers.{back_are_all, last_first}
 use Rattle.turn_lock.specs.Calls.Finish.{AreAll}
 use Rattle.turn_lock.specs.Calls.Make.{Made, IsFresh}
-use Rattle.turn_lock.specs.Passes.{view, IsReady, EachStays}
+use Rattle.turn_lock.specs.Passes.{view, IsReady}
 use Rattle.turn_lock.specs.declared.kept.Kept.{Ghosts}
 use Rattle.turn_lock.specs.declared.lock.TurnLock.{TurnLock}
 use Rattle.turn_lock.specs.declared.pass.TurnPass.{TurnPass}

@@ -1,8 +1,8 @@
 -- From reading a document, and its run, to what a run of a job promises.
-use Rattle.std.proofs.Common.{◌≡◌, ℕ, ◌+◌, ◌<◌, ◌≤◌, List, [], length, Option, Some, None, Ok, true, false, refl, sym, ap, subst, ◌∙◌, inl, inr, ◌⊎◌, arith}
-use Rattle.std.specs.Prelude.{IfSome, IsSome, IfOk, Result, Err, nat_lt}
+use Rattle.std.proofs.Common.{◌≡◌, ℕ, ◌≤◌, List, [], length, Option, Some, None, Ok, true, false, refl, sym, ap, ◌∙◌, inl, inr, ◌⊎◌, arith}
+use Rattle.std.specs.Prelude.{IfSome, IsSome, Result, Err, nat_lt}
 use Rattle.std.proofs.lemmas.Bool.Decides.{nat_tests}
-use Rattle.std.specs.Io.KnownBytes.{Keeps, IsAtEnd}
+use Rattle.std.specs.Io.KnownBytes.{IsAtEnd}
 use Rattle.std.proofs.KnownBytes.{Consumes-nil, Keeps-refl}
 use Rattle.outside_io.specs.Bytes.{GivesAll}
 use Rattle.outside_io.specs.Faults.{IsToldAs, Rose}
@@ -17,13 +17,9 @@ use Rattle.make_document.specs.Made.{made}
 use Rattle.make_document.specs.Meant.{made_document}
 use Rattle.make_document.proofs.AcceptedLemmas.{made_is_accepted}
 use Rattle.cm_words.specs.declared.job.TheConstants.{MOST_ROUNDS}
-use Rattle.cm_words.specs.declared.job.Job.{Job}
-use Rattle.cm_words.specs.declared.job.JobKind.{JobKind}
-use Rattle.cm_words.specs.declared.job.JobKind.TheVariants.{Live}
-use Rattle.cm_words.specs.declared.job.WordsFault.{WordsFault}
-use Rattle.cm_top.specs.Book.{BookFacts, Task, task_of}
+use Rattle.cm_top.specs.Book.{BookFacts, Task}
 use Rattle.cm_top.specs.Calls.Read.{ReadAs, EndsUnread, Reads, ReadsBytes, ReadsFrom, MindsSource}
-use Rattle.cm_top.specs.Calls.Run.{SourceFacts, SinkFacts, MindsSink, MindsFaults, Runs, RunsMade, RunsFrom, RunsJob, written}
+use Rattle.cm_top.specs.Calls.Run.{SourceFacts, SinkFacts, MindsSink, MindsFaults, Runs, RunsMade, RunsFrom, written}
 use Rattle.cm_top.specs.Status.{Written, EndedWith, HandsOut, Wrote, RanDocument, ComesOfBytes, ComesBeforeWriting, status_of, status_of_document}
 use Rattle.cm_top.specs.declared.status.Status.{Status}
 use Rattle.cm_top.specs.declared.status.Status.TheVariants as status
@@ -283,63 +279,10 @@ IsNoFault status.ReadFault = ⊥
 IsNoFault status.WriteFault = ⊥
 IsNoFault _ = Unit {0}
 
--- where nothing was written, no fault of writing is told
-pub untouched_minds_sink : (sink : SinkFacts) (ended : Status) → IsNoFault ended → MindsSink sink sink ended
-untouched_minds_sink sink ended none = record {
-  write_fault = record { later = omega arith; counted = λ failed. absurd (rw failed at none); uncounted = λ other. refl };
-  unflushed = λ other. refl;
-}
-
 -- where nothing was read either, no fault is told
 pub untouched_minds_faults : (source : SourceFacts) (sink : SinkFacts) (ended : Status) → IsNoFault ended → MindsFaults source source sink sink ended
 untouched_minds_faults source sink ended none = record {
   read_fault = record { later = omega arith; counted = λ failed. absurd (rw failed at none); uncounted = λ other. refl };
   read_at_most = ([], omega arith, Consumes-nil source.left);
-  of_sink = untouched_minds_sink sink ended none;
+  of_sink = unwritten_minds_sink sink ended (λ failed. rw failed at none);
 }
-
-all_known : (known : Option (List ℕ)) (P : List ℕ → Type 0) → ((bytes : List ℕ) → P bytes) → IfSome known P
-all_known None P all = tt
-all_known (Some bytes) P all = all bytes
-
--- memory ran out before anything was read
-pub nothing-Runs : (task : Task) (blanks : Blanks) (source : SourceFacts) (sink : SinkFacts) → Runs task blanks source source sink sink status.Memory None
-nothing-Runs task blanks source sink = record {
-  ran = all_known source.left _ (λ bytes. Keeps-refl sink.taken);
-  handed_out = Keeps-refl sink.taken;
-  never_words = λ words. cc;
-  read_whole = λ well told. cc;
-  plain = tt;
-  exact = all_known source.left _ (λ bytes still kept. inr refl);
-}
-
--- memory ran out before a document was made
-pub nothing-RunsMade : (task : Task) (blanks : Blanks) (rounds : ℕ) (sink : SinkFacts) → RunsMade task blanks rounds sink sink status.Memory None
-nothing-RunsMade task blanks rounds sink = record {
-  ran = record {
-    ran = Keeps-refl sink.taken;
-    handed_out = Keeps-refl sink.taken;
-    of_bytes = tt;
-    plain = tt;
-  };
-  exact = λ kept. inr refl;
-}
-
--- wherever the document comes from
-nothing-RunsFrom : (make : Option ℕ) (task : Task) (blanks : Blanks) (source : SourceFacts) (sink : SinkFacts) → RunsFrom make task blanks source source sink sink status.Memory None
-nothing-RunsFrom None task blanks source sink = nothing-Runs task blanks source sink
-nothing-RunsFrom (Some rounds) task blanks source sink = nothing-RunsMade task blanks rounds sink
-
-pub nothing-RunsJob : (job : Job) (blanks : Blanks) (source : SourceFacts) (sink : SinkFacts) → RunsJob job blanks source source sink sink status.Memory None
-nothing-RunsJob job blanks source sink = nothing-RunsFrom job.make (task_of job blanks) blanks source sink
-
--- whatever job the words ask for
-pub any_job : (r : Result Job WordsFault) (P : Job → Type 0) → ((job : Job) → P job) → IfOk r P
-any_job (Ok job) P all = all job
-any_job (Err refused) P all = tt
-
--- A live run is that of its job.
-pub live-RunsJob : (job : Job) (blanks : Blanks) (source source' : SourceFacts) (sink sink' : SinkFacts) (ended : Status) (book : Option BookFacts) → job.kind ≡ Live
-    → RunsJob (record { kind = Live; make = job.make }) blanks source source' sink sink' ended book → RunsJob job blanks source source' sink sink' ended book
-live-RunsJob job blanks source source' sink sink' ended book is ran =
-    subst (λ (k : JobKind). RunsJob (record { kind = k; make = job.make }) blanks source source' sink sink' ended book) (sym is) ran

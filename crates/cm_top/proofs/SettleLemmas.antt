@@ -1,11 +1,10 @@
 -- One advance over the desk's console, one session of a loop over all, and the turns of a schedule.
-use Rattle.std.proofs.Common.{◌≡◌, ℕ, suc, ◌+◌, ◌<◌, List, [], ◌∷◌, ◌++◌, length, get_or, map, take, drop, slice_get, slice_set, option_map, Some, None, refl, sym, ap, subst, ◌∙◌, arith, drop-cons, take-suc, take-suc-set, drop-set-lt}
+use Rattle.std.proofs.Common.{◌≡◌, ℕ, suc, ◌+◌, ◌<◌, List, [], ◌∷◌, length, get_or, map, take, drop, slice_get, slice_set, option_map, Some, None, refl, sym, ap, subst, ◌∙◌, arith, drop-cons, take-suc-set, drop-set-lt}
 use Rattle.std.proofs.lemmas.Option.{same_Some, slice_get-get_or, slice_get-map}
-use Rattle.std.proofs.lemmas.List.{length-map, map-append, map-set, set-get_or}
-use Rattle.cm_document.specs.declared.script.SessionText.{SessionText}
+use Rattle.std.proofs.lemmas.List.{map-append, map-set, set-get_or}
 use Rattle.cm_document.specs.declared.script.Turn.{Turn}
 use Rattle.cm_document.specs.declared.script.Turn.TheVariants.{Step}
-use Rattle.cm_model.specs.Scheduled.{Session, Advanced, Progress, advance, settle, settle_from, turned, turns, with_cycle, cycles_from}
+use Rattle.cm_model.specs.Scheduled.{Advanced, Progress, advance, settle, settle_from, turned, turns, with_cycle, cycles_from}
 use Rattle.cm_model.specs.State.{State}
 use Rattle.cm_model.specs.Ports.{Console}
 use Rattle.cm_model.proofs.AdvanceLemmas.{settle-next, settle-stays}

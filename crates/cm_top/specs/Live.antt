@@ -1,5 +1,5 @@
 -- A live run over a shared desk: what it starts from, and what it comes to.
-use Rattle.std.specs.Prelude.{◌≡◌, ℕ, true, List, [], length}
+use Rattle.std.specs.Prelude.{◌≡◌, ℕ, List, [], length}
 use Rattle.std.specs.List.{AllZip}
 use Rattle.cm_desk.specs.Desk.{History}
 use Rattle.cm_model.specs.Sessions.{calls_of, entries_by, loop_calls, Follows}
