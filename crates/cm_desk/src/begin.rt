@@ -17,7 +17,7 @@ use crate::boarding::board;
 use crate::roster::Roster;
 use crate::supplies::empty;
 use crate::works::{Works, described_at};
-use cm_document::{CtlDesc, Life};
+use cm_document::{Checked, CtlDesc, Life};
 use cm_model::{Decision, Seen};
 use ctl_slots::{Slot, Slots};
 use ctl_trait::Controller;
