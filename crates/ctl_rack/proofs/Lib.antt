@@ -1,2 +1,1 @@
-pub mod BerthLemmas
 pub mod StockLemmas

@@ -1,7 +1,7 @@
-//! Tests of the rack, call by call: a page has for each case the calls, a line each, and what is answered.
+//! Tests of the stock of blanks: a page has for each case the kinds that are asked for, a line each, and what is taken.
 #![tactic(auto)]
 
 #[cfg(test)]
 mod faults;
 #[cfg(test)]
-mod racks;
+mod stocks;
