@@ -19,7 +19,7 @@ use Rattle.cm_model.specs.declared.seen.Seen.{Seen}
 use Rattle.cm_hardware.specs.Wiring.{Wired}
 use Rattle.cm_hardware.proofs.LentLemmas.{held_is_moved}
 use Rattle.cm_hardware.proofs.PresentLemmas.{owned_is_available}
-use Rattle.ctl_places.specs.Placed.{Placed}
+use Rattle.cm_places.specs.Placed.{Placed}
 use Rattle.request_plan.specs.Acts.{IsSwitchOf}
 use Rattle.request_plan.specs.Stands.{IsStand, IsSeenOf}
 use Rattle.request_plan.specs.declared.acts.Conclusion.{Conclusion}

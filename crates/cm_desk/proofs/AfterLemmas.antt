@@ -21,9 +21,9 @@ use Rattle.cm_hardware.specs.Wiring.{Wired}
 use Rattle.cm_hardware.proofs.LentLemmas.{moved_is_held}
 use Rattle.cm_hardware.proofs.ListLemmas.{state_is}
 use Rattle.cm_hardware.proofs.PresentLemmas.{owned_is_available}
-use Rattle.ctl_slots.specs.Fit.{AreFit}
-use Rattle.ctl_slots.specs.Slots.{Slotted}
-use Rattle.ctl_slots.proofs.FitLemmas.{fit_committed, fit_landed}
+use Rattle.cm_slots.specs.Fit.{AreFit}
+use Rattle.cm_slots.specs.Slots.{Slotted}
+use Rattle.cm_slots.proofs.FitLemmas.{fit_committed, fit_landed}
 use Rattle.request_plan.specs.Requests.{Asked}
 use Rattle.rt_flight.specs.Flights.{TellsNothing}
 use Rattle.rt_flight.specs.Stations.{IsFitted}

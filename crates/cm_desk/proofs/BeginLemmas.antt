@@ -29,7 +29,7 @@ use Rattle.cm_model.specs.declared.request.Request.{Request}
 use Rattle.cm_model.specs.declared.request.Request.TheVariants as request
 use Rattle.cm_model.proofs.StayLemmas.{boundary-SameLoop}
 use Rattle.cm_hardware.specs.Shown.{Shows}
-use Rattle.ctl_slots.specs.Slots.{Slotted}
+use Rattle.cm_slots.specs.Slots.{Slotted}
 use Rattle.request_plan.specs.Plans.{AreConclusionsOf, IsPlanOf, IsStandingIn}
 use Rattle.request_plan.specs.Requests.{Asked}
 use Rattle.request_plan.specs.declared.acts.Conclusion.{Conclusion}
@@ -39,13 +39,13 @@ use Rattle.sound_laws.proofs.BoundaryLemmas.{concluded_steady, outcome_steady, e
 use Rattle.sound_laws.proofs.HistoryLemmas.{step_steady}
 use Rattle.sound_laws.proofs.SerialLemmas.{renumbered_numbered, effect_renumbered}
 use Rattle.cm_desk.specs.Begin.{none_waits, IsNext, CanAct}
-use Rattle.ctl_slots.specs.Fit.{IsTimedIn}
-use Rattle.ctl_slots.specs.Updates.{HasTime}
+use Rattle.cm_slots.specs.Fit.{IsTimedIn}
+use Rattle.cm_slots.specs.Updates.{HasTime}
 use Rattle.cm_desk.specs.Bay.{Base, stand_ins_for, HasLines, IsBased}
 use Rattle.cm_desk.specs.Roster.{Listed, IsListedOf, actives}
 use Rattle.cm_desk.specs.Works.{IsAsDescribed, IsKept, state_with}
 use Rattle.cm_desk.proofs.ActiveLemmas.{IsSameOne, actives_map, same_serial, same_order, hardware_stays}
-use Rattle.ctl_slots.proofs.FitLemmas.{fit_begun}
+use Rattle.cm_slots.proofs.FitLemmas.{fit_begun}
 use Rattle.cm_desk.proofs.OrderLemmas.{order_within}
 use Rattle.cm_desk.proofs.StayLemmas.{all_staying, begun_stays, serials_stay, count_stays, described_stay, divided_stay, concluded_stays}
 

@@ -5,7 +5,7 @@ use Rattle.std.specs.Option.{option_map_or}
 use Rattle.std.proofs.lemmas.List.{drop_more, reverse-append}
 use Rattle.cm_model.specs.State.{Loaded, MailAloft}
 use Rattle.cm_model.specs.declared.data.CtlData.{CtlData}
-use Rattle.ctl_slots.specs.Mails.{without_mail}
+use Rattle.cm_slots.specs.Mails.{without_mail}
 use Rattle.rt_flight.specs.Cells.{Seat}
 use Rattle.rt_flight.specs.Stations.{Standing}
 use Rattle.cm_desk.specs.Boarding.{boarded, seat_of}

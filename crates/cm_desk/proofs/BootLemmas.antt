@@ -16,7 +16,7 @@ use Rattle.cm_hardware.specs.declared.lists.Lists.{Lists}
 use Rattle.cm_hardware.proofs.ListLemmas.{state_is}
 use Rattle.cm_model.specs.Blanks.{no_blanks, total}
 use Rattle.request_plan.specs.Requests.{Asked}
-use Rattle.ctl_slots.specs.Slots.{Slotted}
+use Rattle.cm_slots.specs.Slots.{Slotted}
 use Rattle.stop_plan.specs.Ending.{members_in_order}
 use Rattle.cm_desk.specs.Bay.{base_of, HasLines, IsAtStart}
 use Rattle.cm_desk.specs.Roster.{Listed, IsOfNobody}

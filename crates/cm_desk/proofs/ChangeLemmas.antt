@@ -11,8 +11,8 @@ use Rattle.cm_model.specs.Order.{divisor}
 use Rattle.cm_model.specs.State.{State, Loaded, MailAloft, is_active}
 use Rattle.ctl_trait.specs.Taking.{CanTake}
 use Rattle.ctl_trait.specs.declared.fault.CfgFault.{CfgFault}
-use Rattle.ctl_slots.specs.Fit.{IsTimedIn, IsWaiting, IsFor, AreFit}
-use Rattle.ctl_slots.proofs.FitLemmas.{fit_changed, timed_configured}
+use Rattle.cm_slots.specs.Fit.{IsTimedIn, IsWaiting, IsFor, AreFit}
+use Rattle.cm_slots.proofs.FitLemmas.{fit_changed, timed_configured}
 
 -- no mail waits for one that is not active
 no_mail : (l : Loaded) (mail : Option Mail) → is_active l ≡ false → IfSome mail (λ m. (is_active l ≡ true) × CanTake l.ctl m) → mail ≡ None

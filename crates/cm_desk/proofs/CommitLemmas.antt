@@ -16,10 +16,10 @@ use Rattle.cm_hardware.specs.Committed.{IsCommit, Commits}
 use Rattle.cm_hardware.specs.Holding.{IsMoved}
 use Rattle.cm_hardware.specs.Wiring.{Wired}
 use Rattle.cm_hardware.proofs.OutputLemmas.{held_when_moved}
-use Rattle.ctl_places.specs.Placed.{Placed, HasAllRows, placed_of}
-use Rattle.ctl_places.proofs.PlacedLemmas.{placed_of-HasAllRows}
-use Rattle.ctl_slots.specs.Seats.{widest, IsSeated, IsShownOn, HasRoom}
-use Rattle.ctl_slots.proofs.SeatLemmas.{own_seat, own_room}
+use Rattle.cm_places.specs.Placed.{Placed, HasAllRows, placed_of}
+use Rattle.cm_places.proofs.PlacedLemmas.{placed_of-HasAllRows}
+use Rattle.cm_slots.specs.Seats.{widest, IsSeated, IsShownOn, HasRoom}
+use Rattle.cm_slots.proofs.SeatLemmas.{own_seat, own_room}
 use Rattle.cm_desk.specs.Roster.{Listed, TellsActive, serial_in}
 use Rattle.cm_desk.specs.Works.{IsAsDescribed, CanCommit, HasCommitted}
 use Rattle.cm_desk.proofs.StayLemmas.{commit_stays, described_stay}

@@ -16,10 +16,10 @@ use Rattle.ctl_trait.specs.declared.controller.Controller.{Ghosts}
 use Rattle.std.specs.contracts.snapshot.Snapshot as Snapshot
 use Rattle.std.specs.contracts.option.Option as Option
 use Rattle.rt_flight.specs.contracts.plant.Plant as Plant
-use Rattle.ctl_slots.specs.contracts.slot.Slot as Slot
-use Rattle.ctl_slots.specs.contracts.slot.Slot.TheInside as SlotInside
-use Rattle.ctl_slots.specs.contracts.slots.Slots as Slots
-use Rattle.ctl_slots.specs.contracts.slots.Slots.TheInside as SlotsInside
+use Rattle.cm_slots.specs.contracts.slot.Slot as Slot
+use Rattle.cm_slots.specs.contracts.slot.Slot.TheInside as SlotInside
+use Rattle.cm_slots.specs.contracts.slots.Slots as Slots
+use Rattle.cm_slots.specs.contracts.slots.Slots.TheInside as SlotsInside
 use Rattle.cm_model.specs.contracts.entry.Entry as Entry
 use Rattle.cm_model.proofs.entry.Entry.TheSendSync as entry
 use Rattle.cm_model.specs.contracts.member.Member as Member
@@ -30,8 +30,8 @@ use Rattle.rt_flight.proofs.craft.Craft.TheSendSync as craft
 use Rattle.rt_flight.specs.contracts.cell.Cell as Cell
 use Rattle.rt_flight.proofs.cell.Cell.TheSendSync as cell
 use Rattle.stop_plan.specs.contracts.ending.Ending as Ending
-use Rattle.ctl_slots.specs.contracts.mails.MailAloft as MailAloft
-use Rattle.ctl_slots.proofs.room.Room.TheSendSync as room
+use Rattle.cm_slots.specs.contracts.mails.MailAloft as MailAloft
+use Rattle.cm_slots.proofs.room.Room.TheSendSync as room
 use Rattle.cm_hardware.specs.contracts.lists.Lists as Lists
 use Rattle.cm_hardware.proofs.lists.Lists.TheSendSync as lists
 use Rattle.cm_desk.proofs.bay.Spare.TheSendSync as spare

@@ -18,7 +18,7 @@ use Rattle.cm_hardware.specs.Holding.{IsHardwareOf}
 use Rattle.cm_hardware.specs.Wiring.{Wired}
 use Rattle.cm_hardware.proofs.LentLemmas.{moved_is_held}
 use Rattle.cm_hardware.proofs.PresentLemmas.{owned_is_available}
-use Rattle.ctl_places.specs.Placed.{Placed, placed_of}
+use Rattle.cm_places.specs.Placed.{Placed, placed_of}
 use Rattle.sound_laws.proofs.CycleLemmas.{after_steady}
 use Rattle.stop_plan.specs.Ending.{HasFlags, IsEndingOf, nobody_again, told_in, erred_in, member_of}
 use Rattle.stop_plan.specs.declared.ending.Ending.{Ending}

@@ -14,7 +14,7 @@ use Rattle.cm_model.specs.State.{State, Loaded}
 use Rattle.cm_model.specs.declared.member.Member.{Member}
 use Rattle.cm_model.proofs.UpdateLemmas.{cycle_tells}
 use Rattle.cm_storage.specs.Ran.{Ran}
-use Rattle.ctl_slots.proofs.LentLemmas.{find_there}
+use Rattle.cm_slots.proofs.LentLemmas.{find_there}
 use Rattle.sound_laws.proofs.ActiveLemmas.{from_active_order}
 use Rattle.stop_plan.specs.Ending.{told_in, erred_in, member_of, members_in_order}
 use Rattle.switch_plan.proofs.ElementLemmas.{here, later, Contains-map, Contains-map_back, found, not_found, filter_back}

@@ -18,13 +18,13 @@ use Rattle.cm_model.specs.declared.data.CtlData.{CtlData}
 use Rattle.cm_model.specs.declared.member.Member.{Member}
 use Rattle.cm_storage.specs.declared.record_room.RecordRoom.{RecordRoom}
 use Rattle.chain_order.specs.Links.{linked}
-use Rattle.ctl_places.specs.Placed.{Placed}
+use Rattle.cm_places.specs.Placed.{Placed}
 use Rattle.cm_model.specs.Kinds.{publishes}
-use Rattle.ctl_slots.specs.Lives.{IsKept}
-use Rattle.ctl_slots.specs.Mails.{mail_in, without_mail}
-use Rattle.ctl_slots.specs.Seats.{IsSeated}
-use Rattle.ctl_slots.specs.Updates.{HasTime}
-use Rattle.ctl_slots.specs.Updates.{IsInTime as IsTimed}
+use Rattle.cm_slots.specs.Lives.{IsKept}
+use Rattle.cm_slots.specs.Mails.{mail_in, without_mail}
+use Rattle.cm_slots.specs.Seats.{IsSeated}
+use Rattle.cm_slots.specs.Updates.{HasTime}
+use Rattle.cm_slots.specs.Updates.{IsInTime as IsTimed}
 use Rattle.ctl_trait.specs.Taking.{CanTake}
 use Rattle.rt_flight.specs.Cells.{Seat, all_outs, all_numbers, CanFly, CanTell}
 use Rattle.rt_flight.specs.Flights.{member_in, AreSeatsOf}

@@ -5,7 +5,7 @@ use Rattle.cm_document.specs.declared.description.Description.{Description}
 use Rattle.cm_model.specs.State.{State}
 use Rattle.cm_model.specs.Steady.{IsSteady}
 use Rattle.cm_model.specs.declared.blanks.Blanks.{Blanks}
-use Rattle.ctl_slots.specs.Slots.{Slotted}
+use Rattle.cm_slots.specs.Slots.{Slotted}
 use Rattle.request_plan.specs.Plans.{IsPlanOf}
 use Rattle.request_plan.specs.Requests.{Asked}
 use Rattle.request_plan.specs.declared.plans.Plan.{Plan}

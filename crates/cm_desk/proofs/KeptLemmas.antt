@@ -10,13 +10,13 @@ use Rattle.cm_model.specs.declared.blanks.Blanks.{Blanks}
 use Rattle.cm_model.specs.declared.member.Member.{Member}
 use Rattle.cm_model.specs.Blanks.{total}
 use Rattle.sound_laws.proofs.SerialLemmas.{serials_set}
-use Rattle.ctl_slots.specs.Fit.{AreFit}
+use Rattle.cm_slots.specs.Fit.{AreFit}
 use Rattle.stop_plan.specs.Ending.{members_in_order}
 use Rattle.cm_desk.specs.Bay.{Base}
 use Rattle.cm_desk.specs.Roster.{Listed, AreAt, IsListedOf, actives, serials_of, is_listed}
 use Rattle.cm_desk.specs.Works.{IsAsDescribed, IsDivided, IsKept}
 use Rattle.cm_desk.proofs.ActiveLemmas.{IsSameOne, actives_set, actives_push, actives_remove, same_serial, same_order, hardware_stays}
-use Rattle.ctl_slots.proofs.FitLemmas.{fit_pushed, fit_removed}
+use Rattle.cm_slots.proofs.FitLemmas.{fit_pushed, fit_removed}
 use Rattle.cm_desk.proofs.OrderLemmas.{order_loaded}
 use Rattle.cm_desk.proofs.WorksLemmas.{All-remove}
 

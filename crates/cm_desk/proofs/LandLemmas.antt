@@ -13,9 +13,9 @@ use Rattle.cm_hardware.specs.Holding.{IsMoved}
 use Rattle.cm_hardware.specs.Shown.{HasLinesFor, Shows}
 use Rattle.cm_hardware.specs.Wiring.{Wired}
 use Rattle.cm_hardware.specs.declared.lists.Lists.{Lists}
-use Rattle.ctl_places.specs.Placed.{Placed}
-use Rattle.ctl_slots.specs.Calls.Slots.{CanPark, HasParked}
-use Rattle.ctl_slots.specs.Slots.{Slotted, AreDataIn, IsRunOf}
+use Rattle.cm_places.specs.Placed.{Placed}
+use Rattle.cm_slots.specs.Calls.Slots.{CanPark, HasParked}
+use Rattle.cm_slots.specs.Slots.{Slotted, AreDataIn, IsRunOf}
 use Rattle.rt_flight.specs.Cells.{Seat}
 use Rattle.rt_flight.specs.Flights.{FlightFacts, AreSeatsAfter, ComesHome, member_in}
 use Rattle.rt_flight.specs.Stations.{Standing, IsFitted}

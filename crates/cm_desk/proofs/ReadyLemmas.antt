@@ -4,7 +4,7 @@ use Rattle.std.specs.Prelude.{Box, IsSomeAnd}
 use Rattle.std.specs.declared.alloc.Global.{Global}
 use Rattle.cm_document.specs.declared.description.Description.{Description}
 use Rattle.cm_model.specs.declared.member.Member.{Member}
-use Rattle.ctl_places.specs.Placed.{Placed}
+use Rattle.cm_places.specs.Placed.{Placed}
 use Rattle.rt_flight.specs.declared.craft.Craft.{Craft}
 use Rattle.rt_flight.specs.declared.plant.Plant.{Plant}
 use Rattle.cm_desk.specs.Bay.{IsHome, IsMadeReady}

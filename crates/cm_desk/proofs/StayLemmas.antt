@@ -5,7 +5,7 @@ use Rattle.std.specs.Prelude.{◌==◌, ◌&&◌, if◌then◌else◌, slice_get
 use Rattle.std.specs.List.{All, AllByRecursion}
 use Rattle.std.proofs.lemmas.List.{length-map}
 use Rattle.std.proofs.lemmas.List.Elements.{All-from_recursion, recursion_from_All}
-use Rattle.ctl_slots.proofs.UpdateLemmas.{step_kind}
+use Rattle.cm_slots.proofs.UpdateLemmas.{step_kind}
 use Rattle.sound_laws.proofs.UpdatedLemmas.{ctl_step_params}
 use Rattle.cm_document.specs.Params.{kind_of}
 use Rattle.cm_document.specs.declared.description.CtlKind.{CtlKind}

@@ -5,7 +5,7 @@ use Rattle.sequence.proofs.ListLemmas.{all_push}
 use Rattle.cm_model.specs.declared.member.Member.{Member}
 use Rattle.cm_storage.specs.declared.record_room.RecordRoom.{RecordRoom}
 use Rattle.cm_hardware.specs.Wiring.{Wired, Mounted, most_failures, all_joints, can_fail, one_if}
-use Rattle.ctl_places.specs.Placed.{Placed}
+use Rattle.cm_places.specs.Placed.{Placed}
 use Rattle.rt_flight.specs.Flights.{TellsNothing}
 use Rattle.rt_flight.specs.Stations.{Standing, IsFitted}
 use Rattle.cm_desk.specs.Supplies.{failing, joints, stands_for, HasRoom, IsBuiltAs, IsStandOf, AreKept, AreStandsOf, AreStations}

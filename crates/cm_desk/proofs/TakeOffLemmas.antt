@@ -22,14 +22,14 @@ use Rattle.cm_hardware.specs.Holding.{IsHardwareOf}
 use Rattle.cm_hardware.specs.Shown.{HasLinesFor}
 use Rattle.cm_hardware.specs.Wiring.{Wired, Mounted}
 use Rattle.cm_hardware.specs.declared.lists.Lists.{Lists}
-use Rattle.ctl_places.specs.Placed.{placed_of}
-use Rattle.ctl_slots.specs.Calls.Slots.{HasLent}
-use Rattle.ctl_slots.specs.Lives.{IsKept}
-use Rattle.ctl_slots.specs.Seats.{IsSeated}
-use Rattle.ctl_slots.specs.Slots.{Slotted, IsRunOf}
-use Rattle.ctl_slots.specs.Updates.{HasTime}
-use Rattle.ctl_slots.specs.Updates.{IsInTime as IsTimed}
-use Rattle.ctl_slots.proofs.FitLemmas.{can_run, fit_begun}
+use Rattle.cm_places.specs.Placed.{placed_of}
+use Rattle.cm_slots.specs.Calls.Slots.{HasLent}
+use Rattle.cm_slots.specs.Lives.{IsKept}
+use Rattle.cm_slots.specs.Seats.{IsSeated}
+use Rattle.cm_slots.specs.Slots.{Slotted, IsRunOf}
+use Rattle.cm_slots.specs.Updates.{HasTime}
+use Rattle.cm_slots.specs.Updates.{IsInTime as IsTimed}
+use Rattle.cm_slots.proofs.FitLemmas.{can_run, fit_begun}
 use Rattle.ctl_trait.specs.Taking.{CanTake}
 use Rattle.hw_component.proofs.MakingLemmas.{valid_period}
 use Rattle.rt_flight.specs.Cells.{Seat}

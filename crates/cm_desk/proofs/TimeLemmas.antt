@@ -9,7 +9,7 @@ use Rattle.cm_document.proofs.ReadingLemmas.{bind_Ok}
 use Rattle.cm_model.specs.Cycle.{period}
 use Rattle.std.proofs.lemmas.Nat.{mul-le}
 use Rattle.hw_component.proofs.MakingLemmas.{valid_period}
-use Rattle.ctl_slots.specs.Updates.{Aloft, IsTimely}
+use Rattle.cm_slots.specs.Updates.{Aloft, IsTimely}
 use Rattle.cm_document.proofs.ValidParts.{parts_of_valid}
 
 early_enough : (n p : ℕ) → n ≤ 100000 → p ≤ 1000000 → n * p < 2 ^ 64

@@ -20,8 +20,8 @@ use Rattle.cm_model.specs.State.{State, Loaded, is_active}
 use Rattle.cm_model.specs.declared.data.CtlData.{CtlData}
 use Rattle.cm_model.specs.declared.reply.Reply.TheVariants as reply
 use Rattle.cm_model.specs.declared.reply.Why.{Why}
-use Rattle.ctl_slots.proofs.LifeLemmas.{none_is}
-use Rattle.ctl_slots.specs.Slots.{Slotted}
+use Rattle.cm_slots.proofs.LifeLemmas.{none_is}
+use Rattle.cm_slots.specs.Slots.{Slotted}
 use Rattle.cm_desk.specs.Works.{IsAsDescribed, IsDivided, IsConfigured}
 use Rattle.cm_desk.proofs.ActiveLemmas.{IsSameOne}
 use Rattle.ctl_trait.specs.declared.fault.CfgFault.{CfgFault}

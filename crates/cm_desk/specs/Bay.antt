@@ -14,8 +14,8 @@ use Rattle.cm_model.specs.declared.member.Member.{Member}
 use Rattle.cm_hardware.specs.Holding.{IsHardwareOf}
 use Rattle.cm_hardware.specs.Shown.{HasLinesFor, Shows}
 use Rattle.cm_hardware.specs.declared.lists.Lists.{Lists}
-use Rattle.ctl_places.specs.Placed.{placed_of}
-use Rattle.ctl_slots.specs.Seats.{widest}
+use Rattle.cm_places.specs.Placed.{placed_of}
+use Rattle.cm_slots.specs.Seats.{widest}
 use Rattle.rt_flight.specs.Flights.{TellsNothing}
 use Rattle.rt_flight.specs.Stations.{Standing, IsFitted}
 use Rattle.rt_flight.specs.declared.craft.Craft.{Craft}

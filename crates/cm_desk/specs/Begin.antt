@@ -20,8 +20,8 @@ use Rattle.request_plan.specs.declared.acts.Act.{Act}
 use Rattle.request_plan.specs.declared.acts.Conclusion.{Conclusion}
 use Rattle.cm_hardware.specs.Holding.{IsHardwareOf}
 use Rattle.cm_hardware.specs.Shown.{Shows}
-use Rattle.ctl_slots.specs.Fit.{AreFit}
-use Rattle.ctl_slots.specs.Slots.{Slotted}
+use Rattle.cm_slots.specs.Fit.{AreFit}
+use Rattle.cm_slots.specs.Slots.{Slotted}
 use Rattle.rt_flight.specs.Cells.{Seat}
 use Rattle.rt_flight.specs.Flights.{FlightFacts, IsAloft}
 use Rattle.stop_plan.specs.Ending.{HasFlags}

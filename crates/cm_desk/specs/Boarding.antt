@@ -5,8 +5,8 @@ use Rattle.std.specs.Option.{option_map_or}
 use Rattle.cm_document.specs.declared.life.Life.TheVariants.{Active}
 use Rattle.cm_model.specs.State.{Loaded, MailAloft}
 use Rattle.cm_model.specs.declared.data.CtlData.{CtlData}
-use Rattle.ctl_slots.specs.Lives.{IsKept}
-use Rattle.ctl_slots.specs.Mails.{mail_in, without_mail}
+use Rattle.cm_slots.specs.Lives.{IsKept}
+use Rattle.cm_slots.specs.Mails.{mail_in, without_mail}
 use Rattle.rt_flight.specs.Cells.{Seat}
 use Rattle.rt_flight.specs.Stations.{Standing}
 

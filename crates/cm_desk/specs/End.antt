@@ -10,9 +10,9 @@ use Rattle.cm_model.specs.Steady.{IsSteady}
 use Rattle.cm_hardware.specs.Holding.{IsHardwareOf, IsMoved}
 use Rattle.cm_hardware.specs.Shown.{Shows}
 use Rattle.cm_hardware.specs.Wiring.{Wired}
-use Rattle.ctl_places.specs.Placed.{placed_of}
-use Rattle.ctl_slots.specs.Seats.{widest}
-use Rattle.ctl_slots.specs.Slots.{Slotted}
+use Rattle.cm_places.specs.Placed.{placed_of}
+use Rattle.cm_slots.specs.Seats.{widest}
+use Rattle.cm_slots.specs.Slots.{Slotted}
 use Rattle.rt_flight.specs.Flights.{FlightFacts, IsComputed}
 use Rattle.rt_flight.specs.Stations.{IsFitted}
 use Rattle.rt_flight.specs.declared.craft.Craft.{Craft}

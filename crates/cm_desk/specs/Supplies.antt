@@ -11,7 +11,7 @@ use Rattle.cm_model.specs.declared.member.Member.{Member}
 use Rattle.cm_storage.specs.declared.record_room.RecordRoom.{RecordRoom}
 use Rattle.cm_hardware.specs.Wiring.{Wired, one_if, can_fail}
 use Rattle.chain_order.specs.Links.{linked}
-use Rattle.ctl_places.specs.Placed.{Placed, placed_of}
+use Rattle.cm_places.specs.Placed.{Placed, placed_of}
 use Rattle.rt_flight.specs.Flights.{TellsNothing}
 use Rattle.rt_flight.specs.Stations.{Standing, IsFitted}
 use Rattle.rt_flight.specs.declared.craft.Craft.{Craft}

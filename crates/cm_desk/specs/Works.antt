@@ -21,15 +21,15 @@ use Rattle.cm_model.specs.declared.reply.Why.TheVariants as why
 use Rattle.cm_hardware.specs.Wiring.{Wired}
 use Rattle.cm_hardware.specs.Holding.{IsHardwareOf, IsMoved}
 use Rattle.cm_hardware.specs.Listed.{with_hardware}
-use Rattle.ctl_places.specs.Placed.{Placed, placed_of}
+use Rattle.cm_places.specs.Placed.{Placed, placed_of}
 use Rattle.cm_model.specs.Blanks.{total}
-use Rattle.ctl_slots.specs.Commits.{TellCommit}
-use Rattle.ctl_slots.specs.Seats.{widest}
+use Rattle.cm_slots.specs.Commits.{TellCommit}
+use Rattle.cm_slots.specs.Seats.{widest}
 use Rattle.switch_plan.specs.Relations.{relations_of}
 pub use Rattle.request_plan.specs.Requests.{IsAnswered}
 use Rattle.request_plan.specs.Requests.{Asked}
-use Rattle.ctl_slots.specs.Fit.{AreFit}
-use Rattle.ctl_slots.specs.Slots.{Slotted}
+use Rattle.cm_slots.specs.Fit.{AreFit}
+use Rattle.cm_slots.specs.Slots.{Slotted}
 use Rattle.request_plan.specs.declared.acts.Switched.{Switched}
 use Rattle.rt_flight.specs.declared.plant.Plant.{Plant}
 use Rattle.cm_desk.specs.Bay.{Base, IsAtHome, IsBased, stand_ins_for}

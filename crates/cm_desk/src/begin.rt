@@ -19,7 +19,7 @@ use crate::supplies::empty;
 use crate::works::{Works, described_at};
 use cm_document::{Checked, CtlDesc, Life};
 use cm_model::{Decision, Seen};
-use ctl_slots::{Slot, Slots};
+use cm_slots::{Slot, Slots};
 use ctl_trait::Controller;
 use fixed_num::Memory;
 use iface_names::Name;

@@ -2,12 +2,12 @@
 
 ghost use Rattle.std.specs.Prelude.{◌≡◌, ◌<◌, [], map, length, reverse, vec_capacity};
 ghost use Rattle.cm_document.specs.declared.life.Life.TheVariants.{Active};
-ghost use Rattle.ctl_slots.specs.Lives.{IsKept};
-ghost use Rattle.ctl_slots.specs.Mails.{mail_in, without_mail};
+ghost use Rattle.cm_slots.specs.Lives.{IsKept};
+ghost use Rattle.cm_slots.specs.Mails.{mail_in, without_mail};
 ghost use Rattle.cm_desk.specs.Boarding.{boarded, seat_of, AreGone, CanBoard, CanLeave, HaveLeft};
 
 use crate::supplies::empty;
-use ctl_slots::{MailAloft, Slot, take_mail};
+use cm_slots::{MailAloft, Slot, take_mail};
 use ctl_trait::Controller;
 use rt_flight::{Cell, Station};
 

@@ -8,8 +8,8 @@ ghost use Rattle.cm_desk.specs.Works.{CanCommit, HasCommitted, KeepsRest};
 use crate::roster::Roster;
 use chain_order::PlaceSet;
 use cm_hardware::ResourceManager;
-use ctl_places::CtlPlaces;
-use ctl_slots::{Room, Slots};
+use cm_places::CtlPlaces;
+use cm_slots::{Room, Slots};
 use ctl_trait::Controller;
 
 /// A set of controllers becomes active: those that are stopped are deactivated, and those that are started activated, as these flags say; the

@@ -12,7 +12,7 @@ use crate::works::{Works, described_at};
 use chain_order::divisor;
 use cm_document::{Checked, CtlDesc, Mail};
 use cm_model::{Reply, Why};
-use ctl_slots::Slot;
+use cm_slots::Slot;
 use ctl_trait::{CfgFault, Controller, takes, takes_none};
 use fixed_num::Memory;
 use iface_names::Name;
@@ -52,7 +52,7 @@ impl<C: Controller> Works<C> {
     }
 
     /// The controller gives up its parameters. It takes no memory.
-    #[tactic(auto, using(ctl_slots::proofs::LifeLemmas::idle_where_inactive))]
+    #[tactic(auto, using(cm_slots::proofs::LifeLemmas::idle_where_inactive))]
     pub fn cleanup(&mut self, name: &Name) -> Reply
         ensures { IsAnswered (cleanup_reply self.old name.now) (cleanup_effect self.old name.now) self.new result }
     {

@@ -11,8 +11,8 @@ use crate::boarding::disembark;
 use crate::commits::commit;
 use crate::roster::Roster;
 use crate::works::Works;
+use cm_slots::{Room, Slots};
 use cm_storage::CycleRecord;
-use ctl_slots::{Room, Slots};
 use ctl_trait::Controller;
 use rt_flight::{Cell, Craft, Flight, Landing};
 

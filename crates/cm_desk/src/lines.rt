@@ -10,7 +10,7 @@ use crate::works::Works;
 use chain_order::{Links, precedes};
 use cm_document::CtlDesc;
 use cm_model::CtlLine;
-use ctl_slots::Slot;
+use cm_slots::Slot;
 use ctl_trait::Controller;
 use fixed_num::Memory;
 use sequence::Seq;

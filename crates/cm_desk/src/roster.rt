@@ -6,7 +6,7 @@ ghost use Rattle.cm_desk.specs.Calls.Rosters.{IsPut, IsIndexedAnew};
 ghost use Rattle.cm_desk.specs.Roster.{TellsActive, AreAt, serials_of, is_listed, noted};
 
 use cm_model::Member;
-use ctl_slots::Slot;
+use cm_slots::Slot;
 use ctl_trait::Controller;
 use fixed_num::Memory;
 use std::alloc::Global;

@@ -1,7 +1,7 @@
 //! The memory that a cycle takes when it goes aloft.
 
 ghost use Rattle.std.specs.Prelude.{◌≡◌, ◌+◌, ◌≤◌, ◌<◌, [], true, length, sum_by, vec_capacity, IfOk, OnOk, IfSome, IsSomeAnd, All};
-ghost use Rattle.ctl_places.specs.Placed.{placed_of};
+ghost use Rattle.cm_places.specs.Placed.{placed_of};
 ghost use Rattle.rt_flight.specs.Flights.{TellsNothing};
 ghost use Rattle.rt_flight.specs.Stations.{HasRows};
 ghost use Rattle.cm_desk.specs.Supplies.{AreKept, AreStandsOf, AreStations, AreSupplies, CanSupply, CanSupplyFrom, HasRoom, HaveSupplies, IsRefitted, IsRun, IsSilent, IsSizeOf, IsStandOf, outs_at, numbers_at};
@@ -10,9 +10,9 @@ use crate::bay::Spare;
 use crate::works::described_at;
 use cm_document::Checked;
 use cm_model::Member;
+use cm_places::CtlPlaces;
+use cm_slots::MailAloft;
 use cm_storage::{CycleParts, RecordRoom, RecordSize};
-use ctl_places::CtlPlaces;
-use ctl_slots::MailAloft;
 use ctl_trait::publishes;
 use fixed_num::Memory;
 use rt_flight::{Craft, Station};

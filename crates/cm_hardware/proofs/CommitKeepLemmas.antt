@@ -5,7 +5,7 @@ use Rattle.std.specs.List.{AllByRecursion}
 use Rattle.std.proofs.lemmas.Bool.{and_parts}
 use Rattle.std.proofs.lemmas.List.{length-set}
 use Rattle.cm_model.specs.Components.{mode_fault}
-use Rattle.ctl_places.specs.Placed.{Placed}
+use Rattle.cm_places.specs.Placed.{Placed}
 use Rattle.hw_component.specs.Hardware.{with_claims}
 use Rattle.loan_board.specs.Loans.{IsSound, loan_at, with_loan, lent}
 use Rattle.loan_board.specs.declared.board.Loan.{Loan}

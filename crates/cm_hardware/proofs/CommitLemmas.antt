@@ -33,7 +33,7 @@ use Rattle.cm_model.specs.Switches.{is_stopped}
 use Rattle.cm_model.specs.Values.{InterfaceValue, unset}
 use Rattle.cm_model.proofs.InterfaceLemmas.{all_map_back}
 use Rattle.chain_order.specs.Links.{places_below}
-use Rattle.ctl_places.specs.Placed.{Placed, claimers_of, exporter_of, placed_of}
+use Rattle.cm_places.specs.Placed.{Placed, claimers_of, exporter_of, placed_of}
 use Rattle.loan_board.specs.Loans.{with_loan}
 use Rattle.loan_board.specs.declared.board.Loan.{Loan}
 use Rattle.cm_hardware.specs.Committed.{IsCommit, Commits, serial_at, serial_in, is_there, owner_in, is_freed_by, relent_by, relent, all_relent, each_changed, claims_on, all_performed, with_loans, with_joints}

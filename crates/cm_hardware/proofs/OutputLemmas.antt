@@ -8,8 +8,8 @@ use Rattle.cm_model.specs.Values.{InterfaceValue}
 use Rattle.loan_board.specs.Loans.{idle, loan_at, with_loan, set}
 use Rattle.loan_board.specs.declared.board.Loan.{Loan}
 use Rattle.cm_hardware.specs.Holding.{IsEmptyUnlessAvailable, IsHardwareOf, IsInCycle, holder, IsMoved}
-use Rattle.ctl_places.proofs.OutputLemmas.{with_value-interfaces, with_value-map}
-use Rattle.ctl_places.specs.Placed.{value_at, with_value, with_outputs}
+use Rattle.cm_places.proofs.OutputLemmas.{with_value-interfaces, with_value-map}
+use Rattle.cm_places.specs.Placed.{value_at, with_value, with_outputs}
 use Rattle.cm_hardware.specs.Outputs.{given_out, is_there_at}
 use Rattle.cm_hardware.specs.Wiring.{Wired, loan_of}
 use Rattle.cm_hardware.proofs.HeldLemmas.{claimed_alike}

@@ -39,7 +39,7 @@ use Rattle.cm_model.specs.State.{State, Loaded, is_active, active, claims_name, 
 use Rattle.cm_model.specs.Values.{InterfaceValue, running}
 use Rattle.cm_model.proofs.LoadedLemmas.{any_same}
 use Rattle.cm_model.proofs.InterfaceLemmas.{all_map_back}
-use Rattle.ctl_places.specs.Placed.{command_place}
+use Rattle.cm_places.specs.Placed.{command_place}
 use Rattle.cm_hardware.specs.Outputs.{is_there_at}
 use Rattle.cm_hardware.proofs.HeldLemmas.{components_so}
 use Rattle.cm_document.proofs.ValidParts.{parts_of_valid}

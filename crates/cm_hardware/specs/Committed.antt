@@ -15,7 +15,7 @@ use Rattle.cm_model.specs.State.{State, is_active}
 use Rattle.cm_model.specs.Steady.{AreLoaded, AreConfigured, IsInOrder}
 use Rattle.cm_model.specs.Switches.{is_stopped}
 use Rattle.chain_order.specs.Links.{linked}
-use Rattle.ctl_places.specs.Placed.{Placed, placed_of}
+use Rattle.cm_places.specs.Placed.{Placed, placed_of}
 use Rattle.hw_component.specs.Hardware.{with_claims}
 use Rattle.loan_board.specs.Loans.{with_loan, lent}
 use Rattle.loan_board.specs.declared.board.Loan.{Loan}

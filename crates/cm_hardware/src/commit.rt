@@ -13,7 +13,7 @@ ghost use Rattle.cm_hardware.specs.Wiring.{all_commands, commands_count, IsSameB
 use crate::hardware::Unit;
 use crate::manager::ResourceManager;
 use chain_order::PlaceSet;
-use ctl_places::CtlPlaces;
+use cm_places::CtlPlaces;
 use loan_board::{Board, Loan};
 
 impl ResourceManager {

@@ -13,7 +13,7 @@ ghost use Rattle.cm_model.specs.State.{State, active, available, owner};
 ghost use Rattle.cm_model.specs.Values.{InterfaceValue};
 ghost use Rattle.loan_board.specs.Loans.{loan_at, with_loan, set};
 ghost use Rattle.cm_hardware.specs.Wiring.{Wired};
-ghost use Rattle.ctl_places.specs.Placed.{command_place, value_at, with_value};
+ghost use Rattle.cm_places.specs.Placed.{command_place, value_at, with_value};
 ghost use Rattle.cm_hardware.specs.Holding.{IsHardwareOf, IsInCycle, IsMoved, reads_failed_in, runners};
 ghost use Rattle.cm_hardware.specs.Outputs.{is_there_at};
 

@@ -7,7 +7,7 @@ use Rattle.cm_model.specs.Sound.{Configuration, configuration}
 use Rattle.cm_model.specs.State.{State, Loaded, is_active}
 use Rattle.cm_hardware.specs.Holding.{Runner, runner_of, runners}
 use Rattle.cm_hardware.proofs.SameLemmas.{running_hardware}
-use Rattle.ctl_places.specs.Placed.{placed_of}
+use Rattle.cm_places.specs.Placed.{placed_of}
 use Rattle.sound_laws.proofs.CoreLemmas.{core_configuration}
 use Rattle.sound_laws.specs.Core.{bare, core}
 use Rattle.switch_plan.specs.Relations.{relations_of}

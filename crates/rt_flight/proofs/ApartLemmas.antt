@@ -17,10 +17,10 @@ use Rattle.chain_order.specs.Links.{linked, leaders_of}
 use Rattle.chain_order.proofs.DepthLemmas.{precedes_at-first, precedes_at-second}
 use Rattle.chain_order.proofs.LinkLemmas.{linked-rows_of}
 use Rattle.chain_order.proofs.PlaceLemmas.{any-places_below}
-use Rattle.ctl_places.specs.Placed.{placed_of, state_place, command_place}
-use Rattle.ctl_places.proofs.ExistLemmas.{among_itself}
-use Rattle.ctl_places.proofs.FirstLemmas.{found_at, found_all}
-use Rattle.ctl_places.proofs.PlacedLemmas.{reads_row, references_row, claims_row, called_as}
+use Rattle.cm_places.specs.Placed.{placed_of, state_place, command_place}
+use Rattle.cm_places.proofs.ExistLemmas.{among_itself}
+use Rattle.cm_places.proofs.FirstLemmas.{found_at, found_all}
+use Rattle.cm_places.proofs.PlacedLemmas.{reads_row, references_row, claims_row, called_as}
 use Rattle.switch_plan.specs.Relations.{relations_of}
 use Rattle.switch_plan.proofs.ClearLemmas.{any_found}
 use Rattle.switch_plan.proofs.TestLemmas.{some_below-from}

@@ -22,11 +22,11 @@ use Rattle.fixed_num.specs.declared.value.Value.{Value}
 use Rattle.cm_hardware.specs.Holding.{IsInCycle}
 use Rattle.loan_board.specs.declared.board.Loan.{Loan}
 use Rattle.chain_order.specs.Links.{linked}
-use Rattle.ctl_slots.specs.Cycles.{IsAloftOf}
-use Rattle.ctl_slots.specs.Seats.{numbers_at, held_at}
-use Rattle.ctl_slots.specs.Slots.{data_under}
-use Rattle.ctl_slots.specs.Updates.{Aloft, step_in, put_on, board_after, with_erred}
-use Rattle.ctl_slots.proofs.UpdateStateLemmas.{held_off, step_is_of, given_by_is, with_last_error, claims_there}
+use Rattle.cm_slots.specs.Cycles.{IsAloftOf}
+use Rattle.cm_slots.specs.Seats.{numbers_at, held_at}
+use Rattle.cm_slots.specs.Slots.{data_under}
+use Rattle.cm_slots.specs.Updates.{Aloft, step_in, put_on, board_after, with_erred}
+use Rattle.cm_slots.proofs.UpdateStateLemmas.{held_off, step_is_of, given_by_is, with_last_error, claims_there}
 use Rattle.switch_plan.proofs.ElementLemmas.{first_or_later, none_inside}
 use Rattle.rt_flight.specs.Stations.{flies, is_held_at, tick_at}
 use Rattle.rt_flight.specs.Cells.{Seat, Flying, seat_gathered, seat_stepped, step_of, with_step, all_flown, seats_after}

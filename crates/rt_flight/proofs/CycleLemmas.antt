@@ -28,9 +28,9 @@ use Rattle.stop_plan.specs.declared.ending.Ending.{Ending}
 use Rattle.stop_plan.proofs.QuietLemmas.{none_stop}
 use Rattle.switch_plan.specs.Relations.{Related, relations_of}
 use Rattle.switch_plan.proofs.ElementLemmas.{any_from}
-use Rattle.ctl_slots.specs.Cycles.{IsAloftOf}
-use Rattle.ctl_slots.specs.Updates.{Aloft}
-use Rattle.ctl_places.specs.Placed.{Placed}
+use Rattle.cm_slots.specs.Cycles.{IsAloftOf}
+use Rattle.cm_slots.specs.Updates.{Aloft}
+use Rattle.cm_places.specs.Placed.{Placed}
 use Rattle.rt_flight.specs.Stations.{flies, IsFitted}
 use Rattle.rt_flight.specs.Cells.{Seat, Flying, seat_gathered, step_of, with_step, flying_after, all_flown, seats_after, CanFly}
 use Rattle.rt_flight.specs.Flights.{FlightFacts, AreSeatsOf, IsAloftOver, IsAloft, IsComputed, AreSeatsAfter, member_in, HasMade, TellsNothing, IsEquipped}

@@ -12,7 +12,7 @@ use Rattle.cm_storage.specs.declared.ran.Done.TheVariants as done
 use Rattle.cm_storage.specs.declared.record.FailedPart.{FailedPart}
 use Rattle.loan_board.specs.Loans.{idle, set}
 use Rattle.loan_board.specs.declared.board.Loan.{Loan}
-use Rattle.ctl_slots.specs.Updates.{Aloft}
+use Rattle.cm_slots.specs.Updates.{Aloft}
 use Rattle.rt_flight.specs.Stations.{Standing}
 use Rattle.rt_flight.specs.Cells.{Seat, Flying, flying, all_flown, seats_after, seat_read, seat_run, all_put, precedes_in}
 

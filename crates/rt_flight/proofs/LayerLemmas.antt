@@ -15,11 +15,11 @@ use Rattle.cm_storage.specs.declared.ran.Done.TheVariants as done
 use Rattle.loan_board.specs.Loans.{idle, set, loan_at, with_loan}
 use Rattle.loan_board.specs.declared.board.Loan.{Loan}
 use Rattle.chain_order.specs.Links.{linked}
-use Rattle.ctl_places.specs.Placed.{Placed}
-use Rattle.ctl_slots.specs.Lives.{published_by}
-use Rattle.ctl_slots.specs.Seats.{numbers_at, held_at}
-use Rattle.ctl_slots.specs.Updates.{Aloft, put_on, board_after, IsTimely}
-use Rattle.ctl_slots.proofs.StepLemmas.{step_is, kind_stepped, kind_once_taken, published_is, erred_gives_none}
+use Rattle.cm_places.specs.Placed.{Placed}
+use Rattle.cm_slots.specs.Lives.{published_by}
+use Rattle.cm_slots.specs.Seats.{numbers_at, held_at}
+use Rattle.cm_slots.specs.Updates.{Aloft, put_on, board_after, IsTimely}
+use Rattle.cm_slots.proofs.StepLemmas.{step_is, kind_stepped, kind_once_taken, published_is, erred_gives_none}
 use Rattle.switch_plan.specs.Relations.{Related}
 use Rattle.rt_flight.specs.Stations.{Standing, gathered, flies, tick_at}
 use Rattle.rt_flight.specs.Cells.{Seat, Flying, seat_gathered, seat_stepped, seat_after, step_of, with_step, flying_after, all_flown, seats_after, seat_read, seat_run, seat_put, put_with, flying_put, all_put, precedes_in, NonePrecedes, AreApart, TellsApart, CanStep}

@@ -8,9 +8,9 @@ use Rattle.cm_model.specs.Controllers.{AreItsCounts}
 use Rattle.cm_model.specs.declared.member.Member.{Member}
 use Rattle.loan_board.specs.declared.board.Loan.{Loan}
 use Rattle.chain_order.specs.Links.{linked}
-use Rattle.ctl_places.specs.Placed.{Placed}
+use Rattle.cm_places.specs.Placed.{Placed}
 use Rattle.cm_model.specs.Kinds.{publishes}
-use Rattle.ctl_slots.specs.Updates.{Aloft}
+use Rattle.cm_slots.specs.Updates.{Aloft}
 use Rattle.sequence.proofs.ListLemmas.{map_twice, head_same, tail_same}
 use Rattle.switch_plan.specs.Relations.{Related}
 use Rattle.rt_flight.specs.Stations.{gathered, flies, HasRows, IsFitted, IsSeatedOn}

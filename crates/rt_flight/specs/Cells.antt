@@ -14,10 +14,10 @@ use Rattle.cm_storage.specs.declared.ran.Done.TheVariants as done
 use Rattle.cm_hardware.specs.Wiring.{Wired}
 use Rattle.loan_board.specs.declared.board.Loan.{Loan}
 use Rattle.chain_order.specs.Links.{linked}
-use Rattle.ctl_places.specs.Placed.{Placed}
+use Rattle.cm_places.specs.Placed.{Placed}
 use Rattle.cm_model.specs.Kinds.{publishes}
-use Rattle.ctl_slots.specs.Lives.{IsKept}
-use Rattle.ctl_slots.specs.Updates.{Aloft, put_on, board_after, with_erred}
+use Rattle.cm_slots.specs.Lives.{IsKept}
+use Rattle.cm_slots.specs.Updates.{Aloft, put_on, board_after, with_erred}
 use Rattle.ctl_trait.specs.Taking.{CanTake}
 use Rattle.switch_plan.specs.Relations.{Related}
 use Rattle.rt_flight.specs.Stations.{Standing, gathered, flies, tick_at, step_from, told_of, IsSeatedOn, IsInTime}

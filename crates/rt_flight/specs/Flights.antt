@@ -15,10 +15,10 @@ use Rattle.cm_hardware.specs.Holding.{IsHardwareOf, IsMoved}
 use Rattle.cm_hardware.specs.Shown.{HasLinesFor, Shows}
 use Rattle.cm_hardware.specs.Wiring.{most_failures, all_joints}
 use Rattle.cm_hardware.specs.declared.lists.Lists.{Lists}
-use Rattle.ctl_places.specs.Placed.{placed_of}
-use Rattle.ctl_slots.specs.Mails.{mail_in}
-use Rattle.ctl_slots.specs.Slots.{data_under}
-use Rattle.ctl_slots.specs.Updates.{Aloft, IsTimely}
+use Rattle.cm_places.specs.Placed.{placed_of}
+use Rattle.cm_slots.specs.Mails.{mail_in}
+use Rattle.cm_slots.specs.Slots.{data_under}
+use Rattle.cm_slots.specs.Updates.{Aloft, IsTimely}
 use Rattle.sound_laws.specs.Core.{core}
 use Rattle.stop_plan.specs.Ending.{IsEndingOf, HasFlags, told_in, erred_in}
 use Rattle.stop_plan.specs.declared.ending.Ending.{Ending}

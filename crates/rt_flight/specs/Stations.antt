@@ -14,9 +14,9 @@ use Rattle.cm_model.specs.declared.tick.TheConstants.{LONGEST_PERIOD}
 use Rattle.cm_model.specs.declared.tick.Tick.{Tick}
 use Rattle.loan_board.specs.declared.board.Loan.{Loan}
 use Rattle.chain_order.specs.Links.{linked}
-use Rattle.ctl_places.specs.Placed.{Placed}
-use Rattle.ctl_slots.specs.Seats.{numbers_at, held_at}
-use Rattle.ctl_slots.specs.Updates.{Aloft}
+use Rattle.cm_places.specs.Placed.{Placed}
+use Rattle.cm_slots.specs.Seats.{numbers_at, held_at}
+use Rattle.cm_slots.specs.Updates.{Aloft}
 
 -- A controller by the number of its load and its place in the description; in how many cycles it is updated once; and
 -- what was last read for it, of states and of references, and what it last gave out.

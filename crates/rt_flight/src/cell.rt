@@ -3,8 +3,8 @@
 ghost use Rattle.std.specs.Prelude.{◌≡◌, [], ◌∷◌, ◌++◌, ◌+◌, ◌<◌, ◌≤◌, ◌==◌, length, vec_len, vec_capacity, None, Some};
 ghost use Rattle.std.specs.List.{list_any};
 ghost use Rattle.cm_document.specs.declared.life.Life.TheVariants.{Active};
-ghost use Rattle.ctl_slots.specs.Lives.{IsKept};
-ghost use Rattle.ctl_slots.specs.Updates.{IsTimely};
+ghost use Rattle.cm_slots.specs.Lives.{IsKept};
+ghost use Rattle.cm_slots.specs.Updates.{IsTimely};
 ghost use Rattle.rt_flight.specs.Cells.{flying, flying_put, seat_read, seat_run, seat_put, seat_stepped, step_of, post_of, numbers_of, precedes_in, CanFly, CanStep};
 ghost use Rattle.rt_flight.specs.Calls.Cells.{CanPut, LeavesPut};
 
@@ -13,8 +13,8 @@ use crate::running::Running;
 use crate::station::Station;
 use cm_document::Mail;
 use cm_hardware::ResourceManager;
+use cm_places::CtlPlaces;
 use cm_storage::{Done, RanRoom};
-use ctl_places::CtlPlaces;
 use ctl_trait::Controller;
 use std::marker::Model;
 use switch_plan::Relations;

@@ -2,15 +2,15 @@
 
 ghost use Rattle.std.specs.Prelude.{◌≡◌, ◌<◌, ◌≤◌, length, map, take, vec_len, vec_capacity};
 ghost use Rattle.std.specs.List.{AllByRecursion};
-ghost use Rattle.ctl_slots.specs.Updates.{IsTimely};
+ghost use Rattle.cm_slots.specs.Updates.{IsTimely};
 ghost use Rattle.rt_flight.specs.Cells.{flying, seat_read, seat_run, seat_put, all_put, all_outs, all_numbers, post_of, CanFly, CanStep, NonePrecedes, TellsApart};
 ghost use Rattle.rt_flight.specs.Calls.Cells.{CanTurn, CanPutAll, LeavesPut, HaveTurned};
 
 use crate::cell::Cell;
 use crate::round::Round;
 use cm_hardware::ResourceManager;
+use cm_places::CtlPlaces;
 use cm_storage::RanRoom;
-use ctl_places::CtlPlaces;
 use ctl_trait::Controller;
 use switch_plan::Relations;
 

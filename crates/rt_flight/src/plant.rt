@@ -1,7 +1,7 @@
 //! What a cycle works on besides the controllers.
 
 use cm_hardware::ResourceManager;
-use ctl_places::CtlPlaces;
+use cm_places::CtlPlaces;
 use switch_plan::Relations;
 
 /// The hardware, and what is worked out of the description: where the controllers stand to the board and to each other, and the time from

@@ -3,14 +3,14 @@
 ghost use Rattle.std.specs.Prelude.{◌≡◌, ◌<◌, ◌≤◌, ◌==◌, length};
 ghost use Rattle.std.specs.List.{list_any};
 ghost use Rattle.cm_model.specs.declared.tick.TheConstants.{LONGEST_PERIOD};
-ghost use Rattle.ctl_slots.specs.Updates.{IsTimely};
+ghost use Rattle.cm_slots.specs.Updates.{IsTimely};
 ghost use Rattle.rt_flight.specs.Stations.{tick_at, is_held_at, flies, IsInTime};
 
 use crate::station::Station;
 use chain_order::due;
 use cm_model::Tick;
+use cm_places::CtlPlaces;
 use cm_storage::FailedPart;
-use ctl_places::CtlPlaces;
 use std::marker::Model;
 use switch_plan::Relations;
 
@@ -30,7 +30,7 @@ pub(crate) struct Round<'a> {
 }
 
 impl<'a> Model for Round<'a> {
-    ghost use Rattle.ctl_slots.specs.Updates.{Aloft};
+    ghost use Rattle.cm_slots.specs.Updates.{Aloft};
 
     ghost Value = { Aloft };
 

@@ -4,7 +4,7 @@ ghost use Rattle.std.specs.Prelude.{◌≡◌, length, IfSome};
 ghost use Rattle.cm_document.specs.declared.life.Life.TheVariants.{Active};
 ghost use Rattle.cm_model.specs.Controllers.{ctl_step};
 ghost use Rattle.cm_model.specs.Kinds.{publishes};
-ghost use Rattle.ctl_slots.specs.Lives.{once_taken, CanBeStepped, IsKept};
+ghost use Rattle.cm_slots.specs.Lives.{once_taken, CanBeStepped, IsKept};
 ghost use Rattle.ctl_trait.specs.Taking.{CanTake};
 ghost use Rattle.rt_flight.specs.Calls.Stations.{TakesStep};
 
@@ -24,7 +24,7 @@ pub(crate) struct Running<C: Controller> {
 impl<C: Controller> Model for Running<C> {
     ghost use Rattle.cm_document.specs.declared.life.Life.TheVariants.{Active};
     ghost use Rattle.cm_model.specs.declared.data.CtlData.{CtlData};
-    ghost use Rattle.ctl_slots.specs.Lives.{IsKept};
+    ghost use Rattle.cm_slots.specs.Lives.{IsKept};
 
     ghost Value = { CtlData };
 
@@ -59,7 +59,7 @@ impl<C: Controller> Running<C> {
 
     /// It takes its mail, where there is some, and then computes, from the states that it reads and from its references, a value for each of
     /// its claims. After an error these are as they were. It takes no memory.
-    #[tactic(auto, using(ctl_slots::proofs::StepLemmas::can_be_updated_once_taken, ctl_slots::proofs::StepLemmas::step_is, ctl_slots::proofs::StepLemmas::kept_once_stepped, ctl_slots::proofs::StepLemmas::published_is, ctl_slots::proofs::StepLemmas::erred_gives_none))]
+    #[tactic(auto, using(cm_slots::proofs::StepLemmas::can_be_updated_once_taken, cm_slots::proofs::StepLemmas::step_is, cm_slots::proofs::StepLemmas::kept_once_stepped, cm_slots::proofs::StepLemmas::published_is, cm_slots::proofs::StepLemmas::erred_gives_none))]
     pub(crate) fn update(
         &mut self,
         tick: Tick,

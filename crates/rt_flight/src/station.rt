@@ -3,9 +3,9 @@
 ghost use Rattle.std.specs.Prelude.{◌≡◌, [], ◌∷◌, ◌++◌, ◌<◌, if◌then◌else◌, length, IfOk, All};
 ghost use Rattle.cm_model.specs.Claims.{number_in};
 ghost use Rattle.chain_order.specs.Links.{linked};
-ghost use Rattle.ctl_slots.specs.Lives.{CanBeStepped};
-ghost use Rattle.ctl_slots.specs.Seats.{numbers_at, held_at};
-ghost use Rattle.ctl_slots.specs.Updates.{put_on};
+ghost use Rattle.cm_slots.specs.Lives.{CanBeStepped};
+ghost use Rattle.cm_slots.specs.Seats.{numbers_at, held_at};
+ghost use Rattle.cm_slots.specs.Updates.{put_on};
 ghost use Rattle.rt_flight.specs.Stations.{gathered, step_from, told_of, HasRows, IsSeatedOn};
 ghost use Rattle.rt_flight.specs.Calls.Stations.{IsMadeFor, TakesStep, CanTellOf, LeavesRoom};
 
@@ -13,8 +13,8 @@ use crate::running::Running;
 use cm_document::Mail;
 use cm_hardware::ResourceManager;
 use cm_model::{Member, Tick};
+use cm_places::CtlPlaces;
 use cm_storage::{Done, RanRoom};
-use ctl_places::CtlPlaces;
 use ctl_trait::Controller;
 use fixed_num::{Fx, Memory, Value};
 use std::alloc::Global;

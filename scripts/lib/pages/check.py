@@ -63,7 +63,7 @@ def homes_shared(repository):
         if not found:
             continue
         yield from (f"{name}: passes on a name of {it}" for it in PASSED_ON.findall(text) if it in crates())
-        if not re.search(r"_rows$|^rows_", found[1]):
+        if not re.search(r"^rows_", found[1]):
             for word in PUBLIC.findall(text):
                 homes.setdefault(word, set()).add(found[1])
     yield from (f"`{word}` is public in {' and '.join(sorted(it))}" for word, it in sorted(homes.items()) if len(it) > 1)

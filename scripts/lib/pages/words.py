@@ -54,7 +54,7 @@ def families():
     yield Family("Replies that refuse a call", "Why", printed_by("Trace", "why_word"), r"(?:=>|:) WORD(?:$|[;,\"\\])")
     yield Family("What becomes of a request", "Outcome", printed_by("Causes", "outcome_text"), r"(?:=>|:|; \d+|: \d+) WORD\b")
     cause = r"(?:(?:refused|dropped) |, )\w+ WORD\b"
-    yield Family("Why a request is refused, or a name dropped", "Cause", printed_by("Causes", "cause_text"), cause, "switch_rows")
+    yield Family("Why a request is refused, or a name dropped", "Cause", printed_by("Causes", "cause_text"), cause, "rows_switch")
     yield Family("Items of cycles and lists", "", ITEMS, r"(?:=>|:|;) (?:[a-z_0-9/]+ )*WORD\b")
     fault = r"(?:=> |: |^|\")WORD"
     for kind, heading, line, page in (
@@ -62,7 +62,7 @@ def families():
         ("CheckFault", "Faults of a description that was read", rf"{fault} [a-z]", "FORMATS"),
         ("ScriptFault", "Faults of a script", rf"{fault} \d", "SCRIPT"),
     ):
-        yield Family(heading, kind, printed_of_errors(kind), line, "text_rows", "cm_document", page)
+        yield Family(heading, kind, printed_of_errors(kind), line, "rows_text", "cm_document", page)
 
 
 def sections(page):
@@ -92,7 +92,7 @@ class Words:
         self.before = {heading: dict(said.findall(rows)) for heading, rows in sections("WORDS").items()}
         self.definitions = {crate: Definitions(crate) for crate in ("cm_model", "cm_document")}
         self.sections = {page: sections(page) for page in ("RULES", "FORMATS", "SCRIPT")}
-        self.pages = {str(it.relative_to(TOP)): it.read_text() for it in sorted(TOP.glob("crates/*_rows/src/**/*.rt"))}
+        self.pages = {str(it.relative_to(TOP)): it.read_text() for it in sorted(TOP.glob("crates/rows_*/src/**/*.rt"))}
         self.examples = {it.name.removesuffix(".stdout"): it.read_text() for it in sorted(TOP.glob("examples/*.stdout"))}
         self.faults = []
 

@@ -34,11 +34,11 @@ MADE, SUMMARY = ["run", "--make", "3"], TOP / "examples/made.cm.stdout"
 WELL, WANT = (0, b""), (7, b"cm: out of memory\n")
 # The tests to which memory is refused, by their full names, each with its crate.
 TESTS = (
-    ("program_rows", "memory::memory_is_wanted_only_where_it_was_refused"),
-    ("desk_rows", "refused::a_call_that_was_refused_memory_is_made_again"),
-    ("desk_rows", "desks::a_desk_answers_several_sessions"),
-    ("share_rows", "passes::sessions_are_answered_while_a_flight_is_out"),
-    ("share_rows", "passes::each_call_is_answered_at_each_lifecycle_state"),
+    ("rows_program", "memory::memory_is_wanted_only_where_it_was_refused"),
+    ("rows_desk", "refused::a_call_that_was_refused_memory_is_made_again"),
+    ("rows_desk", "desks::a_desk_answers_several_sessions"),
+    ("rows_share", "passes::sessions_are_answered_while_a_flight_is_out"),
+    ("rows_share", "passes::each_call_is_answered_at_each_lifecycle_state"),
 )
 FAILED = 101  # the status of a test
 # What a test says that has no memory for itself.

@@ -1,7 +1,7 @@
 -- What calls that change a board ask.
 use Rattle.std.specs.Prelude.{ℕ, ◌<◌, ◌≤◌, List, length, Option}
 use Rattle.loan_board.specs.declared.board.Loan.{Loan}
-use Rattle.ctl_places.specs.Placed.{Placed}
+use Rattle.cm_places.specs.Placed.{Placed}
 use Rattle.cm_hardware.specs.Wiring.{Mounted, all_states, AreFree}
 
 -- The board has this place, and it is told who claims what stands there and who exports it.

@@ -2,8 +2,8 @@
 use Rattle.std.specs.Prelude.{◌≡◌, ℕ, ◌+◌, ◌<◌, ◌≤◌, ◌^◌, List, length, map}
 use Rattle.std.specs.List.{AllByRecursion}
 use Rattle.cm_storage.specs.Ran.{Filling}
-use Rattle.ctl_places.specs.Placed.{Placed}
-use Rattle.ctl_slots.specs.Updates.{Aloft, IsTimely}
+use Rattle.cm_places.specs.Placed.{Placed}
+use Rattle.cm_slots.specs.Updates.{Aloft, IsTimely}
 use Rattle.rt_flight.specs.Stations.{IsSeatedOn}
 use Rattle.rt_flight.specs.Cells.{Seat, Flying, seats_after, all_flown, post_of, CanFly, CanTell, CanBeTold}
 

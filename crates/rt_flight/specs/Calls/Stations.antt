@@ -8,8 +8,8 @@ use Rattle.cm_model.specs.declared.data.CtlData.{CtlData}
 use Rattle.cm_model.specs.declared.member.Member.{Member}
 use Rattle.cm_storage.specs.declared.ran.Done.{Done}
 use Rattle.cm_storage.specs.declared.ran.Done.TheVariants as done
-use Rattle.ctl_places.specs.Placed.{Placed}
-use Rattle.ctl_slots.specs.Lives.{published_by}
+use Rattle.cm_places.specs.Placed.{Placed}
+use Rattle.cm_slots.specs.Lives.{published_by}
 use Rattle.rt_flight.specs.Stations.{Standing, IsFitted}
 
 -- It is made for this controller, which is updated once in so many cycles.

@@ -3,7 +3,7 @@ use Rattle.std.specs.Prelude.{Box, IsSomeAnd}
 use Rattle.std.specs.declared.alloc.Global.{Global}
 use Rattle.cm_model.specs.Cycle.{begun, members_in_order, without_mail_off}
 use Rattle.cm_model.specs.State.{Loaded}
-use Rattle.ctl_slots.specs.Slots.{Slotted, IsRunOf}
+use Rattle.cm_slots.specs.Slots.{Slotted, IsRunOf}
 use Rattle.rt_flight.specs.declared.craft.Craft.{Craft}
 use Rattle.cm_desk.specs.Supplies.{IsFittedOut}
 use Rattle.cm_desk.specs.declared.bay.Bay.{Bay}

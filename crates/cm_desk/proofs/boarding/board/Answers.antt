@@ -6,7 +6,7 @@ use Rattle.std.proofs.lemmas.Option.{slice_get-get_or}
 use Rattle.cm_document.specs.declared.life.Life.TheVariants.{Active}
 use Rattle.cm_model.specs.State.{MailAloft}
 use Rattle.cm_model.specs.declared.data.CtlData.{CtlData}
-use Rattle.ctl_slots.specs.Lives.{IsKept}
+use Rattle.cm_slots.specs.Lives.{IsKept}
 use Rattle.rt_flight.specs.Cells.{Seat}
 use Rattle.cm_desk.specs.Boarding.{boarded}
 use Rattle.cm_desk.proofs.BoardingLemmas.{popped, board_next}

@@ -2,7 +2,7 @@ use Rattle.std.proofs.Common.{◌≡◌, ◌+◌, ◌++◌, length, map, drop, v
 use Rattle.std.specs.Prelude.{reverse}
 use Rattle.std.specs.List.{AllByRecursion}
 use Rattle.cm_document.specs.declared.life.Life.TheVariants.{Active}
-use Rattle.ctl_slots.specs.Lives.{IsKept}
+use Rattle.cm_slots.specs.Lives.{IsKept}
 use Rattle.cm_desk.specs.Boarding.{boarded}
 use Rattle.cm_desk.proofs.boarding.board.Given as goal
 

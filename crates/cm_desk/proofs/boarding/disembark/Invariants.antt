@@ -2,7 +2,7 @@ use Rattle.std.proofs.Common.{◌≡◌, ◌+◌, ◌++◌, length, map, vec_len
 use Rattle.std.specs.Prelude.{reverse}
 use Rattle.std.specs.List.{AllByRecursion}
 use Rattle.cm_document.specs.declared.life.Life.TheVariants.{Active}
-use Rattle.ctl_slots.specs.Lives.{IsKept}
+use Rattle.cm_slots.specs.Lives.{IsKept}
 use Rattle.cm_desk.proofs.boarding.disembark.Given as goal
 
 -- those that left, and those that are in their cells yet, are all

@@ -1,7 +1,7 @@
 use Rattle.std.proofs.Common.{◌≡◌, ◌<◌, ◌^◌, List, length, vec_len, vec_capacity, map, sym, ap, subst, ◌∙◌, arith}
 use Rattle.std.specs.List.{AllByRecursion}
-use Rattle.ctl_places.specs.Placed.{Placed}
-use Rattle.ctl_slots.specs.Updates.{Aloft}
+use Rattle.cm_places.specs.Placed.{Placed}
+use Rattle.cm_slots.specs.Updates.{Aloft}
 use Rattle.rt_flight.specs.Calls.Cells.{CanPutAll}
 use Rattle.rt_flight.specs.Stations.{IsSeatedOn}
 use Rattle.rt_flight.specs.Cells.{Seat, seat_read, seat_run, seat_put, all_put, post_of, flying, CanStep}

@@ -1,9 +1,9 @@
 use Rattle.std.proofs.Common.{List, refl, sym, ap, subst, ◌∙◌, length, arith}
 use Rattle.cm_hardware.specs.Holding.{values_read}
 use Rattle.rt_flight.specs.Cells.{Seat, Flying, flying, all_flown, TellsApart}
-use Rattle.ctl_places.specs.Placed.{Placed, placed_of}
+use Rattle.cm_places.specs.Placed.{Placed, placed_of}
 use Rattle.switch_plan.specs.Relations.{Related}
-use Rattle.ctl_slots.specs.Updates.{Aloft}
+use Rattle.cm_slots.specs.Updates.{Aloft}
 use Rattle.rt_flight.specs.Stations.{IsFitted}
 use Rattle.rt_flight.proofs.ApartLemmas.{tells_apart}
 use Rattle.rt_flight.proofs.TurnLemmas.{all_by_posts, fitted_by, members_by}

@@ -1,6 +1,6 @@
 use Rattle.std.proofs.Common.{◌<◌, length, ◌∙◌, arith}
 use Rattle.std.proofs.lemmas.List.{get_or_default, length-set}
-use Rattle.ctl_slots.proofs.UpdateLemmas.{put_more}
+use Rattle.cm_slots.proofs.UpdateLemmas.{put_more}
 use Rattle.rt_flight.proofs.station.put_all.Goals as goal
 
 pub loop-i-preserved : goal.loop-i-preserved

@@ -1,5 +1,5 @@
 use Rattle.std.proofs.Common.{◌≡◌, length, drop}
-use Rattle.ctl_slots.specs.Updates.{put_on}
+use Rattle.cm_slots.specs.Updates.{put_on}
 use Rattle.rt_flight.proofs.station.put_all.Given as goal
 
 -- to set the outputs that are left is to set all

@@ -4,7 +4,7 @@ use Rattle.cm_model.specs.Boundary.{boundary}
 use Rattle.cm_model.specs.Cycle.{begun}
 use Rattle.cm_model.specs.State.{State}
 use Rattle.cm_model.specs.declared.reply.Reply.TheVariants as reply
-use Rattle.ctl_places.specs.Placed.{placed_of}
+use Rattle.cm_places.specs.Placed.{placed_of}
 use Rattle.request_plan.specs.Plans.{IsPlanOf}
 use Rattle.sound_laws.proofs.FallbackLemmas.{begin_leaves_none}
 use Rattle.stop_plan.specs.Ending.{members_in_order}

@@ -2,7 +2,7 @@ use Rattle.std.proofs.Common.{◌≡◌, ◌<◌, true, false, refl, sym, ◌∙
 use Rattle.std.specs.Prelude.{length, slice_set}
 use Rattle.cm_model.specs.Console.{is_inactive, cleanup_refusals, after_cleanup}
 use Rattle.cm_model.specs.State.{is_active}
-use Rattle.ctl_slots.proofs.LifeLemmas.{idle_where_inactive}
+use Rattle.cm_slots.proofs.LifeLemmas.{idle_where_inactive}
 use Rattle.cm_desk.proofs.ChangeLemmas.{fit_cleanup, idle_of_inactive}
 use Rattle.cm_desk.proofs.KeptLemmas.{kept_after_change}
 use Rattle.cm_desk.proofs.WorksLemmas.{stands_here, changed_there}

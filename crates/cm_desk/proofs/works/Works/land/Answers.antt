@@ -2,7 +2,7 @@ use Rattle.std.proofs.Common.{refl, sym, ap, subst, ◌∙◌, vec_capacity}
 use Rattle.std.proofs.lemmas.Option.{same_Some}
 use Rattle.cm_model.specs.Cycle.{cycle}
 use Rattle.cm_model.specs.State.{State}
-use Rattle.ctl_slots.specs.Slots.{Slotted}
+use Rattle.cm_slots.specs.Slots.{Slotted}
 use Rattle.cm_desk.specs.Bay.{base_of, stand_ins_for}
 use Rattle.cm_desk.specs.End.{CanLand}
 use Rattle.cm_desk.specs.Works.{IsKept}

@@ -1,6 +1,6 @@
 use Rattle.std.proofs.Common.{sym, ◌∙◌}
 use Rattle.chain_order.specs.Links.{linked}
-use Rattle.ctl_slots.proofs.UpdateLemmas.{none_held}
+use Rattle.cm_slots.proofs.UpdateLemmas.{none_held}
 use Rattle.rt_flight.proofs.round.Round.is_held.Goals as goal
 
 -- where no read failed nobody is held off

@@ -2,7 +2,7 @@ use Rattle.std.proofs.Common.{◌≡◌, sym, ap, ◌∙◌, arith}
 use Rattle.cm_document.specs.declared.life.Life.TheVariants.{Active}
 use Rattle.cm_model.specs.Controllers.{Stepped, ctl_step, update_step, put_out}
 use Rattle.cm_model.specs.declared.data.CtlData.{CtlData}
-use Rattle.ctl_slots.proofs.StepLemmas.{step_is, kept_once_stepped, published_is, erred_gives_none}
+use Rattle.cm_slots.proofs.StepLemmas.{step_is, kept_once_stepped, published_is, erred_gives_none}
 use Rattle.rt_flight.proofs.running.Running.update.Goals as goal
 
 -- it runs as before

@@ -1,5 +1,0 @@
-use Rattle.ctl_places.proofs.PlacedLemmas.{placed_of-HasAllRows}
-use Rattle.ctl_places.proofs.laws.each_has_its_row.Goals as goal
-
-pub returns : goal.returns
-returns c = λ d. placed_of-HasAllRows d

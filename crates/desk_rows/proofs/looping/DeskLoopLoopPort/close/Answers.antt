@@ -1,5 +1,0 @@
-use Rattle.desk_rows.proofs.LoopLemmas.{closes_there}
-use Rattle.desk_rows.proofs.looping.DeskLoopLoopPort.close.Goals as goal
-
-pub returns-clause-closed : goal.returns-clause-closed
-returns-clause-closed g c = closes_there c.args.self.now.desk c.close.new.self c.close.ensures.made

@@ -1,5 +1,0 @@
-use Rattle.desk_rows.proofs.LoopLemmas.{lands_there}
-use Rattle.desk_rows.proofs.looping.DeskLoopLoopPort.land.Goals as goal
-
-pub returns-clause-landed : goal.returns-clause-landed
-returns-clause-landed g c = lands_there c.args.self.now.desk c.land.new.self c.is_right.ensures c.land.ensures.made

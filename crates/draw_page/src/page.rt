@@ -1,0 +1,270 @@
+//! The page: a heading, who claims and reads what, the run, and the joints.
+
+use crate::curves::{Curves, draw_curves, longest_value};
+use crate::keys::{draw_curve_keys, draw_link_keys, draw_run_keys};
+use crate::style::STYLE;
+use cm_document::{Description, JointDesc, Script};
+use cm_model::Entry;
+use draw_cycles::{Run, Strip, draw_log, draw_run, push_whys};
+use draw_links::draw_links;
+use draw_replay::{Columns, Linked, Replay, RunCounts, joints_of, links_of};
+use draw_svg::{MARGIN, PAGE_WIDTH, PagePoint, Px, Svg, shortened};
+use fixed_num::Memory;
+use std::alloc::Global;
+
+/// The most letters that have room beside the columns.
+const MOST_LETTERS: usize = 40;
+
+/// The most letters of the document's name that are drawn.
+const MOST_OF_TITLE: usize = 40;
+
+/// The page of a run: the name of its document, empty where it has none, its description, its script, and the history of its book.
+pub fn page_of(
+    alloc: Global,
+    name: &str,
+    description: &Description,
+    script: &Script,
+    history: &[Entry],
+) -> Result<String, Memory> {
+    let joints = joints_of(alloc, description)?;
+    let links = links_of(alloc, description, joints.as_slice())?;
+    let linked = Linked {
+        description,
+        joints: joints.as_slice(),
+        links: links.as_slice(),
+    };
+    page_of_linked(alloc, name, linked, script, history)
+}
+
+/// What was not done as asked in a run, or went wrong, as lines of plain text: why, and what would mend it.
+pub fn whys_of(
+    alloc: Global,
+    description: &Description,
+    script: &Script,
+    history: &[Entry],
+) -> Result<String, Memory> {
+    let joints = joints_of(alloc, description)?;
+    let links = links_of(alloc, description, joints.as_slice())?;
+    let linked = Linked {
+        description,
+        joints: joints.as_slice(),
+        links: links.as_slice(),
+    };
+    whys_of_linked(alloc, linked, script, history)
+}
+
+/// What went wrong in a run whose links are known.
+fn whys_of_linked<'a>(
+    alloc: Global,
+    linked: Linked<'a>,
+    script: &'a Script,
+    history: &'a [Entry],
+) -> Result<String, Memory> {
+    let columns = Columns::of(linked.description.cycles);
+    let replay = Replay::of(alloc, columns, linked, script, history)?;
+    let mut text = String::new(alloc);
+    push_whys(&mut text, &replay)?;
+    Ok(text)
+}
+
+/// The page of a run whose links are known.
+fn page_of_linked<'a>(
+    alloc: Global,
+    name: &str,
+    linked: Linked<'a>,
+    script: &'a Script,
+    history: &'a [Entry],
+) -> Result<String, Memory> {
+    let columns = Columns::of(linked.description.cycles);
+    let replay = Replay::of(alloc, columns, linked, script, history)?;
+    page(alloc, name, linked, columns, &replay)
+}
+
+fn page(
+    alloc: Global,
+    name: &str,
+    linked: Linked<'_>,
+    columns: Columns,
+    replay: &Replay<'_>,
+) -> Result<String, Memory> {
+    let values = longest_value(alloc, replay.courses.as_slice())?;
+    let left = names_end(linked.description, linked.joints, values);
+    let run = Run {
+        strip: Strip::of(columns, left),
+        description: linked.description,
+        replay,
+    };
+    let mut svg = Svg::new(alloc);
+    let top = draw_head(alloc, &mut svg, name, linked.description, run.replay.counts)?;
+    let bottom = draw(alloc, &mut svg, top, linked, run, values)?;
+    whole(alloc, &svg, bottom)
+}
+
+/// Where the names beside the columns end. The ends of a joint's range, so many letters, stand behind its name.
+fn names_end(description: &Description, joints: &[(usize, &JointDesc)], values: usize) -> Px {
+    let mut longest = 14usize;
+    for controller in description.controllers.as_slice() {
+        longest = longest.max(controller.name.as_str().len());
+    }
+    for component in description.components.as_slice() {
+        longest = longest.max(component.name.as_str().len());
+    }
+    for (_, joint) in joints {
+        let both = joint.name.as_str().len().saturating_add(values);
+        longest = longest.max(both.saturating_add(2));
+    }
+    Px::letters(longest.min(MOST_LETTERS)).plus(Px::of(MARGIN + 12))
+}
+
+/// Draws all below the heading, and gives where it ends.
+fn draw(
+    alloc: Global,
+    svg: &mut Svg,
+    top: Px,
+    linked: Linked<'_>,
+    run: Run<'_>,
+    values: usize,
+) -> Result<Px, Memory> {
+    let top = draw_link_part(alloc, svg, top, linked)?;
+    let top = draw_run_part(alloc, svg, top.plus(Px::of(20)), run)?;
+    let top = draw_log_part(alloc, svg, top, run)?;
+    draw_curve_part(alloc, svg, top.plus(Px::of(20)), linked, run, values)
+}
+
+fn draw_link_part(alloc: Global, svg: &mut Svg, top: Px, linked: Linked<'_>) -> Result<Px, Memory> {
+    let top = draw_section(svg, top, "Who commands whom")?;
+    let top = draw_link_keys(svg, top)?;
+    draw_links(alloc, svg, top, linked)
+}
+
+fn draw_run_part(alloc: Global, svg: &mut Svg, top: Px, run: Run<'_>) -> Result<Px, Memory> {
+    let top = draw_section(svg, top, "The run, cycle by cycle")?;
+    let top = draw_run_keys(alloc, svg, top)?;
+    draw_run(alloc, svg, top, run)
+}
+
+/// What was asked, where anything was.
+fn draw_log_part(alloc: Global, svg: &mut Svg, top: Px, run: Run<'_>) -> Result<Px, Memory> {
+    let answered = run.replay.answered.as_slice();
+    if answered.is_empty() {
+        return Ok(top);
+    }
+    let top = draw_section(
+        svg,
+        top.plus(Px::of(20)),
+        "Requests, and calls that were refused",
+    )?;
+    let cycles = run.description.cycles;
+    draw_log(alloc, svg, top, cycles, answered)
+}
+
+/// Where each joint was, where there are any.
+fn draw_curve_part(
+    alloc: Global,
+    svg: &mut Svg,
+    top: Px,
+    linked: Linked<'_>,
+    run: Run<'_>,
+    values: usize,
+) -> Result<Px, Memory> {
+    if linked.joints.is_empty() {
+        return Ok(top);
+    }
+    let top = draw_section(svg, top, "Where each joint was")?;
+    let top = draw_curve_keys(svg, top)?;
+    let courses = run.replay.courses.as_slice();
+    let curves = Curves {
+        strip: &run.strip,
+        joints: linked.joints,
+        courses,
+        values,
+    };
+    draw_curves(alloc, svg, top, curves)
+}
+
+fn draw_section(svg: &mut Svg, top: Px, words: &str) -> Result<Px, Memory> {
+    let at = PagePoint {
+        x: Px::of(MARGIN),
+        y: top.plus(Px::of(18)),
+    };
+    svg.words("section", at, words, "")?;
+    Ok(top.plus(Px::of(28)))
+}
+
+/// The heading: how long the run was, and what happened in it.
+fn draw_head(
+    alloc: Global,
+    svg: &mut Svg,
+    name: &str,
+    description: &Description,
+    counts: RunCounts,
+) -> Result<Px, Memory> {
+    let title = title_of(alloc, name, description)?;
+    let at = PagePoint {
+        x: Px::of(MARGIN),
+        y: Px::of(40),
+    };
+    svg.words("title", at, title.as_str(), "")?;
+    let note = happened(alloc, counts)?;
+    svg.words("note", at.beside(Px::of(0), Px::of(22)), note.as_str(), "")?;
+    Ok(Px::of(78))
+}
+
+/// The title: the document's name where it has one, and how long the run was.
+fn title_of(alloc: Global, name: &str, description: &Description) -> Result<String, Memory> {
+    let cycles = description.cycles;
+    let unit = if cycles == 1 { "cycle" } else { "cycles" };
+    let hz = description.update_rate;
+    if name.is_empty() {
+        return Ok(format!(in alloc; "A run of {cycles} {unit} at {hz} hertz")?);
+    }
+    let name = shortened(alloc, name, MOST_OF_TITLE)?;
+    Ok(format!(in alloc; "{name}: a run of {cycles} {unit} at {hz} hertz")?)
+}
+
+/// How often things happened.
+fn happened(alloc: Global, counts: RunCounts) -> Result<String, Memory> {
+    let RunCounts {
+        done,
+        refused,
+        ended,
+        turned_away,
+        calls,
+        failed,
+        stopped,
+    } = counts;
+    let mut text = format!(in alloc; "requests: {done} done, {refused} refused")?;
+    if ended > 0 {
+        write!(text, ", {ended} not decided")?;
+    }
+    if turned_away > 0 {
+        write!(text, ", {turned_away} turned away")?;
+    }
+    if calls > 0 {
+        write!(text, " · other calls refused: {calls}")?;
+    }
+    write!(
+        text,
+        " · failures: {failed} · stops of controllers: {stopped}"
+    )?;
+    Ok(text)
+}
+
+/// The text of the page, as high as all that was drawn.
+fn whole(alloc: Global, svg: &Svg, bottom: Px) -> Result<String, Memory> {
+    let height = bottom.plus(Px::of(MARGIN));
+    let mut text = String::new(alloc);
+    write!(
+        text,
+        "<svg xmlns=\"http://www.w3.org/2000/svg\" width=\"{PAGE_WIDTH}\" height=\"{height}\""
+    )?;
+    write!(text, " viewBox=\"0 0 {PAGE_WIDTH} {height}\">\n")?;
+    text.push_str(STYLE)?;
+    write!(
+        text,
+        "<rect class=\"page\" width=\"{PAGE_WIDTH}\" height=\"{height}\"/>\n"
+    )?;
+    text.push_str(svg.as_str())?;
+    text.push_str("</svg>\n")?;
+    Ok(text)
+}

@@ -1,0 +1,464 @@
+//! What happened in a run, read off its history: the rows of the requests, the controllers and the components, and the course of each
+//! joint. Which call an entry is of is known from the script, as each session makes its lines once and in order.
+
+use crate::columns::Columns;
+use crate::course::{JointCourse, blank_courses, forget};
+use crate::incidents::{Incident, push_incidents};
+use crate::links::{Linked, component_place, controller_place};
+use crate::present::{Asked, Present};
+use crate::rows::{ColumnState, Event, Row, blank_rows, mark_row};
+use cm_document::{Call, Script, SwitchRequest};
+use cm_model::{Cause, Decision, Dropped, Entry, Outcome, Reply, Why};
+use cm_storage::{CycleRecord, Done, FailedPart, RanRef};
+use draw_causes::is_own;
+use fixed_num::Memory;
+use iface_names::Name;
+use std::alloc::Global;
+
+/// What became of a call that asked for something.
+#[derive(Clone, Copy)]
+pub enum Became<'a> {
+    /// It was a request, and a begin or the close decided it.
+    Decided(&'a Outcome),
+    /// It did nothing, for this reason. A request got no ticket.
+    Not(Why),
+}
+
+/// A request that was decided, or a call that did nothing.
+#[derive(Clone, Copy)]
+pub struct Answered<'a> {
+    /// The cycle at whose begin it was decided, or before whose end the call came; the number of cycles where all had ended.
+    pub cycle: u64,
+    /// The ticket of a request that got one; fallbacks are asked for without one.
+    pub ticket: Option<u32>,
+    /// The name of the session that asked, and what it asked, where that is known.
+    pub asked: Option<Asked<'a>>,
+    /// What became of it.
+    pub became: Became<'a>,
+}
+
+/// How often things happened in a run.
+#[derive(Clone, Copy)]
+pub struct RunCounts {
+    /// Requests that were carried out, wholly or without some names.
+    pub done: u64,
+    /// Requests that were refused.
+    pub refused: u64,
+    /// Requests that waited when the loop closed.
+    pub ended: u64,
+    /// Requests that got no ticket: the queue was full, or the loop closed.
+    pub turned_away: u64,
+    /// Other calls that did nothing.
+    pub calls: u64,
+    /// Reads, writes and updates that failed.
+    pub failed: u64,
+    /// Controllers that were stopped, each as often as it was.
+    pub stopped: u64,
+}
+
+/// A run as it is drawn.
+#[derive(Drop)]
+pub struct Replay<'a> {
+    /// The requests that were decided and the calls that did nothing, in that order.
+    pub answered: Vec<Answered<'a>>,
+    /// What was not done as asked, or went wrong, in the order in which it happened.
+    pub incidents: Vec<Incident<'a>>,
+    /// The row of the requests.
+    pub requests: Row,
+    /// The rows of the controllers, by place.
+    pub controllers: Vec<Row>,
+    /// The rows of the components, by place.
+    pub components: Vec<Row>,
+    /// The courses of the joints, by place.
+    pub courses: Vec<JointCourse>,
+    /// How often things happened.
+    pub counts: RunCounts,
+    columns: Columns,
+    present: Present<'a>,
+}
+
+impl<'a> Replay<'a> {
+    /// What happened in this history.
+    pub fn of(
+        alloc: Global,
+        columns: Columns,
+        linked: Linked<'a>,
+        script: &'a Script,
+        history: &'a [Entry],
+    ) -> Result<Replay<'a>, Memory> {
+        let mut replay = Replay::blank(alloc, columns, linked, script)?;
+        for entry in history {
+            replay.read(entry)?;
+        }
+        Ok(replay)
+    }
+
+    /// Of a run in which nothing happened yet.
+    fn blank(
+        alloc: Global,
+        columns: Columns,
+        linked: Linked<'a>,
+        script: &'a Script,
+    ) -> Result<Replay<'a>, Memory> {
+        let description = linked.description;
+        let controllers = linked.links.len();
+        let components = description.components.as_slice().len();
+        Ok(Replay {
+            answered: Vec::new(alloc),
+            incidents: Vec::new(alloc),
+            requests: Row::blank(alloc, columns.count())?,
+            controllers: blank_rows(alloc, controllers, columns.count())?,
+            components: blank_rows(alloc, components, columns.count())?,
+            courses: blank_courses(alloc, description, columns.count())?,
+            counts: RunCounts {
+                done: 0,
+                refused: 0,
+                ended: 0,
+                turned_away: 0,
+                calls: 0,
+                failed: 0,
+                stopped: 0,
+            },
+            columns,
+            present: Present::at_start(alloc, linked, script)?,
+        })
+    }
+
+    /// One entry more.
+    fn read(&mut self, entry: &'a Entry) -> Result<(), Memory> {
+        match &entry.reply {
+            Reply::Decisions(decisions) => self.read_decisions(decisions.as_slice()),
+            Reply::Cycle(record) => self.read_cycle(record),
+            // A session is told what became of its request: that is no line of its own.
+            Reply::Outcome(_) => Ok(()),
+            reply => self.read_call(entry.who, reply),
+        }
+    }
+
+    // ---- Calls
+
+    fn read_call(&mut self, who: u32, reply: &Reply) -> Result<(), Memory> {
+        let asked = self.present.called(who, reply)?;
+        match (asked, reply) {
+            (Some(asked), Reply::Not(why)) => self.read_refusal(asked, *why),
+            _ => Ok(()),
+        }
+    }
+
+    /// A call did nothing. A request is marked in the row of the requests, another call in the row of the controller that it names.
+    fn read_refusal(&mut self, asked: Asked<'a>, why: Why) -> Result<(), Memory> {
+        let number = self.answered.len();
+        let cycle = self.present.ended;
+        self.answered.push(Answered {
+            cycle,
+            ticket: None,
+            asked: Some(asked),
+            became: Became::Not(why),
+        })?;
+        self.incidents.push(Incident::Answered(number))?;
+        let column = self.columns.of_cycle(cycle);
+        match controller_of(asked.call) {
+            Some(name) => {
+                self.counts.calls = self.counts.calls.saturating_add(1);
+                self.mark_controller(name, column, number);
+            }
+            None => {
+                self.counts.turned_away = self.counts.turned_away.saturating_add(1);
+                self.requests.mark(column, Event::Refused, cycle, number);
+            }
+        }
+        Ok(())
+    }
+
+    // ---- Decisions
+
+    fn read_decisions(&mut self, decisions: &'a [Decision]) -> Result<(), Memory> {
+        for decision in decisions {
+            self.read_decision(decision)?;
+        }
+        self.present.link();
+        Ok(())
+    }
+
+    fn read_decision(&mut self, decision: &'a Decision) -> Result<(), Memory> {
+        let number = self.answered.len();
+        let asked = match decision.ticket {
+            Some(ticket) => self.present.asked_under(ticket),
+            None => None,
+        };
+        let cycle = self.present.ended;
+        self.answered.push(Answered {
+            cycle,
+            ticket: decision.ticket,
+            asked,
+            became: Became::Decided(&decision.outcome),
+        })?;
+        if event_of(&decision.outcome) != Event::Done {
+            self.incidents.push(Incident::Answered(number))?;
+        }
+        if decision.ticket.is_some() {
+            self.count(&decision.outcome);
+        }
+        let column = self.columns.of_cycle(cycle);
+        self.requests
+            .mark(column, event_of(&decision.outcome), cycle, number);
+        match &decision.outcome {
+            Outcome::Done { dropped } if decision.ticket.is_none() => {
+                self.stand_in(dropped.as_slice())
+            }
+            Outcome::Done { dropped } => self.carry_out(asked, dropped.as_slice()),
+            Outcome::Refused(name, _) => self.mark_refused(name, column, number),
+            Outcome::LoopEnded => {}
+        }
+        Ok(())
+    }
+
+    fn count(&mut self, outcome: &Outcome) {
+        let counts = &mut self.counts;
+        let counted = match outcome {
+            Outcome::Done { .. } => &mut counts.done,
+            Outcome::Refused(..) => &mut counts.refused,
+            Outcome::LoopEnded => &mut counts.ended,
+        };
+        *counted = counted.saturating_add(1);
+    }
+
+    /// A request is refused because of this controller or component.
+    fn mark_refused(&mut self, name: &Name, column: usize, number: usize) {
+        let description = self.present.description;
+        if controller_place(description.controllers.as_slice(), name).is_some() {
+            self.mark_controller(name, column, number);
+        } else if let Some(place) = component_place(description, name) {
+            let cycle = self.present.ended;
+            if let Some(row) = self.components.get_mut(place) {
+                row.mark(column, Event::Refused, cycle, number);
+            }
+        }
+    }
+
+    /// A call is refused that names this controller.
+    fn mark_controller(&mut self, name: &Name, column: usize, number: usize) {
+        let controllers = self.present.description.controllers.as_slice();
+        let cycle = self.present.ended;
+        if let Some(place) = controller_place(controllers, name) {
+            if let Some(row) = self.controllers.get_mut(place) {
+                row.mark(column, Event::Refused, cycle, number);
+            }
+        }
+    }
+
+    /// A request is carried out without these names.
+    fn carry_out(&mut self, asked: Option<Asked<'a>>, dropped: &[Dropped]) {
+        match asked {
+            Some(
+                Asked {
+                    call: Call::Switch(request),
+                    ..
+                },
+            ) => self.switch(request, dropped),
+            Some(
+                Asked {
+                    call: Call::Hardware { component, target },
+                    ..
+                },
+            ) => self.present.move_component(component, *target),
+            _ => {}
+        }
+    }
+
+    /// Those that leave are inactive, and those that come are active. What a controller gave that leaves or restarts is gone.
+    fn switch(&mut self, request: &SwitchRequest, dropped: &[Dropped]) {
+        for name in request.off.as_slice() {
+            if !stays(name, dropped) {
+                self.stop(name);
+            }
+        }
+        self.start_all(request.on.as_slice(), dropped);
+    }
+
+    /// The fallbacks of the controllers whose update failed are active, but for those that are left out.
+    fn stand_in(&mut self, dropped: &[Dropped]) {
+        let description = self.present.description;
+        for (place, controller) in description.controllers.as_slice().iter().enumerate() {
+            if self.present.has_erred(place) {
+                self.start_all(controller.fallback.as_slice(), dropped);
+            }
+        }
+    }
+
+    fn start_all(&mut self, names: &[Name], dropped: &[Dropped]) {
+        for name in names {
+            if !is_left_out(name, dropped) {
+                self.present.start(name);
+            }
+        }
+    }
+
+    /// An active controller becomes inactive.
+    fn stop(&mut self, name: &Name) {
+        let controllers = self.present.description.controllers.as_slice();
+        if let Some(place) = controller_place(controllers, name) {
+            self.present.stop(place);
+            forget(&mut self.courses, place);
+        }
+    }
+
+    // ---- Cycles
+
+    fn read_cycle(&mut self, record: &'a CycleRecord) -> Result<(), Memory> {
+        push_incidents(&mut self.incidents, &self.present, record)?;
+        let cycle = record.cycle();
+        let column = self.columns.of_cycle(cycle);
+        self.read_failures(record.failed(), column, cycle);
+        self.present.forget_erred();
+        for ran in record.ran() {
+            self.read_update(&ran, column, cycle);
+        }
+        for (course, body) in self.courses.iter_mut().zip(record.bodies()) {
+            course.reach(column, body.x.micro());
+        }
+        self.show(column);
+        self.read_stops(record.stops(), column, cycle);
+        self.present.fail(record.failed());
+        self.present.ended = cycle.saturating_add(1);
+        Ok(())
+    }
+
+    fn read_failures(&mut self, failed: &[FailedPart], column: usize, cycle: u64) {
+        for part in failed {
+            let event = if part.reading {
+                Event::ReadFailed
+            } else {
+                Event::WriteFailed
+            };
+            self.counts.failed = self.counts.failed.saturating_add(1);
+            mark_row(
+                &mut self.components,
+                part.place as usize,
+                column,
+                event,
+                cycle,
+            );
+        }
+    }
+
+    /// What an update gave stands at the joints whose positions it commands.
+    fn read_update(&mut self, ran: &RanRef<'_>, column: usize, cycle: u64) {
+        let Some(place) = self.present.place_of(ran.serial) else {
+            return;
+        };
+        if ran.done == Done::Error {
+            self.present.note_erred(place);
+            self.counts.failed = self.counts.failed.saturating_add(1);
+            mark_row(
+                &mut self.controllers,
+                place,
+                column,
+                Event::UpdateFailed,
+                cycle,
+            );
+            return;
+        }
+        let all = self.present.links;
+        let Some(links) = all.get(place) else {
+            return;
+        };
+        for (claim, value) in links.claims.iter().zip(ran.outs) {
+            if let Some(course) = self.courses.get_mut(claim.joint) {
+                course.take(place, claim, value.get());
+            }
+        }
+    }
+
+    /// What each controller and component was in this column.
+    fn show(&mut self, column: usize) {
+        show_controllers(&mut self.controllers, &self.present, column);
+        show_components(&mut self.components, &self.present, column);
+    }
+
+    fn read_stops(&mut self, stops: &[u32], column: usize, cycle: u64) {
+        for serial in stops {
+            if let Some(place) = self.present.place_of(*serial) {
+                self.counts.stopped = self.counts.stopped.saturating_add(1);
+                if let Some(row) = self.controllers.get_mut(place) {
+                    row.stop(column, cycle);
+                }
+                self.present.stop(place);
+                forget(&mut self.courses, place);
+            }
+        }
+        if !stops.is_empty() {
+            self.present.link();
+        }
+    }
+}
+
+/// What each controller was in this column.
+fn show_controllers(rows: &mut Vec<Row>, present: &Present<'_>, column: usize) {
+    for (place, row) in rows.iter_mut().enumerate() {
+        if let Some(life) = present.life_at(place) {
+            row.show(column, ColumnState::of(life, present.is_chained(place)));
+        }
+    }
+}
+
+/// What each component was in this column.
+fn show_components(rows: &mut Vec<Row>, present: &Present<'_>, column: usize) {
+    for (row, life) in rows.iter_mut().zip(&present.components) {
+        row.show(column, ColumnState::of(*life, false));
+    }
+}
+
+/// The controller that a call names which is no request.
+fn controller_of(call: &Call) -> Option<&Name> {
+    match call {
+        Call::Load(name) | Call::Configure(name) | Call::Cleanup(name) | Call::Unload(name) => {
+            Some(name)
+        }
+        Call::Rate { name, .. } | Call::Send { name, .. } => Some(name),
+        _ => None,
+    }
+}
+
+/// What a request comes to, as it is marked.
+fn event_of(outcome: &Outcome) -> Event {
+    match outcome {
+        Outcome::Done { dropped } => done_without(dropped.as_slice()),
+        Outcome::Refused(..) => Event::Refused,
+        Outcome::LoopEnded => Event::Ended,
+    }
+}
+
+/// A request is carried out without these.
+fn done_without(dropped: &[Dropped]) -> Event {
+    if dropped.is_empty() {
+        Event::Done
+    } else {
+        Event::Partly
+    }
+}
+
+/// Whether a controller that was to leave stays: another one that stays claims a reference of its own.
+fn stays(name: &Name, dropped: &[Dropped]) -> bool {
+    dropped
+        .iter()
+        .any(|it| it.name == *name && is_own(&it.cause, name))
+}
+
+/// Whether a controller that was to come is left out.
+fn is_left_out(name: &Name, dropped: &[Dropped]) -> bool {
+    dropped
+        .iter()
+        .any(|it| it.name == *name && speaks_against(&it.cause, name))
+}
+
+/// Whether this keeps a controller that is ready for it from becoming active.
+fn speaks_against(cause: &Cause, name: &Name) -> bool {
+    match cause {
+        Cause::MissingFollower(_) => !is_own(cause, name),
+        Cause::Unavailable(_) | Cause::Conflict(..) | Cause::ModeRefused(_) | Cause::NotReady => {
+            true
+        }
+        _ => false,
+    }
+}

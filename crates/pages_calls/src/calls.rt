@@ -1,0 +1,100 @@
+//! Calls of a session, of words as a script has them.
+
+use cm_document::{Call, Life, Mail, SwitchRequest};
+use fixed_num::Fx;
+use iface_names::Name;
+use pages_cases::pages::halves;
+use sequence::Seq;
+use std::alloc::Global;
+use std::test::Fail;
+
+/// The call of a verb and the words behind it.
+pub fn call_of(alloc: Global, verb: &str, rest: &str) -> Result<Call, Fail> {
+    match verb {
+        "load" => Ok(Call::Load(name_of(alloc, rest)?)),
+        "configure" => Ok(Call::Configure(name_of(alloc, rest)?)),
+        "cleanup" => Ok(Call::Cleanup(name_of(alloc, rest)?)),
+        "unload" => Ok(Call::Unload(name_of(alloc, rest)?)),
+        "rate" => rate_of(alloc, rest),
+        "switch" => Ok(Call::Switch(switch_of(alloc, rest)?)),
+        "send" => send_of(alloc, rest),
+        "hw" => hardware_of(alloc, rest),
+        "list" => list_of(rest),
+        _ => Err(Fail::new("an unknown call")),
+    }
+}
+
+/// The name that a word is.
+pub fn name_of(alloc: Global, word: &str) -> Result<Name, Fail> {
+    Ok(Name::read(alloc, word.as_bytes())?)
+}
+
+/// `NAME HZ`.
+fn rate_of(alloc: Global, rest: &str) -> Result<Call, Fail> {
+    let (name, hz) = halves(rest, " ")?;
+    let hz = hz.parse()?;
+    Ok(Call::Rate {
+        name: name_of(alloc, name)?,
+        hz,
+    })
+}
+
+/// `controllers`, `interfaces` or `components`.
+fn list_of(word: &str) -> Result<Call, Fail> {
+    match word {
+        "controllers" => Ok(Call::ListControllers),
+        "interfaces" => Ok(Call::ListInterfaces),
+        "components" => Ok(Call::ListComponents),
+        _ => Err(Fail::new("an unknown list")),
+    }
+}
+
+/// `NAME VALUE`.
+fn send_of(alloc: Global, rest: &str) -> Result<Call, Fail> {
+    let (name, value) = halves(rest, " ")?;
+    let values = vec![in alloc; Fx::read(value.as_bytes())?]?;
+    Ok(Call::Send {
+        name: name_of(alloc, name)?,
+        mail: Mail::Values(Seq::from_vec(values)),
+    })
+}
+
+/// `COMPONENT STATE`.
+fn hardware_of(alloc: Global, rest: &str) -> Result<Call, Fail> {
+    let (name, state) = halves(rest, " ")?;
+    Ok(Call::Hardware {
+        component: name_of(alloc, name)?,
+        target: life_of(state),
+    })
+}
+
+fn life_of(word: &str) -> Life {
+    match word {
+        "unconfigured" => Life::Unconfigured,
+        "inactive" => Life::Inactive,
+        "finalized" => Life::Finalized,
+        _ => Life::Active,
+    }
+}
+
+/// `strict` or `best`, and names behind `-` to deactivate and behind `+` to activate.
+fn switch_of(alloc: Global, words: &str) -> Result<SwitchRequest, Fail> {
+    let mut request = SwitchRequest {
+        on: Seq::new(alloc),
+        off: Seq::new(alloc),
+        strict: words.starts_with("strict"),
+    };
+    for word in words.split_whitespace() {
+        add_word(alloc, &mut request, word)?;
+    }
+    Ok(request)
+}
+
+fn add_word(alloc: Global, request: &mut SwitchRequest, word: &str) -> Result<(), Fail> {
+    if let Some(name) = word.strip_prefix('-') {
+        request.off.push(name_of(alloc, name)?)?;
+    } else if let Some(name) = word.strip_prefix('+') {
+        request.on.push(name_of(alloc, name)?)?;
+    }
+    Ok(())
+}

@@ -1,0 +1,327 @@
+//! Runs by their words. Neither pace nor gate is called, but by a live run.
+
+ghost use Rattle.std.specs.Prelude.{◌<◌, ◌^◌, length};
+ghost use Rattle.std.specs.List.{All};
+ghost use Rattle.cm_model.specs.Controllers.{IsBlank};
+
+use cm_top::{Status, run};
+use ctl_rack::Stock;
+use ctl_trait::Controller;
+use outside_io::{Gate, MemSink, MemSource, Pace, Point};
+use pages_calls::stocks::blanks;
+use pages_cases::pages::{expanded, halves, hold_told, written_out};
+use pages_runs::runs::{IN_STOCK, ample_sink};
+use std::alloc::Global;
+use std::str;
+use std::sync::Wait;
+use std::sync::atomic::{AtomicU64, Ordering};
+use std::test::Fail;
+use std::thread::Threads;
+
+/// A pace that counts its calls.
+#[derive(Drop)]
+struct CountingPace {
+    calls: u64,
+}
+
+impl Pace for CountingPace {
+    fn pause(&mut self, _cycle: u64) {
+        self.calls = self.calls.saturating_add(1);
+    }
+}
+
+/// A gate that counts its calls.
+#[derive(Drop)]
+struct CountingGate {
+    calls: AtomicU64,
+}
+
+impl Gate for CountingGate {
+    fn at(&self, _point: Point) {
+        self.calls.fetch_add(1, Ordering::SeqCst);
+    }
+}
+
+/// One operator, whose second line comes while the cycle is aloft where turns are made, and before it where none are.
+const DOCUMENT: &str = r#"version = 1
+update_rate = 100
+cycles = 1
+[[controller]]
+name = "mk"
+type = "mock"
+--- script ---
+session a
+load mk
+load mk
+schedule
+step a
+begin
+step a
+end
+"#;
+
+/// What a run of it prints.
+const BY_RUN: &str = "a load mk: ok 0
+a load mk: loaded
+loop begin 0: none
+loop end 0: none
+loop close: none
+";
+
+/// What its turns print.
+const BY_STEPS: &str = "a load mk: ok 0
+loop begin 0: none
+a load mk: loaded
+loop end 0: none
+loop close: none
+";
+
+/// How a run of it ends by words, between which a bar stands.
+const WORDS: &str = r"run => ok
+run|-- => ok
+--|run => ok
+steps => ok
+--|steps => ok
+ => usage: cm run|steps|live [--make N]
+walk => usage: cm run|steps|live [--make N]
+run|run => usage: cm run|steps|live [--make N]
+run|steps => usage: cm run|steps|live [--make N]
+Run => usage: cm run|steps|live [--make N]
+run\s => usage: cm run|steps|live [--make N]
+--help => usage: cm run|steps|live [--make N]
+run|--make => usage: cm run|steps|live [--make N]
+run|--make| => usage: cm run|steps|live [--make N]
+run|--make|0 => usage: cm run|steps|live [--make N]
+run|--make|1001 => usage: cm run|steps|live [--make N]
+run|--make|1|--make|2 => usage: cm run|steps|live [--make N]";
+
+/// A document without operators, so that a live run leaves nothing to its threads.
+const ALONE: &str = "version = 1
+update_rate = 100
+cycles = 2
+--- script ---
+";
+
+/// What a live run of it prints.
+const BY_LIVE: &str = "loop begin 0: none
+loop end 0: none
+loop begin 1: none
+loop end 1: none
+loop close: none
+";
+
+/// How often a live run of it calls pace and gate: each cycle has a pause behind it, and is begun, about to be computed, and computed.
+const CALLS_OF_LIVE: u64 = 2 + 3 * 2;
+
+/// Words with a number of rounds, and the summary of the made document of so many, whatever the source gives. Zeros may lead a number; of
+/// the smallest, of two rounds, of five and of the largest.
+const MADE: &str = "\
+run|--make|1
+=> cycles 10
+entries 45
+updates 79
+asks 3 done 3 refused 0 ended 0
+joint j0 0.000000
+joint j1 0.090000
+<2..8 * joint j# 0.000000
+>
+
+--make=0002|steps
+=> cycles 20
+entries 71
+updates 158
+asks 5 done 5 refused 0 ended 0
+joint j0 0.000000
+joint j1 0.190000
+joint j2 0.100000
+<3..8 * joint j# 0.000000
+>
+
+run|--make|05
+=> cycles 50
+entries 149
+updates 395
+asks 11 done 11 refused 0 ended 0
+joint j0 0.000000
+joint j1 0.370000
+joint j2 0.400000
+joint j3 0.110000
+joint j4 0.200000
+joint j5 0.100000
+<6..8 * joint j# 0.000000
+>
+
+--make|1000|run
+=> cycles 10000
+entries 26019
+updates 79000
+asks 2001 done 2001 refused 0 ended 0
+joint j0 0.000000
+joint j1 0.410000
+joint j2 0.780000
+joint j3 0.150000
+joint j4 0.520000
+joint j5 0.890000
+joint j6 0.260000
+joint j7 0.630000
+";
+
+/// What is printed by words that are accepted and name no number.
+fn trace_by(words: &str) -> &'static str {
+    if words.contains("steps") {
+        BY_STEPS
+    } else {
+        BY_RUN
+    }
+}
+
+#[test]
+fn jobs_run_by_their_words_and_nobody_waits(rt: HostRuntime) -> Result<(), Fail> {
+    for row in WORDS.lines() {
+        hold_row(&rt, rt.alloc(), row)?;
+    }
+    Ok(())
+}
+
+fn hold_row<R: Threads + Wait + Sync>(rt: &R, alloc: Global, row: &str) -> Result<(), Fail> {
+    let (given, want) = halves(row, " => ")?;
+    let trace = if want == "ok" { trace_by(given) } else { "" };
+    hold_run(rt, alloc, given, want, trace)
+}
+
+#[test]
+fn a_live_run_calls_pace_and_gate(rt: HostRuntime) -> Result<(), Fail> {
+    let alloc = rt.alloc();
+    let words = words(alloc, "live")?;
+    let blanks = blanks(alloc, IN_STOCK)?;
+    let want = Want {
+        ended: "ok",
+        printed: BY_LIVE,
+        calls: CALLS_OF_LIVE,
+    };
+    hold_words(&rt, alloc, words.as_slice(), ALONE, blanks, &want)
+}
+
+#[test]
+fn made_documents_are_run_by_their_words(rt: HostRuntime) -> Result<(), Fail> {
+    for case in MADE.split("\n\n") {
+        hold_made(&rt, rt.alloc(), case)?;
+    }
+    Ok(())
+}
+
+fn hold_made<R: Threads + Wait + Sync>(rt: &R, alloc: Global, case: &str) -> Result<(), Fail> {
+    let case = expanded(alloc, case)?;
+    let (given, summary) = halves(case.as_str(), "\n=> ")?;
+    hold_run(rt, alloc, given, "ok", summary)
+}
+
+/// How a run ends, what it prints, and how often it calls pace and gate.
+#[derive(Clone, Copy)]
+struct Want<'a> {
+    ended: &'a str,
+    printed: &'a str,
+    calls: u64,
+}
+
+/// Fails where a run by the words of a row does, over the program's stock.
+fn hold_run<R: Threads + Wait + Sync>(
+    rt: &R,
+    alloc: Global,
+    given: &str,
+    want: &str,
+    trace: &str,
+) -> Result<(), Fail> {
+    let words = words(alloc, given)?;
+    let blanks = blanks(alloc, IN_STOCK)?;
+    let want = Want {
+        ended: want,
+        printed: trace,
+        calls: 0,
+    };
+    hold_words(rt, alloc, words.as_slice(), DOCUMENT, blanks, &want)
+}
+
+/// Fails where a run of the document by these words ends otherwise, or prints something else, or calls pace and gate more or less often,
+/// or leaves a book where it should leave none, or none where it should.
+fn hold_words<R: Threads + Wait + Sync, C: Controller + Send>(
+    rt: &R,
+    alloc: Global,
+    words: &[String],
+    document: &str,
+    blanks: Vec<C>,
+    want: &Want<'_>,
+) -> Result<(), Fail>
+    requires blank { All (λ c. IsBlank (C.meaning c)) blanks.items }
+    requires few { length blanks.items < 2 ^ 32 }
+{
+    let bytes = document.as_bytes().to_vec(alloc)?;
+    let mut source = MemSource::make(bytes, 1000, vec![in alloc]?);
+    let mut sink = ample_sink(alloc)?;
+    let ran = run_counted(rt, alloc, words, &mut source, &mut sink, blanks);
+    hold_ran(alloc, &ran, want)?;
+    hold_told(
+        alloc,
+        "its words",
+        str::from_utf8(sink.bytes())?,
+        want.printed,
+    )
+}
+
+/// How a run ended, whether it left a book, and how often pace and gate were called.
+#[derive(Drop)]
+struct Ran {
+    status: Status,
+    has_book: bool,
+    calls: u64,
+}
+
+/// Runs the words over a stock of these blanks.
+fn run_counted<R: Threads + Wait + Sync, C: Controller + Send>(
+    rt: &R,
+    alloc: Global,
+    words: &[String],
+    source: &mut MemSource,
+    sink: &mut MemSink,
+    blanks: Vec<C>,
+) -> Ran
+    requires blank { All (λ c. IsBlank (C.meaning c)) blanks.items }
+    requires few { length blanks.items < 2 ^ 32 }
+{
+    let mut pace = CountingPace { calls: 0 };
+    let gate = CountingGate {
+        calls: AtomicU64::new(0),
+    };
+    let stock = Stock::make(blanks);
+    let (status, book) = run(rt, alloc, words, source, sink, stock, &mut pace, &gate);
+    Ran {
+        status,
+        has_book: book.is_some(),
+        calls: pace.calls.saturating_add(gate.calls.load(Ordering::SeqCst)),
+    }
+}
+
+/// Fails where a run ended otherwise, or called pace and gate more or less often, or a book is there without a run or is not there with
+/// one.
+fn hold_ran(alloc: Global, ran: &Ran, want: &Want<'_>) -> Result<(), Fail> {
+    if ran.calls != want.calls {
+        return Err(Fail::new("other calls of pace and gate"));
+    }
+    if ran.has_book != (want.ended == "ok") {
+        return Err(Fail::new("a book without a run, or a run without a book"));
+    }
+    let status = format!(in alloc; "{}", ran.status)?;
+    hold_told(alloc, "its words", status.as_str(), want.ended)
+}
+
+/// The words of a row; of an empty one none.
+fn words(alloc: Global, given: &str) -> Result<Vec<String>, Fail> {
+    let mut words = Vec::new(alloc);
+    if given.is_empty() {
+        return Ok(words);
+    }
+    for word in given.split('|') {
+        words.push(written_out(alloc, word)?)?;
+    }
+    Ok(words)
+}

@@ -1,0 +1,145 @@
+//! A live run of a document, whose threads are held in an order.
+
+ghost use Rattle.std.specs.Prelude.{◌<◌, ◌^◌, length};
+ghost use Rattle.std.specs.List.{All};
+ghost use Rattle.cm_model.specs.Controllers.{IsBlank};
+
+use crate::ordered::{InOrder, OrderedPace};
+use cm_top::{Status, run};
+use ctl_rack::Stock;
+use ctl_trait::Controller;
+use outside_io::{MemSink, MemSource};
+use pages_calls::stocks::blanks;
+use pages_cases::pages::{expanded, halves, hold_told, joined};
+use pages_runs::runs::{IN_STOCK, OF_PROGRAM, ample_sink};
+use std::alloc::Global;
+use std::str;
+use std::sync::Wait;
+use std::test::Fail;
+use std::thread::Threads;
+
+/// A document of one joint with a controller. The cycles and the script stand behind it.
+pub const ARM: &str = r#"version = 1
+update_rate = 100
+component = [
+    { name = "arm", kind = "actuator", joint = [
+        { name = "j1", vmax = 1, command = ["position"], state = ["position"] },
+    ] },
+]
+controller = [{ name = "fwd", type = "forward", claims = ["j1/position"] }]
+"#;
+
+/// What stands before the marks, in the last line of a case.
+const ORDER: &str = "order: ";
+
+/// Fails at the first case of a page of which something else is told than it says, in one of so many runs. A case is
+/// the end of a document of the arm, and then a line with the order of its threads.
+pub fn hold<R: Threads + Wait + Sync>(
+    rt: &R,
+    alloc: Global,
+    page: &str,
+    times: u32,
+) -> Result<(), Fail> {
+    for case in page.split("\n\n") {
+        hold_case(rt, alloc, case, times)?;
+    }
+    Ok(())
+}
+
+fn hold_case<R: Threads + Wait + Sync>(
+    rt: &R,
+    alloc: Global,
+    case: &str,
+    times: u32,
+) -> Result<(), Fail> {
+    let case = expanded(alloc, case)?;
+    let (text, want) = halves(case.as_str(), "=> ")?;
+    for _ in 0..times {
+        let told = told_of(rt, alloc, text)?;
+        hold_told(alloc, text, told.as_str(), want)?;
+    }
+    Ok(())
+}
+
+/// How the live run of a case ends and what it prints.
+pub fn told_of<R: Threads + Wait + Sync>(
+    rt: &R,
+    alloc: Global,
+    text: &str,
+) -> Result<String, Fail> {
+    let (script, marks) = halves(text, ORDER)?;
+    let document = joined(alloc, ARM, script)?;
+    let order = InOrder::read(alloc, marks.trim_end())?;
+    let ran = run_live(rt, alloc, document.as_str(), &order)?;
+    if !order.has_come_through() {
+        return Err(Fail::new(format!(in alloc; "held too long: {text}")?));
+    }
+    Ok(ran.told)
+}
+
+/// How a run ended with what it printed, and how often it called its pace.
+#[derive(Drop)]
+pub struct Ran {
+    pub told: String,
+    pub pauses: u64,
+}
+
+/// Runs the document live over the program's stock.
+pub fn run_live<R: Threads + Wait + Sync>(
+    rt: &R,
+    alloc: Global,
+    document: &str,
+    order: &InOrder,
+) -> Result<Ran, Fail> {
+    run_over(rt, alloc, document, order, blanks(alloc, IN_STOCK)?)
+}
+
+/// The same over a stock of these blanks.
+fn run_over<R: Threads + Wait + Sync, C: Controller + Send>(
+    rt: &R,
+    alloc: Global,
+    document: &str,
+    order: &InOrder,
+    blanks: Vec<C>,
+) -> Result<Ran, Fail>
+    requires blank { All (λ c. IsBlank (C.meaning c)) blanks.items }
+    requires few { length blanks.items < 2 ^ 32 }
+{
+    let mut source = OF_PROGRAM.source(alloc, document)?;
+    let mut sink = ample_sink(alloc)?;
+    let words = [String::from_str(alloc, "live")?];
+    let ended = run_held(rt, alloc, &words, &mut source, &mut sink, blanks, order);
+    let told = format!(in alloc; "{}\n{}", ended.status, str::from_utf8(sink.bytes())?)?;
+    Ok(Ran {
+        told: String::from_str(alloc, told.trim_end())?,
+        pauses: ended.pauses,
+    })
+}
+
+/// How a run ended, and how often it called its pace.
+#[derive(Drop)]
+struct Ended {
+    status: Status,
+    pauses: u64,
+}
+
+fn run_held<R: Threads + Wait + Sync, C: Controller + Send>(
+    rt: &R,
+    alloc: Global,
+    words: &[String],
+    source: &mut MemSource,
+    sink: &mut MemSink,
+    blanks: Vec<C>,
+    order: &InOrder,
+) -> Ended
+    requires blank { All (λ c. IsBlank (C.meaning c)) blanks.items }
+    requires few { length blanks.items < 2 ^ 32 }
+{
+    let mut pace = OrderedPace { order, calls: 0 };
+    let stock = Stock::make(blanks);
+    let (status, _) = run(rt, alloc, words, source, sink, stock, &mut pace, order);
+    Ended {
+        status,
+        pauses: pace.calls,
+    }
+}

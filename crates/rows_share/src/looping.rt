@@ -1,0 +1,122 @@
+//! The loop at a shared desk, with where it stands, and the flight that is at hand.
+
+ghost use Rattle.rows_share.specs.Loops.{IsLoopOf};
+
+use crate::sessions::{MOST_TRIES, TOO_OFTEN};
+use crate::stand::Stand;
+use cm_model::Entry;
+use ctl_trait::Controller;
+use fixed_num::Memory;
+use rt_flight::Flight;
+use shared_desk::{KeptDesk, LoopPass, Opening, SharedDesk};
+use std::sync::Wait;
+use std::test::Fail;
+use turn_lock::Kept;
+
+/// The pass of the loop, where the loop stands, and the flight that is at hand: one that is out, or one that is
+/// computed.
+#[derive(Drop)]
+pub struct Looping<C: Controller>
+where
+    KeptDesk<C>: Kept<Entry = Entry, Ground = Opening>,
+{
+    pub pass: LoopPass<C>,
+    pub stand: Stand,
+    pub out: Option<Flight<C>>,
+    pub computed: Option<Flight<C>>,
+}
+
+/// The next cycle begins, if one can.
+#[tactic(auto, using(crate::proofs::LoopLemmas::begins_so, crate::proofs::LoopLemmas::begins_loop, crate::proofs::LoopLemmas::stays_loop))]
+pub fn begin<R: Wait, C: Controller>(
+    rt: &R,
+    desk: &SharedDesk<C>,
+    looping: &mut Looping<C>,
+) -> Result<bool, Memory>
+    requires { IsLoopOf desk.now.lock desk.now.at_first.value looping.old.pass.pass looping.old.stand looping.old.out
+        looping.old.computed }
+    ensures { IsLoopOf desk.now.lock desk.now.at_first.value looping.new.pass.pass looping.new.stand looping.new.out
+        looping.new.computed }
+{
+    let stand = looping.stand;
+    if stand.aloft || stand.closed || stand.left == 0 {
+        return Ok(false);
+    }
+    looping.out = None;
+    looping.computed = None;
+    let flight = desk.begin(rt, &mut looping.pass)?;
+    looping.stand.aloft = true;
+    looping.out = Some(flight);
+    Ok(true)
+}
+
+/// The flight that is out is computed, if there is one.
+#[tactic(auto, using(cm_desk::proofs::BegunLemmas::may_land, crate::proofs::LoopLemmas::at_hand))]
+pub fn compute<C: Controller>(desk: &SharedDesk<C>, looping: &mut Looping<C>) -> bool
+    requires { IsLoopOf desk.now.lock desk.now.at_first.value looping.old.pass.pass looping.old.stand looping.old.out
+        looping.old.computed }
+    ensures { IsLoopOf desk.now.lock desk.now.at_first.value looping.new.pass.pass looping.new.stand looping.new.out
+        looping.new.computed }
+{
+    let Some(mut flight) = looping.out.take() else {
+        return false;
+    };
+    flight.compute();
+    looping.computed = Some(flight);
+    true
+}
+
+/// The computed flight lands, if there is one.
+#[tactic(auto, using(crate::proofs::LoopLemmas::lands_loop, crate::proofs::LoopLemmas::at_hand))]
+pub fn land<R: Wait, C: Controller>(rt: &R, desk: &SharedDesk<C>, looping: &mut Looping<C>) -> bool
+    requires { IsLoopOf desk.now.lock desk.now.at_first.value looping.old.pass.pass looping.old.stand looping.old.out
+        looping.old.computed }
+    ensures { IsLoopOf desk.now.lock desk.now.at_first.value looping.new.pass.pass looping.new.stand looping.new.out
+        looping.new.computed }
+{
+    let Some(flight) = looping.computed.take() else {
+        return false;
+    };
+    looping.out = None;
+    desk.land(rt, &mut looping.pass, flight);
+    looping.stand.aloft = false;
+    looping.stand.left = looping.stand.left.saturating_sub(1);
+    true
+}
+
+/// The loop closes, if it can.
+#[tactic(auto, using(crate::proofs::LoopLemmas::closes_so, crate::proofs::LoopLemmas::closes_loop))]
+pub fn close<R: Wait, C: Controller>(rt: &R, desk: &SharedDesk<C>, looping: &mut Looping<C>) -> bool
+    requires { IsLoopOf desk.now.lock desk.now.at_first.value looping.old.pass.pass looping.old.stand looping.old.out
+        looping.old.computed }
+    ensures { IsLoopOf desk.now.lock desk.now.at_first.value looping.new.pass.pass looping.new.stand looping.new.out
+        looping.new.computed }
+{
+    if looping.stand.aloft || looping.stand.closed {
+        return false;
+    }
+    looping.out = None;
+    looping.computed = None;
+    desk.close(rt, &mut looping.pass);
+    looping.stand.closed = true;
+    true
+}
+
+/// The same, again where it wants memory.
+pub fn begin_again<R: Wait, C: Controller>(
+    rt: &R,
+    desk: &SharedDesk<C>,
+    looping: &mut Looping<C>,
+) -> Result<bool, Fail>
+    requires { IsLoopOf desk.now.lock desk.now.at_first.value looping.old.pass.pass looping.old.stand looping.old.out
+        looping.old.computed }
+    ensures { IsLoopOf desk.now.lock desk.now.at_first.value looping.new.pass.pass looping.new.stand looping.new.out
+        looping.new.computed }
+{
+    for _ in 0..MOST_TRIES {
+        if let Ok(began) = begin(rt, desk, looping) {
+            return Ok(began);
+        }
+    }
+    Err(Fail::new(TOO_OFTEN))
+}

@@ -1,0 +1,163 @@
+//! Runs whose source or sink fails in each of its calls, one after the other, and sinks of each size.
+
+use cm_top::Status;
+use outside_io::{MemSink, MemSource};
+use pages_calls::stocks::blanks;
+use pages_cases::pages::hold_told;
+use pages_runs::runs::{AMPLE, IN_STOCK, OF_PROGRAM, run_over};
+use std::alloc::Global;
+use std::str;
+use std::test::Fail;
+
+/// A joint that a controller moves for three cycles: 324 bytes.
+const MOVED: &str = r#"version = 1
+update_rate = 100
+cycles = 3
+
+[[component]]
+name = "arm"
+kind = "actuator"
+
+[[component.joint]]
+name = "j1"
+vmax = 1
+command = ["position"]
+state = ["position"]
+
+[[controller]]
+name = "fwd"
+type = "forward"
+claims = ["j1/position"]
+--- script ---
+session a
+load fwd
+configure fwd
+switch strict +fwd
+send fwd 0.5
+"#;
+
+/// Its trace, with a bar where a call of the sink ends that takes ten bytes at a time.
+const PIECES: &str = "a load fwd|: ok 0
+|a configur|e fwd: ok
+|a switch s|trict +fwd|: queued 0|
+|loop begin| 0: 0 done|
+|loop end 0|: run fwd |ok unset; |joint j1 0|.000000 0.|000000 0.0|00000
+|a told 0: |done
+|a send fwd| 0.500000:| ok
+|loop begin| 1: none
+|loop end 1|: run fwd |ok 0.50000|0; joint j|1 0.010000| 1.000000 |0.000000
+|loop begin| 2: none
+|loop end 2|: run fwd |ok 0.50000|0; joint j|1 0.020000| 1.000000 |0.000000
+|loop close|: none
+";
+
+/// Each read gives eight bytes of the document, so the forty-first gives the last four, and the one behind it the end.
+const READS: usize = 42;
+
+#[test]
+fn a_run_ends_at_each_read_that_fails(rt: HostRuntime) -> Result<(), Fail> {
+    let alloc = rt.alloc();
+    for call in 0..READS {
+        hold_read(alloc, call, "read fault", "")?;
+    }
+    let trace = PIECES.replace(alloc, "|", "")?;
+    hold_read(alloc, READS, "ok", trace.as_str())
+}
+
+/// Fails if a run whose source fails in this call ends otherwise, or if the sink takes something else.
+fn hold_read(alloc: Global, failing: usize, status: &str, taken: &str) -> Result<(), Fail> {
+    let bytes = MOVED.as_bytes().to_vec(alloc)?;
+    let mut source = MemSource::make(bytes, 8, vec![in alloc; failing as u64]?);
+    let mut sink = sink(alloc, AMPLE, AMPLE, NO_CALL)?;
+    let (ended, _) = run_over(alloc, &mut source, &mut sink, blanks(alloc, IN_STOCK)?);
+    hold_ended(alloc, &ended, &sink, status, taken)
+}
+
+/// The call behind the last piece is the flush.
+#[test]
+fn a_run_ends_at_each_write_that_fails(rt: HostRuntime) -> Result<(), Fail> {
+    let alloc = rt.alloc();
+    let mut taken = String::new(alloc);
+    for (call, piece) in PIECES.split('|').enumerate() {
+        hold_write(alloc, call, "write fault", taken.as_str())?;
+        taken.push_str(piece)?;
+    }
+    let flush = PIECES.split('|').count();
+    hold_write(alloc, flush, "write fault", taken.as_str())?;
+    hold_write(alloc, flush.saturating_add(1), "ok", taken.as_str())
+}
+
+/// Fails if a run whose sink fails in this call ends otherwise, or if the sink takes something else.
+fn hold_write(alloc: Global, failing: usize, status: &str, taken: &str) -> Result<(), Fail> {
+    hold_run(
+        alloc,
+        MOVED,
+        sink(alloc, AMPLE, 10, failing)?,
+        status,
+        taken,
+    )
+}
+
+/// The document that has the shortest trace.
+const LEAST: &str = "version = 1
+update_rate = 100
+cycles = 0
+--- script ---
+";
+
+/// Its trace: 17 bytes.
+const LEAST_TRACE: &str = "loop close: none
+";
+
+#[test]
+fn a_run_fills_a_sink_of_each_size(rt: HostRuntime) -> Result<(), Fail> {
+    let alloc = rt.alloc();
+    let mut taken = String::new(alloc);
+    for letter in LEAST_TRACE.chars() {
+        hold_room(alloc, taken.len(), "write fault", taken.as_str())?;
+        taken.push(letter)?;
+    }
+    hold_room(alloc, taken.len(), "ok", LEAST_TRACE)
+}
+
+/// Fails if the shortest run into a sink with so much room ends otherwise, or if the sink takes something else.
+fn hold_room(alloc: Global, room: usize, status: &str, taken: &str) -> Result<(), Fail> {
+    let sink = sink(alloc, room, AMPLE, NO_CALL)?;
+    hold_run(alloc, LEAST, sink, status, taken)
+}
+
+/// Fails if a run into this sink ends otherwise, or if the sink takes something else.
+fn hold_run(
+    alloc: Global,
+    document: &str,
+    mut sink: MemSink,
+    status: &str,
+    taken: &str,
+) -> Result<(), Fail> {
+    let ended = OF_PROGRAM.run_into(alloc, document, &mut sink)?;
+    hold_ended(alloc, &ended, &sink, status, taken)
+}
+
+/// Fails if a run ended otherwise, or if its sink took something else.
+fn hold_ended(
+    alloc: Global,
+    ended: &Status,
+    sink: &MemSink,
+    status: &str,
+    taken: &str,
+) -> Result<(), Fail> {
+    let ended = format!(in alloc; "{ended}")?;
+    hold_told(alloc, "how it ends", ended.as_str(), status)?;
+    hold_told(alloc, "what is taken", str::from_utf8(sink.bytes())?, taken)
+}
+
+/// The number of no call.
+const NO_CALL: usize = 1_000_000;
+
+/// A sink with so much room that takes so many bytes at a time and fails in this call.
+fn sink(alloc: Global, room: usize, step: usize, failing: usize) -> Result<MemSink, Fail> {
+    if step == 0 {
+        return Err(Fail::new("a step of none"));
+    }
+    Ok(MemSink::make(alloc, room, step, vec![in alloc; failing as u64]?)?)
+}

@@ -1,0 +1,138 @@
+//! One long trace into sinks that take a few bytes at a time, and into sinks that fail at each of its lines.
+
+use outside_io::MemSink;
+use pages_cases::pages::{expanded, halves, hold_told, written_out};
+use pages_runs::runs::{AMPLE, OF_PROGRAM};
+use std::alloc::Global;
+use std::str;
+use std::test::Fail;
+
+/// A joint that stands still, an arm whose read fails once, and a controller, over sixty cycles.
+const LONG: &str = r#"version = 1
+update_rate = 100
+cycles = 60
+[[component]]
+name = "arm"
+kind = "system"
+fail_read = [59]
+[[component.joint]]
+name = "j1"
+vmax = 1
+position = "0.25"
+command = ["position"]
+state = ["position"]
+[[controller]]
+name = "mk"
+type = "mock"
+--- script ---
+session a
+load mk
+list interfaces
+list controllers
+"#;
+
+/// Its trace.
+const LONG_TRACE: &str = "a load mk: ok 0
+a list interfaces: state j1/position 0.250000; command j1/position unset free
+a list controllers: mk mock unconfigured 0
+<0..59 * loop begin #: none
+loop end #: joint j1 0.250000 0.000000 0.000000
+>\
+loop begin 59: none
+loop end 59: fail arm read; joint j1 0.250000 0.000000 0.000000
+loop close: none
+";
+
+/// How many lines it has.
+const LINES: usize = 124;
+
+/// How many bytes the last sink takes at a time.
+const LONGEST_STEP: usize = 64;
+
+#[test]
+fn a_long_trace_is_taken_whole_a_few_bytes_at_a_time(rt: HostRuntime) -> Result<(), Fail> {
+    let trace = expanded(rt.alloc(), LONG_TRACE)?;
+    for step in 1..LONGEST_STEP + 1 {
+        let sink = sink(rt.alloc(), step, NO_CALL)?;
+        hold_taken(rt.alloc(), sink, "ok", trace.as_str())?;
+    }
+    Ok(())
+}
+
+/// Over a sink that takes whole pieces: each line is one, and the call behind them is the flush.
+#[test]
+fn a_run_ends_at_the_line_whose_write_fails(rt: HostRuntime) -> Result<(), Fail> {
+    let trace = expanded(rt.alloc(), LONG_TRACE)?;
+    for call in 0..LINES + 1 {
+        let sink = sink(rt.alloc(), AMPLE, call)?;
+        hold_lines_taken(rt.alloc(), sink, trace.as_str(), call)?;
+    }
+    let sink = sink(rt.alloc(), AMPLE, LINES + 1)?;
+    hold_taken(rt.alloc(), sink, "ok", trace.as_str())
+}
+
+/// Over a sink that takes seven bytes at a time: what it took before the call that fails.
+#[test]
+fn a_line_goes_on_behind_the_part_that_was_taken(rt: HostRuntime) -> Result<(), Fail> {
+    for row in PARTS.lines() {
+        hold_part(rt.alloc(), row)?;
+    }
+    Ok(())
+}
+
+/// The call that fails, and the bytes of the first two lines that were taken.
+const PARTS: &str = r"0 =>\s
+1 => a load\s
+2 => a load mk: ok\s
+3 => a load mk: ok 0\n
+4 => a load mk: ok 0\na list\s
+5 => a load mk: ok 0\na list interfa";
+
+fn hold_part(alloc: Global, row: &str) -> Result<(), Fail> {
+    let row = written_out(alloc, row)?;
+    let (call, taken) = halves(row.as_str(), " => ")?;
+    let sink = sink(alloc, 7, call.parse()?)?;
+    hold_taken(alloc, sink, "write fault", taken)
+}
+
+/// The number of no call.
+const NO_CALL: usize = 1_000_000;
+
+/// A sink with ample room that takes so many bytes at a time and fails in this call.
+fn sink(alloc: Global, step: usize, failing: usize) -> Result<MemSink, Fail> {
+    if step == 0 {
+        return Err(Fail::new("a step of none"));
+    }
+    Ok(MemSink::make(alloc, AMPLE, step, vec![in alloc; failing as u64]?)?)
+}
+
+/// Fails where a run of `LONG` ends otherwise, or something else is taken.
+fn hold_taken(alloc: Global, sink: MemSink, status: &str, taken: &str) -> Result<(), Fail> {
+    let mut sink = sink;
+    let ended = run_long(alloc, &mut sink)?;
+    hold_told(alloc, "how it ends", ended.as_str(), status)?;
+    hold_told(alloc, "what is taken", str::from_utf8(sink.bytes())?, taken)
+}
+
+/// Fails where a run of `LONG` ends in no write fault, or something else is taken than so many lines of its trace, with their ends.
+fn hold_lines_taken(alloc: Global, sink: MemSink, trace: &str, lines: usize) -> Result<(), Fail> {
+    let mut sink = sink;
+    let ended = run_long(alloc, &mut sink)?;
+    hold_told(alloc, "how it ends", ended.as_str(), "write fault")?;
+    let taken = str::from_utf8(sink.bytes())?;
+    if !are_lines_of(trace, taken) || taken.lines().count() != lines {
+        return Err(Fail::new(format!(in alloc; "{lines} lines wanted, of {taken}")?));
+    }
+    Ok(())
+}
+
+/// Whether a text is a front of the trace that ends with a line.
+fn are_lines_of(trace: &str, taken: &str) -> bool {
+    trace.starts_with(taken) && (taken.is_empty() || taken.ends_with("\n"))
+}
+
+/// How a run of `LONG` ends.
+fn run_long(alloc: Global, sink: &mut MemSink) -> Result<String, Fail> {
+    let status = OF_PROGRAM.run_into(alloc, LONG, sink)?;
+    Ok(format!(in alloc; "{status}")?)
+}

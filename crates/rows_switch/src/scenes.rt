@@ -1,0 +1,227 @@
+//! Pages of scenes, and how they are tried.
+
+ghost use Rattle.std.specs.Prelude.{◌≡◌, ◌<◌, IsTrue, All};
+ghost use Rattle.switch_plan.specs.Relations.{relations_of};
+
+use crate::causes::{LISTS, MEMBERS};
+use crate::efforts::EFFORTS;
+use crate::largest::{RISING_REQUESTS, SINKING_REQUESTS};
+use crate::requests::ONE_JOINT;
+use crate::restarts::RESTARTS;
+use cm_document::{Checked, Life, SwitchRequest};
+use cm_model::{Planned, Seen};
+use iface_names::Name;
+use pages_cases::acts::{Player, hold_acts};
+use pages_cases::pages::halves;
+use pages_robots::described::{described, place_of};
+use pages_robots::robots::{ARM_AND_LEG, RISING, SEVEN, SINKING};
+use sequence::Seq;
+use std::alloc::Global;
+use std::test::Fail;
+use switch_plan::{Relations, View, plan, plan_with};
+
+#[test]
+fn requests_have_their_plans(rt: HostRuntime) -> Result<(), Fail> {
+    let alloc = rt.alloc();
+    hold_acts::<Scene>(alloc, SEVEN, ONE_JOINT)?;
+    hold_acts::<Scene>(alloc, ARM_AND_LEG, LISTS)?;
+    hold_acts::<Scene>(alloc, ARM_AND_LEG, MEMBERS)?;
+    hold_acts::<Scene>(alloc, ARM_AND_LEG, RESTARTS)?;
+    hold_acts::<Scene>(alloc, ARM_AND_LEG, EFFORTS)?;
+    hold_acts::<Scene>(alloc, RISING, RISING_REQUESTS)?;
+    hold_acts::<Scene>(alloc, SINKING, SINKING_REQUESTS)
+}
+
+/// A description with what is loaded of it; its components are active where nothing else is said.
+#[derive(Drop)]
+pub(crate) struct Scene {
+    pub(crate) checked: Checked,
+    pub(crate) loaded: Vec<Seen>,
+    pub(crate) components: Vec<Life>,
+}
+
+impl Player for Scene {
+    /// A scene of the robot before it: a line for each controller that is loaded, and for each component that is not active.
+    fn begin(alloc: Global, robot: &str, lines: &str) -> Result<Scene, Fail> {
+        let mut scene = Scene::of(alloc, robot)?;
+        for line in lines.lines() {
+            scene.add(line)?;
+        }
+        Ok(scene)
+    }
+
+    /// What is told of a request: the outcome, and the names of those to deactivate and to activate.
+    fn told(&mut self, alloc: Global, words: &str) -> Result<String, Fail> {
+        let request = request_of(alloc, words)?;
+        let planned = self.planned(alloc, &request)?;
+        self.hold_with_relations(alloc, &request, &planned)?;
+        self.told_of(alloc, &planned)
+    }
+}
+
+impl Scene {
+    /// The description of this text, with nothing loaded.
+    fn of(alloc: Global, text: &str) -> Result<Scene, Fail> {
+        Scene::made(alloc, described(alloc, text)?)
+    }
+
+    fn made(alloc: Global, checked: Checked) -> Result<Scene, Fail> {
+        let count = checked.description().components.as_slice().len();
+        let components = vec![in alloc; Life::Active; count]?;
+        Ok(Scene {
+            checked,
+            loaded: Vec::new(alloc),
+            components,
+        })
+    }
+
+    /// `NAME STATE`: a controller that is loaded next, with `chained` for an active one that is, and `late` for an inactive
+    /// one that is not ready; or `PLACE STATE` of a component.
+    fn add(&mut self, line: &str) -> Result<(), Fail> {
+        let (name, word) = halves(line, " ")?;
+        let life = life_of(word);
+        match name.parse() {
+            Ok(place) => self.set_component(place, life),
+            Err(_) => self.load(name, word, life),
+        }
+    }
+
+    /// A component's state.
+    fn set_component(&mut self, place: usize, life: Life) -> Result<(), Fail> {
+        if place >= self.components.len() {
+            return Err(Fail::new("no such component"));
+        }
+        self.components[place] = life;
+        Ok(())
+    }
+
+    /// A controller is loaded next.
+    fn load(&mut self, name: &str, word: &str, life: Life) -> Result<(), Fail> {
+        let place = place_of(&self.checked, name)?;
+        let serial = u32::try_from(self.loaded.len())?;
+        self.loaded.push(Seen {
+            serial,
+            place,
+            life,
+            chained: word == "chained",
+            ready: word != "late",
+        })?;
+        Ok(())
+    }
+
+    /// The plan of a request.
+    fn planned(&self, alloc: Global, request: &SwitchRequest) -> Result<Planned, Fail> {
+        let count = self.checked.description().controllers.as_slice().len();
+        if !are_below(&self.loaded, count) {
+            return Err(Fail::new("no such place"));
+        }
+        let view = View {
+            checked: &self.checked,
+            loaded: &self.loaded,
+            components: &self.components,
+        };
+        Ok(plan(alloc, &view, request)?)
+    }
+
+    /// The plan of a request, with the relations.
+    fn planned_with(
+        &self,
+        alloc: Global,
+        relations: &Relations,
+        request: &SwitchRequest,
+    ) -> Result<Planned, Fail>
+        requires relations { relations.now ≡ relations_of self.now.checked }
+    {
+        let count = self.checked.description().controllers.as_slice().len();
+        if !are_below(&self.loaded, count) {
+            return Err(Fail::new("no such place"));
+        }
+        let view = View {
+            checked: &self.checked,
+            loaded: &self.loaded,
+            components: &self.components,
+        };
+        Ok(plan_with(alloc, &view, relations, request)?)
+    }
+
+    /// Fails where a request has another plan with the relations.
+    fn hold_with_relations(
+        &self,
+        alloc: Global,
+        request: &SwitchRequest,
+        planned: &Planned,
+    ) -> Result<(), Fail> {
+        let relations = Relations::of(alloc, &self.checked)?;
+        if self.planned_with(alloc, &relations, request)? == *planned {
+            return Ok(());
+        }
+        Err(Fail::new("with the relations it is another plan"))
+    }
+
+    fn told_of(&self, alloc: Global, planned: &Planned) -> Result<String, Fail> {
+        let mut told = format!(in alloc; "{};", planned.outcome)?;
+        self.push_names(&mut told, " -", planned.off.as_slice())?;
+        told.push_str(";")?;
+        self.push_names(&mut told, " +", planned.on.as_slice())?;
+        Ok(told)
+    }
+
+    /// The names of the controllers with these serials, each behind a sign.
+    fn push_names(&self, told: &mut String, sign: &str, serials: &[u32]) -> Result<(), Fail> {
+        for serial in serials {
+            told.push_str(sign)?;
+            told.push_str(self.name_of(*serial)?)?;
+        }
+        Ok(())
+    }
+
+    /// The name of the controller with this serial.
+    pub(crate) fn name_of(&self, serial: u32) -> Result<&str, Fail> {
+        let seen = self.loaded.iter().find(|seen| seen.serial == serial);
+        let place = seen.ok_or("no such serial")?.place;
+        let controllers = self.checked.description().controllers.as_slice();
+        let controller = controllers.get(place as usize).ok_or("no such place")?;
+        Ok(controller.name.as_str())
+    }
+}
+
+/// The lifecycle state that a word stands for: of one that is late it is inactive, and of any other it is active.
+pub(crate) fn life_of(word: &str) -> Life {
+    match word {
+        "unconfigured" => Life::Unconfigured,
+        "inactive" | "late" => Life::Inactive,
+        "finalized" => Life::Finalized,
+        _ => Life::Active,
+    }
+}
+
+/// Whether each of these has its place below the count.
+pub(crate) fn are_below(loaded: &[Seen], count: usize) -> bool
+    ensures { IsTrue result → All (λ l. l.place < count) loaded.now }
+{
+    loaded.iter().all(|seen| (seen.place as usize) < count)
+}
+
+/// `strict` or `best`, and names behind `-` to deactivate and behind `+` to activate.
+pub(crate) fn request_of(alloc: Global, words: &str) -> Result<SwitchRequest, Fail> {
+    let mut request = SwitchRequest {
+        on: Seq::new(alloc),
+        off: Seq::new(alloc),
+        strict: false,
+    };
+    for word in words.split_whitespace() {
+        add_word(alloc, &mut request, word)?;
+    }
+    Ok(request)
+}
+
+fn add_word(alloc: Global, request: &mut SwitchRequest, word: &str) -> Result<(), Fail> {
+    if let Some(name) = word.strip_prefix('-') {
+        request.off.push(Name::read(alloc, name.as_bytes())?)?;
+    } else if let Some(name) = word.strip_prefix('+') {
+        request.on.push(Name::read(alloc, name.as_bytes())?)?;
+    } else {
+        request.strict = word == "strict";
+    }
+    Ok(())
+}
