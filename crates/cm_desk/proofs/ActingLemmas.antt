@@ -21,15 +21,15 @@ use Rattle.cm_hardware.proofs.LentLemmas.{held_is_moved}
 use Rattle.cm_hardware.proofs.PresentLemmas.{owned_is_available}
 use Rattle.cm_places.specs.Placed.{Placed}
 use Rattle.request_plan.specs.Acts.{IsSwitchOf}
-use Rattle.request_plan.specs.Stands.{IsStand, IsSeenOf}
+use Rattle.request_plan.specs.Situations.{IsSituation, IsSeenOf}
 use Rattle.request_plan.specs.declared.acts.Conclusion.{Conclusion}
 use Rattle.request_plan.specs.declared.acts.Switched.{Switched}
-use Rattle.request_plan.specs.declared.stand.Stand.{Stand}
-use Rattle.request_plan.proofs.StandLemmas.{chained_among}
+use Rattle.request_plan.specs.declared.situation.Situation.{Situation}
+use Rattle.request_plan.proofs.SituationLemmas.{chained_among}
 use Rattle.sound_laws.proofs.BoundaryLemmas.{concluded_steady}
-use Rattle.cm_desk.specs.Bay.{Base}
+use Rattle.cm_desk.specs.CycleResources.{Base}
 use Rattle.cm_desk.specs.Begin.{IsNext, CanAct}
-use Rattle.cm_desk.specs.Roster.{Listed}
+use Rattle.cm_desk.specs.ActiveSet.{Listed}
 use Rattle.cm_desk.specs.Works.{IsAsDescribed, IsKept, CanCommit}
 use Rattle.cm_desk.proofs.CommitLemmas.{places_within}
 
@@ -40,9 +40,9 @@ seen_within s n [] within = tt
 seen_within s n (l ∷ ls) within = (within.0, seen_within s n ls within.1)
 
 -- what is seen of the state can be decided by,
-pub stands_so : (s : State) (stand : Stand) → All (IsAsDescribed s.description) s.loaded → IsSteady s
-    → stand.loaded.items ≡ map (seen s) s.loaded → stand.lives.items ≡ s.lives → IsStand s.description stand
-stands_so s stand described steady loaded lives =
+pub stands_so : (s : State) (situation : Situation) → All (IsAsDescribed s.description) s.loaded → IsSteady s
+    → situation.loaded.items ≡ map (seen s) s.loaded → situation.lives.items ≡ s.lives → IsSituation s.description situation
+stands_so s situation described steady loaded lives =
     let n = length s.description.controllers in
     record {
       within = rw loaded (All-from_recursion (λ (l : Seen). l.place < n) (map (seen s) s.loaded)
@@ -51,9 +51,9 @@ stands_so s stand described steady loaded lives =
     }
 
 -- and is seen of it
-pub seen_so : (s : State) (stand : Stand) → IsSteady s → IsNumbered s
-    → stand.loaded.items ≡ map (seen s) s.loaded → stand.lives.items ≡ s.lives → IsSeenOf s s.description stand
-seen_so s stand steady numbered loaded lives = record { steady = steady; once = numbered.once; scene = rw (loaded, lives) refl }
+pub seen_so : (s : State) (situation : Situation) → IsSteady s → IsNumbered s
+    → situation.loaded.items ≡ map (seen s) s.loaded → situation.lives.items ≡ s.lives → IsSeenOf s s.description situation
+seen_so s situation steady numbered loaded lives = record { steady = steady; once = numbered.once; scene = rw (loaded, lives) refl }
 
 -- a loaded controller is chained where it runs and its description says so
 pub chained_so : (s : State) (l : Loaded) (c : CtlDesc) → slice_get s.description.controllers l.place ≡ Some c
@@ -77,14 +77,14 @@ seen_as s l c serial place life chained ready there same_serial same_place same_
 -- a switch that is done can be committed
 pub can_switch : (s after : State) (c : Switched) (names : List (List ℕ)) (base : Base) (listed : Listed)
     → IsKept s names base listed → IsSteady s → (is : IsSwitchOf s after c)
-    → CanCommit s (set_of c.set) is.again base.plant.places base.room s.loaded base.plant.hardware listed c.chained c.stopped c.started
+    → CanCommit s (set_of c.set) is.again base.robot.places base.room s.loaded base.robot.hardware listed c.chained c.stopped c.started
 can_switch s after c names base listed kept steady is = record {
   valid = kept.worked_out.valid;
   placed = kept.worked_out.placed;
   wide = kept.based.wide;
   loaded = refl;
   described = kept.described;
-  hardware = held_is_moved s base.plant.hardware (owned_is_available s kept.worked_out.valid steady.together steady.in_order.described) kept.hardware;
+  hardware = held_is_moved s base.robot.hardware (owned_is_available s kept.worked_out.valid steady.together steady.in_order.described) kept.hardware;
   listed = kept.listed.active.counted;
   told = record { chained = is.chained; stopped = is.stopped; started = is.started };
   in_order = steady.in_order;

@@ -16,7 +16,7 @@ use Rattle.cm_hardware.specs.Holding.{IsHardwareOf}
 use Rattle.cm_hardware.specs.Wiring.{Wired}
 use Rattle.cm_hardware.proofs.SameLemmas.{same_hardware}
 use Rattle.stop_plan.specs.Ending.{member_of, members_in_order}
-use Rattle.cm_desk.specs.Roster.{actives, serial_in}
+use Rattle.cm_desk.specs.ActiveSet.{actives, serial_in}
 
 -- ---- Tests of the active ones
 

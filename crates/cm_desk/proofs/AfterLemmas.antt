@@ -26,129 +26,129 @@ use Rattle.cm_slots.specs.Slots.{Slotted}
 use Rattle.cm_slots.proofs.FitLemmas.{fit_committed, fit_landed}
 use Rattle.request_plan.specs.Requests.{Asked}
 use Rattle.rt_flight.specs.Flights.{TellsNothing}
-use Rattle.rt_flight.specs.Stations.{IsFitted}
-use Rattle.rt_flight.specs.declared.craft.Craft.{Craft}
-use Rattle.rt_flight.specs.declared.plant.Plant.{Plant}
+use Rattle.rt_flight.specs.Workspaces.{IsFitted}
+use Rattle.rt_flight.specs.declared.context.CycleContext.{CycleContext}
+use Rattle.rt_flight.specs.declared.robot.Robot.{Robot}
 use Rattle.stop_plan.specs.Ending.{HasFlags, told_in, nobody_again}
-use Rattle.cm_desk.specs.Bay.{Base, base_of, stand_ins_for, HasLines, IsAtHome, IsBased, IsHome, IsMadeReady, IsRewired}
+use Rattle.cm_desk.specs.CycleResources.{Base, base_of, stand_ins_for, HasLines, IsAtHome, IsBased, IsHome, IsMadeReady, IsRewired}
 use Rattle.cm_desk.specs.End.{HasSettled}
-use Rattle.cm_desk.specs.Roster.{Listed, serial_in}
-use Rattle.cm_desk.specs.Supplies.{stands_for}
+use Rattle.cm_desk.specs.ActiveSet.{Listed, serial_in}
+use Rattle.cm_desk.specs.CycleNeeds.{stands_for}
 use Rattle.cm_desk.specs.Works.{IsKept, IsWorkedOut, HasCommitted, state_with}
-use Rattle.cm_desk.specs.declared.bay.Bay.{Bay}
-use Rattle.cm_desk.specs.declared.bay.Spare.{Spare}
+use Rattle.cm_desk.specs.declared.resources.CycleResources.{CycleResources}
+use Rattle.cm_desk.specs.declared.resources.CycleBuffers.{CycleBuffers}
 use Rattle.cm_desk.specs.declared.works.Works.TheInside.{Inside}
 use Rattle.cm_desk.proofs.Insides.{base_in, state_of}
 use Rattle.cm_desk.proofs.StayLemmas.{all_staying, commit_stays, landed_stays, count_stays, described_stay, divided_stay}
 
 -- What else is kept of a base goes by these parts of it, where it is at home.
 pub record IsSameBase (before after : Base) : Type 0 where
-  pub plant : after.plant ≡ record before.plant { hardware = after.plant.hardware }
+  pub robot : after.robot ≡ record before.robot { hardware = after.robot.hardware }
   pub ending : after.ending ≡ before.ending
-  pub home : IsSomeAnd after.hangar (IsHome after.plant after.ending after.members after.erred after.spare_lists)
+  pub home : IsSomeAnd after.idle_context (IsHome after.robot after.ending after.members after.erred after.next_lists)
   pub mails : after.mails ≡ before.mails
-  pub stations : after.stations ≡ before.stations
+  pub workspaces : after.workspaces ≡ before.workspaces
   pub members : after.members ≡ before.members
   pub erred : after.erred ≡ before.erred
   pub lists : after.lists ≡ before.lists
   pub untold : after.told ≡ false
-  pub spare_lists : after.spare_lists ≡ before.spare_lists
+  pub next_lists : after.next_lists ≡ before.next_lists
   pub size : after.size ≡ before.size
   pub room : after.room ≡ before.room
 
--- so it is of a bay whose hardware changed
-pub rewired : (b b' : Bay) (berths : ℕ) → IsRewired b b' → IsSameBase (base_of b berths) (base_of b' berths)
-rewired b b' berths is = record {
-  plant = is.plant;
+-- so it is of resources whose hardware changed
+pub rewired : (b b' : CycleResources) (box_places : ℕ) → IsRewired b b' → IsSameBase (base_of b box_places) (base_of b' box_places)
+rewired b b' box_places is = record {
+  robot = is.robot;
   ending = is.ending;
   home = is.home;
   mails = is.mails;
-  stations = ap (λ (x : Spare). x.stations.items) is.spare;
+  workspaces = ap (λ (x : CycleBuffers). x.workspaces.items) is.buffers;
   members = is.members;
   erred = is.erred;
   lists = is.lists;
   untold = is.untold;
-  spare_lists = is.spare_lists;
+  next_lists = is.next_lists;
   size = is.size;
   room = is.room;
 }
 
 -- where what works in a cycle comes to rest again, with other hardware
-pub at_rest : (b left b' : Bay) (k r : Box Craft Global) (h : Craft) → IsHome b.plant.value b.ending.value b.members.value.items b.erred.value.items b.spare_lists.value k → left ≡ record b { hangar = None; room = left.room } → left.room ≡ b.room
-    → h ≡ k.value → r.value ≡ record h { plant = record h.plant { hardware = r.value.plant.hardware } }
-    → b' ≡ record left { hangar = Some r; plant = b'.plant; told = false } → b'.plant.value ≡ r.value.plant → IsRewired b b'
-at_rest b left b' k r h home away room taken same rests plant =
-    let aboard : h.plant ≡ b.plant.value = ap (λ (x : Craft). x.plant) taken ∙ home.plant in
-    let now : r.value.plant ≡ record b.plant.value { hardware = r.value.plant.hardware } =
-    ap (λ (x : Craft). x.plant) same ∙ ap (λ (g : Plant). record g { hardware = r.value.plant.hardware }) aboard in
-    let ending : b'.ending.value ≡ b.ending.value = ap (λ (x : Bay). x.ending.value) rests ∙ ap (λ (x : Bay). x.ending.value) away in
-    let sets : r.value.ending ≡ b.ending.value = ap (λ (x : Craft). x.ending) same ∙ ap (λ (x : Craft). x.ending) taken ∙ home.ending in
-    let hangar : b'.hangar ≡ Some r = ap (λ (x : Bay). x.hangar) rests in
-    let members : b'.members.value.items ≡ b.members.value.items = ap (λ (x : Bay). x.members.value.items) rests ∙ ap (λ (x : Bay). x.members.value.items) away in
-    let erred : b'.erred.value.items ≡ b.erred.value.items = ap (λ (x : Bay). x.erred.value.items) rests ∙ ap (λ (x : Bay). x.erred.value.items) away in
-    let spare_lists : b'.spare_lists.value ≡ b.spare_lists.value = ap (λ (x : Bay). x.spare_lists.value) rests ∙ ap (λ (x : Bay). x.spare_lists.value) away in
-    let room_is : r.value.room ≡ k.value.room = ap (λ (x : Craft). x.room) same ∙ ap (λ (x : Craft). x.room) taken in
+pub at_rest : (b left b' : CycleResources) (k r : Box CycleContext Global) (h : CycleContext) → IsHome b.robot.value b.ending.value b.members.value.items b.erred.value.items b.next_lists.value k → left ≡ record b { idle_context = None; room = left.room } → left.room ≡ b.room
+    → h ≡ k.value → r.value ≡ record h { robot = record h.robot { hardware = r.value.robot.hardware } }
+    → b' ≡ record left { idle_context = Some r; robot = b'.robot; told = false } → b'.robot.value ≡ r.value.robot → IsRewired b b'
+at_rest b left b' k r h home away room taken same rests robot =
+    let aboard : h.robot ≡ b.robot.value = ap (λ (x : CycleContext). x.robot) taken ∙ home.robot in
+    let now : r.value.robot ≡ record b.robot.value { hardware = r.value.robot.hardware } =
+    ap (λ (x : CycleContext). x.robot) same ∙ ap (λ (g : Robot). record g { hardware = r.value.robot.hardware }) aboard in
+    let ending : b'.ending.value ≡ b.ending.value = ap (λ (x : CycleResources). x.ending.value) rests ∙ ap (λ (x : CycleResources). x.ending.value) away in
+    let sets : r.value.ending ≡ b.ending.value = ap (λ (x : CycleContext). x.ending) same ∙ ap (λ (x : CycleContext). x.ending) taken ∙ home.ending in
+    let idle_context : b'.idle_context ≡ Some r = ap (λ (x : CycleResources). x.idle_context) rests in
+    let members : b'.members.value.items ≡ b.members.value.items = ap (λ (x : CycleResources). x.members.value.items) rests ∙ ap (λ (x : CycleResources). x.members.value.items) away in
+    let erred : b'.erred.value.items ≡ b.erred.value.items = ap (λ (x : CycleResources). x.erred.value.items) rests ∙ ap (λ (x : CycleResources). x.erred.value.items) away in
+    let next_lists : b'.next_lists.value ≡ b.next_lists.value = ap (λ (x : CycleResources). x.next_lists.value) rests ∙ ap (λ (x : CycleResources). x.next_lists.value) away in
+    let room_is : r.value.room ≡ k.value.room = ap (λ (x : CycleContext). x.room) same ∙ ap (λ (x : CycleContext). x.room) taken in
     record {
-      plant = plant ∙ now ∙ ap (λ (w : Wired). record b.plant.value { hardware = w }) (sym (ap (λ (g : Plant). g.hardware) plant));
+      robot = robot ∙ now ∙ ap (λ (w : Wired). record b.robot.value { hardware = w }) (sym (ap (λ (g : Robot). g.hardware) robot));
       ending = ending;
-      home = subst (λ (o : Option (Box Craft Global)). IsSomeAnd o (IsHome b'.plant.value b'.ending.value b'.members.value.items b'.erred.value.items b'.spare_lists.value)) (sym hangar) (record {
-        plant = sym plant;
+      home = subst (λ (o : Option (Box CycleContext Global)). IsSomeAnd o (IsHome b'.robot.value b'.ending.value b'.members.value.items b'.erred.value.items b'.next_lists.value)) (sym idle_context) (record {
+        robot = sym robot;
         ending = sets ∙ sym ending;
-        order = ap (λ (x : Craft). x.order.items) same ∙ ap (λ (x : Craft). x.order.items) taken ∙ home.order ∙ sym members;
-        erred = ap (λ (x : Craft). x.erred.items) same ∙ ap (λ (x : Craft). x.erred.items) taken ∙ home.erred ∙ sym erred;
-        spare_lists = ap (λ (x : Craft). x.lists) same ∙ ap (λ (x : Craft). x.lists) taken ∙ home.spare_lists ∙ sym spare_lists;
+        order = ap (λ (x : CycleContext). x.order.items) same ∙ ap (λ (x : CycleContext). x.order.items) taken ∙ home.order ∙ sym members;
+        erred = ap (λ (x : CycleContext). x.erred.items) same ∙ ap (λ (x : CycleContext). x.erred.items) taken ∙ home.erred ∙ sym erred;
+        next_lists = ap (λ (x : CycleContext). x.lists) same ∙ ap (λ (x : CycleContext). x.lists) taken ∙ home.next_lists ∙ sym next_lists;
         told = subst (λ (o : Option RecordRoom). IfSome o TellsNothing) (sym room_is) home.told;
       });
-      mails = ap (λ (x : Bay). x.mails.value.items) rests ∙ ap (λ (x : Bay). x.mails.value.items) away;
-      spare = ap (λ (x : Bay). x.spare) rests ∙ ap (λ (x : Bay). x.spare) away;
+      mails = ap (λ (x : CycleResources). x.mails.value.items) rests ∙ ap (λ (x : CycleResources). x.mails.value.items) away;
+      buffers = ap (λ (x : CycleResources). x.buffers) rests ∙ ap (λ (x : CycleResources). x.buffers) away;
       members = members;
       erred = erred;
-      lists = ap (λ (x : Bay). x.lists) rests ∙ ap (λ (x : Bay). x.lists) away;
-      untold = ap (λ (x : Bay). x.told) rests;
-      spare_lists = spare_lists;
-      size = ap (λ (x : Bay). x.size) rests ∙ ap (λ (x : Bay). x.size) away;
-      room = ap (λ (x : Bay). x.room) rests ∙ room;
+      lists = ap (λ (x : CycleResources). x.lists) rests ∙ ap (λ (x : CycleResources). x.lists) away;
+      untold = ap (λ (x : CycleResources). x.told) rests;
+      next_lists = next_lists;
+      size = ap (λ (x : CycleResources). x.size) rests ∙ ap (λ (x : CycleResources). x.size) away;
+      room = ap (λ (x : CycleResources). x.room) rests ∙ room;
     }
 
 -- where no cycle is aloft all is at home
-home_from : (P : Box Craft Global → Type 0) (o : Option (Box Craft Global)) → is_some o ≡ true → IfSome o P → IsSomeAnd o P
+home_from : (P : Box CycleContext Global → Type 0) (o : Option (Box CycleContext Global)) → is_some o ≡ true → IfSome o P → IsSomeAnd o P
 home_from P None some home = cc
 home_from P (Some h) some home = home
 
-pub at_home : (d : Description) (order : List Member) (b : Bay) (berths : ℕ) (aloft : Bool) → IsBased d aloft order (base_of b berths) → aloft ≡ false → IsAtHome b
-at_home d order b berths aloft based down = home_from (IsHome b.plant.value b.ending.value b.members.value.items b.erred.value.items b.spare_lists.value) b.hangar (based.home_is ∙ ap not down) based.home
+pub at_home : (d : Description) (order : List Member) (b : CycleResources) (box_places : ℕ) (aloft : Bool) → IsBased d aloft order (base_of b box_places) → aloft ≡ false → IsAtHome b
+at_home d order b box_places aloft based down = home_from (IsHome b.robot.value b.ending.value b.members.value.items b.erred.value.items b.next_lists.value) b.idle_context (based.home_is ∙ ap not down) based.home
 
-some_home : (P : Box Craft Global → Type 0) (o : Option (Box Craft Global)) → IsSomeAnd o P → (is_some o ≡ true) × IfSome o P
+some_home : (P : Box CycleContext Global → Type 0) (o : Option (Box CycleContext Global)) → IsSomeAnd o P → (is_some o ≡ true) × IfSome o P
 some_home P None home = absurd home
 some_home P (Some h) home = (refl, home)
 
 based_with : (d : Description) (was order : List Member) (before after : Base) → IsBased d false was before → IsSameBase before after → IsBased d false order after
 based_with d was order before after based same =
-    let home = some_home (IsHome after.plant after.ending after.members after.erred after.spare_lists) after.hangar same.home in
-    let places : after.plant.places ≡ before.plant.places = ap (λ (g : Plant). g.places) same.plant in
+    let home = some_home (IsHome after.robot after.ending after.members after.erred after.next_lists) after.idle_context same.home in
+    let places : after.robot.places ≡ before.robot.places = ap (λ (g : Robot). g.places) same.robot in
     record {
       wide = same.room ∙ based.wide;
       flags = rw (same.ending) based.flags;
       home = home.1;
       home_is = home.0;
-      fitted = rw (places, same.stations) based.fitted;
-      ordered = λ down. rw (same.members, same.stations) (based.ordered down);
+      fitted = rw (places, same.workspaces) based.fitted;
+      ordered = λ down. rw (same.members, same.workspaces) (based.ordered down);
       size = rw (same.size) based.size;
       lines = rw (same.lists) based.lines;
       shown = λ away. (let no : false ≡ true = sym away ∙ home.0 in cc);
       told = λ yes. (let no : false ≡ true = sym same.untold ∙ yes in cc);
-      spare_lines = λ down. rw (same.spare_lists) (based.spare_lines down);
+      next_lines = λ down. rw (same.next_lists) (based.next_lines down);
       stands = λ aloft. cc;
-      berths = λ aloft. cc;
+      box_places = λ aloft. cc;
     }
 
-worked_with : (d : Description) (names : List (List ℕ)) (before after : Plant) → IsWorkedOut d names before → after ≡ record before { hardware = after.hardware } → IsWorkedOut d names after
+worked_with : (d : Description) (names : List (List ℕ)) (before after : Robot) → IsWorkedOut d names before → after ≡ record before { hardware = after.hardware } → IsWorkedOut d names after
 worked_with d names before after is same = record {
   valid = is.valid;
   named = is.named;
-  related = ap (λ (g : Plant). g.relations) same ∙ is.related;
-  placed = ap (λ (g : Plant). g.places) same ∙ is.placed;
-  timed = ap (λ (g : Plant). g.period_us) same ∙ is.timed;
+  related = ap (λ (g : Robot). g.relations) same ∙ is.related;
+  placed = ap (λ (g : Robot). g.places) same ∙ is.placed;
+  timed = ap (λ (g : Robot). g.period_us) same ∙ is.timed;
 }
 
 -- ---- A commit
@@ -156,27 +156,27 @@ worked_with d names before after is same = record {
 -- with these controllers and this hardware the state is the one after the commit
 pub view_committed : (s : State) (set again : Places) (slots slots' : Slotted) (before after : Base) (looked : Listed) → s.aloft ≡ slots.aloft → s.mails ≡ before.mails
     → s.fallbacks ≡ stand_ins_for s.description before.erred
-    → HasCommitted s set again slots'.loaded after.plant.hardware looked → slots' ≡ record slots { loaded = slots'.loaded } → IsSameBase before after
-    → with_hardware (record s { loaded = slots'.loaded; aloft = slots'.aloft; mails = after.mails; fallbacks = stand_ins_for s.description after.erred }) after.plant.hardware
+    → HasCommitted s set again slots'.loaded after.robot.hardware looked → slots' ≡ record slots { loaded = slots'.loaded } → IsSameBase before after
+    → with_hardware (record s { loaded = slots'.loaded; aloft = slots'.aloft; mails = after.mails; fallbacks = stand_ins_for s.description after.erred }) after.robot.hardware
     ≡ commit s set again
 unfolding commit
 view_committed s set again slots slots' before after looked aloft mails fallbacks made stays same =
     let fell = stand_ins_for s.description after.erred in
-    ap (λ (b : Bool). with_hardware (record s { loaded = slots'.loaded; aloft = b; mails = after.mails; fallbacks = fell }) after.plant.hardware) (ap (λ (x : Slotted). x.aloft) stays ∙ sym aloft)
-    ∙ ap (λ (ms : List MailAloft). with_hardware (record s { loaded = slots'.loaded; mails = ms; fallbacks = fell }) after.plant.hardware) (same.mails ∙ sym mails)
-    ∙ ap (λ (names : List (List ℕ)). with_hardware (record s { loaded = slots'.loaded; fallbacks = names }) after.plant.hardware)
+    ap (λ (b : Bool). with_hardware (record s { loaded = slots'.loaded; aloft = b; mails = after.mails; fallbacks = fell }) after.robot.hardware) (ap (λ (x : Slotted). x.aloft) stays ∙ sym aloft)
+    ∙ ap (λ (ms : List MailAloft). with_hardware (record s { loaded = slots'.loaded; mails = ms; fallbacks = fell }) after.robot.hardware) (same.mails ∙ sym mails)
+    ∙ ap (λ (names : List (List ℕ)). with_hardware (record s { loaded = slots'.loaded; fallbacks = names }) after.robot.hardware)
     (ap (stand_ins_for s.description) same.erred ∙ sym fallbacks)
-    ∙ ap (λ (ls : List Loaded). with_hardware (record s { loaded = ls }) after.plant.hardware) made.loaded ∙ sym (state_is (commit s set again) after.plant.hardware made.hardware)
+    ∙ ap (λ (ls : List Loaded). with_hardware (record s { loaded = ls }) after.robot.hardware) made.loaded ∙ sym (state_is (commit s set again) after.robot.hardware made.hardware)
 
 pub kept_committed : (s : State) (set again : Places) (slots : List Loaded) (names : List (List ℕ)) (before after : Base) (was looked : Listed)
-    → IsKept s names before was → s.aloft ≡ false → HasCommitted s set again slots after.plant.hardware looked → looked.order ≡ was.order → IsSameBase before after
+    → IsKept s names before was → s.aloft ≡ false → HasCommitted s set again slots after.robot.hardware looked → looked.order ≡ was.order → IsSameBase before after
     → IsKept (commit s set again) names after looked
 unfolding commit
 kept_committed s set again slots names before after was looked kept down made order same =
     let stays = commit_stays s set again in
     let based : IsBased s.description false was.order before = subst (λ (b : Bool). IsBased s.description b was.order before) down kept.based in
     record {
-      worked_out = worked_with s.description names before.plant after.plant kept.worked_out same.plant;
+      worked_out = worked_with s.description names before.robot after.robot kept.worked_out same.robot;
       described = described_stay s.description s.loaded (commit s set again).loaded stays kept.described;
       divided = divided_stay s.loaded (commit s set again).loaded stays kept.divided;
       counted = kept.counted;
@@ -202,20 +202,20 @@ pub held_when_steady : (s : State) (lives : List Life) (w : Wired) → IsValid s
 held_when_steady s lives w valid steady is =
     moved_is_held (moved s lives) w (owned_is_available (moved s lives) valid steady.together steady.in_order.described) is
 
-pub view_moved : (s : State) (lives : List Life) (before after : Base) → s.mails ≡ before.mails → s.fallbacks ≡ stand_ins_for s.description before.erred → IsSameBase before after → IsHardwareOf (moved s lives) after.plant.hardware
-    → with_hardware (record s { mails = after.mails; fallbacks = stand_ins_for s.description after.erred }) after.plant.hardware ≡ moved s lives
+pub view_moved : (s : State) (lives : List Life) (before after : Base) → s.mails ≡ before.mails → s.fallbacks ≡ stand_ins_for s.description before.erred → IsSameBase before after → IsHardwareOf (moved s lives) after.robot.hardware
+    → with_hardware (record s { mails = after.mails; fallbacks = stand_ins_for s.description after.erred }) after.robot.hardware ≡ moved s lives
 view_moved s lives before after mails fallbacks same is =
-    ap (λ (ms : List MailAloft). with_hardware (record s { mails = ms; fallbacks = stand_ins_for s.description after.erred }) after.plant.hardware) (same.mails ∙ sym mails)
-    ∙ ap (λ (names : List (List ℕ)). with_hardware (record s { fallbacks = names }) after.plant.hardware) (ap (stand_ins_for s.description) same.erred ∙ sym fallbacks)
-    ∙ sym (state_is (moved s lives) after.plant.hardware is)
+    ap (λ (ms : List MailAloft). with_hardware (record s { mails = ms; fallbacks = stand_ins_for s.description after.erred }) after.robot.hardware) (same.mails ∙ sym mails)
+    ∙ ap (λ (names : List (List ℕ)). with_hardware (record s { fallbacks = names }) after.robot.hardware) (ap (stand_ins_for s.description) same.erred ∙ sym fallbacks)
+    ∙ sym (state_is (moved s lives) after.robot.hardware is)
 
 pub kept_moved : (s : State) (lives : List Life) (names : List (List ℕ)) (before after : Base) (listed : Listed)
-    → IsKept s names before listed → s.aloft ≡ false → IsHardwareOf (moved s lives) after.plant.hardware → IsSameBase before after
+    → IsKept s names before listed → s.aloft ≡ false → IsHardwareOf (moved s lives) after.robot.hardware → IsSameBase before after
     → IsKept (moved s lives) names after listed
 kept_moved s lives names before after listed kept down is same =
     let based : IsBased s.description false listed.order before = subst (λ (b : Bool). IsBased s.description b listed.order before) down kept.based in
     record {
-      worked_out = worked_with s.description names before.plant after.plant kept.worked_out same.plant;
+      worked_out = worked_with s.description names before.robot after.robot kept.worked_out same.robot;
       described = kept.described;
       divided = kept.divided;
       counted = kept.counted;
@@ -250,19 +250,19 @@ ended_fit s fit = fit_committed (landed s (cycle s)) (stays_active s (told_in s)
 
 -- What is kept of a base that is at home again.
 pub record IsHomeBase (d : Description) (before after : Base) : Type 0 where
-  pub home : IsSomeAnd after.hangar (IsHome after.plant after.ending after.members after.erred after.spare_lists)
+  pub home : IsSomeAnd after.idle_context (IsHome after.robot after.ending after.members after.erred after.next_lists)
   pub flags : HasFlags (length d.controllers) after.ending
-  pub fitted : AllByRecursion (IsFitted after.plant.places) after.stations
-  pub ordered : after.members ≡ map stands_for after.stations
+  pub fitted : AllByRecursion (IsFitted after.robot.places) after.workspaces
+  pub ordered : after.members ≡ map stands_for after.workspaces
   pub lines : HasLines d after.lists
-  pub told : after.told ≡ true → Shows after.plant.hardware after.lists
-  pub spare_lines : HasLines d after.spare_lists
+  pub told : after.told ≡ true → Shows after.robot.hardware after.lists
+  pub next_lines : HasLines d after.next_lists
   pub size : after.size ≡ before.size
   pub room : after.room ≡ before.room
 
 based_at_home : (d : Description) (aloft : Bool) (was order : List Member) (before after : Base) → IsBased d aloft was before → IsHomeBase d before after → IsBased d false order after
 based_at_home d aloft was order before after based is =
-    let home = some_home (IsHome after.plant after.ending after.members after.erred after.spare_lists) after.hangar is.home in
+    let home = some_home (IsHome after.robot after.ending after.members after.erred after.next_lists) after.idle_context is.home in
     record {
       wide = is.room ∙ based.wide;
       flags = is.flags;
@@ -274,13 +274,13 @@ based_at_home d aloft was order before after based is =
       lines = is.lines;
       shown = λ away. (let no : false ≡ true = sym away ∙ home.0 in cc);
       told = is.told;
-      spare_lines = λ down. is.spare_lines;
+      next_lines = λ down. is.next_lines;
       stands = λ yet. cc;
-      berths = λ yet. cc;
+      box_places = λ yet. cc;
     }
 
 pub kept_ended : (s : State) (slots : List Loaded) (names : List (List ℕ)) (before after : Base) (was looked : Listed)
-    → IsKept s names before was → HasSettled s slots after.plant.hardware looked → IsWorkedOut s.description names after.plant → IsHomeBase s.description before after
+    → IsKept s names before was → HasSettled s slots after.robot.hardware looked → IsWorkedOut s.description names after.robot → IsHomeBase s.description before after
     → IsKept (after_cycle s (cycle s)) names after looked
 unfolding after_cycle commit
 kept_ended s slots names before after was looked kept made worked is =
@@ -303,28 +303,28 @@ kept_ended s slots names before after was looked kept made worked is =
 
 -- the same, of what the desk is seen as
 pub ended_view : (d : Description) (blanks : Blanks) (sessions loads : ℕ) (slots slots' : Slotted) (asked : Asked) (before after : Base) (ended count : ℕ) (closed : Bool) (looked : Listed)
-    → HasSettled (state_with d blanks sessions loads slots asked before ended closed) slots'.loaded after.plant.hardware looked
+    → HasSettled (state_with d blanks sessions loads slots asked before ended closed) slots'.loaded after.robot.hardware looked
     → slots'.aloft ≡ false → after.mails ≡ [] → count ≡ ended + 1
     → stand_ins_for d after.erred ≡ fallbacks_after (state_with d blanks sessions loads slots asked before ended closed) (told_in (state_with d blanks sessions loads slots asked before ended closed))
     → state_with d blanks sessions loads slots' asked after count closed
     ≡ after_cycle (state_with d blanks sessions loads slots asked before ended closed) (cycle (state_with d blanks sessions loads slots asked before ended closed))
 ended_view d blanks sessions loads slots slots' asked before after ended count closed looked made down none_aloft more fell =
-    rw (down, none_aloft, more, fell) (view_ended (state_with d blanks sessions loads slots asked before ended closed) slots'.loaded after.plant.hardware looked made)
+    rw (down, none_aloft, more, fell) (view_ended (state_with d blanks sessions loads slots asked before ended closed) slots'.loaded after.robot.hardware looked made)
 
 -- ---- Between two cycles
 
 -- what is kept goes by these parts of a base, where no cycle is aloft
 pub kept_idle : (s : State) (names : List (List ℕ)) (before after : Base) (looked : Listed) → IsKept s names before looked → s.aloft ≡ false
-    → after.plant ≡ before.plant → after.ending ≡ before.ending → IsSomeAnd after.hangar (IsHome after.plant after.ending after.members after.erred after.spare_lists) → after.lists ≡ before.lists → after.told ≡ before.told → after.spare_lists ≡ before.spare_lists
+    → after.robot ≡ before.robot → after.ending ≡ before.ending → IsSomeAnd after.idle_context (IsHome after.robot after.ending after.members after.erred after.next_lists) → after.lists ≡ before.lists → after.told ≡ before.told → after.next_lists ≡ before.next_lists
     → after.size ≡ before.size → after.room ≡ before.room
-    → AllByRecursion (IsFitted after.plant.places) after.stations → after.members ≡ map stands_for after.stations → IsKept s names after looked
-kept_idle s names before after looked kept down plant ending at lists told spare_lists size room fitted ordered = record {
-  worked_out = rw plant kept.worked_out;
+    → AllByRecursion (IsFitted after.robot.places) after.workspaces → after.members ≡ map stands_for after.workspaces → IsKept s names after looked
+kept_idle s names before after looked kept down robot ending at lists told next_lists size room fitted ordered = record {
+  worked_out = rw robot kept.worked_out;
   described = kept.described;
   divided = kept.divided;
   counted = kept.counted;
   few = kept.few;
-  hardware = rw plant kept.hardware;
+  hardware = rw robot kept.hardware;
   within = kept.within;
   ordered = kept.ordered;
   unclosed = kept.unclosed;
@@ -334,43 +334,43 @@ kept_idle s names before after looked kept down plant ending at lists told spare
   based = record {
     wide = room ∙ kept.based.wide;
     flags = rw ending kept.based.flags;
-    home = (some_home (IsHome after.plant after.ending after.members after.erred after.spare_lists) after.hangar at).1;
-    home_is = (some_home (IsHome after.plant after.ending after.members after.erred after.spare_lists) after.hangar at).0 ∙ sym (ap not down);
+    home = (some_home (IsHome after.robot after.ending after.members after.erred after.next_lists) after.idle_context at).1;
+    home_is = (some_home (IsHome after.robot after.ending after.members after.erred after.next_lists) after.idle_context at).0 ∙ sym (ap not down);
     fitted = fitted;
     ordered = λ yet. ordered;
     size = rw size kept.based.size;
     lines = rw lists kept.based.lines;
-    shown = λ away. (let no : false ≡ true = sym away ∙ (some_home (IsHome after.plant after.ending after.members after.erred after.spare_lists) after.hangar at).0 in cc);
-    told = λ yes. rw (plant, lists) (kept.based.told (sym told ∙ yes));
-    spare_lines = λ yet. rw spare_lists (kept.based.spare_lines yet);
+    shown = λ away. (let no : false ≡ true = sym away ∙ (some_home (IsHome after.robot after.ending after.members after.erred after.next_lists) after.idle_context at).0 in cc);
+    told = λ yes. rw (robot, lists) (kept.based.told (sym told ∙ yes));
+    next_lines = λ yet. rw next_lists (kept.based.next_lines yet);
     stands = λ aloft. (let no : false ≡ true = sym down ∙ aloft in cc);
-    berths = λ aloft. (let no : false ≡ true = sym down ∙ aloft in cc);
+    box_places = λ aloft. (let no : false ≡ true = sym down ∙ aloft in cc);
   };
 }
 
 -- where it only is made ready for a cycle, the state is as before
-pub used_view : {C : Type 0} (a : Inside C) (next : Bay) (berths : ℕ) → IsMadeReady a.bay next
-    → state_with a.checked a.blanks a.sessions a.loads a.slots a.requests (base_of next berths) a.ended a.closed ≡ state_of a
-used_view a next berths made =
-    subst (λ (x : Bay). state_with a.checked a.blanks a.sessions a.loads a.slots a.requests (base_of x berths) a.ended a.closed ≡ state_of a) (sym made.bay) refl
+pub used_view : {C : Type 0} (a : Inside C) (next : CycleResources) (box_places : ℕ) → IsMadeReady a.resources next
+    → state_with a.checked a.blanks a.sessions a.loads a.slots a.requests (base_of next box_places) a.ended a.closed ≡ state_of a
+used_view a next box_places made =
+    subst (λ (x : CycleResources). state_with a.checked a.blanks a.sessions a.loads a.slots a.requests (base_of x box_places) a.ended a.closed ≡ state_of a) (sym made.resources) refl
 
-pub used_idle : (s : State) (names : List (List ℕ)) (before b : Bay) (m n : ℕ) (looked : Listed) → IsKept s names (base_of before m) looked → s.aloft ≡ false → IsMadeReady before b
+pub used_idle : (s : State) (names : List (List ℕ)) (before b : CycleResources) (m n : ℕ) (looked : Listed) → IsKept s names (base_of before m) looked → s.aloft ≡ false → IsMadeReady before b
     → IsKept s names (base_of b n) looked
 used_idle s names before b m n looked kept down used =
-    kept_idle s names (base_of before m) (base_of b n) looked kept down (ap (λ (x : Bay). x.plant.value) used.bay) (ap (λ (x : Bay). x.ending.value) used.bay) used.home
-    (ap (λ (x : Bay). x.lists) used.bay) (ap (λ (x : Bay). x.told) used.bay) (ap (λ (x : Bay). x.spare_lists.value) used.bay) (ap (λ (x : Bay). x.size) used.bay) (ap (λ (x : Bay). x.room) used.bay)
-    (subst (λ (g : Plant). AllByRecursion (IsFitted g.places) b.spare.stations.items) (sym (ap (λ (x : Bay). x.plant.value) used.bay)) used.kept.fitted) used.kept.ordered
+    kept_idle s names (base_of before m) (base_of b n) looked kept down (ap (λ (x : CycleResources). x.robot.value) used.resources) (ap (λ (x : CycleResources). x.ending.value) used.resources) used.home
+    (ap (λ (x : CycleResources). x.lists) used.resources) (ap (λ (x : CycleResources). x.told) used.resources) (ap (λ (x : CycleResources). x.next_lists.value) used.resources) (ap (λ (x : CycleResources). x.size) used.resources) (ap (λ (x : CycleResources). x.room) used.resources)
+    (subst (λ (g : Robot). AllByRecursion (IsFitted g.places) b.buffers.workspaces.items) (sym (ap (λ (x : CycleResources). x.robot.value) used.resources)) used.kept.fitted) used.kept.ordered
 
 -- and is kept,
-pub kept_ready : {C : Type 0} (a : Inside C) (next : Bay) (berths : ℕ) → IsKept (state_of a) a.names.items (base_in a) a.roster → a.slots.aloft ≡ false → IsMadeReady a.bay next
-    → IsKept (state_with a.checked a.blanks a.sessions a.loads a.slots a.requests (base_of next berths) a.ended a.closed) a.names.items (base_of next berths) a.roster
-kept_ready a next berths kept down made =
-    subst (λ (t : State). IsKept t a.names.items (base_of next berths) a.roster) (sym (used_view a next berths made))
-    (used_idle (state_of a) a.names.items a.bay next (vec_capacity a.boxes) berths a.roster kept down made)
+pub kept_ready : {C : Type 0} (a : Inside C) (next : CycleResources) (box_places : ℕ) → IsKept (state_of a) a.names.items (base_in a) a.active_set → a.slots.aloft ≡ false → IsMadeReady a.resources next
+    → IsKept (state_with a.checked a.blanks a.sessions a.loads a.slots a.requests (base_of next box_places) a.ended a.closed) a.names.items (base_of next box_places) a.active_set
+kept_ready a next box_places kept down made =
+    subst (λ (t : State). IsKept t a.names.items (base_of next box_places) a.active_set) (sym (used_view a next box_places made))
+    (used_idle (state_of a) a.names.items a.resources next (vec_capacity a.boxes) box_places a.active_set kept down made)
 
 -- also where there is other room for boxes alone
-pub kept_with_room : {C : Type 0} (a : Inside C) (berths : ℕ) → IsKept (state_of a) a.names.items (base_in a) a.roster → a.slots.aloft ≡ false
-    → IsKept (state_of a) a.names.items (base_of a.bay berths) a.roster
-kept_with_room a berths kept down =
-    kept_idle (state_of a) a.names.items (base_in a) (base_of a.bay berths) a.roster kept down refl refl
-    (at_home a.checked a.roster.order a.bay (vec_capacity a.boxes) a.slots.aloft kept.based down) refl refl refl refl refl kept.based.fitted (kept.based.ordered down)
+pub kept_with_room : {C : Type 0} (a : Inside C) (box_places : ℕ) → IsKept (state_of a) a.names.items (base_in a) a.active_set → a.slots.aloft ≡ false
+    → IsKept (state_of a) a.names.items (base_of a.resources box_places) a.active_set
+kept_with_room a box_places kept down =
+    kept_idle (state_of a) a.names.items (base_in a) (base_of a.resources box_places) a.active_set kept down refl refl
+    (at_home a.checked a.active_set.order a.resources (vec_capacity a.boxes) a.slots.aloft kept.based down) refl refl refl refl refl kept.based.fitted (kept.based.ordered down)

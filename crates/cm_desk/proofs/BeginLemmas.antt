@@ -41,8 +41,8 @@ use Rattle.sound_laws.proofs.SerialLemmas.{renumbered_numbered, effect_renumbere
 use Rattle.cm_desk.specs.Begin.{none_waits, IsNext, CanAct}
 use Rattle.cm_slots.specs.Fit.{IsTimedIn}
 use Rattle.cm_slots.specs.Updates.{HasTime}
-use Rattle.cm_desk.specs.Bay.{Base, stand_ins_for, HasLines, IsBased}
-use Rattle.cm_desk.specs.Roster.{Listed, IsListedOf, actives}
+use Rattle.cm_desk.specs.CycleResources.{Base, stand_ins_for, HasLines, IsBased}
+use Rattle.cm_desk.specs.ActiveSet.{Listed, IsListedOf, actives}
 use Rattle.cm_desk.specs.Works.{IsAsDescribed, IsKept, state_with}
 use Rattle.cm_desk.proofs.ActiveLemmas.{IsSameOne, actives_map, same_serial, same_order, hardware_stays}
 use Rattle.cm_slots.proofs.FitLemmas.{fit_begun}
@@ -353,9 +353,9 @@ begun_actives s = actives_map (without_mail_off s) (mail_leaves s) s.loaded
 -- What is kept then, when the order of updates is the one of now.
 pub kept_aloft : (s : State) (names : List (List ℕ)) (before after : Base) (was listed : Listed)
     → IsKept s names before was → IsNumbered s → s.aloft ≡ false → s.closed ≡ false → s.ended < s.description.cycles
-    → IsListedOf s listed → listed.fresh ≡ true → after.plant ≡ before.plant → IsBased s.description true listed.order after
+    → IsListedOf s listed → listed.current ≡ true → after.robot ≡ before.robot → IsBased s.description true listed.order after
     → IsKept (begun s) names after listed
-kept_aloft s names before after was listed kept numbered down unclosed within is fresh same based =
+kept_aloft s names before after was listed kept numbered down unclosed within is current same based =
     let actives = begun_actives s in
     let stays = begun_stays s in
     record {
@@ -364,9 +364,9 @@ kept_aloft s names before after was listed kept numbered down unclosed within is
       divided = divided_stay s.loaded (begun s).loaded stays kept.divided;
       counted = kept.counted;
       few = omega (arith, kept.few, count_stays s.loaded (begun s).loaded stays);
-      hardware = rw same (hardware_stays s (begun s) actives refl before.plant.hardware refl refl refl kept.hardware);
+      hardware = rw same (hardware_stays s (begun s) actives refl before.robot.hardware refl refl refl kept.hardware);
       within = λ aloft. within;
-      ordered = λ aloft. fresh;
+      ordered = λ aloft. current;
       unclosed = λ aloft. unclosed;
       no_mail = λ still. cc;
       listed = record {
@@ -380,9 +380,9 @@ kept_aloft s names before after was listed kept numbered down unclosed within is
 
 -- What is kept of a base that is away.
 pub based_aloft : (d : Description) (was order : List Member) (before after : Base) → IsBased d false was before
-    → after.size ≡ before.size → after.room ≡ before.room → after.ending ≡ before.ending → after.hangar ≡ None → after.stations ≡ [] → HasLines d after.lists → Shows after.plant.hardware after.lists
-    → length order ≤ after.stands → length order ≤ after.berths → IsBased d true order after
-based_aloft d was order before after based size room ending away none lines shown stands berths = record {
+    → after.size ≡ before.size → after.room ≡ before.room → after.ending ≡ before.ending → after.idle_context ≡ None → after.workspaces ≡ [] → HasLines d after.lists → Shows after.robot.hardware after.lists
+    → length order ≤ after.stands → length order ≤ after.box_places → IsBased d true order after
+based_aloft d was order before after based size room ending away none lines shown stands box_places = record {
   wide = room ∙ based.wide;
   flags = rw ending based.flags;
   home = rw away tt;
@@ -393,15 +393,15 @@ based_aloft d was order before after based size room ending away none lines show
   lines = lines;
   shown = λ gone. shown;
   told = λ yes. shown;
-  spare_lines = λ down. cc;
+  next_lines = λ down. cc;
   stands = λ aloft. stands;
-  berths = λ aloft. berths;
+  box_places = λ aloft. box_places;
 }
 
 -- and the state is the one of the cycle that begins
 pub view_flown : (d : Description) (blanks : Blanks) (sessions loads : ℕ) (slots slots' : Slotted) (asked : Asked) (before after : Base) (ended : ℕ) (closed : Bool)
     → slots' ≡ record slots { loaded = (begun (state_with d blanks sessions loads slots asked before ended closed)).loaded; aloft = true }
     → after.mails ≡ (begun (state_with d blanks sessions loads slots asked before ended closed)).mails
-    → after.plant ≡ before.plant → stand_ins_for d after.erred ≡ stand_ins_for d before.erred
+    → after.robot ≡ before.robot → stand_ins_for d after.erred ≡ stand_ins_for d before.erred
     → state_with d blanks sessions loads slots' asked after ended closed ≡ begun (state_with d blanks sessions loads slots asked before ended closed)
 view_flown d blanks sessions loads slots slots' asked before after ended closed left off same fell = rw (left, off, same, fell) refl

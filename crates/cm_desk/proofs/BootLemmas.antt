@@ -18,20 +18,20 @@ use Rattle.cm_model.specs.Blanks.{no_blanks, total}
 use Rattle.request_plan.specs.Requests.{Asked}
 use Rattle.cm_slots.specs.Slots.{Slotted}
 use Rattle.stop_plan.specs.Ending.{members_in_order}
-use Rattle.cm_desk.specs.Bay.{base_of, HasLines, IsAtStart}
-use Rattle.cm_desk.specs.Roster.{Listed, IsOfNobody}
-use Rattle.cm_desk.specs.Supplies.{IsSizeOf}
+use Rattle.cm_desk.specs.CycleResources.{base_of, HasLines, IsAtStart}
+use Rattle.cm_desk.specs.ActiveSet.{Listed, IsOfNobody}
+use Rattle.cm_desk.specs.CycleNeeds.{IsSizeOf}
 use Rattle.cm_desk.specs.Works.{IsKept, state_with}
-use Rattle.cm_desk.specs.declared.bay.Bay.{Bay}
-use Rattle.cm_desk.specs.declared.supplies.HardwareSize.{HardwareSize}
+use Rattle.cm_desk.specs.declared.resources.CycleResources.{CycleResources}
+use Rattle.cm_desk.specs.declared.needs.HardwareSize.{HardwareSize}
 use Rattle.cm_desk.proofs.ActiveLemmas.{order_is}
-use Rattle.cm_desk.proofs.SuppliesLemmas.{most_of, joints_of}
+use Rattle.cm_desk.proofs.NeedsLemmas.{most_of, joints_of}
 
 -- with nothing loaded, and the hardware at start, the state is that at boot
-pub booted : (d : Description) (blanks left : Blanks) (sessions : ℕ) (slots : Slotted) (asked : Asked) (b : Bay) (berths : ℕ) → left ≡ blanks → slots ≡ record slots { loaded = []; aloft = false }
-    → asked ≡ record { requests = []; outcomes = [] } → IsAtStart d b → state_with d left sessions 0 slots asked (base_of b berths) 0 false ≡ boot d blanks sessions
-booted d blanks left sessions slots asked b berths all none nothing start =
-    rw (all, none, nothing, start.no_mail, start.none_erred) (sym (state_is (boot d blanks sessions) b.plant.value.hardware (start.hardware blanks sessions)))
+pub booted : (d : Description) (blanks left : Blanks) (sessions : ℕ) (slots : Slotted) (asked : Asked) (b : CycleResources) (box_places : ℕ) → left ≡ blanks → slots ≡ record slots { loaded = []; aloft = false }
+    → asked ≡ record { requests = []; outcomes = [] } → IsAtStart d b → state_with d left sessions 0 slots asked (base_of b box_places) 0 false ≡ boot d blanks sessions
+booted d blanks left sessions slots asked b box_places all none nothing start =
+    rw (all, none, nothing, start.no_mail, start.none_erred) (sym (state_is (boot d blanks sessions) b.robot.value.hardware (start.hardware blanks sessions)))
 
 ranked_none : (rank : Member → ℕ) (n : ℕ) → by_rank rank n [] ≡ []
 ranked_none rank zero = refl
@@ -42,10 +42,10 @@ nobody_in_order d blanks sessions =
     order_is (boot d blanks sessions) ∙ ranked_none (λ (m : Member). depth d.controllers (active (boot d blanks sessions)) m.place) (suc (length d.controllers))
 
 -- what is kept then
-pub kept_at_boot : (d : Description) (blanks : Blanks) (sessions : ℕ) (names : List (List ℕ)) (b : Bay) (berths : ℕ) (listed : Listed)
+pub kept_at_boot : (d : Description) (blanks : Blanks) (sessions : ℕ) (names : List (List ℕ)) (b : CycleResources) (box_places : ℕ) (listed : Listed)
     → IsValid d → names ≡ map (λ c. c.name) d.controllers → total blanks < 2 ^ 32 → IsAtStart d b → IsOfNobody (length d.controllers) listed
-    → IsKept (boot d blanks sessions) names (base_of b berths) listed
-kept_at_boot d blanks sessions names b berths listed valid named few start nobody = record {
+    → IsKept (boot d blanks sessions) names (base_of b box_places) listed
+kept_at_boot d blanks sessions names b box_places listed valid named few start nobody = record {
   worked_out = record { valid = valid; named = named; related = start.related; placed = start.placed; timed = start.timed };
   described = λ i l within. absurd (omega (arith, within));
   divided = λ i l within. absurd (omega (arith, within));
@@ -62,7 +62,7 @@ kept_at_boot d blanks sessions names b berths listed valid named few start nobod
     run = λ now. rw (nobody.order, nobody.run) refl;
   };
   fit = record { timed = tt; waiting = tt; aloft = tt };
-  based = rw (nobody.order) (start.based berths);
+  based = rw (nobody.order) (start.based box_places);
 }
 
 -- on the board stands what is described

@@ -18,9 +18,9 @@ use Rattle.cm_hardware.specs.Wiring.{Wired}
 use Rattle.cm_hardware.proofs.OutputLemmas.{held_when_moved}
 use Rattle.cm_places.specs.Placed.{Placed, HasAllRows, placed_of}
 use Rattle.cm_places.proofs.PlacedLemmas.{placed_of-HasAllRows}
-use Rattle.cm_slots.specs.Seats.{widest, IsSeated, IsShownOn, HasRoom}
-use Rattle.cm_slots.proofs.SeatLemmas.{own_seat, own_room}
-use Rattle.cm_desk.specs.Roster.{Listed, TellsActive, serial_in}
+use Rattle.cm_slots.specs.Connections.{widest, IsConnected, IsShownOn, HasRoom}
+use Rattle.cm_slots.proofs.ConnectionLemmas.{own_connection, own_room}
+use Rattle.cm_desk.specs.ActiveSet.{Listed, TellsActive, serial_in}
 use Rattle.cm_desk.specs.Works.{IsAsDescribed, CanCommit, HasCommitted}
 use Rattle.cm_desk.proofs.StayLemmas.{commit_stays, described_stay}
 use Rattle.cm_desk.proofs.WorksLemmas.{described_there}
@@ -34,20 +34,20 @@ places_within d ls described = λ i l within.
     slice_get_within d.controllers (get_or ls i l).place there.0 there.1
 
 -- on the board stands what is described
-pub board_count : (s : State) (w : Wired) → IsInOrder s → IsMoved s w → length w.loans ≡ length (interfaces_of s.description)
-board_count s w kept moved =
+pub fill_count : (s : State) (w : Wired) → IsInOrder s → IsMoved s w → length w.loans ≡ length (interfaces_of s.description)
+fill_count s w kept moved =
     ap length moved.lent.loans ∙ length-map s.values _ ∙ sym (length-map s.values (λ (v : InterfaceValue). v.interface)) ∙ ap length kept.described
 
-seats_of : (d : Description) (ls : List Loaded) → IsValid d → AllByRecursion (λ l. l.place < length d.controllers) ls → AllByRecursion (IsOwn d.controllers) ls
-    → AllByRecursion (IsSeated (placed_of d) (length (interfaces_of d))) ls
-seats_of d [] valid below own = tt
-seats_of d (l ∷ ls) valid below own = (own_seat d valid l below.0 own.0, seats_of d ls valid below.1 own.1)
+cells_of : (d : Description) (ls : List Loaded) → IsValid d → AllByRecursion (λ l. l.place < length d.controllers) ls → AllByRecursion (IsOwn d.controllers) ls
+    → AllByRecursion (IsConnected (placed_of d) (length (interfaces_of d))) ls
+cells_of d [] valid below own = tt
+cells_of d (l ∷ ls) valid below own = (own_connection d valid l below.0 own.0, cells_of d ls valid below.1 own.1)
 
 -- each stands on the board, and there is room for it
-pub seats : (s : State) → IsValid s.description → IsInOrder s → All (IsAsDescribed s.description) s.loaded
-    → AllByRecursion (IsSeated (placed_of s.description) (length (interfaces_of s.description))) s.loaded
-seats s valid kept described =
-    seats_of s.description s.loaded valid
+pub connections : (s : State) → IsValid s.description → IsInOrder s → All (IsAsDescribed s.description) s.loaded
+    → AllByRecursion (IsConnected (placed_of s.description) (length (interfaces_of s.description))) s.loaded
+connections s valid kept described =
+    cells_of s.description s.loaded valid
     (recursion_from_All (λ (l : Loaded). l.place < length s.description.controllers) s.loaded (places_within s.description s.loaded described)) kept.own
 
 rooms_of : (d : Description) (ls : List Loaded) → IsValid d → AllByRecursion (λ l. l.place < length d.controllers) ls → AllByRecursion (HasRoom (placed_of d) widest) ls
@@ -63,8 +63,8 @@ rooms s valid described =
 
 module _ (s : State) (set again : Places) (placed : Placed) (room : ℕ) (loaded : List Loaded) (w : Wired) (listed : Listed) (chains stops starts : List Bool)
     (can : CanCommit s set again placed room loaded w listed chains stops starts) where
-  pub can_seated : AllByRecursion (IsSeated placed (length w.loans)) loaded
-  can_seated = rw (can.placed, can.loaded, board_count s w can.in_order can.hardware) (seats s can.valid can.in_order can.described)
+  pub can_connected : AllByRecursion (IsConnected placed (length w.loans)) loaded
+  can_connected = rw (can.placed, can.loaded, fill_count s w can.in_order can.hardware) (connections s can.valid can.in_order can.described)
 
   pub can_hold : AllByRecursion (HasRoom placed room) loaded
   can_hold = rw (can.placed, can.wide, can.loaded) (rooms s can.valid can.described)
@@ -79,10 +79,10 @@ module _ (s : State) (set again : Places) (placed : Placed) (room : ℕ) (loaded
   rows = rw (can.placed) (placed_of-HasAllRows s.description)
 
   pub can_claim : length w.loans ≤ length placed.claimers
-  can_claim = omega (arith, board_count s w can.in_order can.hardware, rows.claimers)
+  can_claim = omega (arith, fill_count s w can.in_order can.hardware, rows.claimers)
 
   pub can_export : length w.loans ≤ length placed.exporters
-  can_export = omega (arith, board_count s w can.in_order can.hardware, rows.exporters)
+  can_export = omega (arith, fill_count s w can.in_order can.hardware, rows.exporters)
 
   -- the places stay
   pub still_place : (after : List Loaded) → after ≡ (commit s set again).loaded → All (λ l. l.place < length listed.active) after
@@ -105,7 +105,7 @@ module _ (s : State) (set again : Places) (placed : Placed) (room : ℕ) (loaded
   }
 
   pub has_committed : (after : List Loaded) (w' : Wired) (looked : Listed) → after ≡ (commit s set again).loaded → TellsActive (length listed.active) after looked.active
-      → looked.fresh ≡ false → Commits placed looked.active stops w w' → HasCommitted s set again after w' looked
+      → looked.current ≡ false → Commits placed looked.active stops w w' → HasCommitted s set again after w' looked
   has_committed after w' looked is tells stale commits = record {
     loaded = is;
     hardware = commits.moved s set again (told_to_hardware after looked.active is tells) can.hardware;

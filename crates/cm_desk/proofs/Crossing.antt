@@ -15,7 +15,7 @@ use Rattle.cm_document.proofs.description.CtlKind.TheSendSync as kind
 use Rattle.ctl_trait.specs.declared.controller.Controller.{Ghosts}
 use Rattle.std.specs.contracts.snapshot.Snapshot as Snapshot
 use Rattle.std.specs.contracts.option.Option as Option
-use Rattle.rt_flight.specs.contracts.plant.Plant as Plant
+use Rattle.rt_flight.specs.contracts.robot.Robot as Robot
 use Rattle.cm_slots.specs.contracts.slot.Slot as Slot
 use Rattle.cm_slots.specs.contracts.slot.Slot.TheInside as SlotInside
 use Rattle.cm_slots.specs.contracts.slots.Slots as Slots
@@ -25,8 +25,8 @@ use Rattle.cm_model.proofs.entry.Entry.TheSendSync as entry
 use Rattle.cm_model.specs.contracts.member.Member as Member
 use Rattle.cm_model.proofs.blanks.Blanks.TheSendSync as blanks
 use Rattle.std.specs.contracts.boxed.Box as Box
-use Rattle.rt_flight.specs.contracts.craft.Craft as Craft
-use Rattle.rt_flight.proofs.craft.Craft.TheSendSync as craft
+use Rattle.rt_flight.specs.contracts.context.CycleContext as CycleContext
+use Rattle.rt_flight.proofs.context.CycleContext.TheSendSync as context
 use Rattle.rt_flight.specs.contracts.cell.Cell as Cell
 use Rattle.rt_flight.proofs.cell.Cell.TheSendSync as cell
 use Rattle.stop_plan.specs.contracts.ending.Ending as Ending
@@ -34,10 +34,10 @@ use Rattle.cm_slots.specs.contracts.mails.MailAloft as MailAloft
 use Rattle.cm_slots.proofs.room.Room.TheSendSync as room
 use Rattle.cm_hardware.specs.contracts.lists.Lists as Lists
 use Rattle.cm_hardware.proofs.lists.Lists.TheSendSync as lists
-use Rattle.cm_desk.proofs.bay.Spare.TheSendSync as spare
-use Rattle.cm_desk.proofs.supplies.HardwareSize.TheSendSync as size
-use Rattle.cm_desk.proofs.roster.Roster.TheSendSync as roster
-use Rattle.cm_desk.specs.contracts.bay.Bay as Bay
+use Rattle.cm_desk.proofs.resources.CycleBuffers.TheSendSync as buffers
+use Rattle.cm_desk.proofs.needs.HardwareSize.TheSendSync as size
+use Rattle.cm_desk.proofs.active_set.ActiveSet.TheSendSync as active_set
+use Rattle.cm_desk.specs.contracts.resources.CycleResources as CycleResources
 use Rattle.cm_desk.specs.contracts.works.Works as Works
 use Rattle.cm_desk.specs.contracts.works.Works.TheInside as WorksInside
 use Rattle.cm_desk.specs.contracts.desk.Desk as Desk
@@ -76,10 +76,10 @@ vec_send T s = as_row_send (Vec.the_field T Heap.the_row heap_ghosts) (heap.Vec-
 seen_send : (T : RattleType) → IsSend (as_row (Snapshot.the_field T))
 seen_send T = as_row_send (Snapshot.the_field T) (snapshot_send T)
 
-bay_send : IsSend Bay.the_row
-bay_send = declared_send Bay.the_type (
-  option.the_send (Box.the_row Craft.the_row Heap.the_row heap_ghosts) (heap.Box-send Craft.the_row craft.the_send),
-  (seen_send Plant.the_row, (seen_send Ending.the_row, (seen_send (Vec.the_row MailAloft.the_row Heap.the_row heap_ghosts), (seen_send (Vec.the_row Member.the_row Heap.the_row heap_ghosts), (spare.the_send, (lists.the_send, (search sendable, (seen_send Lists.the_row, (size.the_send, (room.the_send, tt)))))))))),
+resources_send : IsSend CycleResources.the_row
+resources_send = declared_send CycleResources.the_type (
+  option.the_send (Box.the_row CycleContext.the_row Heap.the_row heap_ghosts) (heap.Box-send CycleContext.the_row context.the_send),
+  (seen_send Robot.the_row, (seen_send Ending.the_row, (seen_send (Vec.the_row MailAloft.the_row Heap.the_row heap_ghosts), (seen_send (Vec.the_row Member.the_row Heap.the_row heap_ghosts), (buffers.the_send, (lists.the_send, (search sendable, (seen_send Lists.the_row, (size.the_send, (room.the_send, tt)))))))))),
 )
 
 works_send : (C : RattleType) (m : Ghosts C.Denot) → IsSend C → IsSend (Works.the_row C m)
@@ -98,13 +98,13 @@ works_send C m s = view_send _ _ _ _ _ (declared_send (WorksInside.the_type C m)
             (
               requests.the_send,
               (
-                bay_send,
+                resources_send,
                 (
                   vec_send (Cell.the_row C m) (cell.the_send C m s),
                   (
                     vec_send C s,
                     (
-                      roster.the_send,
+                      active_set.the_send,
                       (
                         search sendable,
                         (search sendable, tt),

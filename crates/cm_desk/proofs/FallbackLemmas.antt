@@ -18,7 +18,7 @@ use Rattle.cm_slots.proofs.LentLemmas.{find_there}
 use Rattle.sound_laws.proofs.ActiveLemmas.{from_active_order}
 use Rattle.stop_plan.specs.Ending.{told_in, erred_in, member_of, members_in_order}
 use Rattle.switch_plan.proofs.ElementLemmas.{here, later, Contains-map, Contains-map_back, found, not_found, filter_back}
-use Rattle.cm_desk.specs.Bay.{place_among, fallbacks_at, stand_ins_for}
+use Rattle.cm_desk.specs.CycleResources.{place_among, fallbacks_at, stand_ins_for}
 
 -- the fallbacks at a place are those of the controller there
 at_place : (cs : List CtlDesc) (place : ℕ) → option_map_or (λ (c : CtlDesc). c.fallback) (slice_get cs place) [] ≡ (controller_at cs place).fallback

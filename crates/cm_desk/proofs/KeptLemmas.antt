@@ -12,8 +12,8 @@ use Rattle.cm_model.specs.Blanks.{total}
 use Rattle.sound_laws.proofs.SerialLemmas.{serials_set}
 use Rattle.cm_slots.specs.Fit.{AreFit}
 use Rattle.stop_plan.specs.Ending.{members_in_order}
-use Rattle.cm_desk.specs.Bay.{Base}
-use Rattle.cm_desk.specs.Roster.{Listed, AreAt, IsListedOf, actives, serials_of, is_listed}
+use Rattle.cm_desk.specs.CycleResources.{Base}
+use Rattle.cm_desk.specs.ActiveSet.{Listed, AreAt, IsListedOf, actives, serials_of, is_listed}
 use Rattle.cm_desk.specs.Works.{IsAsDescribed, IsDivided, IsKept}
 use Rattle.cm_desk.proofs.ActiveLemmas.{IsSameOne, actives_set, actives_push, actives_remove, same_serial, same_order, hardware_stays}
 use Rattle.cm_slots.proofs.FitLemmas.{fit_pushed, fit_removed}
@@ -32,33 +32,33 @@ pub record IsSameFor (s t : State) : Type 0 where
   pub mails : t.mails ≡ s.mails
 
 -- what is looked up stays, where it is looked up anew at which indices the controllers stand
-pub listed_stays : (s t : State) (before after : Listed) → IsSameFor s t → IsListedOf s before → after.active ≡ before.active → after.order ≡ before.order → after.fresh ≡ before.fresh
-    → (before.fresh ≡ true → AreAt (serials_of t.loaded) after.order after.run) → IsListedOf t after
-listed_stays s t before after same listed active order fresh run = record {
+pub listed_stays : (s t : State) (before after : Listed) → IsSameFor s t → IsListedOf s before → after.active ≡ before.active → after.order ≡ before.order → after.current ≡ before.current
+    → (before.current ≡ true → AreAt (serials_of t.loaded) after.order after.run) → IsListedOf t after
+listed_stays s t before after same listed active order current run = record {
   active = record {
     counted = rw (active, same.description) listed.active.counted;
     told = λ p below.
         ap (λ (found : List (Option ℕ)). slice_index_or found p None) active ∙ listed.active.told p (rw same.description at below)
         ∙ sym (same_serial s t same.actives same.description p);
   };
-  order = λ now. order ∙ listed.order (sym fresh ∙ now) ∙ sym (same_order s t same.actives same.description);
-  run = λ now. run (sym fresh ∙ now);
+  order = λ now. order ∙ listed.order (sym current ∙ now) ∙ sym (same_order s t same.actives same.description);
+  run = λ now. run (sym current ∙ now);
 }
 
 pub kept_from : (s t : State) (names : List (List ℕ)) (base : Base) (before after : Listed)
     → IsKept s names base before → IsSameFor s t
     → All (IsAsDescribed t.description) t.loaded → All IsDivided t.loaded → (t.aloft ≡ true → t.closed ≡ false) → t.loads + total t.blanks < 2 ^ 32 → length t.loaded ≤ t.loads → AreFit t → IsListedOf t after
-    → after.order ≡ before.order → after.fresh ≡ before.fresh
+    → after.order ≡ before.order → after.current ≡ before.current
     → IsKept t names base after
-kept_from s t names base before after kept same described divided unclosed counted few fit listed order fresh = record {
+kept_from s t names base before after kept same described divided unclosed counted few fit listed order current = record {
   worked_out = rw same.description kept.worked_out;
   described = described;
   divided = divided;
   counted = counted;
   few = few;
-  hardware = hardware_stays s t same.actives same.description base.plant.hardware same.lives same.bodies same.values kept.hardware;
+  hardware = hardware_stays s t same.actives same.description base.robot.hardware same.lives same.bodies same.values kept.hardware;
   within = λ aloft. rw (same.ended, same.description) (kept.within (sym same.aloft ∙ aloft));
-  ordered = λ aloft. fresh ∙ kept.ordered (sym same.aloft ∙ aloft);
+  ordered = λ aloft. current ∙ kept.ordered (sym same.aloft ∙ aloft);
   unclosed = unclosed;
   no_mail = λ down. same.mails ∙ kept.no_mail (sym same.aloft ∙ down);
   listed = listed;
@@ -129,14 +129,14 @@ kept_after_load s names base listed blanks l kept kind divided idle serial divis
 -- One was unloaded, which was not active, and it was looked up anew where the others stand.
 pub kept_after_unload : (s : State) (names : List (List ℕ)) (base : Base) (before after : Listed) (i : ℕ) (l : Loaded)
     → IsKept s names base before → slice_get s.loaded i ≡ Some l → is_active l ≡ false
-    → after.active ≡ before.active → after.order ≡ before.order → after.fresh ≡ before.fresh → (before.fresh ≡ true → AreAt (serials_of (remove s.loaded i)) before.order after.run)
+    → after.active ≡ before.active → after.order ≡ before.order → after.current ≡ before.current → (before.current ≡ true → AreAt (serials_of (remove s.loaded i)) before.order after.run)
     → IsKept (record s { loaded = remove s.loaded i }) names base after
-kept_after_unload s names base before after i l kept there idle active order fresh run =
+kept_after_unload s names base before after i l kept there idle active order current run =
     let t : State = record s { loaded = remove s.loaded i } in
     let same = same_parts s t.loaded (actives_remove s.loaded i l there idle) in
     kept_from s t names base before after kept same
     (All-remove (IsAsDescribed s.description) s.loaded i kept.described) (All-remove IsDivided s.loaded i kept.divided) kept.unclosed kept.counted (omega (arith, kept.few, length_remove s.loaded i)) (fit_removed s i kept.fit)
-    (listed_stays s t before after same kept.listed active order fresh (λ now. rw order (run now))) order fresh
+    (listed_stays s t before after same kept.listed active order current (λ now. rw order (run now))) order current
 
 -- ---- The loop
 

@@ -1,6 +1,6 @@
 pub mod Insides
-pub mod RosterLemmas
-pub mod SuppliesLemmas
+pub mod ActiveSetLemmas
+pub mod NeedsLemmas
 pub mod ReadyLemmas
 pub mod AnswerLemmas
 pub mod ActiveLemmas
@@ -9,7 +9,7 @@ pub mod StayLemmas
 pub mod WorksLemmas
 pub mod CommitLemmas
 pub mod BeginLemmas
-pub mod BoardingLemmas
+pub mod FillingLemmas
 pub mod FlightLemmas
 pub mod TakeOffLemmas
 pub mod EndLemmas

@@ -13,7 +13,7 @@ use Rattle.cm_model.specs.declared.member.Member.{Member}
 use Rattle.sound_laws.proofs.ActiveLemmas.{from_active_order}
 use Rattle.sound_laws.proofs.RunLemmas.{one_of_serial}
 use Rattle.stop_plan.specs.Ending.{member_of, members_in_order}
-use Rattle.cm_desk.specs.Roster.{actives, serials_of, is_listed, AreAt}
+use Rattle.cm_desk.specs.ActiveSet.{actives, serials_of, is_listed, AreAt}
 use Rattle.cm_desk.specs.Works.{IsAsDescribed}
 use Rattle.cm_desk.proofs.ActiveLemmas.{order_is}
 use Rattle.cm_desk.proofs.CommitLemmas.{places_within}

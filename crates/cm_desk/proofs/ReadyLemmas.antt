@@ -5,57 +5,57 @@ use Rattle.std.specs.declared.alloc.Global.{Global}
 use Rattle.cm_document.specs.declared.description.Description.{Description}
 use Rattle.cm_model.specs.declared.member.Member.{Member}
 use Rattle.cm_places.specs.Placed.{Placed}
-use Rattle.rt_flight.specs.declared.craft.Craft.{Craft}
-use Rattle.rt_flight.specs.declared.plant.Plant.{Plant}
-use Rattle.cm_desk.specs.Bay.{IsHome, IsMadeReady}
-use Rattle.cm_desk.specs.Supplies.{AreKept, AreSupplies, IsRefitted}
-use Rattle.cm_desk.specs.declared.bay.Bay.{Bay}
-use Rattle.cm_desk.specs.declared.bay.Spare.{Spare}
-use Rattle.cm_desk.specs.declared.supplies.Supplies.{Supplies}
-use Rattle.cm_desk.proofs.SuppliesLemmas.{kept_for, tells_nothing}
+use Rattle.rt_flight.specs.declared.context.CycleContext.{CycleContext}
+use Rattle.rt_flight.specs.declared.robot.Robot.{Robot}
+use Rattle.cm_desk.specs.CycleResources.{IsHome, IsMadeReady}
+use Rattle.cm_desk.specs.CycleNeeds.{AreKept, AreNeeds, IsRefitted}
+use Rattle.cm_desk.specs.declared.resources.CycleResources.{CycleResources}
+use Rattle.cm_desk.specs.declared.resources.CycleBuffers.{CycleBuffers}
+use Rattle.cm_desk.specs.declared.needs.CycleNeeds.{CycleNeeds}
+use Rattle.cm_desk.proofs.NeedsLemmas.{kept_for, tells_nothing}
 
-module _ (b left b' : Bay) (k r : Box Craft Global) (h : Craft) (spare : Spare) (home : IsHome b.plant.value b.ending.value b.members.value.items b.erred.value.items b.spare_lists.value k)
-    (away : left ≡ record b { hangar = None }) (taken : h ≡ k.value) (back : b' ≡ record left { hangar = Some r; members = b'.members; spare = spare })
+module _ (b left b' : CycleResources) (k r : Box CycleContext Global) (h : CycleContext) (buffers : CycleBuffers) (home : IsHome b.robot.value b.ending.value b.members.value.items b.erred.value.items b.next_lists.value k)
+    (away : left ≡ record b { idle_context = None }) (taken : h ≡ k.value) (back : b' ≡ record left { idle_context = Some r; members = b'.members; buffers = buffers })
     (members : b'.members.value ≡ r.value.order) (refit : IsRefitted h r.value) where
-  hangar : b'.hangar ≡ Some r
-  hangar = ap (λ (x : Bay). x.hangar) back
+  idle_context : b'.idle_context ≡ Some r
+  idle_context = ap (λ (x : CycleResources). x.idle_context) back
 
-  spare_is : b'.spare ≡ spare
-  spare_is = ap (λ (x : Bay). x.spare) back
+  buffers_are : b'.buffers ≡ buffers
+  buffers_are = ap (λ (x : CycleResources). x.buffers) back
 
-  plant : b'.plant.value ≡ b.plant.value
-  plant = ap (λ (x : Bay). x.plant.value) back ∙ ap (λ (x : Bay). x.plant.value) away
+  robot : b'.robot.value ≡ b.robot.value
+  robot = ap (λ (x : CycleResources). x.robot.value) back ∙ ap (λ (x : CycleResources). x.robot.value) away
 
-  aboard : h.plant ≡ b.plant.value
-  aboard = ap (λ (x : Craft). x.plant) taken ∙ home.plant
+  aboard : h.robot ≡ b.robot.value
+  aboard = ap (λ (x : CycleContext). x.robot) taken ∙ home.robot
 
   -- it is at home again, and all else stays
-  pub made_ready : AreKept h.plant.places spare.stations.items r.value.order.items → IsMadeReady b b'
+  pub made_ready : AreKept h.robot.places buffers.workspaces.items r.value.order.items → IsMadeReady b b'
   made_ready kept =
-      let ending : b'.ending.value ≡ b.ending.value = ap (λ (x : Bay). x.ending.value) back ∙ ap (λ (x : Bay). x.ending.value) away in
-      let erred : b'.erred.value.items ≡ b.erred.value.items = ap (λ (x : Bay). x.erred.value.items) back ∙ ap (λ (x : Bay). x.erred.value.items) away in
-      let lists : b'.spare_lists.value ≡ b.spare_lists.value = ap (λ (x : Bay). x.spare_lists.value) back ∙ ap (λ (x : Bay). x.spare_lists.value) away in
+      let ending : b'.ending.value ≡ b.ending.value = ap (λ (x : CycleResources). x.ending.value) back ∙ ap (λ (x : CycleResources). x.ending.value) away in
+      let erred : b'.erred.value.items ≡ b.erred.value.items = ap (λ (x : CycleResources). x.erred.value.items) back ∙ ap (λ (x : CycleResources). x.erred.value.items) away in
+      let lists : b'.next_lists.value ≡ b.next_lists.value = ap (λ (x : CycleResources). x.next_lists.value) back ∙ ap (λ (x : CycleResources). x.next_lists.value) away in
       record {
-        kept = subst (λ (ms : List Member). AreKept b.plant.value.places b'.spare.stations.items ms) (sym (ap (λ x. x.items) members))
-            (subst (λ (s : Spare). AreKept b.plant.value.places s.stations.items r.value.order.items) (sym spare_is)
-            (subst (λ (g : Plant). AreKept g.places spare.stations.items r.value.order.items) aboard kept));
-        home = subst (λ (o : Option (Box Craft Global)). IsSomeAnd o (IsHome b'.plant.value b'.ending.value b'.members.value.items b'.erred.value.items b'.spare_lists.value)) (sym hangar) (record {
-          plant = ap (λ (x : Craft). x.plant) refit.craft ∙ aboard ∙ sym plant;
-          ending = ap (λ (x : Craft). x.ending) refit.craft ∙ ap (λ (x : Craft). x.ending) taken ∙ home.ending ∙ sym ending;
+        kept = subst (λ (ms : List Member). AreKept b.robot.value.places b'.buffers.workspaces.items ms) (sym (ap (λ x. x.items) members))
+            (subst (λ (s : CycleBuffers). AreKept b.robot.value.places s.workspaces.items r.value.order.items) (sym buffers_are)
+            (subst (λ (g : Robot). AreKept g.places buffers.workspaces.items r.value.order.items) aboard kept));
+        home = subst (λ (o : Option (Box CycleContext Global)). IsSomeAnd o (IsHome b'.robot.value b'.ending.value b'.members.value.items b'.erred.value.items b'.next_lists.value)) (sym idle_context) (record {
+          robot = ap (λ (x : CycleContext). x.robot) refit.context ∙ aboard ∙ sym robot;
+          ending = ap (λ (x : CycleContext). x.ending) refit.context ∙ ap (λ (x : CycleContext). x.ending) taken ∙ home.ending ∙ sym ending;
           order = sym (ap (λ x. x.items) members);
-          erred = refit.erred ∙ ap (λ (x : Craft). x.erred.items) taken ∙ home.erred ∙ sym erred;
-          spare_lists = ap (λ (x : Craft). x.lists) refit.craft ∙ ap (λ (x : Craft). x.lists) taken ∙ home.spare_lists ∙ sym lists;
+          erred = refit.erred ∙ ap (λ (x : CycleContext). x.erred.items) taken ∙ home.erred ∙ sym erred;
+          next_lists = ap (λ (x : CycleContext). x.lists) refit.context ∙ ap (λ (x : CycleContext). x.lists) taken ∙ home.next_lists ∙ sym lists;
           told = refit.told;
         });
-        bay = back ∙ ap (λ (x : Bay). record x { hangar = Some r; members = b'.members; spare = spare }) away
-            ∙ ap₂ (λ (o : Option (Box Craft Global)) (s : Spare). record b { hangar = o; members = b'.members; spare = s }) (sym hangar) (sym spare_is);
+        resources = back ∙ ap (λ (x : CycleResources). record x { idle_context = Some r; members = b'.members; buffers = buffers }) away
+            ∙ ap₂ (λ (o : Option (Box CycleContext Global)) (s : CycleBuffers). record b { idle_context = o; members = b'.members; buffers = s }) (sym idle_context) (sym buffers_are);
       }
 
--- new supplies come to it, where no update failed,
-pub refit_new : (d : Description) (placed : Placed) (order : List Member) (loaded : ℕ) (new : Supplies) (k : Craft) → AreSupplies d placed order loaded new → k.erred.items ≡ []
+-- new needs come to it, where no update failed,
+pub refit_new : (d : Description) (placed : Placed) (order : List Member) (loaded : ℕ) (new : CycleNeeds) (k : CycleContext) → AreNeeds d placed order loaded new → k.erred.items ≡ []
     → IsRefitted k (record k { order = new.order; erred = new.erred; room = Some new.room })
-refit_new d placed order loaded new k all none = record { craft = refl; erred = all.none_erred ∙ sym none; told = tells_nothing d placed order new.room all.told }
+refit_new d placed order loaded new k all none = record { context = refl; erred = all.none_erred ∙ sym none; told = tells_nothing d placed order new.room all.told }
 
 -- and are kept
-pub kept_new : (d : Description) (placed : Placed) (order : List Member) (loaded : ℕ) (new : Supplies) → AreSupplies d placed order loaded new → AreKept placed new.stations.items new.order.items
-kept_new d placed order loaded new all = kept_for placed order new.stations.items new.order.items all.stations all.order
+pub kept_new : (d : Description) (placed : Placed) (order : List Member) (loaded : ℕ) (new : CycleNeeds) → AreNeeds d placed order loaded new → AreKept placed new.workspaces.items new.order.items
+kept_new d placed order loaded new all = kept_for placed order new.workspaces.items new.order.items all.workspaces all.order

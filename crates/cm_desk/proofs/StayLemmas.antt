@@ -29,7 +29,7 @@ use Rattle.cm_model.specs.declared.data.CtlData.{CtlData}
 use Rattle.cm_model.specs.declared.request.Request.{Request}
 use Rattle.cm_model.specs.declared.request.Request.TheVariants as request
 use Rattle.cm_model.proofs.UpdateLemmas.{updates_keep}
-use Rattle.cm_desk.specs.Roster.{serials_of}
+use Rattle.cm_desk.specs.ActiveSet.{serials_of}
 use Rattle.cm_desk.specs.Works.{IsAsDescribed, IsDivided}
 
 -- ---- One controller

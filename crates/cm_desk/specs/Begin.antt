@@ -22,13 +22,13 @@ use Rattle.cm_hardware.specs.Holding.{IsHardwareOf}
 use Rattle.cm_hardware.specs.Shown.{Shows}
 use Rattle.cm_slots.specs.Fit.{AreFit}
 use Rattle.cm_slots.specs.Slots.{Slotted}
-use Rattle.rt_flight.specs.Cells.{Seat}
+use Rattle.rt_flight.specs.Cells.{CellFacts}
 use Rattle.rt_flight.specs.Flights.{FlightFacts, IsAloft}
 use Rattle.stop_plan.specs.Ending.{HasFlags}
-use Rattle.cm_desk.specs.Bay.{HasLines, IsAtHome, IsSupplied}
-use Rattle.cm_desk.specs.Roster.{AreAt, serials_of}
+use Rattle.cm_desk.specs.CycleResources.{HasLines, IsAtHome, IsPrepared}
+use Rattle.cm_desk.specs.ActiveSet.{AreAt, serials_of}
 use Rattle.cm_desk.specs.Works.{IsAsDescribed, IsDivided, IsWorkedOut}
-use Rattle.cm_desk.specs.declared.bay.Bay.{Bay}
+use Rattle.cm_desk.specs.declared.resources.CycleResources.{CycleResources}
 
 -- none of these requests waits for an outcome
 abbrev pub none_waits : List Request → List Outcome → Bool
@@ -72,8 +72,8 @@ pub record HasBegun (before after : State) (flight : FlightFacts) (decisions : L
 -- indices of those that run, in the order of updates; what a cycle works on, which is at home and has all ready that
 -- the cycle needs; and room for a box of each and an empty list for their cells. The state that comes of it is valid,
 -- steady and numbered, and all that is kept of controllers holds in it.
-pub record CanTakeOff (s : State) (slots : Slotted) (indices : List ℕ) (b : Bay) (boxes : List CtlData) (berth_room : ℕ)
-    (cells : List Seat) (cell_room count : ℕ)
+pub record CanTakeOff (s : State) (slots : Slotted) (indices : List ℕ) (b : CycleResources) (boxes : List CtlData) (box_room : ℕ)
+    (cells : List CellFacts) (cell_room count : ℕ)
     : Type 0 where
   pub valid : IsValid s.description
   pub steady : IsSteady (begun s)
@@ -87,27 +87,27 @@ pub record CanTakeOff (s : State) (slots : Slotted) (indices : List ℕ) (b : Ba
   pub down : slots.aloft ≡ false
   pub loaded : slots.loaded ≡ s.loaded
   pub run : AreAt (serials_of (begun s).loaded) (members_in_order (begun s)) indices
-  pub hardware : IsHardwareOf (begun s) b.plant.value.hardware
-  pub worked_out : (names : List (List ℕ)) × IsWorkedOut s.description names b.plant.value
+  pub hardware : IsHardwareOf (begun s) b.robot.value.hardware
+  pub worked_out : (names : List (List ℕ)) × IsWorkedOut s.description names b.robot.value
   pub home : IsAtHome b
   pub flags : HasFlags (length s.description.controllers) b.ending.value
   pub lines : HasLines s.description b.lists
-  pub told : b.told ≡ true → Shows b.plant.value.hardware b.lists
-  pub spare_lines : HasLines s.description b.spare_lists.value
-  pub supplied : IsSupplied s.description (members_in_order (begun s)) (length s.loaded) b
+  pub told : b.told ≡ true → Shows b.robot.value.hardware b.lists
+  pub next_lines : HasLines s.description b.next_lists.value
+  pub prepared : IsPrepared s.description (members_in_order (begun s)) (length s.loaded) b
   pub no_box : boxes ≡ []
-  pub berths : length (members_in_order (begun s)) ≤ berth_room
+  pub box_places : length (members_in_order (begun s)) ≤ box_room
   pub no_cell : cells ≡ []
   pub places : length (members_in_order (begun s)) ≤ cell_room
 
--- It took off: the flight is that of the cycle that is aloft. The plant and the sets of the end are away, as they were;
--- the lists are written down; and there is room for the stations.
-pub record HasTakenOff (s : State) (before after : Slotted) (b b' : Bay) (f : FlightFacts) : Type 0 where
+-- It took off: the flight is that of the cycle that is aloft. The robot and the sets of the end are away, as they were;
+-- the lists are written down; and there is room for the workspaces.
+pub record HasTakenOff (s : State) (before after : Slotted) (b b' : CycleResources) (f : FlightFacts) : Type 0 where
   pub slots : after ≡ record before { loaded = (begun s).loaded; aloft = true }
-  pub bay : b' ≡ record b { hangar = None; mails = b'.mails; spare = b'.spare; lists = b'.lists; told = b'.told }
+  pub resources : b' ≡ record b { idle_context = None; mails = b'.mails; buffers = b'.buffers; lists = b'.lists; told = b'.told }
   pub mails : b'.mails.value.items ≡ (begun s).mails
-  pub none_stands : b'.spare.stations.items ≡ []
-  pub stands : length (members_in_order (begun s)) ≤ vec_capacity b'.spare.stations
+  pub none_stands : b'.buffers.workspaces.items ≡ []
+  pub stands : length (members_in_order (begun s)) ≤ vec_capacity b'.buffers.workspaces
   pub lines : HasLines s.description b'.lists
-  pub shown : Shows b.plant.value.hardware b'.lists
+  pub shown : Shows b.robot.value.hardware b'.lists
   pub flight : IsAloft (begun s) f

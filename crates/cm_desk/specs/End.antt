@@ -11,17 +11,17 @@ use Rattle.cm_hardware.specs.Holding.{IsHardwareOf, IsMoved}
 use Rattle.cm_hardware.specs.Shown.{Shows}
 use Rattle.cm_hardware.specs.Wiring.{Wired}
 use Rattle.cm_places.specs.Placed.{placed_of}
-use Rattle.cm_slots.specs.Seats.{widest}
+use Rattle.cm_slots.specs.Connections.{widest}
 use Rattle.cm_slots.specs.Slots.{Slotted}
 use Rattle.rt_flight.specs.Flights.{FlightFacts, IsComputed}
-use Rattle.rt_flight.specs.Stations.{IsFitted}
-use Rattle.rt_flight.specs.declared.craft.Craft.{Craft}
+use Rattle.rt_flight.specs.Workspaces.{IsFitted}
+use Rattle.rt_flight.specs.declared.context.CycleContext.{CycleContext}
 use Rattle.stop_plan.specs.Ending.{HasFlags, IsEndingOf, told_in, erred_in, members_in_order}
-use Rattle.cm_desk.specs.Bay.{place_among, HasLines, IsAtHome}
-use Rattle.cm_desk.specs.Roster.{Listed, IsListedOf}
-use Rattle.cm_desk.specs.Supplies.{stands_for}
+use Rattle.cm_desk.specs.CycleResources.{place_among, HasLines, IsAtHome}
+use Rattle.cm_desk.specs.ActiveSet.{Listed, IsListedOf}
+use Rattle.cm_desk.specs.CycleNeeds.{stands_for}
 use Rattle.cm_desk.specs.Works.{IsAsDescribed}
-use Rattle.cm_desk.specs.declared.bay.Bay.{Bay}
+use Rattle.cm_desk.specs.declared.resources.CycleResources.{CycleResources}
 
 -- The flight can land in this state, whose cycle is aloft, which is steady and whose serials differ: it is computed.
 pub record CanLand (s : State) (flight : FlightFacts) : Type 0 where
@@ -48,23 +48,23 @@ pub record HasSettled (s : State) (slots : List Loaded) (w : Wired) (looked : Li
   pub listed : IsListedOf (after_cycle s (cycle s)) looked
 
 -- So it can be settled, with the sets of what came home, where something failed.
-pub record CanSettle (s : State) (slots : Slotted) (k : Craft) (width : ℕ) (looked : Listed) : Type 0 where
-  pub landed : HasLanded s slots.loaded k.plant.hardware width looked
+pub record CanSettle (s : State) (slots : Slotted) (k : CycleContext) (width : ℕ) (looked : Listed) : Type 0 where
+  pub landed : HasLanded s slots.loaded k.robot.hardware width looked
   pub down : slots.aloft ≡ false
-  pub placed : k.plant.places ≡ placed_of s.description
+  pub placed : k.robot.places ≡ placed_of s.description
   pub quiet : k.has_failed ≡ false → (failed_in s ≡ []) × (erred_in (told_in s) ≡ [])
   pub ending : k.has_failed ≡ true → IsEndingOf s k.ending
 
 -- Of what came home it changes the hardware at most, and where nothing failed nothing.
-pub record IsSettledIn (before after : Craft) : Type 0 where
-  pub craft : after ≡ record before { plant = record before.plant { hardware = after.plant.hardware } }
+pub record IsSettledIn (before after : CycleContext) : Type 0 where
+  pub context : after ≡ record before { robot = record before.robot { hardware = after.robot.hardware } }
   pub quiet : before.has_failed ≡ false → after ≡ before
 
 -- ---- All of it
 
 -- The flight comes home to these: the controllers of the state, whose boxes are away; who was looked up as active; and
--- a bay with room for the lists, for the stations and for the boxes.
-pub record CanComeHome (s : State) (slots : Slotted) (looked : Listed) (b : Bay) (berth_room : ℕ) (flight : FlightFacts)
+-- resources with room for the lists, for the workspaces and for the boxes.
+pub record CanComeHome (s : State) (slots : Slotted) (looked : Listed) (b : CycleResources) (box_room : ℕ) (flight : FlightFacts)
     : Type 0 where
   pub lands : CanLand s flight
   pub valid : IsValid s.description
@@ -72,27 +72,27 @@ pub record CanComeHome (s : State) (slots : Slotted) (looked : Listed) (b : Bay)
   pub loaded : slots.loaded ≡ s.loaded
   pub away : slots.aloft ≡ true
   pub listed : IsListedOf s looked
-  pub fresh : looked.fresh ≡ true
+  pub current : looked.current ≡ true
   pub wide : b.room ≡ widest
   pub lines : HasLines s.description b.lists
-  pub stands : length looked.order ≤ vec_capacity b.spare.stations
-  pub berths : length looked.order ≤ berth_room
+  pub stands : length looked.order ≤ vec_capacity b.buffers.workspaces
+  pub box_places : length looked.order ≤ box_room
 
 -- It came home: all is as after the cycle, and at home, with the places of those whose update failed; the lists, where
 -- they are told, are those of the hardware.
-pub record HasComeHome (s : State) (before after : Slotted) (looked : Listed) (b b' : Bay) (flight : FlightFacts) : Type
+pub record HasComeHome (s : State) (before after : Slotted) (looked : Listed) (b b' : CycleResources) (flight : FlightFacts) : Type
     0 where
-  pub settled : HasSettled s after.loaded b'.plant.value.hardware looked
+  pub settled : HasSettled s after.loaded b'.robot.value.hardware looked
   pub slots : after ≡ record before { loaded = after.loaded; aloft = false }
-  pub plant : b'.plant.value ≡ record flight.plant { hardware = b'.plant.value.hardware }
+  pub robot : b'.robot.value ≡ record flight.robot { hardware = b'.robot.value.hardware }
   pub home : IsAtHome b'
   pub flags : HasFlags (length s.description.controllers) b'.ending.value
-  pub fitted : AllByRecursion (IsFitted b'.plant.value.places) b'.spare.stations.items
-  pub ordered : b'.members.value.items ≡ map stands_for b'.spare.stations.items
+  pub fitted : AllByRecursion (IsFitted b'.robot.value.places) b'.buffers.workspaces.items
+  pub ordered : b'.members.value.items ≡ map stands_for b'.buffers.workspaces.items
   pub erred : b'.erred.value.items ≡ map (place_among (members_in_order s)) (erred_in (told_in s))
   pub no_mail : b'.mails.value.items ≡ []
   pub lines : HasLines s.description b'.lists
-  pub told : b'.told ≡ true → Shows b'.plant.value.hardware b'.lists
-  pub spare_lines : HasLines s.description b'.spare_lists.value
+  pub told : b'.told ≡ true → Shows b'.robot.value.hardware b'.lists
+  pub next_lines : HasLines s.description b'.next_lists.value
   pub size : b'.size ≡ b.size
   pub room : b'.room ≡ b.room

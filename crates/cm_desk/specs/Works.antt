@@ -24,17 +24,17 @@ use Rattle.cm_hardware.specs.Listed.{with_hardware}
 use Rattle.cm_places.specs.Placed.{Placed, placed_of}
 use Rattle.cm_model.specs.Blanks.{total}
 use Rattle.cm_slots.specs.Commits.{TellCommit}
-use Rattle.cm_slots.specs.Seats.{widest}
+use Rattle.cm_slots.specs.Connections.{widest}
 use Rattle.switch_plan.specs.Relations.{relations_of}
 pub use Rattle.request_plan.specs.Requests.{IsAnswered}
 use Rattle.request_plan.specs.Requests.{Asked}
 use Rattle.cm_slots.specs.Fit.{AreFit}
 use Rattle.cm_slots.specs.Slots.{Slotted}
 use Rattle.request_plan.specs.declared.acts.Switched.{Switched}
-use Rattle.rt_flight.specs.declared.plant.Plant.{Plant}
-use Rattle.cm_desk.specs.Bay.{Base, IsAtHome, IsBased, stand_ins_for}
-use Rattle.cm_desk.specs.Roster.{Listed, IsListedOf, TellsActive}
-use Rattle.cm_desk.specs.declared.bay.Bay.{Bay}
+use Rattle.rt_flight.specs.declared.robot.Robot.{Robot}
+use Rattle.cm_desk.specs.CycleResources.{Base, IsAtHome, IsBased, stand_ins_for}
+use Rattle.cm_desk.specs.ActiveSet.{Listed, IsListedOf, TellsActive}
+use Rattle.cm_desk.specs.declared.resources.CycleResources.{CycleResources}
 use Rattle.ctl_trait.specs.declared.fault.CfgFault.{CfgFault}
 use Rattle.ctl_trait.specs.declared.fault.CfgFault.TheVariants.{Refused, Memory}
 
@@ -57,7 +57,7 @@ state_with description blanks sessions loads slots asked base ended closed = wit
   mails = base.mails;
   fallbacks = stand_ins_for description base.erred;
   closed = closed;
-}) base.plant.hardware
+}) base.robot.hardware
 
 -- the controller is of the kind that is described at its place
 abbrev pub IsAsDescribed : Description → Loaded → Type 0
@@ -67,9 +67,9 @@ IsAsDescribed d l = option_map (λ c. kind_of c.params) (slice_get d.controllers
 abbrev pub IsDivided : Loaded → Type 0
 IsDivided l = is_some l.ctl.params ≡ true → is_some l.divisor ≡ true
 
--- What is worked out of the description once: the names of its controllers; and over this plant, whom and what each has
+-- What is worked out of the description once: the names of its controllers; and over this robot, whom and what each has
 -- to do with, where their interfaces stand on the board, and the time from one cycle to the next.
-pub record IsWorkedOut (d : Description) (names : List (List ℕ)) (g : Plant) : Type 0 where
+pub record IsWorkedOut (d : Description) (names : List (List ℕ)) (g : Robot) : Type 0 where
   pub valid : IsValid d
   pub named : names ≡ map (λ c. c.name) d.controllers
   pub related : g.relations ≡ relations_of d
@@ -81,14 +81,14 @@ pub record IsWorkedOut (d : Description) (names : List (List ℕ)) (g : Plant) :
 -- state; a cycle that is aloft is one of the described ones, its order of updates is the one of now, and the loop is
 -- not closed; no mail is aloft between two cycles; and what is looked up is so.
 pub record IsKept (s : State) (names : List (List ℕ)) (base : Base) (looked : Listed) : Type 0 where
-  pub worked_out : IsWorkedOut s.description names base.plant
+  pub worked_out : IsWorkedOut s.description names base.robot
   pub described : All (IsAsDescribed s.description) s.loaded
   pub divided : All IsDivided s.loaded
   pub counted : s.loads + total s.blanks < 2 ^ 32
   pub few : length s.loaded ≤ s.loads
-  pub hardware : IsHardwareOf s base.plant.hardware
+  pub hardware : IsHardwareOf s base.robot.hardware
   pub within : s.aloft ≡ true → s.ended < s.description.cycles
-  pub ordered : s.aloft ≡ true → looked.fresh ≡ true
+  pub ordered : s.aloft ≡ true → looked.current ≡ true
   pub unclosed : s.aloft ≡ true → s.closed ≡ false
   pub no_mail : s.aloft ≡ false → s.mails ≡ []
   pub listed : IsListedOf s looked
@@ -122,7 +122,7 @@ pub record HasCommitted (s : State) (set again : Places) (slots : List Loaded) (
     pub loaded : slots ≡ (commit s set again).loaded
     pub hardware : IsHardwareOf (commit s set again) w
     pub active : TellsActive (length s.description.controllers) slots looked.active
-    pub stale : looked.fresh ≡ false
+    pub stale : looked.current ≡ false
 
 -- and else nothing changed: of what is looked up, the order and the indices; the room; and of the slots, whether a
 -- cycle is aloft
@@ -133,19 +133,19 @@ pub record KeepsRest (before after : Listed) (m n : ℕ) (old new : Slotted) : T
   pub slots : new ≡ record old { loaded = new.loaded }
 
 -- A switch can be done with these: what works in a cycle is at home, and the sets tell a commit that can be made.
-pub record CanSwitch (b : Bay) (slots : Slotted) (looked : Listed) (c : Switched) : Type 0 where
+pub record CanSwitch (b : CycleResources) (slots : Slotted) (looked : Listed) (c : Switched) : Type 0 where
   pub home : IsAtHome b
   pub down : slots.aloft ≡ false
   pub can : (s : State) × (again : Places)
-      × CanCommit s (set_of c.set) again b.plant.value.places b.room slots.loaded b.plant.value.hardware looked
+      × CanCommit s (set_of c.set) again b.robot.value.places b.room slots.loaded b.robot.value.hardware looked
       c.chained c.stopped c.started
 
 -- it was done
-abbrev pub HasSwitched : Bay → Bay → Slotted → Slotted → Listed → Listed → Switched → Type 0
+abbrev pub HasSwitched : CycleResources → CycleResources → Slotted → Slotted → Listed → Listed → Switched → Type 0
 HasSwitched b b' slots slots' looked looked' c = (s : State) (again : Places)
-    → CanCommit s (set_of c.set) again b.plant.value.places b.room slots.loaded b.plant.value.hardware looked c.chained
+    → CanCommit s (set_of c.set) again b.robot.value.places b.room slots.loaded b.robot.value.hardware looked c.chained
     c.stopped c.started
-    → HasCommitted s (set_of c.set) again slots'.loaded b'.plant.value.hardware looked'
+    → HasCommitted s (set_of c.set) again slots'.loaded b'.robot.value.hardware looked'
 
 -- ---- Answers
 

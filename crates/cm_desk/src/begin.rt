@@ -9,13 +9,13 @@ ghost use Rattle.cm_model.specs.Steady.{IsSteady};
 ghost use Rattle.cm_model.specs.declared.request.Request.{Request};
 ghost use Rattle.request_plan.specs.Acts.{IsSwitchOf, IsMoveOf};
 ghost use Rattle.request_plan.specs.Plans.{IsPlanOf, AreConclusionsOf};
-ghost use Rattle.cm_desk.specs.Bay.{fallbacks_at, stand_ins_for};
+ghost use Rattle.cm_desk.specs.CycleResources.{fallbacks_at, stand_ins_for};
 ghost use Rattle.cm_desk.specs.Begin.{IsNext, IsLeftOf, CanAct, CanBegin, HasBegun, CanTakeOff, HasTakenOff, none_waits};
 
-use crate::bay::Bay;
-use crate::boarding::board;
-use crate::roster::Roster;
-use crate::supplies::empty;
+use crate::resources::CycleResources;
+use crate::filling::fill_cells;
+use crate::active_set::ActiveSet;
+use crate::needs::empty;
 use crate::works::{Works, described_at};
 use cm_document::{Checked, CtlDesc, Life};
 use cm_model::{Decision, Seen};
@@ -23,7 +23,7 @@ use cm_slots::{Slot, Slots};
 use ctl_trait::Controller;
 use fixed_num::Memory;
 use iface_names::Name;
-use request_plan::{Act, Conclusion, Plan, Requests, Stand, Switched};
+use request_plan::{Act, Conclusion, Plan, Requests, Situation, Switched};
 use rt_flight::{Cell, Flight, Payload};
 use sequence::{Rare, Seq};
 use std::alloc::Global;
@@ -39,17 +39,17 @@ impl<C: Controller> Works<C> {
         ensures begun { IfOk result (λ begun. HasBegun self.old self.new begun.0 begun.1) }
         ensures kept { OnErr result (self.new ≡ self.old) }
     {
-        if !is_settled(&self.roster, &self.requests, self.bay.erred()) {
+        if !is_settled(&self.active_set, &self.requests, self.resources.erred()) {
             return self.begin_anew(alloc);
         }
-        let count = self.roster.order().len();
+        let count = self.active_set.order().len();
         make_places(&mut self.cells, &mut self.boxes, count)?;
-        self.bay.supply(alloc, &self.checked, self.roster.order(), self.slots.len())?;
+        self.resources.prepare(alloc, &self.checked, self.active_set.order(), self.slots.len())?;
         let cells = std::mem::replace(&mut self.cells, Vec::new(alloc));
         let flight = take_off(
             &mut self.slots,
-            self.roster.run(),
-            &mut self.bay,
+            self.active_set.run(),
+            &mut self.resources,
             &mut self.boxes,
             cells,
             self.ended,
@@ -67,22 +67,22 @@ impl<C: Controller> Works<C> {
         let count = plan.order.len();
         make_places(&mut self.cells, &mut self.boxes, count)?;
         let run = Vec::with_capacity(alloc, count)?;
-        let supplies = self
-            .bay
-            .supplies(alloc, &self.checked, &plan.order, self.slots.len())?;
+        let needs = self
+            .resources
+            .needs(alloc, &self.checked, &plan.order, self.slots.len())?;
         let cells = std::mem::replace(&mut self.cells, Vec::new(alloc));
         let boxes = std::mem::replace(&mut self.boxes, Vec::new(alloc));
-        self.bay.forget_erred();
+        self.resources.forget_erred();
         self.carry_out(plan.first, plan.conclusions);
-        self.roster.put(plan.order, run, self.slots.as_slice());
+        self.active_set.put(plan.order, run, self.slots.as_slice());
         // What was carried out tells of the state alone, so only this shows that the list is still empty.
-        self.bay.forget_erred();
-        self.bay.take_in(supplies);
+        self.resources.forget_erred();
+        self.resources.take_in(needs);
         self.boxes = boxes;
         let flight = take_off(
             &mut self.slots,
-            self.roster.run(),
-            &mut self.bay,
+            self.active_set.run(),
+            &mut self.resources,
             &mut self.boxes,
             cells,
             self.ended,
@@ -97,25 +97,25 @@ impl<C: Controller> Works<C> {
         requires numbered { IsNumbered self.now }
         ensures { IfOk result (λ plan. IsPlanOf self.now plan) }
     {
-        let stand = self.stand(alloc)?;
-        let names = stand_ins(alloc, &self.checked, self.bay.erred())?;
-        let Some(hangar) = &self.bay.hangar else {
+        let situation = self.situation(alloc)?;
+        let names = stand_ins(alloc, &self.checked, self.resources.erred())?;
+        let Some(idle_context) = &self.resources.idle_context else {
             unreachable!();
         };
-        let relations = &hangar.plant.relations;
+        let relations = &idle_context.robot.relations;
         Ok(
             self.requests
-                .plan(alloc, &self.checked, relations, stand, names)?,
+                .plan(alloc, &self.checked, relations, situation, names)?,
         )
     }
 
     /// What the requests are decided by.
-    fn stand(&self, alloc: Global) -> Result<Stand, Memory>
+    fn situation(&self, alloc: Global) -> Result<Situation, Memory>
         requires down { self.now.aloft ≡ false }
-        ensures loaded { IfOk result (λ stand. stand.loaded.items ≡ map (seen self.now) self.now.loaded) }
-        ensures lives { IfOk result (λ stand. stand.lives.items ≡ self.now.lives) }
+        ensures loaded { IfOk result (λ situation. situation.loaded.items ≡ map (seen self.now) self.now.loaded) }
+        ensures lives { IfOk result (λ situation. situation.lives.items ≡ self.now.lives) }
     {
-        Ok(Stand {
+        Ok(Situation {
             loaded: self.seen_all(alloc)?,
             lives: self.lives(alloc)?,
         })
@@ -162,7 +162,7 @@ impl<C: Controller> Works<C> {
     fn lives(&self, alloc: Global) -> Result<Vec<Life>, Memory>
         ensures { IfOk result (λ lives. lives.items ≡ self.now.lives) }
     {
-        let lines = self.bay.component_lines(alloc)?;
+        let lines = self.resources.component_lines(alloc)?;
         let mut lives = Vec::with_capacity(alloc, lines.as_slice().len())?;
         for line in lines.as_slice() {
             lives.push(line.life)?;
@@ -230,7 +230,7 @@ impl<C: Controller> Works<C> {
         requires can { (after : State) × IsSwitchOf self.old after switched.now }
         ensures { (after : State) → IsSwitchOf self.old after switched.now → self.new ≡ after }
     {
-        self.bay.switch(&mut self.slots, &mut self.roster, switched);
+        self.resources.switch(&mut self.slots, &mut self.active_set, switched);
     }
 
     /// A component comes to a lifecycle state.
@@ -239,7 +239,7 @@ impl<C: Controller> Works<C> {
         requires can { (after : State) × (IsMoveOf self.old after component target × IsSteady after) }
         ensures { (after : State) → IsMoveOf self.old after component target → self.new ≡ after }
     {
-        match self.bay.move_component(component, target) {
+        match self.resources.move_component(component, target) {
             Ok(()) => {}
             Err(_) => unreachable!(),
         }
@@ -247,11 +247,11 @@ impl<C: Controller> Works<C> {
 }
 
 /// Whether no update failed, no request waits, and the order of updates is the one of now.
-fn is_settled(roster: &Roster, requests: &Requests, erred: &[u32]) -> bool
-    ensures { result ≡ ((roster.now.fresh && none_waits (requests.now.requests) (requests.now.outcomes))
+fn is_settled(active_set: &ActiveSet, requests: &Requests, erred: &[u32]) -> bool
+    ensures { result ≡ ((active_set.now.current && none_waits (requests.now.requests) (requests.now.outcomes))
         && length erred.now == 0) }
 {
-    roster.is_fresh() && requests.waiting().is_empty() && erred.is_empty()
+    active_set.is_current() && requests.waiting().is_empty() && erred.is_empty()
 }
 
 /// Who stands in for the controllers of these places, as they are described.
@@ -311,33 +311,33 @@ fn make_places<C: Controller>(
 fn take_off<C: Controller>(
     slots: &mut Slots<C>,
     run: &[u32],
-    bay: &mut Bay,
+    resources: &mut CycleResources,
     boxes: &mut Vec<C>,
     cells: Vec<Cell<C>>,
     number: u64,
 ) -> Flight<C>
-    requires { (s : State) × CanTakeOff s slots.old run.now bay.old (map C.meaning boxes.old.items)
+    requires { (s : State) × CanTakeOff s slots.old run.now resources.old (map C.meaning boxes.old.items)
         (vec_capacity boxes.old) cells.items (vec_capacity cells) number }
-    ensures off { (s : State) → CanTakeOff s slots.old run.now bay.old (map C.meaning boxes.old.items)
+    ensures off { (s : State) → CanTakeOff s slots.old run.now resources.old (map C.meaning boxes.old.items)
         (vec_capacity boxes.old) cells.items (vec_capacity cells) number
-        → HasTakenOff s slots.old slots.new bay.old bay.new result }
+        → HasTakenOff s slots.old slots.new resources.old resources.new result }
     ensures room { vec_capacity boxes.new ≡ vec_capacity boxes.old }
 {
     let mut cells = cells;
-    slots.send_off(number, &mut bay.spare.mails);
-    bay.mails = Snapshot::of(&bay.spare.mails);
+    slots.send_off(number, &mut resources.buffers.mails);
+    resources.mails = Snapshot::of(&resources.buffers.mails);
     slots.lend(run, boxes);
-    board(
+    fill_cells(
         slots.as_slice(),
         run,
-        &mut bay.spare.mails,
-        &mut bay.spare.stations,
+        &mut resources.buffers.mails,
+        &mut resources.buffers.workspaces,
         boxes,
         &mut cells,
     );
     Flight::take_off(Payload {
         number,
         cells,
-        craft: bay.cast_off(),
+        context: resources.send_out(),
     })
 }

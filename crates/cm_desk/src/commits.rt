@@ -5,7 +5,7 @@ ghost use Rattle.cm_model.specs.Order.{Places};
 ghost use Rattle.cm_model.specs.State.{State};
 ghost use Rattle.cm_desk.specs.Works.{CanCommit, HasCommitted, KeepsRest};
 
-use crate::roster::Roster;
+use crate::active_set::ActiveSet;
 use chain_order::PlaceSet;
 use cm_hardware::ResourceManager;
 use cm_places::CtlPlaces;
@@ -19,22 +19,22 @@ pub(crate) fn commit<C: Controller>(
     hardware: &mut ResourceManager,
     places: &CtlPlaces,
     room: &mut Room,
-    roster: &mut Roster,
+    active_set: &mut ActiveSet,
     chained: &PlaceSet,
     stopped: &PlaceSet,
     started: &PlaceSet,
 )
     requires down { slots.old.aloft ≡ false }
     requires can { (s : State) × (set : Places) × (again : Places)
-        × CanCommit s set again places.now room.old slots.old.loaded hardware.old roster.old
+        × CanCommit s set again places.now room.old slots.old.loaded hardware.old active_set.old
         chained.now stopped.now started.now }
     ensures committed { (s : State) (set again : Places)
-        → CanCommit s set again places.now room.old slots.old.loaded hardware.old roster.old
+        → CanCommit s set again places.now room.old slots.old.loaded hardware.old active_set.old
         chained.now stopped.now started.now
-        → HasCommitted s set again slots.new.loaded hardware.new roster.new }
-    ensures rest { KeepsRest roster.old roster.new room.old room.new slots.old slots.new }
+        → HasCommitted s set again slots.new.loaded hardware.new active_set.new }
+    ensures rest { KeepsRest active_set.old active_set.new room.old room.new slots.old slots.new }
 {
     slots.commit(hardware, places, room, chained, stopped, started);
-    roster.look(slots.as_slice());
-    hardware.commit(places, roster.active(), stopped);
+    active_set.look(slots.as_slice());
+    hardware.commit(places, active_set.active(), stopped);
 }

@@ -78,7 +78,7 @@ impl<C: Controller> Works<C> {
             return (Reply::Not(Why::Active), None);
         }
         let ctl = self.slots.unload(index);
-        self.roster.reindex(self.slots.as_slice());
+        self.active_set.reindex(self.slots.as_slice());
         (Reply::Done, Some(ctl))
     }
 

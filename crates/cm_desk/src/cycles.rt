@@ -25,7 +25,7 @@ impl<C: Controller> Works<C> {
     pub fn is_aloft(&self) -> bool
         ensures { result ≡ self.now.aloft }
     {
-        self.bay.hangar.is_none()
+        self.resources.idle_context.is_none()
     }
 
     /// Whether the loop is closed.
@@ -70,13 +70,13 @@ impl<C: Controller> Works<C> {
     pub fn interfaces(&self, alloc: Global) -> Result<Seq<IfaceLine>, Memory>
         ensures { IfOk result (λ lines. lines ≡ interface_lines self.now) }
     {
-        Ok(self.bay.interface_lines(alloc)?)
+        Ok(self.resources.interface_lines(alloc)?)
     }
 
     /// The list of components, by place.
     pub fn components(&self, alloc: Global) -> Result<Seq<CompLine>, Memory>
         ensures { IfOk result (λ lines. lines ≡ component_lines self.now) }
     {
-        Ok(self.bay.component_lines(alloc)?)
+        Ok(self.resources.component_lines(alloc)?)
     }
 }

@@ -6,15 +6,15 @@ ghost use Rattle.cm_model.specs.State.{State};
 ghost use Rattle.cm_desk.specs.End.{CanLand, CanComeHome, HasComeHome, CanSettle, HasSettled, IsSettledIn};
 ghost use Rattle.cm_desk.specs.Works.{KeepsRest};
 
-use crate::bay::Bay;
-use crate::boarding::disembark;
+use crate::resources::CycleResources;
+use crate::filling::empty_cells;
 use crate::commits::commit;
-use crate::roster::Roster;
+use crate::active_set::ActiveSet;
 use crate::works::Works;
 use cm_slots::{Room, Slots};
 use cm_storage::CycleRecord;
 use ctl_trait::Controller;
-use rt_flight::{Cell, Craft, Flight, Landing};
+use rt_flight::{Cell, CycleContext, Flight, Landing};
 
 impl<C: Controller> Works<C> {
     /// The flight of the cycle that is aloft comes home, and the cycle ends with what happened in it. It takes no memory.
@@ -25,8 +25,8 @@ impl<C: Controller> Works<C> {
     {
         let record = bring_home(
             &mut self.slots,
-            &mut self.roster,
-            &mut self.bay,
+            &mut self.active_set,
+            &mut self.resources,
             &mut self.boxes,
             &mut self.cells,
             flight,
@@ -36,58 +36,58 @@ impl<C: Controller> Works<C> {
     }
 }
 
-/// What a flight brings home comes to its place: the stations and the boxes, what the controllers worked on, and the lists, for the next
+/// What a flight brings home comes to its place: the workspaces and the boxes, what the controllers worked on, and the lists, for the next
 /// cycle. Those that failed are stopped, with those that precede them, where there are any. It hands out the record. It takes no memory.
 fn bring_home<C: Controller>(
     slots: &mut Slots<C>,
-    roster: &mut Roster,
-    bay: &mut Bay,
+    active_set: &mut ActiveSet,
+    resources: &mut CycleResources,
     boxes: &mut Vec<C>,
     places: &mut Vec<Cell<C>>,
     flight: Flight<C>,
 ) -> CycleRecord
-    requires { (s : State) × CanComeHome s slots.old roster.old bay.old (vec_capacity boxes.old) flight }
-    ensures home { (s : State) → CanComeHome s slots.old roster.old bay.old (vec_capacity boxes.old) flight
-        → HasComeHome s slots.old slots.new roster.new bay.old bay.new flight }
+    requires { (s : State) × CanComeHome s slots.old active_set.old resources.old (vec_capacity boxes.old) flight }
+    ensures home { (s : State) → CanComeHome s slots.old active_set.old resources.old (vec_capacity boxes.old) flight
+        → HasComeHome s slots.old slots.new active_set.new resources.old resources.new flight }
     ensures told { Some result ≡ flight.outcome }
     ensures room { vec_capacity boxes.new ≡ vec_capacity boxes.old }
 {
     let Landing {
         mut cells,
-        mut craft,
+        mut context,
         record,
     } = flight.come_home();
-    disembark(&mut cells, &mut bay.spare.stations, boxes);
-    slots.park(roster.run(), boxes);
-    settle(slots, &mut craft, &mut bay.room, roster);
+    empty_cells(&mut cells, &mut resources.buffers.workspaces, boxes);
+    slots.park(active_set.run(), boxes);
+    settle(slots, &mut context, &mut resources.room, active_set);
     *places = cells;
-    bay.moor(craft);
+    resources.take_back(context);
     record
 }
 
 /// Where something failed, those stop that the sets say, and those restart whose chained mode changes. It takes no memory.
 fn settle<C: Controller>(
     slots: &mut Slots<C>,
-    craft: &mut Craft,
+    context: &mut CycleContext,
     room: &mut Room,
-    roster: &mut Roster,
+    active_set: &mut ActiveSet,
 )
-    requires { (s : State) × CanSettle s slots.old craft.old room.old roster.old }
-    ensures settled { (s : State) → CanSettle s slots.old craft.old room.old roster.old
-        → HasSettled s slots.new.loaded craft.new.plant.hardware roster.new }
-    ensures craft { IsSettledIn craft.old craft.new }
-    ensures rest { KeepsRest roster.old roster.new room.old room.new slots.old slots.new }
+    requires { (s : State) × CanSettle s slots.old context.old room.old active_set.old }
+    ensures settled { (s : State) → CanSettle s slots.old context.old room.old active_set.old
+        → HasSettled s slots.new.loaded context.new.robot.hardware active_set.new }
+    ensures context { IsSettledIn context.old context.new }
+    ensures rest { KeepsRest active_set.old active_set.new room.old room.new slots.old slots.new }
 {
-    if craft.has_failed {
+    if context.has_failed {
         commit(
             slots,
-            &mut craft.plant.hardware,
-            &craft.plant.places,
+            &mut context.robot.hardware,
+            &context.robot.places,
             room,
-            roster,
-            &craft.ending.chained,
-            &craft.ending.stopped,
-            &craft.ending.started,
+            active_set,
+            &context.ending.chained,
+            &context.ending.stopped,
+            &context.ending.started,
         );
     }
 }

@@ -6,9 +6,9 @@ pub use book::Book;
 pub use desk::Desk;
 
 mod answer;
-mod bay;
+mod resources;
 mod begin;
-mod boarding;
+mod filling;
 mod book;
 mod commits;
 mod console;
@@ -17,9 +17,9 @@ mod desk;
 mod land;
 pub mod laws;
 mod lines;
-mod roster;
+mod active_set;
 mod start;
-mod supplies;
+mod needs;
 mod works;
 
 /// The entries of a book are fewer than this.

@@ -57,8 +57,8 @@ impl<C: Controller> Works<C> {
         requires { slice_get self.now.description.controllers slot.now.place ≡ Some controller.now }
         ensures { result ≡ is_chained self.now controller.now }
     {
-        match &self.bay.hangar {
-            Some(hangar) => self.is_led_by(hangar.plant.relations.leaders(), slot.place()),
+        match &self.resources.idle_context {
+            Some(idle_context) => self.is_led_by(idle_context.robot.relations.leaders(), slot.place()),
             None => self.has_precedent(controller),
         }
     }
@@ -69,7 +69,7 @@ impl<C: Controller> Works<C> {
         requires within { place < length self.now.description.controllers }
         ensures { result ≡ is_chained_in self.now.description.controllers (active self.now) place }
     {
-        self.roster.has_any(leaders.row(place as u32))
+        self.active_set.has_any(leaders.row(place as u32))
     }
 
     /// Whether an active controller claims one of its references, by names.

@@ -1,11 +1,11 @@
 //! What the desk begins with.
 
 ghost use Rattle.std.specs.Prelude.{◌≡◌, map, length, IfOk};
-ghost use Rattle.cm_desk.specs.Bay.{IsAtStart};
-ghost use Rattle.cm_desk.specs.Roster.{IsOfNobody};
+ghost use Rattle.cm_desk.specs.CycleResources.{IsAtStart};
+ghost use Rattle.cm_desk.specs.ActiveSet.{IsOfNobody};
 
-use crate::bay::Bay;
-use crate::roster::Roster;
+use crate::resources::CycleResources;
+use crate::active_set::ActiveSet;
 use cm_document::{Checked, CtlDesc};
 use fixed_num::Memory;
 use iface_names::Name;
@@ -16,21 +16,21 @@ use stop_plan::Ending;
 /// What changes with the cycles, before the first of them.
 #[derive(Drop)]
 pub(crate) struct AtStart {
-    pub(crate) bay: Bay,
-    pub(crate) roster: Roster,
+    pub(crate) resources: CycleResources,
+    pub(crate) active_set: ActiveSet,
 }
 
 /// The hardware at start, with nobody active, and sets with a flag for each described controller.
 pub(crate) fn at_start(alloc: Global, checked: &Checked) -> Result<AtStart, Memory>
-    ensures bay { IfOk result (λ all. IsAtStart checked.now all.bay) }
-    ensures roster { IfOk result (λ all. IsOfNobody (length checked.now.controllers) all.roster) }
+    ensures resources { IfOk result (λ all. IsAtStart checked.now all.resources) }
+    ensures active_set { IfOk result (λ all. IsOfNobody (length checked.now.controllers) all.active_set) }
 {
     let count = checked.description().controllers.as_slice().len();
     let ending = Ending::make(alloc, count)?;
-    let roster = Roster::none(alloc, count)?;
+    let active_set = ActiveSet::none(alloc, count)?;
     Ok(AtStart {
-        bay: Bay::make(alloc, checked, ending)?,
-        roster,
+        resources: CycleResources::make(alloc, checked, ending)?,
+        active_set,
     })
 }
 

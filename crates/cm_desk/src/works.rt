@@ -7,8 +7,8 @@ ghost use Rattle.cm_model.specs.Machine.{is_loaded_at, is_sold_out_at, with_load
 ghost use Rattle.cm_model.specs.State.{boot};
 ghost use Rattle.cm_desk.specs.Works.{IsAnswered, load_reply};
 
-use crate::bay::Bay;
-use crate::roster::Roster;
+use crate::resources::CycleResources;
+use crate::active_set::ActiveSet;
 use crate::start::{at_start, names_of};
 use cm_document::{Checked, CtlDesc};
 use cm_model::{Reply, Why};
@@ -38,12 +38,12 @@ pub struct Works<C: Controller> {
     /// By ticket.
     pub(crate) requests: Requests,
     /// What a cycle works on besides the controllers.
-    pub(crate) bay: Bay,
+    pub(crate) resources: CycleResources,
     /// Room for the cells of those that run, and for their boxes on the way there and back.
     pub(crate) cells: Vec<Cell<C>>,
     pub(crate) boxes: Vec<C>,
     /// Who is active.
-    pub(crate) roster: Roster,
+    pub(crate) active_set: ActiveSet,
     /// How many cycles have ended.
     pub(crate) ended: u64,
     /// Whether the loop is closed.
@@ -53,18 +53,18 @@ pub struct Works<C: Controller> {
 impl<C: Controller> Model for Works<C> {
     ghost use Rattle.std.specs.Prelude.{vec_capacity};
     ghost use Rattle.cm_model.specs.State.{State};
-    ghost use Rattle.cm_desk.specs.Bay.{base_of};
+    ghost use Rattle.cm_desk.specs.CycleResources.{base_of};
     ghost use Rattle.cm_desk.specs.Works.{state_with, IsKept};
 
     ghost Value = { State };
 
     ghost view = { λ w. state_with w.checked w.blanks w.sessions w.loads w.slots w.requests
-        (base_of w.bay (vec_capacity w.boxes)) w.ended w.closed };
+        (base_of w.resources (vec_capacity w.boxes)) w.ended w.closed };
 
     ghost invariant = { λ w. IsKept
         (state_with w.checked w.blanks w.sessions w.loads w.slots w.requests
-        (base_of w.bay (vec_capacity w.boxes)) w.ended w.closed)
-        w.names.items (base_of w.bay (vec_capacity w.boxes)) w.roster };
+        (base_of w.resources (vec_capacity w.boxes)) w.ended w.closed)
+        w.names.items (base_of w.resources (vec_capacity w.boxes)) w.active_set };
 }
 
 impl<C: Controller> Works<C> {
@@ -89,10 +89,10 @@ impl<C: Controller> Works<C> {
             loads: 0,
             slots: Slots::none(alloc),
             requests: Requests::none(alloc),
-            bay: start.bay,
+            resources: start.resources,
             cells: Vec::new(alloc),
             boxes: Vec::new(alloc),
-            roster: start.roster,
+            active_set: start.active_set,
             ended: 0,
             closed: false,
         })

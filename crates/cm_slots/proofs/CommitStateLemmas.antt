@@ -16,7 +16,7 @@ use Rattle.chain_order.specs.Links.{linked}
 use Rattle.cm_places.specs.Placed.{placed_of, value_at}
 use Rattle.cm_places.proofs.PlacedLemmas.{states_for-placed, refs_for-placed}
 use Rattle.cm_slots.specs.Commits.{come, committed_at, TellCommit}
-use Rattle.cm_slots.specs.Seats.{held_at, numbers_at, IsShownOn}
+use Rattle.cm_slots.specs.Connections.{held_at, numbers_at, IsShownOn}
 
 -- what is made of each alike is made of all alike
 pub map_alike : {A B : Type 0} (f g : A → B) → ((x : A) → f x ≡ g x) → (xs : List A) → map f xs ≡ map g xs

@@ -6,7 +6,7 @@ pub mod UpdateLemmas
 pub mod CommitStateLemmas
 pub mod UpdateStateLemmas
 pub mod ShapeLemmas
-pub mod SeatLemmas
+pub mod ConnectionLemmas
 pub mod FitLemmas
 pub mod EachLemmas
 pub mod SlotsLemmas

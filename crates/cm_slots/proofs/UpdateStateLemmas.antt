@@ -43,7 +43,7 @@ use Rattle.cm_places.specs.Placed.{Placed, placed_of}
 use Rattle.cm_places.proofs.PlacedLemmas.{claims_row}
 use Rattle.cm_places.proofs.OutputLemmas.{given-any}
 use Rattle.cm_slots.specs.Mails.{is_due_in}
-use Rattle.cm_slots.specs.Seats.{numbers_at, held_at, IsShownOn}
+use Rattle.cm_slots.specs.Connections.{numbers_at, held_at, IsShownOn}
 use Rattle.cm_slots.specs.Updates.{Aloft, tick_in, is_held_in, step_in, put_on, board_after, with_erred}
 use Rattle.cm_slots.specs.Cycles.{IsAloftOf}
 use Rattle.cm_slots.proofs.CommitStateLemmas.{numbers_are, values_are}

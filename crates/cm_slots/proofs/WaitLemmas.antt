@@ -18,7 +18,7 @@ use Rattle.cm_places.specs.Placed.{Placed}
 use Rattle.cm_slots.specs.Commits.{come, committed_at}
 use Rattle.cm_slots.specs.Lent.{with_ctl, with_ctls}
 use Rattle.cm_slots.specs.Mails.{has_mail, WaitsAsTold}
-use Rattle.cm_slots.specs.Seats.{numbers_at}
+use Rattle.cm_slots.specs.Connections.{numbers_at}
 use Rattle.ctl_trait.specs.declared.fault.CfgFault.{CfgFault}
 use Rattle.loan_board.specs.declared.board.Loan.{Loan}
 

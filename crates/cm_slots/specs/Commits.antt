@@ -10,7 +10,7 @@ use Rattle.cm_model.specs.Switches.{is_stopped, is_started}
 use Rattle.loan_board.specs.declared.board.Loan.{Loan}
 use Rattle.chain_order.specs.Links.{linked}
 use Rattle.cm_places.specs.Placed.{Placed}
-use Rattle.cm_slots.specs.Seats.{numbers_at}
+use Rattle.cm_slots.specs.Connections.{numbers_at}
 
 -- it comes to run with these states, whether it ran before or not
 abbrev pub come : List ℤ → Bool → Loaded → Loaded

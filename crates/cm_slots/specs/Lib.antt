@@ -2,7 +2,7 @@
 -- that is aloft, what an update makes of it and of the board, which cycle is aloft, what a state keeps for that; all of
 -- them with their boxes, those that leave and come back by place, and what calls ask and promise.
 pub mod Lives
-pub mod Seats
+pub mod Connections
 pub mod Commits
 pub mod Mails
 pub mod Updates

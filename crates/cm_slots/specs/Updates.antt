@@ -14,7 +14,7 @@ use Rattle.loan_board.specs.declared.board.Loan.{Loan}
 use Rattle.chain_order.specs.Links.{linked}
 use Rattle.cm_places.specs.Placed.{Placed}
 use Rattle.switch_plan.specs.Relations.{Related}
-use Rattle.cm_slots.specs.Seats.{held_at, numbers_at}
+use Rattle.cm_slots.specs.Connections.{held_at, numbers_at}
 
 -- ---- The cycle
 

@@ -17,13 +17,13 @@ ghost use Rattle.cm_model.specs.Steady.{IsOwn, IsSteady};
 ghost use Rattle.cm_places.specs.Placed.{placed_of};
 ghost use Rattle.ctl_trait.specs.Taking.{CanTake};
 ghost use Rattle.cm_slots.specs.Fit.{AreFit};
-ghost use Rattle.cm_slots.specs.Seats.{widest, IsSeated, HasRoom};
+ghost use Rattle.cm_slots.specs.Connections.{widest, IsConnected, HasRoom};
 
 /// A loaded controller of a valid description, with its own parameters, stands on the board of that description, and there is room for
 /// what it has.
-pub fn own_controllers_are_seated()
-    ensures seated { (d : Description) (l : Loaded) → IsValid d → l.place < length d.controllers → IsOwn d.controllers l
-        → IsSeated (placed_of d) (length (interfaces_of d)) l }
+pub fn own_controllers_are_connected()
+    ensures connected { (d : Description) (l : Loaded) → IsValid d → l.place < length d.controllers → IsOwn d.controllers l
+        → IsConnected (placed_of d) (length (interfaces_of d)) l }
     ensures room { (d : Description) (l : Loaded) → IsValid d → l.place < length d.controllers
         → HasRoom (placed_of d) widest l }
 {}

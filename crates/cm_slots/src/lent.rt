@@ -54,8 +54,8 @@ pub(crate) fn boxes_of<C: Controller>(boxes: Vec<Option<C>>, room: Vec<C>) -> Ve
     ensures { map Some (map C.meaning result.items) ≡ map (option_map C.meaning) boxes.items }
 {
     let mut all = room;
-    for berth in boxes {
-        match berth {
+    for box_slot in boxes {
+        match box_slot {
             Some(ctl) => all.push_reserved(ctl),
             None => unreachable!(),
         }

@@ -2,7 +2,7 @@
 
 ghost use Rattle.std.specs.Prelude.{◌≡◌, ◌<◌, length, IfOk, All};
 ghost use Rattle.cm_model.specs.Claims.{number_in};
-ghost use Rattle.cm_slots.specs.Seats.{numbers_at, widest};
+ghost use Rattle.cm_slots.specs.Connections.{numbers_at, widest};
 
 use cm_document::MOST_STATES;
 use cm_hardware::ResourceManager;

@@ -151,19 +151,19 @@ impl<C: Controller> Slot<C> {
     /// where they say so; with any fault it stays as it was.
     pub(crate) fn configure(
         &mut self,
-        berth: &mut Option<C>,
+        box_slot: &mut Option<C>,
         alloc: Global,
         params: &Params,
         divisor: u32,
     ) -> Result<(), CfgFault>
-        requires { (option_map C.meaning berth.old ≡ Some self.old.ctl) × CanBeConfigured self.old.ctl params.now }
+        requires { (option_map C.meaning box_slot.old ≡ Some self.old.ctl) × CanBeConfigured self.old.ctl params.now }
         ensures made { OnOk result
             (self.new ≡ record self.old { ctl = configured self.old.ctl params.now; divisor = Some divisor })
             × OnErr result (self.new ≡ self.old) }
         ensures refused { (result ≡ Err CfgFault.Refused) ↔ (is_refused params.now ≡ true) }
-        ensures home { option_map C.meaning berth.new ≡ Some self.new.ctl }
+        ensures home { option_map C.meaning box_slot.new ≡ Some self.new.ctl }
     {
-        let Some(ctl) = berth else {
+        let Some(ctl) = box_slot else {
             unreachable!();
         };
         ctl.configure(alloc, params)?;
@@ -173,13 +173,13 @@ impl<C: Controller> Slot<C> {
     }
 
     /// It gives up its parameters.
-    pub(crate) fn cleanup(&mut self, berth: &mut Option<C>)
-        requires home { option_map C.meaning berth.old ≡ Some self.old.ctl }
+    pub(crate) fn cleanup(&mut self, box_slot: &mut Option<C>)
+        requires home { option_map C.meaning box_slot.old ≡ Some self.old.ctl }
         requires idle { IsIdle self.old.ctl }
         ensures slot { self.new ≡ after_cleanup self.old }
-        ensures home { option_map C.meaning berth.new ≡ Some self.new.ctl }
+        ensures home { option_map C.meaning box_slot.new ≡ Some self.new.ctl }
     {
-        let Some(ctl) = berth else {
+        let Some(ctl) = box_slot else {
             unreachable!();
         };
         ctl.cleanup();
@@ -204,13 +204,13 @@ impl<C: Controller> Slot<C> {
     /// It comes to run with its box, with the states of this moment, one for each that it reads, and told whether it takes its references
     /// from the interfaces. No mail waits for it any more. It takes no memory.
     #[tactic(auto, using(crate::proofs::StepLemmas::kept_once_activated))]
-    fn activate(&mut self, berth: &mut Option<C>, states: &[Fx], chained: bool)
-        requires home { option_map C.meaning berth.old ≡ Some self.old.ctl }
+    fn activate(&mut self, box_slot: &mut Option<C>, states: &[Fx], chained: bool)
+        requires home { option_map C.meaning box_slot.old ≡ Some self.old.ctl }
         requires can { CanBeActivated self.old.ctl (length states.now) }
         ensures slot { self.new ≡ record self.old { ctl = activated self.old.ctl states.now chained; mail = None } }
-        ensures home { option_map C.meaning berth.new ≡ Some self.new.ctl }
+        ensures home { option_map C.meaning box_slot.new ≡ Some self.new.ctl }
     {
-        let Some(ctl) = berth else {
+        let Some(ctl) = box_slot else {
             unreachable!();
         };
         ctl.activate(states, chained);
@@ -220,13 +220,13 @@ impl<C: Controller> Slot<C> {
 
     /// It does not run any more, stays configured, and no mail waits for it. It takes no memory.
     #[tactic(auto, using(crate::proofs::StepLemmas::kept_once_deactivated))]
-    fn deactivate(&mut self, berth: &mut Option<C>)
-        requires home { option_map C.meaning berth.old ≡ Some self.old.ctl }
+    fn deactivate(&mut self, box_slot: &mut Option<C>)
+        requires home { option_map C.meaning box_slot.old ≡ Some self.old.ctl }
         requires running { IsRunning self.old.ctl }
         ensures slot { self.new ≡ leaving self.old }
-        ensures home { option_map C.meaning berth.new ≡ Some self.new.ctl }
+        ensures home { option_map C.meaning box_slot.new ≡ Some self.new.ctl }
     {
-        let Some(ctl) = berth else {
+        let Some(ctl) = box_slot else {
             unreachable!();
         };
         ctl.deactivate();
@@ -236,15 +236,15 @@ impl<C: Controller> Slot<C> {
 
     /// It does not run any more, whether it ran or not, and no mail waits for it. It takes no memory.
     #[tactic(auto, using(crate::proofs::CommitLemmas::still_as_it_is))]
-    pub(crate) fn leave(&mut self, berth: &mut Option<C>)
-        requires { option_map C.meaning berth.old ≡ Some self.old.ctl }
+    pub(crate) fn leave(&mut self, box_slot: &mut Option<C>)
+        requires { option_map C.meaning box_slot.old ≡ Some self.old.ctl }
         ensures left { self.new ≡ leaving self.old }
         ensures again { (states : List ℤ) (chained : Bool)
             → come states chained self.new ≡ come states chained self.old }
-        ensures home { option_map C.meaning berth.new ≡ Some self.new.ctl }
+        ensures home { option_map C.meaning box_slot.new ≡ Some self.new.ctl }
     {
         if is_running(self.life) {
-            self.deactivate(berth);
+            self.deactivate(box_slot);
         } else {
             self.mail = None;
         }
@@ -252,62 +252,62 @@ impl<C: Controller> Slot<C> {
 
     /// It comes to run with these states, whether it ran before or not, where it is configured, and no mail waits for it. It takes no
     /// memory.
-    pub(crate) fn come(&mut self, berth: &mut Option<C>, states: &[Fx], chained: bool)
-        requires home { option_map C.meaning berth.old ≡ Some self.old.ctl }
+    pub(crate) fn come(&mut self, box_slot: &mut Option<C>, states: &[Fx], chained: bool)
+        requires home { option_map C.meaning box_slot.old ≡ Some self.old.ctl }
         requires can { CanCome (length states.now) self.old }
         ensures slot { self.new ≡ come states.now chained self.old }
-        ensures home { option_map C.meaning berth.new ≡ Some self.new.ctl }
+        ensures home { option_map C.meaning box_slot.new ≡ Some self.new.ctl }
     {
-        self.leave(berth);
+        self.leave(box_slot);
         if self.is_inactive() {
-            self.activate(berth, states, chained);
+            self.activate(box_slot, states, chained);
         }
     }
 
     /// Whether it may be activated before this cycle.
-    pub(crate) fn is_ready(&self, berth: &Option<C>, cycle: u64) -> bool
-        requires { option_map C.meaning berth.now ≡ Some self.now.ctl }
+    pub(crate) fn is_ready(&self, box_slot: &Option<C>, cycle: u64) -> bool
+        requires { option_map C.meaning box_slot.now ≡ Some self.now.ctl }
         ensures { result ≡ is_ready self.now.ctl cycle }
     {
-        match berth {
+        match box_slot {
             Some(ctl) => ctl.ready(cycle),
             None => unreachable!(),
         }
     }
 
     /// Its box, without the rest.
-    pub(crate) fn into_ctl(self, berth: Option<C>) -> C
-        requires { option_map C.meaning berth ≡ Some self.ctl }
+    pub(crate) fn into_ctl(self, box_slot: Option<C>) -> C
+        requires { option_map C.meaning box_slot ≡ Some self.ctl }
         ensures { C.meaning result ≡ self.ctl }
     {
-        match berth {
+        match box_slot {
             Some(ctl) => ctl,
             None => unreachable!(),
         }
     }
 
     /// Its box leaves, while it runs.
-    pub(crate) fn lend(&self, berth: &mut Option<C>) -> C
-        requires { (is_active self.now ≡ true) × (option_map C.meaning berth.old ≡ Some self.now.ctl) }
+    pub(crate) fn lend(&self, box_slot: &mut Option<C>) -> C
+        requires { (is_active self.now ≡ true) × (option_map C.meaning box_slot.old ≡ Some self.now.ctl) }
         ensures lent { C.meaning result ≡ self.now.ctl }
         ensures kept { IsKept Active self.now.ctl }
-        ensures left { berth.new ≡ None }
+        ensures left { box_slot.new ≡ None }
     {
         let _ = &self.life;
-        match berth.take() {
+        match box_slot.take() {
             Some(ctl) => ctl,
             None => unreachable!(),
         }
     }
 
     /// Its box comes back, which runs.
-    pub(crate) fn park(&mut self, berth: &mut Option<C>, ctl: C)
+    pub(crate) fn park(&mut self, box_slot: &mut Option<C>, ctl: C)
         requires { IsKept Active (C.meaning ctl) }
         ensures slot { self.new ≡ record self.old { ctl = C.meaning ctl } }
-        ensures home { option_map C.meaning berth.new ≡ Some (C.meaning ctl) }
+        ensures home { option_map C.meaning box_slot.new ≡ Some (C.meaning ctl) }
     {
         self.keep(&ctl, Life::Active);
-        *berth = Some(ctl);
+        *box_slot = Some(ctl);
     }
 
     /// Whether mail waits for it.

@@ -14,7 +14,7 @@ ghost use Rattle.cm_places.specs.Placed.{placed_of};
 ghost use Rattle.cm_slots.specs.Calls.Commits.{CanCommit};
 ghost use Rattle.cm_slots.specs.Calls.Slots.{CanLend, HasLent, CanPark, HasParked};
 ghost use Rattle.cm_slots.specs.Commits.{TellCommit};
-ghost use Rattle.cm_slots.specs.Seats.{IsShownOn};
+ghost use Rattle.cm_slots.specs.Connections.{IsShownOn};
 ghost use Rattle.cm_slots.specs.Updates.{HasTime};
 
 use crate::commits::commit_each;

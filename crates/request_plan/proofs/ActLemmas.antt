@@ -42,36 +42,36 @@ use Rattle.switch_plan.specs.View as views
 use Rattle.switch_plan.specs.declared.view.View.{View}
 use Rattle.request_plan.proofs.ListLemmas.{filter_alike}
 use Rattle.request_plan.proofs.SetLemmas.{stopped_of, started_of, set_between}
-use Rattle.request_plan.proofs.StandLemmas.{runs_in_scene, loaded_shown}
+use Rattle.request_plan.proofs.SituationLemmas.{runs_in_scene, loaded_shown}
 use Rattle.request_plan.specs.Acts.{HaveFlags, AreSetsOf, is_carried_out, IsPlannedAct, IsSwitchOf, IsActOf, IsConclusionOf, seen_after, loaded_after, lives_after, IsActWithin}
 use Rattle.request_plan.specs.Moves.{IsMoveFault}
-use Rattle.request_plan.specs.Stands.{scene_with, IsStand, IsSeenOf, of_serials, running}
+use Rattle.request_plan.specs.Situations.{scene_with, IsSituation, IsSeenOf, of_serials, running}
 use Rattle.request_plan.specs.declared.acts.Act.{Act}
 use Rattle.request_plan.specs.declared.acts.Act.TheVariants as act
 use Rattle.request_plan.specs.declared.acts.Conclusion.{Conclusion}
 use Rattle.request_plan.specs.declared.acts.Switched.{Switched}
-use Rattle.request_plan.specs.declared.stand.Stand.{Stand}
+use Rattle.request_plan.specs.declared.situation.Situation.{Situation}
 
 -- ---- What is seen of a state
 
-module _ (s : State) (d : Description) (stand : Stand) (is : IsSeenOf s d stand) where
+module _ (s : State) (d : Description) (situation : Situation) (is : IsSeenOf s d situation) where
   pub of_description : s.description ≡ d
   of_description = ap (λ (scene : Scene). scene.description) is.scene
 
-  pub of_loaded : map (seen s) s.loaded ≡ stand.loaded.items
+  pub of_loaded : map (seen s) s.loaded ≡ situation.loaded.items
   of_loaded = ap (λ (scene : Scene). scene.loaded) is.scene
 
-  pub of_lives : s.lives ≡ stand.lives.items
+  pub of_lives : s.lives ≡ situation.lives.items
   of_lives = ap (λ (scene : Scene). scene.components) is.scene
 
   -- the serials of what is seen differ
-  pub seen_once : IsDistinct (λ m n. m == n) (map (λ l. l.serial) stand.loaded.items)
+  pub seen_once : IsDistinct (λ m n. m == n) (map (λ l. l.serial) situation.loaded.items)
   seen_once = subst (IsDistinct (λ m n. m == n)) (sym (map_twice (seen s) (λ (l : Seen). l.serial) s.loaded) ∙ ap (map (λ (l : Seen). l.serial)) of_loaded) is.once
 
 -- of a steady state is seen what its parts are
-seen_from : (t : State) (d : Description) (stand : Stand) → IsSteady t → t.description ≡ d → map (seen t) t.loaded ≡ stand.loaded.items → t.lives ≡ stand.lives.items
-    → IsDistinct (λ m n. m == n) (map (λ l. l.serial) stand.loaded.items) → IsSeenOf t d stand
-seen_from t d stand steady described loaded lives once = record {
+seen_from : (t : State) (d : Description) (situation : Situation) → IsSteady t → t.description ≡ d → map (seen t) t.loaded ≡ situation.loaded.items → t.lives ≡ situation.lives.items
+    → IsDistinct (λ m n. m == n) (map (λ l. l.serial) situation.loaded.items) → IsSeenOf t d situation
+seen_from t d situation steady described loaded lives once = record {
   steady = steady;
   once = subst (IsDistinct (λ m n. m == n)) (sym (ap (map (λ (l : Seen). l.serial)) loaded) ∙ map_twice (seen t) (λ (l : Seen). l.serial) t.loaded) once;
   scene = ap₂ (λ (d : Description) (rest : List Seen × List Life). scene_with d rest.0 rest.1) described (ap₂ (λ (xs : List Seen) (ys : List Life). (xs, ys)) loaded lives);
@@ -79,9 +79,9 @@ seen_from t d stand steady described loaded lives once = record {
 
 -- ---- What is seen after an act
 
-module _ (s : State) (d : Description) (stand new : Stand) (is : IsSeenOf s d stand) where
-  after_switch : (after : State) (c : Switched) → IsSwitchOf s after c → IsSteady after → new.loaded.items ≡ map (seen_after c) stand.loaded.items
-      → new.lives.items ≡ stand.lives.items → IsSeenOf after d new
+module _ (s : State) (d : Description) (situation new : Situation) (is : IsSeenOf s d situation) where
+  after_switch : (after : State) (c : Switched) → IsSwitchOf s after c → IsSteady after → new.loaded.items ≡ map (seen_after c) situation.loaded.items
+      → new.lives.items ≡ situation.lives.items → IsSeenOf after d new
   unfolding commit
   after_switch after c of steady loaded lives =
       let set : Places = set_of c.set in
@@ -95,38 +95,38 @@ module _ (s : State) (d : Description) (stand new : Stand) (is : IsSeenOf s d st
         chained = set l.place && chained l.place;
       }) (ap₂ (λ (a b : Places). (a, b)) (sym of.started) (sym of.stopped)) (sym of.chained) in
       let seen_then : map (seen (commit s set of.again)) (commit s set of.again).loaded ≡ new.loaded.items =
-      shown ∙ ap₂ (λ (f : Seen → Seen) xs. map f xs) changes (of_loaded s d stand is) ∙ sym loaded in
-      let serials : map (λ (l : Seen). l.serial) new.loaded.items ≡ map (λ (l : Seen). l.serial) stand.loaded.items =
-      ap (map (λ (l : Seen). l.serial)) loaded ∙ map_twice (seen_after c) (λ (l : Seen). l.serial) stand.loaded.items in
+      shown ∙ ap₂ (λ (f : Seen → Seen) xs. map f xs) changes (of_loaded s d situation is) ∙ sym loaded in
+      let serials : map (λ (l : Seen). l.serial) new.loaded.items ≡ map (λ (l : Seen). l.serial) situation.loaded.items =
+      ap (map (λ (l : Seen). l.serial)) loaded ∙ map_twice (seen_after c) (λ (l : Seen). l.serial) situation.loaded.items in
       subst (λ t. IsSeenOf t d new) (sym of.is)
-      (seen_from (commit s set of.again) d new (subst IsSteady of.is steady) (of_description s d stand is) seen_then (of_lives s d stand is ∙ sym lives)
-      (subst (IsDistinct (λ m n. m == n)) (sym serials) (seen_once s d stand is)))
+      (seen_from (commit s set of.again) d new (subst IsSteady of.is steady) (of_description s d situation is) seen_then (of_lives s d situation is ∙ sym lives)
+      (subst (IsDistinct (λ m n. m == n)) (sym serials) (seen_once s d situation is)))
 
-  -- What is seen after an act is the stand that follows it.
-  pub followed : (after : State) (a : Act) → IsActOf s after a → IsSteady after → new.loaded.items ≡ loaded_after a stand.loaded.items
-      → new.lives.items ≡ lives_after a stand.lives.items → IsSeenOf after d new
+  -- What is seen after an act is the situation that follows it.
+  pub followed : (after : State) (a : Act) → IsActOf s after a → IsSteady after → new.loaded.items ≡ loaded_after a situation.loaded.items
+      → new.lives.items ≡ lives_after a situation.lives.items → IsSeenOf after d new
   followed after act.Nothing of steady loaded lives =
       subst (λ t. IsSeenOf t d new) (sym of)
-      (seen_from s d new is.steady (of_description s d stand is) (of_loaded s d stand is ∙ sym loaded) (of_lives s d stand is ∙ sym lives)
-      (subst (λ ls. IsDistinct (λ m n. m == n) (map (λ (l : Seen). l.serial) ls)) (sym loaded) (seen_once s d stand is)))
+      (seen_from s d new is.steady (of_description s d situation is) (of_loaded s d situation is ∙ sym loaded) (of_lives s d situation is ∙ sym lives)
+      (subst (λ ls. IsDistinct (λ m n. m == n) (map (λ (l : Seen). l.serial) ls)) (sym loaded) (seen_once s d situation is)))
   followed after (act.Switch c) of steady loaded lives = after_switch after c of steady loaded lives
   followed after (act.Move component target) of steady loaded lives =
       subst (λ t. IsSeenOf t d new) (sym of.is)
-      (seen_from (moved s (slice_set s.lives component target)) d new (subst IsSteady of.is steady) (of_description s d stand is) (of_loaded s d stand is ∙ sym loaded)
-      (ap (λ ls. slice_set ls component target) (of_lives s d stand is) ∙ sym lives)
-      (subst (λ ls. IsDistinct (λ m n. m == n) (map (λ (l : Seen). l.serial) ls)) (sym loaded) (seen_once s d stand is)))
+      (seen_from (moved s (slice_set s.lives component target)) d new (subst IsSteady of.is steady) (of_description s d situation is) (of_loaded s d situation is ∙ sym loaded)
+      (ap (λ ls. slice_set ls component target) (of_lives s d situation is) ∙ sym lives)
+      (subst (λ ls. IsDistinct (λ m n. m == n) (map (λ (l : Seen). l.serial) ls)) (sym loaded) (seen_once s d situation is)))
 
 -- and it keeps its places
-pub follows : (d : Description) (stand new : Stand) (a : Act) → IsStand d stand → new.loaded.items ≡ loaded_after a stand.loaded.items
-    → new.lives.items ≡ lives_after a stand.lives.items → IsStand d new
-follows d stand new act.Nothing stands loaded lives = record { within = rw loaded stands.within; counted = rw lives stands.counted }
-follows d stand new (act.Switch c) stands loaded lives = record {
-  within = rw loaded (All-map (λ (l : Seen). l.place < length d.controllers) (seen_after c) stand.loaded.items stands.within);
+pub follows : (d : Description) (situation new : Situation) (a : Act) → IsSituation d situation → new.loaded.items ≡ loaded_after a situation.loaded.items
+    → new.lives.items ≡ lives_after a situation.lives.items → IsSituation d new
+follows d situation new act.Nothing stands loaded lives = record { within = rw loaded stands.within; counted = rw lives stands.counted }
+follows d situation new (act.Switch c) stands loaded lives = record {
+  within = rw loaded (All-map (λ (l : Seen). l.place < length d.controllers) (seen_after c) situation.loaded.items stands.within);
   counted = rw lives stands.counted;
 }
-follows d stand new (act.Move component target) stands loaded lives = record {
+follows d situation new (act.Move component target) stands loaded lives = record {
   within = rw loaded stands.within;
-  counted = rw lives (length-set stand.lives.items component target ∙ stands.counted);
+  counted = rw lives (length-set situation.lives.items component target ∙ stands.counted);
 }
 
 -- ---- A switch
@@ -172,7 +172,7 @@ done_fit s steady r dropped set again = either r.strict
       together = best_together s steady r.off r.on dropped set again is;
     }
 
-module _ (s : State) (d : Description) (stand : Stand) (is : IsSeenOf s d stand) (r : SwitchRequest) (plan : Planned) (planned_so : plan ≡ plan_of (scene_with d stand.loaded.items stand.lives.items) r) where
+module _ (s : State) (d : Description) (situation : Situation) (is : IsSeenOf s d situation) (r : SwitchRequest) (plan : Planned) (planned_so : plan ≡ plan_of (scene_with d situation.loaded.items situation.lives.items) r) where
   -- the plan is that of the state
   of_state : plan ≡ plan_of (scene_of s) r
   of_state = planned_so ∙ ap (λ scene. plan_of scene r) (sym is.scene)
@@ -187,7 +187,7 @@ module _ (s : State) (d : Description) (stand : Stand) (is : IsSeenOf s d stand)
       of (refused because) so = (ap (λ (p : Planned). p.outcome) so, refl)
       of (done dropped set again) so = absurd (true≢false (sym (ap (λ (p : Planned). is_carried_out p.outcome) so) ∙ refuses))
 
-  module _ (c : Switched) (flags : HaveFlags (length d.controllers) c) (sets : AreSetsOf stand.loaded.items plan.off plan.on c)
+  module _ (c : Switched) (flags : HaveFlags (length d.controllers) c) (sets : AreSetsOf situation.loaded.items plan.off plan.on c)
       (chained : set_of c.chained ≡ is_chained_in d.controllers (set_of c.set)) where
     -- the sets are those of the decision
     done_so : (dropped : List Dropped) (set again : Places) → decided (scene_of s) r ≡ done dropped set again → plan ≡ planned (scene_of s) (done dropped set again)
@@ -197,18 +197,18 @@ module _ (s : State) (d : Description) (stand : Stand) (is : IsSeenOf s d stand)
         let scene : Scene = scene_of s in
         let inside = params_loaded s.loaded set fit.params in
         let once : IsDistinct (λ m n. m == n) (map (λ l. l.serial) scene.loaded) =
-        subst (λ ls. IsDistinct (λ m n. m == n) (map (λ (l : Seen). l.serial) ls)) (sym (of_loaded s d stand is)) (seen_once s d stand is) in
-        let off : of_serials stand.loaded.items plan.off ≡ is_stopped scene set again =
-        ap₂ of_serials (sym (of_loaded s d stand is)) (ap (λ (p : Planned). p.off) so) ∙ stopped_of scene once set again in
-        let on : of_serials stand.loaded.items plan.on ≡ is_started scene set again =
-        ap₂ of_serials (sym (of_loaded s d stand is)) (ap (λ (p : Planned). p.on) so)
+        subst (λ ls. IsDistinct (λ m n. m == n) (map (λ (l : Seen). l.serial) ls)) (sym (of_loaded s d situation is)) (seen_once s d situation is) in
+        let off : of_serials situation.loaded.items plan.off ≡ is_stopped scene set again =
+        ap₂ of_serials (sym (of_loaded s d situation is)) (ap (λ (p : Planned). p.off) so) ∙ stopped_of scene once set again in
+        let on : of_serials situation.loaded.items plan.on ≡ is_started scene set again =
+        ap₂ of_serials (sym (of_loaded s d situation is)) (ap (λ (p : Planned). p.on) so)
         ∙ started_of scene once set again (λ p member. seen_loaded s s.loaded p (inside p member)) in
         let whole : set_of c.set ≡ set =
         sets.set
-        ∙ ap₂ {C = Places} (λ (before : Places) (both : Places × Places) p. (before p && not (both.0 p)) || both.1 p) (ap running (sym (of_loaded s d stand is)))
+        ∙ ap₂ {C = Places} (λ (before : Places) (both : Places × Places) p. (before p && not (both.0 p)) || both.1 p) (ap running (sym (of_loaded s d situation is)))
         (ap₂ (λ (a b : Places). (a, b)) off on)
         ∙ set_between scene once set again in
-        let described = of_description s d stand is in
+        let described = of_description s d situation is in
         record {
           again = again;
           is = ap (λ f. commit s f again) (sym whole);
@@ -232,7 +232,7 @@ module _ (s : State) (d : Description) (stand : Stand) (is : IsSeenOf s d stand)
         of (done dropped set again) decides so = (ap (λ (p : Planned). p.outcome) so, done_so dropped set again decides so)
 
   -- What is done for the plan is what is concluded.
-  pub switch_concluded : (a : Act) → IsPlannedAct d stand.loaded.items plan a → IsConclusionOf s (request.Switch r) (record { outcome = plan.outcome; act = a })
+  pub switch_concluded : (a : Act) → IsPlannedAct d situation.loaded.items plan a → IsConclusionOf s (request.Switch r) (record { outcome = plan.outcome; act = a })
   switch_concluded act.Nothing so = switch_refused so
   switch_concluded (act.Switch c) so = switch_done c so.1 so.2 so.3 so.0
   switch_concluded (act.Move component target) so = absurd so
@@ -252,27 +252,27 @@ scene_of_view v d loaded lives described is so =
 -- ---- The order of updates
 
 -- Those that run are the active ones, in the order of their updates.
-pub order_of : (s : State) (d : Description) (stand : Stand) → IsSeenOf s d stand
-    → in_order d.controllers (running stand.loaded.items) (map member (filter (λ l. is_running l.life) stand.loaded.items)) ≡ map member_of (active_order s)
-order_of s d stand is =
+pub order_of : (s : State) (d : Description) (situation : Situation) → IsSeenOf s d situation
+    → in_order d.controllers (running situation.loaded.items) (map member (filter (λ l. is_running l.life) situation.loaded.items)) ≡ map member_of (active_order s)
+order_of s d situation is =
     let cs = s.description.controllers in
     let runs : Loaded → Bool = λ l. is_running (life_of l.ctl) in
     let same : filter runs s.loaded ≡ filter is_active s.loaded =
     filter_alike runs is_active s.loaded (all_so (IsOwn cs) (λ l. runs l ≡ is_active l) (λ l own. runs_in_scene l own) s.loaded is.steady.in_order.own) in
-    let members : map member (filter (λ l. is_running l.life) stand.loaded.items) ≡ map member_of (filter is_active s.loaded) =
-    ap (λ xs. map member (filter (λ (l : Seen). is_running l.life) xs)) (sym (of_loaded s d stand is))
+    let members : map member (filter (λ l. is_running l.life) situation.loaded.items) ≡ map member_of (filter is_active s.loaded) =
+    ap (λ xs. map member (filter (λ (l : Seen). is_running l.life) xs)) (sym (of_loaded s d situation is))
     ∙ ap (map member) (filter_map_swapped (λ (l : Seen). is_running l.life) (seen s) s.loaded)
     ∙ map_twice (seen s) member (filter runs s.loaded) ∙ ap (map member_of) same in
-    let set : running stand.loaded.items ≡ active s = ap running (sym (of_loaded s d stand is)) ∙ scene_active s is.steady.in_order.own in
-    ap (λ (d : Description). in_order d.controllers (running stand.loaded.items) (map member (filter (λ (l : Seen). is_running l.life) stand.loaded.items))) (sym (of_description s d stand is))
+    let set : running situation.loaded.items ≡ active s = ap running (sym (of_loaded s d situation is)) ∙ scene_active s is.steady.in_order.own in
+    ap (λ (d : Description). in_order d.controllers (running situation.loaded.items) (map member (filter (λ (l : Seen). is_running l.life) situation.loaded.items))) (sym (of_description s d situation is))
     ∙ ap₂ (in_order cs) set members
     ∙ by_rank_map (λ m. depth cs (active s) m.place) member_of (suc (length cs)) (filter is_active s.loaded)
 
--- the same of a list that is that of the stand
-pub order_seen : (s : State) (d : Description) (stand : Stand) → IsSeenOf s d stand → (loaded : List Seen) → loaded ≡ stand.loaded.items
+-- the same of a list that is that of the situation
+pub order_seen : (s : State) (d : Description) (situation : Situation) → IsSeenOf s d situation → (loaded : List Seen) → loaded ≡ situation.loaded.items
     → in_order d.controllers (running loaded) (map member (filter (λ l. is_running l.life) loaded)) ≡ map member_of (active_order s)
-order_seen s d stand is loaded same =
-    ap (λ (ls : List Seen). in_order d.controllers (running ls) (map member (filter (λ (l : Seen). is_running l.life) ls))) same ∙ order_of s d stand is
+order_seen s d situation is loaded same =
+    ap (λ (ls : List Seen). in_order d.controllers (running ls) (map member (filter (λ (l : Seen). is_running l.life) ls))) same ∙ order_of s d situation is
 
 -- ---- A move
 
@@ -281,12 +281,12 @@ can_move : (b : Bool) (rest : Option Cause) → option_or (cause_if (not b) caus
 can_move true rest none = refl
 can_move false rest none = cc
 
-module _ (s : State) (d : Description) (stand : Stand) (is : IsSeenOf s d stand) (name : List ℕ) (target : Life) where
+module _ (s : State) (d : Description) (situation : Situation) (is : IsSeenOf s d situation) (name : List ℕ) (target : Life) where
   -- A move of no described component is refused.
   pub move_unknown : component_place d name ≡ None → (c : Conclusion) → c.outcome ≡ outcome.Refused name cause.Unknown → c.act ≡ act.Nothing
       → IsConclusionOf s (request.Hardware name target) c
   move_unknown none c became does =
-      let unknown : component_place s.description name ≡ None = ap (λ (d : Description). component_place d name) (of_description s d stand is) ∙ none in
+      let unknown : component_place s.description name ≡ None = ap (λ (d : Description). component_place d name) (of_description s d situation is) ∙ none in
       record {
         outcome = became ∙ ap (λ o. (with_move s name target o).outcome) (sym unknown);
         act = subst (IsActOf s (with_move s name target (component_place s.description name)).state) (sym does) (ap (λ o. (with_move s name target o).state) unknown);
@@ -295,7 +295,7 @@ module _ (s : State) (d : Description) (stand : Stand) (is : IsSeenOf s d stand)
   module _ (place : ℕ) (at : component_place d name ≡ Some place) (fault : Option Cause) (is_fault : fault ≡ move_fault s place target) where
     is_at : concluded s (request.Hardware name target) ≡ with_move_unless s name place target fault
     is_at =
-        ap (with_move s name target) (ap (λ (d : Description). component_place d name) (of_description s d stand is) ∙ at)
+        ap (with_move s name target) (ap (λ (d : Description). component_place d name) (of_description s d situation is) ∙ at)
         ∙ ap (with_move_unless s name place target) (sym is_fault)
 
     -- A move that something speaks against is refused.
@@ -309,24 +309,24 @@ module _ (s : State) (d : Description) (stand : Stand) (is : IsSeenOf s d stand)
         }
 
     -- Else the component comes to its target.
-    pub move_done : fault ≡ None → place < length stand.lives.items → (c : Conclusion) → c.outcome ≡ outcome.Done [] → c.act ≡ act.Move place target
+    pub move_done : fault ≡ None → place < length situation.lives.items → (c : Conclusion) → c.outcome ≡ outcome.Done [] → c.act ≡ act.Move place target
         → IsConclusionOf s (request.Hardware name target) c
     move_done is_so below c became does =
         let made = is_at ∙ ap (with_move_unless s name place target) is_so in
         record {
           outcome = became ∙ ap (λ (m : Concluded). m.outcome) (sym made);
           act = subst (IsActOf s (concluded s (request.Hardware name target)).state) (sym does)
-              (record { within = rw (of_lives s d stand is) below; possible = can_move (has_move (life_at s place) target) _ (sym is_fault ∙ is_so); is = ap (λ (m : Concluded). m.state) made });
+              (record { within = rw (of_lives s d situation is) below; possible = can_move (has_move (life_at s place) target) _ (sym is_fault ∙ is_so); is = ap (λ (m : Concluded). m.state) made });
         }
 
 -- What speaks against a move by the places of the active controllers in order is what speaks against it in the state.
-pub fault_is : (s : State) (d : Description) (stand : Stand) → IsSeenOf s d stand → (place : ℕ) (life target : Life) (places : List ℕ) (members : List Member) (fault : Option Cause)
-    → slice_index_or stand.lives.items place Unconfigured ≡ life
-    → (loaded : List Seen) → loaded ≡ stand.loaded.items → members ≡ in_order d.controllers (running loaded) (map member (filter (λ l. is_running l.life) loaded))
+pub fault_is : (s : State) (d : Description) (situation : Situation) → IsSeenOf s d situation → (place : ℕ) (life target : Life) (places : List ℕ) (members : List Member) (fault : Option Cause)
+    → slice_index_or situation.lives.items place Unconfigured ≡ life
+    → (loaded : List Seen) → loaded ≡ situation.loaded.items → members ≡ in_order d.controllers (running loaded) (map member (filter (λ l. is_running l.life) loaded))
     → places ≡ map (λ m. m.place) members → IsMoveFault d place life target places fault → fault ≡ move_fault s place target
-fault_is s d stand is place life target places members fault here loaded same ordered of_members speaks =
-    speaks s (of_description s d stand is) (ap (λ ls. slice_index_or ls place Unconfigured) (of_lives s d stand is) ∙ here)
-    (sym (of_members ∙ ap (map (λ (m : Member). m.place)) (ordered ∙ order_seen s d stand is loaded same) ∙ map_twice member_of (λ (m : Member). m.place) (active_order s)))
+fault_is s d situation is place life target places members fault here loaded same ordered of_members speaks =
+    speaks s (of_description s d situation is) (ap (λ ls. slice_index_or ls place Unconfigured) (of_lives s d situation is) ∙ here)
+    (sym (of_members ∙ ap (map (λ (m : Member). m.place)) (ordered ∙ order_seen s d situation is loaded same) ∙ map_twice member_of (λ (m : Member). m.place) (active_order s)))
 
 -- the places of members that have theirs
 pub places_within : (n : ℕ) (members : List Member) (places : List ℕ) → places ≡ map (λ m. m.place) members → All (λ m. m.place < n) members → All (λ p. p < n) places

@@ -1,6 +1,6 @@
 pub mod ListLemmas
 pub mod SetLemmas
-pub mod StandLemmas
+pub mod SituationLemmas
 pub mod ActLemmas
 pub mod PlanLemmas
 pub mod MoveLemmas

@@ -15,22 +15,22 @@ use Rattle.sound_laws.proofs.TicketLemmas.{concluded_keeps, standing_outcomes, w
 use Rattle.request_plan.proofs.ActLemmas.{followed}
 use Rattle.request_plan.specs.Acts.{IsConclusionOf, loaded_after, lives_after}
 use Rattle.request_plan.specs.Plans.{AreConclusionsOf, AreConcluded, IsStandingIn, told_first, IsPlanOf, HaveStoodInBy}
-use Rattle.request_plan.specs.Stands.{IsSeenOf}
+use Rattle.request_plan.specs.Situations.{IsSeenOf}
 use Rattle.request_plan.specs.declared.acts.Conclusion.{Conclusion}
 use Rattle.request_plan.specs.declared.plans.Plan.{Plan}
-use Rattle.request_plan.specs.declared.stand.Stand.{Stand}
+use Rattle.request_plan.specs.declared.situation.Situation.{Situation}
 
 -- ---- On the way
 
 -- After some of the requests: the state that they left, what is seen of it, and how what is concluded of the others goes on.
-pub record IsOnTheWay (s : State) (asked : List Request) (so_far : List Conclusion) (rest : List Request) (d : Description) (stand : Stand) : Type 0 where
+pub record IsOnTheWay (s : State) (asked : List Request) (so_far : List Conclusion) (rest : List Request) (d : Description) (situation : Situation) : Type 0 where
   pub now : State
-  pub seen : IsSeenOf now d stand
+  pub seen : IsSeenOf now d situation
   pub goes_on : (later : List Conclusion) → AreConclusionsOf now rest later → AreConclusionsOf s asked (so_far ++ later)
   pub ends : all_concluded now rest ≡ all_concluded s asked
 
-pub begun : (s : State) (asked : List Request) (none : List Conclusion) (d : Description) (stand : Stand) → none ≡ [] → IsSeenOf s d stand → IsOnTheWay s asked none asked d stand
-begun s asked none d stand empty seen = record {
+pub begun : (s : State) (asked : List Request) (none : List Conclusion) (d : Description) (situation : Situation) → none ≡ [] → IsSeenOf s d situation → IsOnTheWay s asked none asked d situation
+begun s asked none d situation empty seen = record {
   now = s;
   seen = seen;
   goes_on = λ later each. subst (λ (cs : List Conclusion). AreConclusionsOf s asked (cs ++ later)) (sym empty) each;
@@ -38,15 +38,15 @@ begun s asked none d stand empty seen = record {
 }
 
 -- one more is concluded
-pub one_more : (s : State) (asked : List Request) (so_far more : List Conclusion) (r : Request) (rest : List Request) (d : Description) (stand new : Stand) (c : Conclusion)
-    → IsOnTheWay s asked so_far (r ∷ rest) d stand → ((t : State) → IsSeenOf t d stand → IsConclusionOf t r c)
-    → new.loaded.items ≡ loaded_after c.act stand.loaded.items → new.lives.items ≡ lives_after c.act stand.lives.items → more ≡ so_far ++ c ∷ []
+pub one_more : (s : State) (asked : List Request) (so_far more : List Conclusion) (r : Request) (rest : List Request) (d : Description) (situation new : Situation) (c : Conclusion)
+    → IsOnTheWay s asked so_far (r ∷ rest) d situation → ((t : State) → IsSeenOf t d situation → IsConclusionOf t r c)
+    → new.loaded.items ≡ loaded_after c.act situation.loaded.items → new.lives.items ≡ lives_after c.act situation.lives.items → more ≡ so_far ++ c ∷ []
     → IsOnTheWay s asked more rest d new
 unfolding all_concluded
-one_more s asked so_far more r rest d stand new c way concludes loaded lives pushed =
+one_more s asked so_far more r rest d situation new c way concludes loaded lives pushed =
     let of = concludes way.now way.seen in
     let steady = concluded_steady way.now r way.seen.steady in
-    let seen = followed way.now d stand new way.seen (concluded way.now r).state c.act of.act steady loaded lives in
+    let seen = followed way.now d situation new way.seen (concluded way.now r).state c.act of.act steady loaded lives in
     record {
       now = with_outcome (concluded way.now r);
       seen = record { steady = outcome_steady (concluded way.now r) steady; once = seen.once; scene = seen.scene };
@@ -59,11 +59,11 @@ one_more s asked so_far more r rest d stand new c way concludes loaded lives pus
     append_assoc' xs x ys = sym (append_assoc xs (x ∷ []) ys)
 
 -- all are concluded
-pub ended : (s : State) (asked : List Request) (all : List Conclusion) (d : Description) (stand : Stand) → IsOnTheWay s asked all [] d stand → AreConcluded s asked all d stand
+pub ended : (s : State) (asked : List Request) (all : List Conclusion) (d : Description) (situation : Situation) → IsOnTheWay s asked all [] d situation → AreConcluded s asked all d situation
 unfolding all_concluded
-ended s asked all d stand way = record {
+ended s asked all d situation way = record {
   each = subst (AreConclusionsOf s asked) (append-nil all) (way.goes_on [] tt);
-  seen = subst (λ t. IsSeenOf t d stand) way.ends way.seen;
+  seen = subst (λ t. IsSeenOf t d situation) way.ends way.seen;
 }
 
 -- ---- What is told
@@ -91,23 +91,23 @@ told_after s asked cs each =
 -- ---- Those that stand in
 
 -- where nobody is to, nothing is concluded
-pub nobody_stands : (s : State) (names : List (List ℕ)) (d : Description) (stand : Stand) → (length names == 0) ≡ true → IsSeenOf s d stand → HaveStoodInBy s names None d stand
-nobody_stands s [] d stand none seen = record { first = tt; seen = seen }
-nobody_stands s (name ∷ names) d stand none seen =
+pub nobody_stands : (s : State) (names : List (List ℕ)) (d : Description) (situation : Situation) → (length names == 0) ≡ true → IsSeenOf s d situation → HaveStoodInBy s names None d situation
+nobody_stands s [] d situation none seen = record { first = tt; seen = seen }
+nobody_stands s (name ∷ names) d situation none seen =
     let none_there : length (name ∷ names) ≡ 0 = eqb-true (length (name ∷ names)) 0 none in absurd (omega (arith, none_there))
 
 -- else they are concluded first, in a state in which nobody is to stand in any more
-pub somebody_stands : (s : State) (names : List (List ℕ)) (d : Description) (stand new : Stand) (c : Conclusion) → (length names == 0) ≡ false
-    → ((t : State) → IsSeenOf t d stand → IsConclusionOf t (standing_in names) c)
-    → new.loaded.items ≡ loaded_after c.act stand.loaded.items → new.lives.items ≡ lives_after c.act stand.lives.items
-    → IsSeenOf s d stand → HaveStoodInBy s names (Some c) d new
-somebody_stands s [] d stand new c some concludes loaded lives seen = cc
-somebody_stands s (name ∷ names) d stand new c some concludes loaded lives seen =
+pub somebody_stands : (s : State) (names : List (List ℕ)) (d : Description) (situation new : Situation) (c : Conclusion) → (length names == 0) ≡ false
+    → ((t : State) → IsSeenOf t d situation → IsConclusionOf t (standing_in names) c)
+    → new.loaded.items ≡ loaded_after c.act situation.loaded.items → new.lives.items ≡ lives_after c.act situation.lives.items
+    → IsSeenOf s d situation → HaveStoodInBy s names (Some c) d new
+somebody_stands s [] d situation new c some concludes loaded lives seen = cc
+somebody_stands s (name ∷ names) d situation new c some concludes loaded lives seen =
     let t = record s { fallbacks = [] } in
-    let before : IsSeenOf t d stand = record { steady = emptied_steady s seen.steady; once = seen.once; scene = seen.scene } in
+    let before : IsSeenOf t d situation = record { steady = emptied_steady s seen.steady; once = seen.once; scene = seen.scene } in
     let of = concludes t before in
     let steady = concluded_steady t (standing_in (name ∷ names)) before.steady in
-    record { first = of; seen = followed t d stand new before (concluded t (standing_in (name ∷ names))).state c.act of.act steady loaded lives }
+    record { first = of; seen = followed t d situation new before (concluded t (standing_in (name ∷ names))).state c.act of.act steady loaded lives }
 
 -- and so it is told of them
 told_of : (s : State) (names : List (List ℕ)) (first : Option Conclusion) → IsStandingIn s names first → told_first first ≡ told_of_fallbacks s names
@@ -118,7 +118,7 @@ told_of s (name ∷ names) (Some c) is = ap (λ (o : Outcome). record { ticket =
 
 -- ---- The whole plan
 
-pub plan_is : (s : State) (plan : Plan) (d : Description) (between last : Stand) → HaveStoodInBy s s.fallbacks plan.first d between
+pub plan_is : (s : State) (plan : Plan) (d : Description) (between last : Situation) → HaveStoodInBy s s.fallbacks plan.first d between
     → AreConcluded (after_fallbacks s) (waiting s) plan.conclusions.items d last
     → plan.order.items ≡ members_in_order (all_concluded (after_fallbacks s) (waiting s))
     → plan.decisions ≡ told_first plan.first ++ decisions_from (length s.outcomes) (map (λ c. c.outcome) plan.conclusions.items)

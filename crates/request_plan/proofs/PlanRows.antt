@@ -3,7 +3,7 @@ use Rattle.std.proofs.Common.{◌≡◌, true, false, [], ◌∷◌, refl}
 use Rattle.cm_document.specs.declared.life.Life.TheVariants.{Inactive, Active, Finalized}
 use Rattle.cm_model.specs.declared.seen.Seen.{Seen}
 use Rattle.request_plan.specs.Acts.{loaded_after, lives_after}
-use Rattle.request_plan.specs.Stands.{of_serials, running}
+use Rattle.request_plan.specs.Situations.{of_serials, running}
 use Rattle.request_plan.specs.declared.acts.Act.TheVariants as act
 use Rattle.request_plan.specs.declared.acts.Switched.{Switched}
 

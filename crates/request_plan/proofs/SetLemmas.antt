@@ -21,7 +21,7 @@ use Rattle.switch_plan.proofs.CauseLemmas.{order_back, order_from}
 use Rattle.switch_plan.proofs.ElementLemmas.{some_of, any_from, filter_back, filter_from, Contains-map, Contains-map_back}
 use Rattle.request_plan.proofs.ListLemmas.{one_of_number}
 use Rattle.switch_plan.specs.Relations.{Related, relations_of}
-use Rattle.request_plan.specs.Stands.{of_serials, running}
+use Rattle.request_plan.specs.Situations.{of_serials, running}
 
 -- ---- Places
 

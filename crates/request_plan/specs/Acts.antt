@@ -19,7 +19,7 @@ use Rattle.cm_model.specs.declared.cause.Outcome.TheVariants as outcome
 use Rattle.cm_model.specs.declared.planned.Planned.{Planned}
 use Rattle.cm_model.specs.declared.request.Request.{Request}
 use Rattle.cm_model.specs.declared.seen.Seen.{Seen}
-use Rattle.request_plan.specs.Stands.{of_serials, running}
+use Rattle.request_plan.specs.Situations.{of_serials, running}
 use Rattle.request_plan.specs.declared.acts.Act.{Act}
 use Rattle.request_plan.specs.declared.acts.Act.TheVariants as act
 use Rattle.request_plan.specs.declared.acts.Conclusion.{Conclusion}

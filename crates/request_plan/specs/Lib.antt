@@ -2,7 +2,7 @@
 -- for a request, the plan for all that wait, and what calls ask and promise.
 pub mod Requests
 pub mod Moves
-pub mod Stands
+pub mod Situations
 pub mod Acts
 pub mod Plans
 pub mod Calls

@@ -8,10 +8,10 @@ use Rattle.cm_model.specs.State.{State}
 use Rattle.cm_model.specs.declared.cause.Decision.{Decision}
 use Rattle.cm_model.specs.declared.request.Request.{Request}
 use Rattle.request_plan.specs.Acts.{IsConclusionOf}
-use Rattle.request_plan.specs.Stands.{IsSeenOf}
+use Rattle.request_plan.specs.Situations.{IsSeenOf}
 use Rattle.request_plan.specs.declared.acts.Conclusion.{Conclusion}
 use Rattle.request_plan.specs.declared.plans.Plan.{Plan}
-use Rattle.request_plan.specs.declared.stand.Stand.{Stand}
+use Rattle.request_plan.specs.declared.situation.Situation.{Situation}
 
 -- These are concluded of requests, one after the other, each in the state that the one before it left.
 abbrev pub AreConclusionsOf : State → List Request → List Conclusion → Type 0
@@ -44,12 +44,12 @@ pub record IsPlanOf (s : State) (plan : Plan) : Type 0 where
 
 -- This is concluded of those that are to stand in, and this is seen of the state after it.
 pub record HaveStoodInBy (s : State) (names : List (List ℕ)) (first : Option Conclusion) (d : Description)
-    (stand : Stand) : Type 0 where
+    (situation : Situation) : Type 0 where
   pub first : IsStandingIn s names first
-  pub seen : IsSeenOf (after_standing_in s names) d stand
+  pub seen : IsSeenOf (after_standing_in s names) d situation
 
 -- These are concluded of requests in a state, and this is seen of the state after all of them.
 pub record AreConcluded (s : State) (asked : List Request) (conclusions : List Conclusion) (d : Description)
-    (stand : Stand) : Type 0 where
+    (situation : Situation) : Type 0 where
   pub each : AreConclusionsOf s asked conclusions
-  pub seen : IsSeenOf (all_concluded s asked) d stand
+  pub seen : IsSeenOf (all_concluded s asked) d situation

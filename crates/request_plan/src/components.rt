@@ -6,11 +6,11 @@ ghost use Rattle.cm_model.specs.Boundary.{component_place, move_fault};
 ghost use Rattle.cm_model.specs.State.{State};
 ghost use Rattle.cm_model.specs.declared.request.Request.TheVariants as asks;
 ghost use Rattle.request_plan.specs.Calls.Conclude.{CanDecide, Concludes};
-ghost use Rattle.request_plan.specs.Stands.{IsSeenOf};
+ghost use Rattle.request_plan.specs.Situations.{IsSeenOf};
 
 use crate::acts::{Act, Conclusion};
 use crate::moves::move_fault;
-use crate::stand::{Stand, order};
+use crate::situation::{Situation, order};
 use cm_document::{Checked, CompDesc, Life};
 use cm_model::{Cause, Member, Outcome};
 use fixed_num::Memory;
@@ -24,17 +24,17 @@ pub(crate) fn conclude_move(
     alloc: Global,
     checked: &Checked,
     relations: &Relations,
-    stand: &Stand,
+    situation: &Situation,
     component: &Name,
     target: Life,
 ) -> Result<Conclusion, Memory>
-    requires { CanDecide checked.now relations.now stand.now }
-    ensures { IfOk result (Concludes checked.now stand.now (asks.Hardware component.now target)) }
+    requires { CanDecide checked.now relations.now situation.now }
+    ensures { IfOk result (Concludes checked.now situation.now (asks.Hardware component.now target)) }
 {
     match component_place(checked, component) {
         Some(place) => {
             let conclusion = conclude_at(
-                alloc, checked, relations, stand, component, place, target,
+                alloc, checked, relations, situation, component, place, target,
             )?;
             Ok(conclusion)
         }
@@ -50,17 +50,17 @@ fn conclude_at(
     alloc: Global,
     checked: &Checked,
     relations: &Relations,
-    stand: &Stand,
+    situation: &Situation,
     component: &Name,
     place: u32,
     target: Life,
 ) -> Result<Conclusion, Memory>
-    requires can { CanDecide checked.now relations.now stand.now }
+    requires can { CanDecide checked.now relations.now situation.now }
     requires at { component_place checked.now component.now ≡ Some place }
-    requires within { place < length stand.now.lives.items }
-    ensures { IfOk result (Concludes checked.now stand.now (asks.Hardware component.now target)) }
+    requires within { place < length situation.now.lives.items }
+    ensures { IfOk result (Concludes checked.now situation.now (asks.Hardware component.now target)) }
 {
-    match fault_at(alloc, checked, relations, stand, place, target)? {
+    match fault_at(alloc, checked, relations, situation, place, target)? {
         Some(cause) => {
             let conclusion = refused(alloc, component, cause)?;
             Ok(conclusion)
@@ -82,18 +82,18 @@ fn fault_at(
     alloc: Global,
     checked: &Checked,
     relations: &Relations,
-    stand: &Stand,
+    situation: &Situation,
     place: u32,
     target: Life,
 ) -> Result<Option<Cause>, Memory>
-    requires can { CanDecide checked.now relations.now stand.now }
-    requires within { place < length stand.now.lives.items }
-    ensures { IfOk result (λ fault. (s : State) → IsSeenOf s checked.now stand.now
+    requires can { CanDecide checked.now relations.now situation.now }
+    requires within { place < length situation.now.lives.items }
+    ensures { IfOk result (λ fault. (s : State) → IsSeenOf s checked.now situation.now
         → fault ≡ move_fault s place target) }
 {
     let place = place as usize;
-    let life = stand.lives[place];
-    let members = order(alloc, checked, relations, &stand.loaded)?;
+    let life = situation.lives[place];
+    let members = order(alloc, checked, relations, &situation.loaded)?;
     let places = places_of(alloc, &members)?;
     let fault = move_fault(checked, relations, place, life, target, &places)?;
     Ok(fault)

@@ -5,12 +5,12 @@
 pub use acts::{Act, Conclusion, Switched};
 pub use plans::Plan;
 pub use requests::Requests;
-pub use stand::Stand;
+pub use situation::Situation;
 
 mod acts;
 mod components;
 mod moves;
 mod plans;
 mod requests;
-mod stand;
+mod situation;
 mod switches;

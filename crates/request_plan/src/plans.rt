@@ -4,12 +4,12 @@ ghost use Rattle.std.specs.Prelude.{◌≡◌, ◌+◌, ◌<◌, ◌^◌, ◌++�
 ghost use Rattle.cm_model.specs.Boundary.{waiting, decisions_from};
 ghost use Rattle.cm_model.specs.State.{State};
 ghost use Rattle.request_plan.specs.Calls.Conclude.{CanDecide, Concludes};
-ghost use Rattle.request_plan.specs.Stands.{IsStand, IsSeenOf};
+ghost use Rattle.request_plan.specs.Situations.{IsSituation, IsSeenOf};
 ghost use Rattle.request_plan.specs.Plans.{told_first, IsPlanOf, AreConcluded, HaveStoodInBy};
 
 use crate::acts::Conclusion;
 use crate::components::conclude_move;
-use crate::stand::{Stand, order};
+use crate::situation::{Situation, order};
 use crate::switches::conclude_switch;
 use cm_document::{Checked, SwitchRequest};
 use cm_model::{Decision, Member, Outcome, Request};
@@ -33,25 +33,25 @@ pub struct Plan {
 }
 
 /// Plans what becomes of those that are to stand in, and then of requests, the first of which has this ticket, and what is done for them:
-/// one after the other, each in the state that the one before it left. Nothing is touched but the stand, which is used up.
+/// one after the other, each in the state that the one before it left. Nothing is touched but the situation, which is used up.
 pub(crate) fn plan_all(
     alloc: Global,
     checked: &Checked,
     relations: &Relations,
-    stand: Stand,
+    situation: Situation,
     names: Seq<Name>,
     ticket: u32,
     requests: &[Request],
 ) -> Result<Plan, Memory>
-    requires can { CanDecide checked.now relations.now stand }
+    requires can { CanDecide checked.now relations.now situation }
     requires tickets { ticket + length requests.now < 2 ^ 32 }
-    ensures { IfOk result (λ plan. (s : State) → IsSeenOf s checked.now stand → s.fallbacks ≡ names
+    ensures { IfOk result (λ plan. (s : State) → IsSeenOf s checked.now situation → s.fallbacks ≡ names
         → length s.outcomes ≡ ticket → waiting s ≡ requests.now → IsPlanOf s plan) }
 {
-    let mut stand = stand;
-    let first = stand_in(alloc, checked, relations, &mut stand, names)?;
-    let conclusions = conclude_all(alloc, checked, relations, &mut stand, requests)?;
-    let order = order(alloc, checked, relations, &stand.loaded)?;
+    let mut situation = situation;
+    let first = stand_in(alloc, checked, relations, &mut situation, names)?;
+    let conclusions = conclude_all(alloc, checked, relations, &mut situation, requests)?;
+    let order = order(alloc, checked, relations, &situation.loaded)?;
     let decisions = decisions_of(alloc, &first, ticket, &conclusions)?;
     Ok(Plan {
         first,
@@ -61,18 +61,18 @@ pub(crate) fn plan_all(
     })
 }
 
-/// What is concluded of those that are to stand in: as many of them become active as can. The stand is that after it.
+/// What is concluded of those that are to stand in: as many of them become active as can. The situation is that after it.
 fn stand_in(
     alloc: Global,
     checked: &Checked,
     relations: &Relations,
-    stand: &mut Stand,
+    situation: &mut Situation,
     names: Seq<Name>,
 ) -> Result<Option<Conclusion>, Memory>
-    requires { CanDecide checked.now relations.now stand.old }
-    ensures stand { IfOk result (λ _. IsStand checked.now stand.new) }
-    ensures stood { IfOk result (λ first. (s : State) → IsSeenOf s checked.now stand.old
-        → HaveStoodInBy s names first checked.now stand.new) }
+    requires { CanDecide checked.now relations.now situation.old }
+    ensures situation { IfOk result (λ _. IsSituation checked.now situation.new) }
+    ensures stood { IfOk result (λ first. (s : State) → IsSeenOf s checked.now situation.old
+        → HaveStoodInBy s names first checked.now situation.new) }
 {
     if names.as_slice().is_empty() {
         return Ok(None);
@@ -82,29 +82,29 @@ fn stand_in(
         off: Seq::new(alloc),
         strict: false,
     };
-    let conclusion = conclude_switch(alloc, checked, relations, stand, &request)?;
-    stand.follow(&conclusion.act);
+    let conclusion = conclude_switch(alloc, checked, relations, situation, &request)?;
+    situation.follow(&conclusion.act);
     Ok(Some(conclusion))
 }
 
-/// What is concluded of these requests, one after the other. The stand is that after all of them.
+/// What is concluded of these requests, one after the other. The situation is that after all of them.
 fn conclude_all(
     alloc: Global,
     checked: &Checked,
     relations: &Relations,
-    stand: &mut Stand,
+    situation: &mut Situation,
     waiting: &[Request],
 ) -> Result<Vec<Conclusion>, Memory>
-    requires { CanDecide checked.now relations.now stand.old }
-    ensures stand { IfOk result (λ _. IsStand checked.now stand.new) }
+    requires { CanDecide checked.now relations.now situation.old }
+    ensures situation { IfOk result (λ _. IsSituation checked.now situation.new) }
     ensures count { IfOk result (λ list. length list.items ≡ length waiting.now) }
-    ensures concluded { IfOk result (λ list. (s : State) → IsSeenOf s checked.now stand.old
-        → AreConcluded s waiting.now list.items checked.now stand.new) }
+    ensures concluded { IfOk result (λ list. (s : State) → IsSeenOf s checked.now situation.old
+        → AreConcluded s waiting.now list.items checked.now situation.new) }
 {
     let mut conclusions = Vec::with_capacity(alloc, waiting.len())?;
     for request in waiting {
-        let conclusion = conclude(alloc, checked, relations, stand, request)?;
-        stand.follow(&conclusion.act);
+        let conclusion = conclude(alloc, checked, relations, situation, request)?;
+        situation.follow(&conclusion.act);
         conclusions.push(conclusion)?;
     }
     Ok(conclusions)
@@ -115,16 +115,16 @@ fn conclude(
     alloc: Global,
     checked: &Checked,
     relations: &Relations,
-    stand: &Stand,
+    situation: &Situation,
     request: &Request,
 ) -> Result<Conclusion, Memory>
-    requires { CanDecide checked.now relations.now stand.now }
-    ensures { IfOk result (Concludes checked.now stand.now request.now) }
+    requires { CanDecide checked.now relations.now situation.now }
+    ensures { IfOk result (Concludes checked.now situation.now request.now) }
 {
     match request {
-        Request::Switch(switch) => conclude_switch(alloc, checked, relations, stand, switch),
+        Request::Switch(switch) => conclude_switch(alloc, checked, relations, situation, switch),
         Request::Hardware { component, target } => {
-            conclude_move(alloc, checked, relations, stand, component, *target)
+            conclude_move(alloc, checked, relations, situation, component, *target)
         }
     }
 }

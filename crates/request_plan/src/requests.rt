@@ -7,10 +7,10 @@ ghost use Rattle.cm_model.specs.declared.reply.Reply.TheVariants as reply;
 ghost use Rattle.switch_plan.specs.Relations.{relations_of};
 ghost use Rattle.request_plan.specs.Plans.{IsPlanOf};
 ghost use Rattle.request_plan.specs.Requests.{AreAskedIn, IsAnswered, with_asked};
-ghost use Rattle.request_plan.specs.Stands.{IsStand, IsSeenOf};
+ghost use Rattle.request_plan.specs.Situations.{IsSituation, IsSeenOf};
 
 use crate::plans::{Plan, plan_all};
-use crate::stand::Stand;
+use crate::situation::Situation;
 use cm_document::Checked;
 use cm_model::{Decision, MOST_WAITING, Outcome, Reply, Request, Why};
 use fixed_num::Memory;
@@ -152,19 +152,19 @@ impl Requests {
         alloc: Global,
         checked: &Checked,
         relations: &Relations,
-        stand: Stand,
+        situation: Situation,
         names: Seq<Name>,
     ) -> Result<Plan, Memory>
         requires relations { relations.now ≡ relations_of checked.now }
-        requires stand { IsStand checked.now stand }
+        requires situation { IsSituation checked.now situation }
         ensures { IfOk result (λ plan. (s : State) → AreAskedIn s self.now → s.fallbacks ≡ names
-            → IsSeenOf s checked.now stand → IsPlanOf s plan) }
+            → IsSeenOf s checked.now situation → IsPlanOf s plan) }
     {
         let plan = plan_all(
             alloc,
             checked,
             relations,
-            stand,
+            situation,
             names,
             self.decided(),
             self.waiting(),

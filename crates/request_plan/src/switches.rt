@@ -7,11 +7,11 @@ ghost use Rattle.cm_model.specs.Scene.{is_chained_in, member};
 ghost use Rattle.cm_model.specs.declared.request.Request.TheVariants as asks;
 ghost use Rattle.chain_order.specs.Links.{leaders_of, each_below};
 ghost use Rattle.request_plan.specs.Calls.Conclude.{CanDecide, CanSwitch, Concludes};
-ghost use Rattle.request_plan.specs.Stands.{of_serials, running};
+ghost use Rattle.request_plan.specs.Situations.{of_serials, running};
 ghost use Rattle.request_plan.specs.Acts.{is_carried_out, HaveFlags, AreSetsOf, IsPlannedAct};
 
 use crate::acts::{Act, Conclusion, Switched};
-use crate::stand::{Stand, as_set, member, running};
+use crate::situation::{Situation, as_set, member, running};
 use chain_order::{Links, PlaceSet, is_chained};
 use cm_document::{Checked, SwitchRequest};
 use cm_model::{Member, Outcome, Planned, Seen};
@@ -24,14 +24,14 @@ pub(crate) fn conclude_switch(
     alloc: Global,
     checked: &Checked,
     relations: &Relations,
-    stand: &Stand,
+    situation: &Situation,
     request: &SwitchRequest,
 ) -> Result<Conclusion, Memory>
-    requires { CanDecide checked.now relations.now stand.now }
-    ensures { IfOk result (Concludes checked.now stand.now (asks.Switch request.now)) }
+    requires { CanDecide checked.now relations.now situation.now }
+    ensures { IfOk result (Concludes checked.now situation.now (asks.Switch request.now)) }
 {
-    let plan = plan_with(alloc, &stand.view(checked), relations, request)?;
-    let act = act_of(alloc, checked, relations, &stand.loaded, &plan)?;
+    let plan = plan_with(alloc, &situation.view(checked), relations, request)?;
+    let act = act_of(alloc, checked, relations, &situation.loaded, &plan)?;
     Ok(Conclusion {
         outcome: plan.outcome,
         act,

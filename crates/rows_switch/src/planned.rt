@@ -1,7 +1,7 @@
 //! Requests that are planned one after the other.
 
 ghost use Rattle.std.specs.Prelude.{IsTrue, IfOk};
-ghost use Rattle.request_plan.specs.Stands.{IsStand};
+ghost use Rattle.request_plan.specs.Situations.{IsSituation};
 
 use crate::scenes::{Scene, are_below, life_of, request_of};
 use chain_order::PlaceSet;
@@ -11,7 +11,7 @@ use iface_names::Name;
 use pages_cases::acts::{Player, hold_acts};
 use pages_cases::pages::push_parted;
 use pages_robots::robots::ARM_AND_LEG;
-use request_plan::{Act, Conclusion, Plan, Requests, Stand, Switched};
+use request_plan::{Act, Conclusion, Plan, Requests, Situation, Switched};
 use std::alloc::Global;
 use std::test::Fail;
 use switch_plan::Relations;
@@ -149,8 +149,8 @@ impl Queue {
     fn plan(&self, alloc: Global) -> Result<Plan, Fail> {
         let checked = &self.scene.checked;
         let relations = Relations::of(alloc, checked)?;
-        let stand = stand_of(&self.scene)?;
-        Ok(self.requests.plan(alloc, checked, &relations, stand)?)
+        let situation = situation_of(&self.scene)?;
+        Ok(self.requests.plan(alloc, checked, &relations, situation)?)
     }
 
     /// What is told of the last request of a plan, and of the order after it.
@@ -248,25 +248,25 @@ fn request(alloc: Global, words: &str) -> Result<Request, Fail> {
 }
 
 /// What a scene shows of its state.
-fn stand_of(scene: &Scene) -> Result<Stand, Fail>
-    ensures { IfOk result (IsStand scene.now.checked) }
+fn situation_of(scene: &Scene) -> Result<Situation, Fail>
+    ensures { IfOk result (IsSituation scene.now.checked) }
 {
-    let stand = Stand {
+    let situation = Situation {
         loaded: scene.loaded.clone()?,
         lives: scene.components.clone()?,
     };
-    if !is_stand(&stand, &scene.checked) {
+    if !is_situation(&situation, &scene.checked) {
         return Err(Fail::new("a place is not described"));
     }
-    Ok(stand)
+    Ok(situation)
 }
 
 /// Whether each loaded controller has its place, and each component its state.
-fn is_stand(stand: &Stand, checked: &Checked) -> bool
-    ensures { IsTrue result → IsStand checked.now stand.now }
+fn is_situation(situation: &Situation, checked: &Checked) -> bool
+    ensures { IsTrue result → IsSituation checked.now situation.now }
 {
     let description = checked.description();
     let components = description.components.as_slice().len();
     let controllers = description.controllers.as_slice().len();
-    stand.lives.len() == components && are_below(&stand.loaded, controllers)
+    situation.lives.len() == components && are_below(&situation.loaded, controllers)
 }

@@ -11,7 +11,7 @@ use Rattle.cm_places.specs.Placed.{placed_of}
 use Rattle.sound_laws.proofs.CoreLemmas.{core_configuration}
 use Rattle.sound_laws.specs.Core.{bare, core}
 use Rattle.switch_plan.specs.Relations.{relations_of}
-use Rattle.rt_flight.specs.Flights.{FlightFacts, IsAloft, IsAlike, AreSeatsOf}
+use Rattle.rt_flight.specs.Flights.{FlightFacts, IsAloft, IsAlike, AreCellsOf}
 
 -- who runs is read off without what waits for them
 bare_runners : (ls : List Loaded) → map runner_of (map bare ls) ≡ map runner_of ls
@@ -41,8 +41,8 @@ stays_aloft begun s f is alike =
         placed = is.over.placed ∙ ap placed_of (sym description);
         related = is.over.related ∙ ap relations_of (sym description);
         timed = is.over.timed ∙ ap period (sym description);
-        hardware = running_hardware begun s description lives (same_runners s begun same) f.plant.hardware is.over.hardware bodies values;
-        cells = subst (λ (k : Configuration). AreSeatsOf k.mails k.running f.cells) (sym flown) is.over.cells;
+        hardware = running_hardware begun s description lives (same_runners s begun same) f.robot.hardware is.over.hardware bodies values;
+        cells = subst (λ (k : Configuration). AreCellsOf k.mails k.running f.cells) (sym flown) is.over.cells;
       };
       not_yet = is.not_yet;
     }

@@ -23,14 +23,14 @@ use Rattle.cm_hardware.specs.Holding.{IsInCycle}
 use Rattle.loan_board.specs.declared.board.Loan.{Loan}
 use Rattle.chain_order.specs.Links.{linked}
 use Rattle.cm_slots.specs.Cycles.{IsAloftOf}
-use Rattle.cm_slots.specs.Seats.{numbers_at, held_at}
+use Rattle.cm_slots.specs.Connections.{numbers_at, held_at}
 use Rattle.cm_slots.specs.Slots.{data_under}
 use Rattle.cm_slots.specs.Updates.{Aloft, step_in, put_on, board_after, with_erred}
 use Rattle.cm_slots.proofs.UpdateStateLemmas.{held_off, step_is_of, given_by_is, with_last_error, claims_there}
 use Rattle.switch_plan.proofs.ElementLemmas.{first_or_later, none_inside}
-use Rattle.rt_flight.specs.Stations.{flies, is_held_at, tick_at}
-use Rattle.rt_flight.specs.Cells.{Seat, Flying, seat_gathered, seat_stepped, step_of, with_step, all_flown, seats_after}
-use Rattle.rt_flight.specs.Flights.{IsSeatOf, AreSeatsOf, AreSeatsAfter}
+use Rattle.rt_flight.specs.Workspaces.{flies, is_held_at, tick_at}
+use Rattle.rt_flight.specs.Cells.{CellFacts, Flying, cell_gathered, cell_stepped, step_of, with_step, all_flown, cells_after}
+use Rattle.rt_flight.specs.Flights.{IsCellOf, AreCellsOf, AreCellsAfter}
 
 -- ---- One cell
 
@@ -58,21 +58,21 @@ told_so step held none = by_end step.done refl
     by_end done.Error e = rw e (sym (none e))
 
 -- the step of a cell is that of its controller
-seat_step_is : (s : State) (a : Aloft) (loans : List Loan) (l : Loaded) (c : Seat) → IsSeatOf s.mails (running_part l) c
-    → step_of a (seat_gathered a.placed loans c) ≡ step_in a loans (mail_for s l.serial) l
-seat_step_is s a loans l c is =
-    ap (λ (ctl : CtlData). ctl_step ctl (tick_at a c.station) (numbers_at loans (linked a.placed.reads c.station.place)) (held_at loans (linked a.placed.references c.station.place)) c.mail) is.ctl
-    ∙ ap (λ (p : ℕ). ctl_step l.ctl (tick_at a c.station) (numbers_at loans (linked a.placed.reads p)) (held_at loans (linked a.placed.references p)) c.mail) is.station.place
-    ∙ ap (ctl_step l.ctl (tick_at a c.station) (numbers_at loans (linked a.placed.reads l.place)) (held_at loans (linked a.placed.references l.place))) is.mail
-    ∙ ap (λ (o : Option ℕ). ctl_step l.ctl (record { cycle = a.number; time_us = a.number * a.period_us; dt_us = unwrap_or o 1 * a.period_us }) (numbers_at loans (linked a.placed.reads l.place)) (held_at loans (linked a.placed.references l.place)) (mail_for s l.serial)) is.station.divisor
+cell_step_is : (s : State) (a : Aloft) (loans : List Loan) (l : Loaded) (c : CellFacts) → IsCellOf s.mails (running_part l) c
+    → step_of a (cell_gathered a.placed loans c) ≡ step_in a loans (mail_for s l.serial) l
+cell_step_is s a loans l c is =
+    ap (λ (ctl : CtlData). ctl_step ctl (tick_at a c.workspace) (numbers_at loans (linked a.placed.reads c.workspace.place)) (held_at loans (linked a.placed.references c.workspace.place)) c.mail) is.ctl
+    ∙ ap (λ (p : ℕ). ctl_step l.ctl (tick_at a c.workspace) (numbers_at loans (linked a.placed.reads p)) (held_at loans (linked a.placed.references p)) c.mail) is.workspace.place
+    ∙ ap (ctl_step l.ctl (tick_at a c.workspace) (numbers_at loans (linked a.placed.reads l.place)) (held_at loans (linked a.placed.references l.place))) is.mail
+    ∙ ap (λ (o : Option ℕ). ctl_step l.ctl (record { cycle = a.number; time_us = a.number * a.period_us; dt_us = unwrap_or o 1 * a.period_us }) (numbers_at loans (linked a.placed.reads l.place)) (held_at loans (linked a.placed.references l.place)) (mail_for s l.serial)) is.workspace.divisor
 
 -- it is updated exactly where its controller is
-flies_is : (s : State) (a : Aloft) (l : Loaded) (c : Seat) → IsValid s.description → IsAloftOf s a → IsSeatOf s.mails (running_part l) c
-    → flies a c.station ≡ (is_due_now s l && not (is_held_off s l))
+flies_is : (s : State) (a : Aloft) (l : Loaded) (c : CellFacts) → IsValid s.description → IsAloftOf s a → IsCellOf s.mails (running_part l) c
+    → flies a c.workspace ≡ (is_due_now s l && not (is_held_off s l))
 flies_is s a l c valid aloft is =
     ap₂ (λ (b held : Bool). b && not held)
-    (ap (λ (n : ℕ). is_due n c.station.divisor) aloft.number ∙ ap (λ (o : Option ℕ). option_map_or (is_due s.ended) o false) is.station.divisor)
-    (ap (is_held_at a) is.station.place ∙ held_off s a valid aloft l)
+    (ap (λ (n : ℕ). is_due n c.workspace.divisor) aloft.number ∙ ap (λ (o : Option ℕ). option_map_or (is_due s.ended) o false) is.workspace.divisor)
+    (ap (is_held_at a) is.workspace.place ∙ held_off s a valid aloft l)
 
 -- ---- All of them
 
@@ -83,8 +83,8 @@ pub record Stands (s : State) (told : List Ran) (wrong : List ℕ) (u : Updates)
   pub erred : f.erred ≡ wrong ++ erred_in u.ran
 
 -- These cells are left, of these controllers, which are active.
-pub record AreLeft (s : State) (ls : List Loaded) (cs : List Seat) : Type 0 where
-  pub seats : AreSeatsOf s.mails (map running_part ls) cs
+pub record AreLeft (s : State) (ls : List Loaded) (cs : List CellFacts) : Type 0 where
+  pub cell_facts : AreCellsOf s.mails (map running_part ls) cs
   pub running : AllByRecursion (λ l. active s l.place ≡ true) ls
 
 -- after this step of the controller of this serial and place
@@ -101,19 +101,19 @@ due s l = is_due_now s l && not (is_held_off s l)
 
 module _ (s : State) (a : Aloft) (valid : IsValid s.description) (aloft : IsAloftOf s a) (steady : IsSteady s) (told : List Ran) (wrong : List ℕ) where
   -- its step, as the state has it
-  step_same : (u : Updates) (f : Flying) (l : Loaded) (c : Seat) → Stands s told wrong u f → IsSeatOf s.mails (running_part l) c
-      → step_of a (seat_gathered a.placed f.hardware.loans c) ≡ step_in_state s u.values l
+  step_same : (u : Updates) (f : Flying) (l : Loaded) (c : CellFacts) → Stands s told wrong u f → IsCellOf s.mails (running_part l) c
+      → step_of a (cell_gathered a.placed f.hardware.loans c) ≡ step_in_state s u.values l
   step_same u f l c stands is =
-      seat_step_is s a f.hardware.loans l c is ∙ step_is_of s a valid aloft u.values f.hardware stands.hardware (mail_for s l.serial) l refl
+      cell_step_is s a f.hardware.loans l c is ∙ step_is_of s a valid aloft u.values f.hardware stands.hardware (mail_for s l.serial) l refl
 
   -- one update more
-  stands_on : (u : Updates) (f : Flying) (l : Loaded) (c : Seat) → Stands s told wrong u f → IsSeatOf s.mails (running_part l) c → active s l.place ≡ true
-      → Stands s told wrong (with_step_in_state s l (step_in_state s u.values l) u) (with_step a c (step_of a (seat_gathered a.placed f.hardware.loans c)) f)
+  stands_on : (u : Updates) (f : Flying) (l : Loaded) (c : CellFacts) → Stands s told wrong u f → IsCellOf s.mails (running_part l) c → active s l.place ≡ true
+      → Stands s told wrong (with_step_in_state s l (step_in_state s u.values l) u) (with_step a c (step_of a (cell_gathered a.placed f.hardware.loans c)) f)
   stands_on u f l c stands is runs =
       let step = step_in_state s u.values l in
-      let same : with_step a c (step_of a (seat_gathered a.placed f.hardware.loans c)) f ≡ with_step_at a l.serial l.place step f =
-      ap (λ (st : Stepped). with_step_at a c.station.serial c.station.place st f) (step_same u f l c stands is)
-      ∙ ap₂ (λ (n p : ℕ). with_step_at a n p step f) is.station.serial is.station.place in
+      let same : with_step a c (step_of a (cell_gathered a.placed f.hardware.loans c)) f ≡ with_step_at a l.serial l.place step f =
+      ap (λ (st : Stepped). with_step_at a c.workspace.serial c.workspace.place st f) (step_same u f l c stands is)
+      ∙ ap₂ (λ (n p : ℕ). with_step_at a n p step f) is.workspace.serial is.workspace.place in
       subst (Stands s told wrong (with_step_in_state s l step u)) (sym same) (record {
         hardware = rw aloft.placed (given_by_is s a valid aloft u.values f.hardware stands.hardware l step
             (claims_there s a valid aloft steady told wrong u.values stands.hardware.wired.interfaces l runs));
@@ -121,7 +121,7 @@ module _ (s : State) (a : Aloft) (valid : IsValid s.description) (aloft : IsAlof
         erred = ap (with_erred l.serial step) stands.erred ∙ with_last_error u.ran l step wrong;
       })
 
-  either_way : (u : Updates) (f after : Flying) (cs : List Seat) (l : Loaded) (later : List Loaded) (b : Bool)
+  either_way : (u : Updates) (f after : Flying) (cs : List CellFacts) (l : Loaded) (later : List Loaded) (b : Bool)
       → Stands s told wrong (with_updates s (with_step_in_state s l (step_in_state s u.values l) u) later) (all_flown a cs after)
       → Stands s told wrong (with_updates s u later) (all_flown a cs f)
       → Stands s told wrong (with_updates s u (if b then l ∷ later else later)) (all_flown a cs (if b then after else f))
@@ -129,19 +129,19 @@ module _ (s : State) (a : Aloft) (valid : IsValid s.description) (aloft : IsAlof
   either_way u f after cs l later false updated passed = passed
 
   -- So the turns of cells come to the updates of their controllers.
-  pub all_stand : (ls : List Loaded) (cs : List Seat) (u : Updates) (f : Flying) → Stands s told wrong u f → AreLeft s ls cs
+  pub all_stand : (ls : List Loaded) (cs : List CellFacts) (u : Updates) (f : Flying) → Stands s told wrong u f → AreLeft s ls cs
       → Stands s told wrong (with_updates s u (filter (due s) ls)) (all_flown a cs f)
   all_stand [] [] u f stands left = stands
-  all_stand [] (c ∷ cs) u f stands left = absurd left.seats
-  all_stand (l ∷ ls) [] u f stands left = absurd left.seats
+  all_stand [] (c ∷ cs) u f stands left = absurd left.cell_facts
+  all_stand (l ∷ ls) [] u f stands left = absurd left.cell_facts
   all_stand (l ∷ ls) (c ∷ cs) u f stands left =
-      let step = step_of a (seat_gathered a.placed f.hardware.loans c) in
+      let step = step_of a (cell_gathered a.placed f.hardware.loans c) in
       let later = filter (due s) ls in
-      let rest : AreLeft s ls cs = record { seats = left.seats.1; running = left.running.1 } in
-      let updated = all_stand ls cs (with_step_in_state s l (step_in_state s u.values l) u) (with_step a c step f) (stands_on u f l c stands left.seats.0 left.running.0) rest in
+      let rest : AreLeft s ls cs = record { cell_facts = left.cell_facts.1; running = left.running.1 } in
+      let updated = all_stand ls cs (with_step_in_state s l (step_in_state s u.values l) u) (with_step a c step f) (stands_on u f l c stands left.cell_facts.0 left.running.0) rest in
       let passed = all_stand ls cs u f stands rest in
       subst (λ (b : Bool). Stands s told wrong (with_updates s u (filter (due s) (l ∷ ls))) (all_flown a cs (if b then with_step a c step f else f)))
-      (sym (flies_is s a l c valid aloft left.seats.0))
+      (sym (flies_is s a l c valid aloft left.cell_facts.0))
       (either_way u f (with_step a c step f) cs l later (due s l) updated passed)
 
 -- ---- The data of each
@@ -227,20 +227,20 @@ found_after s values l loaded (m ∷ ms) differ found =
 
 module _ (s : State) (a : Aloft) (valid : IsValid s.description) (aloft : IsAloftOf s a) (steady : IsSteady s) (told : List Ran) (wrong : List ℕ) where
   -- one cell more, whether its controller was updated or passed over
-  seats_on : (u : Updates) (f : Flying) (l : Loaded) (c : Seat) (ls : List Loaded) (cs : List Seat) → Stands s told wrong u f → IsSeatOf s.mails (running_part l) c
+  cells_on : (u : Updates) (f : Flying) (l : Loaded) (c : CellFacts) (ls : List Loaded) (cs : List CellFacts) → Stands s told wrong u f → IsCellOf s.mails (running_part l) c
       → AllByRecursion (λ n. (l.serial == n) ≡ false) (map (λ (m : Loaded). m.serial) ls) → IsFound u.loaded l
-      → AreSeatsAfter (with_updates s (with_step_in_state s l (step_in_state s u.values l) u) (filter (due s) ls)).loaded (map running_part ls)
-      (seats_after a cs (with_step a c (step_of a (seat_gathered a.placed f.hardware.loans c)) f))
-      → AreSeatsAfter (with_updates s u (filter (due s) ls)).loaded (map running_part ls) (seats_after a cs f)
-      → AreSeatsAfter (with_updates s u (filter (due s) (l ∷ ls))).loaded (map running_part (l ∷ ls)) (seats_after a (c ∷ cs) f)
-  seats_on u f l c ls cs stands is differ found updated passed =
-      subst (λ (b : Bool). AreSeatsAfter (with_updates s u (filter (due s) (l ∷ ls))).loaded (map running_part (l ∷ ls))
-      ((if b then seat_stepped step gathered else record c { mail = None; done = None }) ∷ seats_after a cs (if b then with_step a c step f else f)))
+      → AreCellsAfter (with_updates s (with_step_in_state s l (step_in_state s u.values l) u) (filter (due s) ls)).loaded (map running_part ls)
+      (cells_after a cs (with_step a c (step_of a (cell_gathered a.placed f.hardware.loans c)) f))
+      → AreCellsAfter (with_updates s u (filter (due s) ls)).loaded (map running_part ls) (cells_after a cs f)
+      → AreCellsAfter (with_updates s u (filter (due s) (l ∷ ls))).loaded (map running_part (l ∷ ls)) (cells_after a (c ∷ cs) f)
+  cells_on u f l c ls cs stands is differ found updated passed =
+      subst (λ (b : Bool). AreCellsAfter (with_updates s u (filter (due s) (l ∷ ls))).loaded (map running_part (l ∷ ls))
+      ((if b then cell_stepped step gathered else record c { mail = None; done = None }) ∷ cells_after a cs (if b then with_step a c step f else f)))
       (sym (flies_is s a l c valid aloft is))
-      (by_due (due s l) (record { station = record { serial = is.station.serial; place = is.station.place; divisor = is.station.divisor }; ctl = stepped_data; no_mail = refl }, updated) (record { station = record { serial = is.station.serial; place = is.station.place; divisor = is.station.divisor }; ctl = kept_data; no_mail = refl }, passed))
+      (by_due (due s l) (record { workspace = record { serial = is.workspace.serial; place = is.workspace.place; divisor = is.workspace.divisor }; ctl = stepped_data; no_mail = refl }, updated) (record { workspace = record { serial = is.workspace.serial; place = is.workspace.place; divisor = is.workspace.divisor }; ctl = kept_data; no_mail = refl }, passed))
     where
-      gathered : Seat
-      gathered = seat_gathered a.placed f.hardware.loans c
+      gathered : CellFacts
+      gathered = cell_gathered a.placed f.hardware.loans c
 
       step : Stepped
       step = step_of a gathered
@@ -259,26 +259,26 @@ module _ (s : State) (a : Aloft) (valid : IsValid s.description) (aloft : IsAlof
       kept_data : Some c.ctl ≡ data_under l.serial (with_updates s u later).loaded
       kept_data = ap Some is.ctl ∙ sym (ap (option_map (λ (m : Loaded). m.ctl)) (found_later s l.serial ls u differ ∙ found))
 
-      by_due : (b : Bool) → AreSeatsAfter (with_updates s next later).loaded (map running_part (l ∷ ls)) (seat_stepped step gathered ∷ seats_after a cs (with_step a c step f))
-          → AreSeatsAfter (with_updates s u later).loaded (map running_part (l ∷ ls)) (record c { mail = None; done = None } ∷ seats_after a cs f)
-          → AreSeatsAfter (with_updates s u (if b then l ∷ later else later)).loaded (map running_part (l ∷ ls))
-          ((if b then seat_stepped step gathered else record c { mail = None; done = None }) ∷ seats_after a cs (if b then with_step a c step f else f))
+      by_due : (b : Bool) → AreCellsAfter (with_updates s next later).loaded (map running_part (l ∷ ls)) (cell_stepped step gathered ∷ cells_after a cs (with_step a c step f))
+          → AreCellsAfter (with_updates s u later).loaded (map running_part (l ∷ ls)) (record c { mail = None; done = None } ∷ cells_after a cs f)
+          → AreCellsAfter (with_updates s u (if b then l ∷ later else later)).loaded (map running_part (l ∷ ls))
+          ((if b then cell_stepped step gathered else record c { mail = None; done = None }) ∷ cells_after a cs (if b then with_step a c step f else f))
       by_due true is_updated is_kept = is_updated
       by_due false is_updated is_kept = is_kept
 
   -- So the cells have the data after the updates.
-  pub seats_are : (ls : List Loaded) (cs : List Seat) (u : Updates) (f : Flying) → Stands s told wrong u f → AreLeft s ls cs
+  pub cells_are : (ls : List Loaded) (cs : List CellFacts) (u : Updates) (f : Flying) → Stands s told wrong u f → AreLeft s ls cs
       → IsDistinct (λ m n. m == n) (map (λ (l : Loaded). l.serial) ls) → AllByRecursion (IsFound u.loaded) ls
-      → AreSeatsAfter (with_updates s u (filter (due s) ls)).loaded (map running_part ls) (seats_after a cs f)
+      → AreCellsAfter (with_updates s u (filter (due s) ls)).loaded (map running_part ls) (cells_after a cs f)
   unfolding IsDistinct
-  seats_are [] [] u f stands left once found = tt
-  seats_are [] (c ∷ cs) u f stands left once found = absurd left.seats
-  seats_are (l ∷ ls) [] u f stands left once found = absurd left.seats
-  seats_are (l ∷ ls) (c ∷ cs) u f stands left once found =
-      let step = step_of a (seat_gathered a.placed f.hardware.loans c) in
+  cells_are [] [] u f stands left once found = tt
+  cells_are [] (c ∷ cs) u f stands left once found = absurd left.cell_facts
+  cells_are (l ∷ ls) [] u f stands left once found = absurd left.cell_facts
+  cells_are (l ∷ ls) (c ∷ cs) u f stands left once found =
+      let step = step_of a (cell_gathered a.placed f.hardware.loans c) in
       let next = with_step_in_state s l (step_in_state s u.values l) u in
-      let rest : AreLeft s ls cs = record { seats = left.seats.1; running = left.running.1 } in
-      seats_on u f l c ls cs stands left.seats.0 once.0 found.0
-      (seats_are ls cs next (with_step a c step f) (stands_on s a valid aloft steady told wrong u f l c stands left.seats.0 left.running.0) rest once.1
+      let rest : AreLeft s ls cs = record { cell_facts = left.cell_facts.1; running = left.running.1 } in
+      cells_on u f l c ls cs stands left.cell_facts.0 once.0 found.0
+      (cells_are ls cs next (with_step a c step f) (stands_on s a valid aloft steady told wrong u f l c stands left.cell_facts.0 left.running.0) rest once.1
       (found_after s u.values l u.loaded ls once.0 found.1))
-      (seats_are ls cs u f stands rest once.1 found.1)
+      (cells_are ls cs u f stands rest once.1 found.1)

@@ -31,12 +31,12 @@ use Rattle.switch_plan.proofs.ElementLemmas.{any_from}
 use Rattle.cm_slots.specs.Cycles.{IsAloftOf}
 use Rattle.cm_slots.specs.Updates.{Aloft}
 use Rattle.cm_places.specs.Placed.{Placed}
-use Rattle.rt_flight.specs.Stations.{flies, IsFitted}
-use Rattle.rt_flight.specs.Cells.{Seat, Flying, seat_gathered, step_of, with_step, flying_after, all_flown, seats_after, CanFly}
-use Rattle.rt_flight.specs.Flights.{FlightFacts, AreSeatsOf, IsAloftOver, IsAloft, IsComputed, AreSeatsAfter, member_in, HasMade, TellsNothing, IsEquipped}
-use Rattle.rt_flight.specs.declared.plant.Plant.{Plant}
+use Rattle.rt_flight.specs.Workspaces.{flies, IsFitted}
+use Rattle.rt_flight.specs.Cells.{CellFacts, Flying, cell_gathered, step_of, with_step, flying_after, all_flown, cells_after, CanFly}
+use Rattle.rt_flight.specs.Flights.{FlightFacts, AreCellsOf, IsAloftOver, IsAloft, IsComputed, AreCellsAfter, member_in, HasMade, TellsNothing, IsEquipped}
+use Rattle.rt_flight.specs.declared.robot.Robot.{Robot}
 use Rattle.rt_flight.specs.Calls.Cycles.{LeavesFlight, IsToldOf, Decides, IsQuiet}
-use Rattle.rt_flight.proofs.CellLemmas.{Stands, AreLeft, IsFound, found_once, all_stand, seats_are}
+use Rattle.rt_flight.proofs.CellLemmas.{Stands, AreLeft, IsFound, found_once, all_stand, cells_are}
 
 -- ---- The board
 
@@ -49,22 +49,22 @@ board_in_cycle s values w is =
     ap length is.loans ∙ length-map values _ ∙ sym (length-map values (λ (v : InterfaceValue). v.interface)) ∙ ap length is.wired.interfaces
 
 -- so each cell can be updated after the reads
-pub can_fly_each : (s : State) (values : List InterfaceValue) (w after : Wired) (number : ℕ) (cells : List Seat) (g : Plant) → IsHardwareOf s w → IsInCycle s values after
+pub can_fly_each : (s : State) (values : List InterfaceValue) (w after : Wired) (number : ℕ) (cells : List CellFacts) (g : Robot) → IsHardwareOf s w → IsInCycle s values after
     → AllByRecursion (CanFly g.places g.relations g.period_us (length w.loans)) cells → AllByRecursion (CanFly g.places g.relations g.period_us (length after.loans)) cells
 can_fly_each s values w after number cells g is inside each =
     subst (λ (n : ℕ). AllByRecursion (CanFly g.places g.relations g.period_us n) cells) (board_of s w is ∙ sym (board_in_cycle s values after inside)) each
 
--- and has a station that is fitted
-pub fitted_each : (placed : Placed) (related : Related) (period_us board : ℕ) (cells : List Seat) → AllByRecursion (CanFly placed related period_us board) cells → AllByRecursion (λ c. IsFitted placed c.station) cells
+-- and has a workspace that is fitted
+pub fitted_each : (placed : Placed) (related : Related) (period_us board : ℕ) (cells : List CellFacts) → AllByRecursion (CanFly placed related period_us board) cells → AllByRecursion (λ c. IsFitted placed c.workspace) cells
 fitted_each placed related period_us board [] each = tt
-fitted_each placed related period_us board (c ∷ cs) each = (each.0.seated.fitted, fitted_each placed related period_us board cs each.1)
+fitted_each placed related period_us board (c ∷ cs) each = (each.0.connected.fitted, fitted_each placed related period_us board cs each.1)
 
 -- the turns of the cells leave the components as they are
-pub components_flown : (a : Aloft) (cs : List Seat) (f : Flying) → (all_flown a cs f).hardware.components ≡ f.hardware.components
+pub components_flown : (a : Aloft) (cs : List CellFacts) (f : Flying) → (all_flown a cs f).hardware.components ≡ f.hardware.components
 components_flown a [] f = refl
 components_flown a (c ∷ cs) f =
     components_flown a cs (flying_after a c f)
-    ∙ either (flies a c.station) (with_step a c (step_of a (seat_gathered a.placed f.hardware.loans c)) f) refl
+    ∙ either (flies a c.workspace) (with_step a c (step_of a (cell_gathered a.placed f.hardware.loans c)) f) refl
   where
     either : (b : Bool) (stepped : Flying) → stepped.hardware.components ≡ f.hardware.components
         → (if b then stepped else f).hardware.components ≡ f.hardware.components
@@ -74,17 +74,17 @@ components_flown a (c ∷ cs) f =
 -- ---- The updates
 
 -- What the turns of all cells come to in the state.
-pub record HasFlown (s : State) (a : Aloft) (cells : List Seat) (f : Flying) : Type 0 where
+pub record HasFlown (s : State) (a : Aloft) (cells : List CellFacts) (f : Flying) : Type 0 where
   pub stands : Stands s f.ran f.erred (updates s (values_read s)) (all_flown a cells f)
-  pub seats : AreSeatsAfter (updates s (values_read s)).loaded (configuration s).running (seats_after a cells f)
+  pub cell_facts : AreCellsAfter (updates s (values_read s)).loaded (configuration s).running (cells_after a cells f)
 
-pub has_flown : (s : State) (number : ℕ) (cells : List Seat) (g : Plant) (a : Aloft) (f : Flying) → IsAloftOver s number cells g → IsAloftOf s a → IsInCycle s (values_read s) f.hardware
+pub has_flown : (s : State) (number : ℕ) (cells : List CellFacts) (g : Robot) (a : Aloft) (f : Flying) → IsAloftOver s number cells g → IsAloftOf s a → IsInCycle s (values_read s) f.hardware
     → HasFlown s a cells f
 has_flown s number cells g a f is aloft inside =
     let begun : Updates = record { loaded = s.loaded; values = values_read s; ran = [] } in
     let stands : Stands s f.ran f.erred begun f = record { hardware = inside; ran = sym (append-nil f.ran); erred = sym (append-nil f.erred) } in
     let left : AreLeft s (active_order s) cells = record {
-      seats = is.cells;
+      cell_facts = is.cells;
       running = all_each (λ l. active s l.place ≡ true) (active_order s) (λ l within.
           let loaded = from_active_order s l within in
           any_from (λ (m : Loaded). is_active m && m.place == l.place) s.loaded l loaded.0 (and_from (is_active l) (l.place == l.place) loaded.1 (eq-eqb l.place l.place refl)));
@@ -93,24 +93,24 @@ has_flown s number cells g a f is aloft inside =
     all_each (IsFound s.loaded) (active_order s) (λ l within. found_once s.loaded l is.once (from_active_order s l within).0) in
     record {
       stands = all_stand s a is.valid aloft is.steady f.ran f.erred (active_order s) cells begun f stands left;
-      seats = seats_are s a is.valid aloft is.steady f.ran f.erred (active_order s) cells begun f stands left
+      cell_facts = cells_are s a is.valid aloft is.steady f.ran f.erred (active_order s) cells begun f stands left
           (ordered_once s (valid-IsChecked s.description is.valid).free is.once) found;
     }
 
 -- ---- The cells after them
 
 -- they are the active controllers, in the order of updates
-pub members_are : (s : State) (ls : List Loaded) (cs : List Seat) → AreSeatsOf s.mails (map running_part ls) cs → map member_in cs ≡ map member_of ls
+pub members_are : (s : State) (ls : List Loaded) (cs : List CellFacts) → AreCellsOf s.mails (map running_part ls) cs → map member_in cs ≡ map member_of ls
 members_are s [] [] are = refl
 members_are s [] (c ∷ cs) are = absurd are
 members_are s (l ∷ ls) [] are = absurd are
 members_are s (l ∷ ls) (c ∷ cs) are =
-    ap₂ (λ (m : Member) (ms : List Member). m ∷ ms) (ap₂ (λ (n p : ℕ). record { serial = n; place = p }) are.0.station.serial are.0.station.place) (members_are s ls cs are.1)
+    ap₂ (λ (m : Member) (ms : List Member). m ∷ ms) (ap₂ (λ (n p : ℕ). record { serial = n; place = p }) are.0.workspace.serial are.0.workspace.place) (members_are s ls cs are.1)
 
 -- ---- The whole
 
 -- this is the cycle that is aloft, once the reads were told
-pub round_is : (s : State) (number : ℕ) (cells : List Seat) (g : Plant) (a : Aloft) (none parts seen : List FailedPart) → IsAloftOver s number cells g
+pub round_is : (s : State) (number : ℕ) (cells : List CellFacts) (g : Robot) (a : Aloft) (none parts seen : List FailedPart) → IsAloftOver s number cells g
     → a ≡ record { number = number; period_us = g.period_us; placed = g.places; related = g.relations; failed = seen }
     → seen ≡ parts → parts ≡ none ++ reads_failed_in s → none ≡ [] → IsAloftOf s a
 round_is s number cells g a none parts seen is so same told empty = record {
@@ -122,22 +122,22 @@ round_is s number cells g a none parts seen is so same told empty = record {
 }
 
 -- What was made of the cycle: of the cells, of the hardware, and what is told.
-pub record WasMade (s : State) (seats : List Seat) (w : Wired) (parts : List FailedPart) (rans : List Ran) (states : List BodyState) (serials : List ℕ) : Type 0 where
-  pub cells : AreSeatsAfter (cycle s).loaded (configuration s).running seats
+pub record WasMade (s : State) (cell_facts : List CellFacts) (w : Wired) (parts : List FailedPart) (rans : List Ran) (states : List BodyState) (serials : List ℕ) : Type 0 where
+  pub cells : AreCellsAfter (cycle s).loaded (configuration s).running cell_facts
   pub hardware : IsMoved (landed s (cycle s)) w
   pub failed : parts ≡ failed_in s
   pub ran : rans ≡ told_in s
   pub bodies : states ≡ (cycle s).happened.bodies
   pub erred : serials ≡ erred_in (told_in s)
 
-pub was_made : (s : State) (a : Aloft) (cells after : List Seat) (begun flown : Flying) (finished : Wired) (none first all : List FailedPart) (nothing states : List BodyState)
-    → HasFlown s a cells begun → after ≡ seats_after a cells begun → flown ≡ all_flown a cells begun
+pub was_made : (s : State) (a : Aloft) (cells after : List CellFacts) (begun flown : Flying) (finished : Wired) (none first all : List FailedPart) (nothing states : List BodyState)
+    → HasFlown s a cells begun → after ≡ cells_after a cells begun → flown ≡ all_flown a cells begun
     → begun.ran ≡ [] → begun.erred ≡ [] → none ≡ [] → nothing ≡ []
     → first ≡ none ++ reads_failed_in s → FinishedCycle s finished first all nothing states
     → WasMade s after finished all flown.ran states flown.erred
 unfolding cycle
 was_made s a cells after begun flown finished none first all nothing states has left come ran erred no_part no_body told done = record {
-  cells = subst (AreSeatsAfter (updates s (values_read s)).loaded (configuration s).running) (sym left) has.seats;
+  cells = subst (AreCellsAfter (updates s (values_read s)).loaded (configuration s).running) (sym left) has.cell_facts;
   hardware = done.hardware;
   failed = done.failed ∙ ap (λ (ps : List FailedPart). ps ++ writes_failed_in s) (told ∙ ap (λ (ps : List FailedPart). ps ++ reads_failed_in s) no_part);
   ran = ap (λ (f : Flying). f.ran) come ∙ has.stands.ran ∙ ap (λ (rans : List Ran). rans ++ told_in s) ran;
@@ -146,7 +146,7 @@ was_made s a cells after begun flown finished none first all nothing states has 
 }
 
 -- so the hardware is that in the cycle, before its end
-pub flown_in_cycle : (s : State) (a : Aloft) (cells : List Seat) (begun flown : Flying) → HasFlown s a cells begun → flown ≡ all_flown a cells begun
+pub flown_in_cycle : (s : State) (a : Aloft) (cells : List CellFacts) (begun flown : Flying) → HasFlown s a cells begun → flown ≡ all_flown a cells begun
     → IsInCycle s (values_updated s) flown.hardware
 flown_in_cycle s a cells begun flown has come = subst (λ (f : Flying). IsInCycle s (values_updated s) f.hardware) (sym come) has.stands.hardware
 
@@ -165,11 +165,11 @@ quiet_stops s parts erred = none_stop s (told_in s) parts erred
 
 -- ---- The flight, once it is computed
 
-module _ (s : State) (f : FlightFacts) (order : List Member) (r made told : RecordRoom) (cells : List Seat) (g : Plant) (erred : List ℕ) (before ending : Ending) (failed : Bool) (room room' : ℕ)
-    (is : IsAloft s f) (same : order ≡ map member_in f.cells) (empty : TellsNothing r) (has : HasMade s cells g erred made) (leaves : LeavesFlight f.cells cells f.plant g r made room room')
+module _ (s : State) (f : FlightFacts) (order : List Member) (r made told : RecordRoom) (cells : List CellFacts) (g : Robot) (erred : List ℕ) (before ending : Ending) (failed : Bool) (room room' : ℕ)
+    (is : IsAloft s f) (same : order ≡ map member_in f.cells) (empty : TellsNothing r) (has : HasMade s cells g erred made) (leaves : LeavesFlight f.cells cells f.robot g r made room room')
     (still : failed ≡ false → IsQuiet erred made told before ending) (decides : failed ≡ true → Decides g.relations order erred made told ending) where
   related : g.relations ≡ relations_of s.description
-  related = ap (λ (x : Plant). x.relations) leaves.plant ∙ is.over.related
+  related = ap (λ (x : Robot). x.relations) leaves.robot ∙ is.over.related
 
   told_so : IsToldOf s g.relations order made.failed.items erred
   told_so = record {
@@ -204,7 +204,7 @@ module _ (s : State) (f : FlightFacts) (order : List Member) (r made told : Reco
 
   pub computed_is : (lists : Lists) (outcome : Happened) → Shows g.hardware lists
       → outcome ≡ record { cycle = f.number; failed = told.failed.items; ran = told.ran.rans; bodies = told.bodies.items; stops = told.stops.items }
-      → IsComputed s (record { number = f.number; cells = cells; plant = g; ending = ending; lists = lists; has_failed = failed; erred = erred; outcome = Some outcome })
+      → IsComputed s (record { number = f.number; cells = cells; robot = g; ending = ending; lists = lists; has_failed = failed; erred = erred; outcome = Some outcome })
   computed_is lists outcome shown is_told = record {
     number = is.over.number;
     outcome = ap Some (is_told
@@ -212,12 +212,12 @@ module _ (s : State) (f : FlightFacts) (order : List Member) (r made told : Reco
         ∙ outcome_is s told.failed.items told.ran.rans told.bodies.items told.stops.items
         (ap (λ (x : RecordRoom). x.failed.items) tells ∙ has.failed) (ap (λ (x : RecordRoom). x.ran.rans) tells ∙ has.ran) (ap (λ (x : RecordRoom). x.bodies.items) tells ∙ has.bodies) stops_are);
     cells = has.cells;
-    fitted = subst (λ (p : Placed). AllByRecursion (λ c. IsFitted p c.station) cells) (sym (ap (λ (x : Plant). x.places) leaves.plant)) leaves.fitted;
+    fitted = subst (λ (p : Placed). AllByRecursion (λ c. IsFitted p c.workspace) cells) (sym (ap (λ (x : Robot). x.places) leaves.robot)) leaves.fitted;
     hardware = has.hardware;
     shown = shown;
-    placed = ap (λ (x : Plant). x.places) leaves.plant ∙ is.over.placed;
+    placed = ap (λ (x : Robot). x.places) leaves.robot ∙ is.over.placed;
     related = related;
-    timed = ap (λ (x : Plant). x.period_us) leaves.plant ∙ is.over.timed;
+    timed = ap (λ (x : Robot). x.period_us) leaves.robot ∙ is.over.timed;
     quiet = quiet;
     erred = has.erred;
     ending = λ some. (decides some).ending s told_so;
@@ -241,7 +241,7 @@ pub components_of : (s : State) (ms : List Mounted) → IsWired s ms → length 
 components_of s ms is = sym (length-map ms (λ m. m.hardware.description)) ∙ sym (ap length is.components)
 
 -- so there is room for the lists as there was before
-pub lines_after : (s : State) (number : ℕ) (cells cells' : List Seat) (g g' : Plant) (serials : List ℕ) (r : RecordRoom) (l : Lists) → IsAloftOver s number cells g
+pub lines_after : (s : State) (number : ℕ) (cells cells' : List CellFacts) (g g' : Robot) (serials : List ℕ) (r : RecordRoom) (l : Lists) → IsAloftOver s number cells g
     → HasMade s cells' g' serials r → HasLinesFor g.hardware l → HasLinesFor g'.hardware l
 lines_after s number cells cells' g g' serials r l over has lines =
     let count : length g.hardware.components ≡ length s.description.components = components_of s g.hardware.components over.hardware.wired in
@@ -256,14 +256,14 @@ pub lines_in : (w : Wired) (l l' : Lists) → HasLinesFor w l
 lines_in w l l' lines same = record { components = omega (arith, same.0, lines.components); interfaces = omega (arith, same.1, lines.interfaces) }
 
 -- so all that a flight keeps is kept once the cycle is made
-pub equipped_after : (cells cells' : List Seat) (members : List Member) (g g' : Plant) (r made : RecordRoom) (before ending : Ending) (l l' : Lists) (capacity most : ℕ)
+pub equipped_after : (cells cells' : List CellFacts) (members : List Member) (g g' : Robot) (r made : RecordRoom) (before ending : Ending) (l l' : Lists) (capacity most : ℕ)
     → IsEquipped cells members g before l capacity → LeavesFlight cells cells' g g' r made capacity most → HasFlags (length g'.relations.leaders) ending → HasLinesFor g'.hardware l'
     → IsEquipped cells' members g' ending l' most
 equipped_after cells cells' members g g' r made before ending l l' capacity most is leaves flags lines =
     let count : length cells' ≡ length cells = sym (length-map cells' member_in) ∙ ap length leaves.order ∙ length-map cells member_in in
     record {
       order = is.order ∙ sym leaves.order;
-      fitted = subst (λ (p : Placed). AllByRecursion (λ c. IsFitted p c.station) cells') (sym (ap (λ (x : Plant). x.places) leaves.plant)) leaves.fitted;
+      fitted = subst (λ (p : Placed). AllByRecursion (λ c. IsFitted p c.workspace) cells') (sym (ap (λ (x : Robot). x.places) leaves.robot)) leaves.fitted;
       flags = flags;
       lines = lines;
       erred = omega (arith, is.erred, count, leaves.capacity);

@@ -13,8 +13,8 @@ use Rattle.cm_storage.specs.declared.record.FailedPart.{FailedPart}
 use Rattle.loan_board.specs.Loans.{idle, set}
 use Rattle.loan_board.specs.declared.board.Loan.{Loan}
 use Rattle.cm_slots.specs.Updates.{Aloft}
-use Rattle.rt_flight.specs.Stations.{Standing}
-use Rattle.rt_flight.specs.Cells.{Seat, Flying, flying, all_flown, seats_after, seat_read, seat_run, all_put, precedes_in}
+use Rattle.rt_flight.specs.Workspaces.{WorkspaceFacts}
+use Rattle.rt_flight.specs.Cells.{CellFacts, Flying, flying, all_flown, cells_after, cell_read, cell_run, all_put, precedes_in}
 
 -- ---- Two controllers, the first of which gives the second its reference
 
@@ -33,23 +33,23 @@ round number failed = record {
   failed = failed;
 }
 
-abbrev station : ℕ → ℕ → ℕ → List Value → Value → Standing
-station serial place divisor references out =
+abbrev workspace : ℕ → ℕ → ℕ → List Value → Value → WorkspaceFacts
+workspace serial place divisor references out =
     record { serial = serial; place = place; divisor = divisor; states = []; references = references; outs = out ∷ [] }
 
 -- top, which gives out what it is sent
-abbrev top : Value → Option Mail → Value → Seat
+abbrev top : Value → Option Mail → Value → CellFacts
 top given mail out = record {
-  station = station 7 0 1 [] out;
+  workspace = workspace 7 0 1 [] out;
   ctl = record { kind = kind.Passthrough; params = Some (Passthrough 1); run = Some (run.Set false (given ∷ [])) };
   mail = mail;
   done = None;
 }
 
 -- low, which gives out its reference, and is updated once in so many cycles
-abbrev low : ℕ → Value → Value → Seat
+abbrev low : ℕ → Value → Value → CellFacts
 low divisor reference out = record {
-  station = station 5 1 divisor (reference ∷ []) out;
+  workspace = workspace 5 1 divisor (reference ∷ []) out;
   ctl = record { kind = kind.Passthrough; params = Some (Passthrough 1); run = Some (run.Set true (Unset ∷ [])) };
   mail = None;
   done = None;
@@ -75,7 +75,7 @@ comes_through : all_flown (round 4 []) (top Unset sent Unset ∷ low 1 Unset Uns
 comes_through = refl
 
 -- and the mail is taken
-is_taken : seats_after (round 4 []) (top Unset sent Unset ∷ low 1 Unset Unset ∷ []) (over (board Unset Unset Unset) [] [])
+is_taken : cells_after (round 4 []) (top Unset sent Unset ∷ low 1 Unset Unset ∷ []) (over (board Unset Unset Unset) [] [])
     ≡ top one_and_a_half None one_and_a_half ∷ low 1 one_and_a_half one_and_a_half ∷ []
 is_taken = refl
 
@@ -87,7 +87,7 @@ comes_late = refl
 -- as it would if both read before either gives out: so low waits for top
 comes_late_together :
     all_put (round 4 []).placed
-    (map (seat_run (round 4 [])) (map (seat_read (round 4 []) (board Unset Unset Unset)) (top Unset sent Unset ∷ low 1 Unset Unset ∷ [])))
+    (map (cell_run (round 4 [])) (map (cell_read (round 4 []) (board Unset Unset Unset)) (top Unset sent Unset ∷ low 1 Unset Unset ∷ [])))
     (over (board Unset Unset Unset) [] [])
     ≡ over (board Unset one_and_a_half Unset) (told 7 one_and_a_half ∷ told 5 Unset ∷ []) []
 comes_late_together = refl
@@ -109,18 +109,18 @@ is_not_due = refl
 -- ---- An update that fails
 
 -- a mock that claims the command and fails in this cycle
-abbrev mock : ℕ → Seat
+abbrev mock : ℕ → CellFacts
 mock fails = record {
-  station = station 5 1 1 (Unset ∷ []) (Num (pos 8));
+  workspace = workspace 5 1 1 (Unset ∷ []) (Num (pos 8));
   ctl = record { kind = kind.Mock; params = Some (Mock 1 false [] (fails ∷ [])); run = Some (run.Set false (Num (pos 9) ∷ [])) };
   mail = None;
   done = None;
 }
 
--- its serial is told, and the command holds what it held, as its station does
+-- its serial is told, and the command holds what it held, as its workspace does
 fails : all_flown (round 4 []) (mock 4 ∷ []) (over (board Unset Unset (Num (pos 3))) [] [])
     ≡ over (board Unset Unset (Num (pos 3))) (record { serial = 5; done = done.Error; outs = []; published = [] } ∷ []) (5 ∷ [])
 fails = refl
 
-keeps_outs : seats_after (round 4 []) (mock 4 ∷ []) (over (board Unset Unset (Num (pos 3))) [] []) ≡ mock 4 ∷ []
+keeps_outs : cells_after (round 4 []) (mock 4 ∷ []) (over (board Unset Unset (Num (pos 3))) [] []) ≡ mock 4 ∷ []
 keeps_outs = refl

@@ -1,3 +1,3 @@
-pub mod Stations
+pub mod Workspaces
 pub mod Cells
 pub mod Cycles

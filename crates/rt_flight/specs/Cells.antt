@@ -20,12 +20,12 @@ use Rattle.cm_slots.specs.Lives.{IsKept}
 use Rattle.cm_slots.specs.Updates.{Aloft, put_on, board_after, with_erred}
 use Rattle.ctl_trait.specs.Taking.{CanTake}
 use Rattle.switch_plan.specs.Relations.{Related}
-use Rattle.rt_flight.specs.Stations.{Standing, gathered, flies, tick_at, step_from, told_of, IsSeatedOn, IsInTime}
+use Rattle.rt_flight.specs.Workspaces.{WorkspaceFacts, gathered, flies, tick_at, step_from, told_of, IsConnectedTo, IsInTime}
 
 -- A controller that runs, in its cell: where it stands, its data, and the mail that went aloft for it; and how its
 -- update went, while what it gave out is not yet put into its claims.
-pub record Seat : Type 0 where
-  pub station : Standing
+pub record CellFacts : Type 0 where
+  pub workspace : WorkspaceFacts
   pub ctl : CtlData
   pub mail : Option Mail
   pub done : Option Done
@@ -33,26 +33,26 @@ pub record Seat : Type 0 where
 -- ---- One update
 
 -- the cell once its states and its references are read, while the board holds this
-abbrev pub seat_gathered : Placed → List Loan → Seat → Seat
-seat_gathered placed loans c = record c { station = gathered placed loans c.station }
+abbrev pub cell_gathered : Placed → List Loan → CellFacts → CellFacts
+cell_gathered placed loans c = record c { workspace = gathered placed loans c.workspace }
 
 -- its step, from what was read for it
-abbrev pub step_of : Aloft → Seat → Stepped
-step_of a c = step_from c.ctl (tick_at a c.station) c.station c.mail
+abbrev pub step_of : Aloft → CellFacts → Stepped
+step_of a c = step_from c.ctl (tick_at a c.workspace) c.workspace c.mail
 
 -- the cell after this step: it took its mail, and what it gave out stands in it unless it failed
-abbrev pub seat_stepped : Stepped → Seat → Seat
-seat_stepped step c = record {
-  station = record c.station { outs = put_out step c.station.outs };
+abbrev pub cell_stepped : Stepped → CellFacts → CellFacts
+cell_stepped step c = record {
+  workspace = record c.workspace { outs = put_out step c.workspace.outs };
   ctl = step.after;
   mail = None;
   done = None;
 }
 
 -- the cell after its turn, while the board holds this: where it is not updated its mail is lost
-abbrev pub seat_after : Aloft → List Loan → Seat → Seat
-seat_after a loans c =
-    if flies a c.station then seat_stepped (step_of a (seat_gathered a.placed loans c)) (seat_gathered a.placed loans c)
+abbrev pub cell_after : Aloft → List Loan → CellFacts → CellFacts
+cell_after a loans c =
+    if flies a c.workspace then cell_stepped (step_of a (cell_gathered a.placed loans c)) (cell_gathered a.placed loans c)
     else record c { mail = None; done = None }
 
 -- What the updates work on together: the hardware; what is told so far, and the serials of those whose update failed.
@@ -66,52 +66,52 @@ abbrev pub flying : Wired → List Ran → List ℕ → Flying
 flying hardware ran erred = record { hardware = hardware; ran = ran; erred = erred }
 
 -- what is told of the step of the controller in this cell
-abbrev pub ran_in : Seat → Stepped → Ran
-ran_in c step = record { serial = c.station.serial; done = step.done; outs = step.outs; published = step.published }
+abbrev pub ran_in : CellFacts → Stepped → Ran
+ran_in c step = record { serial = c.workspace.serial; done = step.done; outs = step.outs; published = step.published }
 
 -- after this step of the controller in this cell: its claims hold what it gave out, unless it failed, and it is told of
-abbrev pub with_step : Aloft → Seat → Stepped → Flying → Flying
+abbrev pub with_step : Aloft → CellFacts → Stepped → Flying → Flying
 with_step a c step f = record {
-  hardware = record f.hardware { loans = board_after (linked a.placed.claims c.station.place) step f.hardware.loans };
+  hardware = record f.hardware { loans = board_after (linked a.placed.claims c.workspace.place) step f.hardware.loans };
   ran = f.ran ++ ran_in c step ∷ [];
-  erred = with_erred c.station.serial step f.erred;
+  erred = with_erred c.workspace.serial step f.erred;
 }
 
 -- after the turn of this cell
-abbrev pub flying_after : Aloft → Seat → Flying → Flying
+abbrev pub flying_after : Aloft → CellFacts → Flying → Flying
 flying_after a c f =
-    if flies a c.station then with_step a c (step_of a (seat_gathered a.placed f.hardware.loans c)) f else f
+    if flies a c.workspace then with_step a c (step_of a (cell_gathered a.placed f.hardware.loans c)) f else f
 
 -- ---- All of them
 
 -- after the turns of these cells, one after the other
-abbrev pub all_flown : Aloft → List Seat → Flying → Flying
+abbrev pub all_flown : Aloft → List CellFacts → Flying → Flying
 all_flown a [] f = f
 all_flown a (c ∷ cs) f = all_flown a cs (flying_after a c f)
 
 -- and the cells then
-abbrev pub seats_after : Aloft → List Seat → Flying → List Seat
-seats_after a [] f = []
-seats_after a (c ∷ cs) f = seat_after a f.hardware.loans c ∷ seats_after a cs (flying_after a c f)
+abbrev pub cells_after : Aloft → List CellFacts → Flying → List CellFacts
+cells_after a [] f = []
+cells_after a (c ∷ cs) f = cell_after a f.hardware.loans c ∷ cells_after a cs (flying_after a c f)
 
 -- ---- Together
 
 -- the cell where it is updated, once its states and its references are read
-abbrev pub seat_read : Aloft → List Loan → Seat → Seat
-seat_read a loans c = if flies a c.station then seat_gathered a.placed loans c else c
+abbrev pub cell_read : Aloft → List Loan → CellFacts → CellFacts
+cell_read a loans c = if flies a c.workspace then cell_gathered a.placed loans c else c
 
 -- and once its step is made, of which nothing is put yet; where it is not updated its mail is lost
-abbrev pub seat_run : Aloft → Seat → Seat
-seat_run a c =
-    if flies a c.station then record (seat_stepped (step_of a c) c) { done = Some (step_of a c).done }
+abbrev pub cell_run : Aloft → CellFacts → CellFacts
+cell_run a c =
+    if flies a c.workspace then record (cell_stepped (step_of a c) c) { done = Some (step_of a c).done }
     else record c { mail = None; done = None }
 
 -- and once all of it is put
-abbrev pub seat_put : Seat → Seat
-seat_put c = record c { done = None }
+abbrev pub cell_put : CellFacts → CellFacts
+cell_put c = record c { done = None }
 
 -- what its claims then hold
-abbrev pub board_put : Placed → Done → Standing → List Loan → List Loan
+abbrev pub board_put : Placed → Done → WorkspaceFacts → List Loan → List Loan
 board_put placed answer s loans =
     elim answer [ done.Ok ↦ put_on loans (linked placed.claims s.place) s.outs | done.Error ↦ loans ]
 
@@ -119,28 +119,28 @@ board_put placed answer s loans =
 abbrev pub serials_put : Done → ℕ → List ℕ → List ℕ
 serials_put answer serial erred = elim answer [ done.Ok ↦ erred | done.Error ↦ erred ++ serial ∷ [] ]
 
-abbrev pub put_with : Placed → Done → Seat → Flying → Flying
+abbrev pub put_with : Placed → Done → CellFacts → Flying → Flying
 put_with placed answer c f = record {
-  hardware = record f.hardware { loans = board_put placed answer c.station f.hardware.loans };
-  ran = f.ran ++ told_of c.station (publishes c.ctl.kind) answer ∷ [];
-  erred = serials_put answer c.station.serial f.erred;
+  hardware = record f.hardware { loans = board_put placed answer c.workspace f.hardware.loans };
+  ran = f.ran ++ told_of c.workspace (publishes c.ctl.kind) answer ∷ [];
+  erred = serials_put answer c.workspace.serial f.erred;
 }
 
 -- what its step came to is put into its claims, and told
-abbrev pub flying_put : Placed → Seat → Flying → Flying
+abbrev pub flying_put : Placed → CellFacts → Flying → Flying
 flying_put placed c f = elim c.done [ None ↦ f | Some answer ↦ put_with placed answer c f ]
 
 -- that of all of these, one after the other
-abbrev pub all_put : Placed → List Seat → Flying → Flying
+abbrev pub all_put : Placed → List CellFacts → Flying → Flying
 all_put placed [] f = f
 all_put placed (c ∷ cs) f = all_put placed cs (flying_put placed c f)
 
 -- The first of these precedes the second: the first claims a reference of the second.
-abbrev pub precedes_in : Related → Seat → Seat → Bool
-precedes_in related c d = is_listed (linked related.leaders d.station.place) c.station.place
+abbrev pub precedes_in : Related → CellFacts → CellFacts → Bool
+precedes_in related c d = is_listed (linked related.leaders d.workspace.place) c.workspace.place
 
 -- none of these precedes a later one
-abbrev pub NonePrecedes : Related → List Seat → Type 0
+abbrev pub NonePrecedes : Related → List CellFacts → Type 0
 NonePrecedes related [] = Unit {0}
 NonePrecedes related (c ∷ cs) = AllByRecursion (λ d. precedes_in related c d ≡ false) cs × NonePrecedes related cs
 
@@ -165,58 +165,58 @@ pub record Post : Type 0 where
   pub references : ℕ
   pub outs : ℕ
 
-abbrev pub post_of : Seat → Post
+abbrev pub post_of : CellFacts → Post
 post_of c = record {
-  serial = c.station.serial;
-  place = c.station.place;
-  divisor = c.station.divisor;
+  serial = c.workspace.serial;
+  place = c.workspace.place;
+  divisor = c.workspace.divisor;
   kind = c.ctl.kind;
-  states = length c.station.states;
-  references = length c.station.references;
-  outs = length c.station.outs;
+  states = length c.workspace.states;
+  references = length c.workspace.references;
+  outs = length c.workspace.outs;
 }
 
 -- ---- When that may be done
 
 -- Its data are kept as those of a controller that runs; it is in time, has just the room for what it is given and gives
 -- out, and can take its mail.
-pub record CanStep (relations : Related) (period_us : ℕ) (c : Seat) : Type 0 where
+pub record CanStep (relations : Related) (period_us : ℕ) (c : CellFacts) : Type 0 where
   pub kept : IsKept Active c.ctl
   pub counts : IfSome c.ctl.params
-      (λ params. AreItsCounts params (length c.station.states) (length c.station.references) (length c.station.outs))
-  pub related : c.station.place < length relations.components
-  pub led : c.station.place < length relations.leaders
-  pub in_time : IsInTime period_us c.station
+      (λ params. AreItsCounts params (length c.workspace.states) (length c.workspace.references) (length c.workspace.outs))
+  pub related : c.workspace.place < length relations.components
+  pub led : c.workspace.place < length relations.leaders
+  pub in_time : IsInTime period_us c.workspace
   pub mail : IfSome c.mail (CanTake c.ctl)
 
 -- Besides it stands on a board of so many interfaces, and claims and reads fewer than 256 each.
-pub record CanFly (placed : Placed) (related : Related) (period_us board : ℕ) (c : Seat) : Type 0 where
-  pub seated : IsSeatedOn placed board c.station
+pub record CanFly (placed : Placed) (related : Related) (period_us board : ℕ) (c : CellFacts) : Type 0 where
+  pub connected : IsConnectedTo placed board c.workspace
   pub steps : CanStep related period_us c
-  pub few_states : length c.station.states < 2 ^ 8
-  pub few_outs : length c.station.outs < 2 ^ 8
+  pub few_states : length c.workspace.states < 2 ^ 8
+  pub few_outs : length c.workspace.outs < 2 ^ 8
 
 -- how many numbers it publishes
-abbrev pub numbers_of : Seat → ℕ
-numbers_of c = if publishes c.ctl.kind then length c.station.states else 0
+abbrev pub numbers_of : CellFacts → ℕ
+numbers_of c = if publishes c.ctl.kind then length c.workspace.states else 0
 
 -- how many values these give out together, and how many numbers they publish
-abbrev pub all_outs : List Seat → ℕ
+abbrev pub all_outs : List CellFacts → ℕ
 all_outs [] = 0
-all_outs (c ∷ cs) = length c.station.outs + all_outs cs
+all_outs (c ∷ cs) = length c.workspace.outs + all_outs cs
 
-abbrev pub all_numbers : List Seat → ℕ
+abbrev pub all_numbers : List CellFacts → ℕ
 all_numbers [] = 0
 all_numbers (c ∷ cs) = numbers_of c + all_numbers cs
 
 -- there is room to tell of these
-pub record CanTell (cs : List Seat) (room : Filling) : Type 0 where
+pub record CanTell (cs : List CellFacts) (room : Filling) : Type 0 where
   pub heads : length cs ≤ room.heads
   pub values : all_outs cs ≤ room.values
   pub numbers : all_numbers cs ≤ room.numbers
 
 -- there is room to tell of this one
-pub record CanBeTold (c : Seat) (room : Filling) : Type 0 where
+pub record CanBeTold (c : CellFacts) (room : Filling) : Type 0 where
   pub heads : 0 < room.heads
-  pub values : length c.station.outs ≤ room.values
+  pub values : length c.workspace.outs ≤ room.values
   pub numbers : numbers_of c ≤ room.numbers

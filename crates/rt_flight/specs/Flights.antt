@@ -23,10 +23,10 @@ use Rattle.sound_laws.specs.Core.{core}
 use Rattle.stop_plan.specs.Ending.{IsEndingOf, HasFlags, told_in, erred_in}
 use Rattle.stop_plan.specs.declared.ending.Ending.{Ending}
 use Rattle.switch_plan.specs.Relations.{Related, relations_of}
-use Rattle.rt_flight.specs.Stations.{Standing, IsFitted}
-use Rattle.rt_flight.specs.Cells.{Seat, CanFly, CanTell}
-use Rattle.rt_flight.specs.declared.craft.Craft.{Craft}
-use Rattle.rt_flight.specs.declared.plant.Plant.{Plant}
+use Rattle.rt_flight.specs.Workspaces.{WorkspaceFacts, IsFitted}
+use Rattle.rt_flight.specs.Cells.{CellFacts, CanFly, CanTell}
+use Rattle.rt_flight.specs.declared.context.CycleContext.{CycleContext}
+use Rattle.rt_flight.specs.declared.robot.Robot.{Robot}
 
 -- What is seen of a flight: the number of its cycle; its cells in the order of updates; the hardware, with what is
 -- worked out of the description; the sets of the end, and whether something failed; the serials of the controllers
@@ -34,8 +34,8 @@ use Rattle.rt_flight.specs.declared.plant.Plant.{Plant}
 -- cycle, once it is.
 pub record FlightFacts : Type 0 where
   pub number : ℕ
-  pub cells : List Seat
-  pub plant : Plant
+  pub cells : List CellFacts
+  pub robot : Robot
   pub ending : Ending
   pub lists : Lists
   pub has_failed : Bool
@@ -44,28 +44,28 @@ pub record FlightFacts : Type 0 where
 
 -- ---- Of a state
 
--- The station is that of this running controller.
-pub record IsStationOf (r : Running) (s : Standing) : Type 0 where
+-- The workspace is that of this running controller.
+pub record IsWorkspaceOf (r : Running) (s : WorkspaceFacts) : Type 0 where
   pub serial : s.serial ≡ r.serial
   pub place : s.place ≡ r.place
   pub divisor : Some s.divisor ≡ r.divisor
 
 -- So is the cell, with its data and the mail that is aloft for it.
-pub record IsSeatOf (mails : List MailAloft) (r : Running) (c : Seat) : Type 0 where
-  pub station : IsStationOf r c.station
+pub record IsCellOf (mails : List MailAloft) (r : Running) (c : CellFacts) : Type 0 where
+  pub workspace : IsWorkspaceOf r c.workspace
   pub ctl : c.ctl ≡ r.ctl
   pub mail : c.mail ≡ mail_in mails r.serial
 
 -- these cells are those of these running controllers, one for each
-abbrev pub AreSeatsOf : List MailAloft → List Running → List Seat → Type 0
-AreSeatsOf mails [] [] = Unit {0}
-AreSeatsOf mails (r ∷ rs) (c ∷ cs) = IsSeatOf mails r c × AreSeatsOf mails rs cs
-AreSeatsOf mails _ _ = ⊥
+abbrev pub AreCellsOf : List MailAloft → List Running → List CellFacts → Type 0
+AreCellsOf mails [] [] = Unit {0}
+AreCellsOf mails (r ∷ rs) (c ∷ cs) = IsCellOf mails r c × AreCellsOf mails rs cs
+AreCellsOf mails _ _ = ⊥
 
--- Over this plant the cycle of this number is aloft in the state, which is one of a valid description, steady and with
+-- Over this robot the cycle of this number is aloft in the state, which is one of a valid description, steady and with
 -- serials that differ: the cells are those of its active controllers, in the order of updates, and the hardware is that
 -- of the state.
-pub record IsAloftOver (s : State) (count : ℕ) (seats : List Seat) (g : Plant) : Type 0 where
+pub record IsAloftOver (s : State) (count : ℕ) (cell_facts : List CellFacts) (g : Robot) : Type 0 where
   pub valid : IsValid s.description
   pub steady : IsSteady s
   pub once : IsDistinct (λ m n. m == n) (map (λ l. l.serial) s.loaded)
@@ -74,11 +74,11 @@ pub record IsAloftOver (s : State) (count : ℕ) (seats : List Seat) (g : Plant)
   pub related : g.relations ≡ relations_of s.description
   pub timed : g.period_us ≡ period s.description
   pub hardware : IsHardwareOf s g.hardware
-  pub cells : AreSeatsOf s.mails (configuration s).running seats
+  pub cells : AreCellsOf s.mails (configuration s).running cell_facts
 
 -- The flight is that of the cycle which is aloft in the state, not yet computed.
 pub record IsAloft (s : State) (f : FlightFacts) : Type 0 where
-  pub over : IsAloftOver s f.number f.cells f.plant
+  pub over : IsAloftOver s f.number f.cells f.robot
   pub not_yet : f.outcome ≡ None
 
 -- Another state of the same cycle: steady, with serials that differ, and with the same core. A call of a console
@@ -94,16 +94,16 @@ StaysAloft begun f = (s : State) → IsAlike s begun → IsAloft s f
 
 -- After a cycle the cell is that of this running controller, with the data that it has among these, and no mail any
 -- more.
-pub record IsSeatAfter (loaded : List Loaded) (r : Running) (c : Seat) : Type 0 where
-  pub station : IsStationOf r c.station
+pub record IsCellAfter (loaded : List Loaded) (r : Running) (c : CellFacts) : Type 0 where
+  pub workspace : IsWorkspaceOf r c.workspace
   pub ctl : Some c.ctl ≡ data_under r.serial loaded
   pub no_mail : c.mail ≡ None
 
 -- these cells are so those of these running controllers, one for each
-abbrev pub AreSeatsAfter : List Loaded → List Running → List Seat → Type 0
-AreSeatsAfter loaded [] [] = Unit {0}
-AreSeatsAfter loaded (r ∷ rs) (c ∷ cs) = IsSeatAfter loaded r c × AreSeatsAfter loaded rs cs
-AreSeatsAfter loaded _ _ = ⊥
+abbrev pub AreCellsAfter : List Loaded → List Running → List CellFacts → Type 0
+AreCellsAfter loaded [] [] = Unit {0}
+AreCellsAfter loaded (r ∷ rs) (c ∷ cs) = IsCellAfter loaded r c × AreCellsAfter loaded rs cs
+AreCellsAfter loaded _ _ = ⊥
 
 -- The flight is computed: its record is that of the cycle of the state; the cells are those of the active controllers,
 -- in the order of updates, with the data after the cycle; and the hardware is that of the state when the cycle has
@@ -112,13 +112,13 @@ AreSeatsAfter loaded _ _ = ⊥
 pub record IsComputed (s : State) (f : FlightFacts) : Type 0 where
   pub number : f.number ≡ s.ended
   pub outcome : f.outcome ≡ Some (cycle s).happened
-  pub cells : AreSeatsAfter (cycle s).loaded (configuration s).running f.cells
-  pub fitted : AllByRecursion (λ c. IsFitted f.plant.places c.station) f.cells
-  pub hardware : IsMoved (landed s (cycle s)) f.plant.hardware
-  pub shown : Shows f.plant.hardware f.lists
-  pub placed : f.plant.places ≡ placed_of s.description
-  pub related : f.plant.relations ≡ relations_of s.description
-  pub timed : f.plant.period_us ≡ period s.description
+  pub cells : AreCellsAfter (cycle s).loaded (configuration s).running f.cells
+  pub fitted : AllByRecursion (λ c. IsFitted f.robot.places c.workspace) f.cells
+  pub hardware : IsMoved (landed s (cycle s)) f.robot.hardware
+  pub shown : Shows f.robot.hardware f.lists
+  pub placed : f.robot.places ≡ placed_of s.description
+  pub related : f.robot.relations ≡ relations_of s.description
+  pub timed : f.robot.period_us ≡ period s.description
   pub quiet : f.has_failed ≡ false → (failed_in s ≡ []) × (erred_in (told_in s) ≡ [])
   pub erred : f.erred ≡ erred_in (told_in s)
   pub ending : f.has_failed ≡ true → IsEndingOf s f.ending
@@ -130,21 +130,21 @@ StaysComputed begun f = (s : State) → IsAlike s begun → IsComputed s f
 -- ---- What it keeps
 
 -- a controller in its cell, by its serial and place
-abbrev pub member_in : Seat → Member
-member_in c = record { serial = c.station.serial; place = c.station.place }
+abbrev pub member_in : CellFacts → Member
+member_in c = record { serial = c.workspace.serial; place = c.workspace.place }
 
--- Computed or not, it is known who flies; each station is fitted; the sets of the end have a flag for each described
+-- Computed or not, it is known who flies; each workspace is fitted; the sets of the end have a flag for each described
 -- controller; there is room for the lists of its hardware; and for the serial of each controller that flies.
-pub record IsEquipped (cells : List Seat) (members : List Member) (g : Plant) (ending : Ending) (lists : Lists)
+pub record IsEquipped (cells : List CellFacts) (members : List Member) (g : Robot) (ending : Ending) (lists : Lists)
     (capacity : ℕ) : Type 0 where
   pub order : members ≡ map member_in cells
-  pub fitted : AllByRecursion (λ c. IsFitted g.places c.station) cells
+  pub fitted : AllByRecursion (λ c. IsFitted g.places c.workspace) cells
   pub flags : HasFlags (length g.relations.leaders) ending
   pub lines : HasLinesFor g.hardware lists
   pub erred : length cells ≤ capacity
 
 -- what is the same for all its updates, before a read failed
-abbrev pub round_over : ℕ → Plant → Aloft
+abbrev pub round_over : ℕ → Robot → Aloft
 round_over number g = record {
   number = number;
   period_us = g.period_us;
@@ -153,9 +153,9 @@ round_over number g = record {
   failed = [];
 }
 
--- Over this plant the cycle of a state can be made of these cells: each can be updated, and there is room to tell of
+-- Over this robot the cycle of a state can be made of these cells: each can be updated, and there is room to tell of
 -- all that can happen.
-pub record CanMake (number : ℕ) (cells : List Seat) (g : Plant) (r : RecordRoom) : Type 0 where
+pub record CanMake (number : ℕ) (cells : List CellFacts) (g : Robot) (r : RecordRoom) : Type 0 where
   pub aloft : (s : State) × IsAloftOver s number cells g
   pub timely : IsTimely (round_over number g)
   pub short : g.period_us ≤ LONGEST_STEP
@@ -185,25 +185,25 @@ pub record IsBlank (r : RecordRoom) : Type 0 where
   pub none_stopped : r.stops.items ≡ []
 
 -- Until it is computed, all of it can be done, with this record to tell in.
-pub record IsReady (number : ℕ) (cells : List Seat) (members : List Member) (g : Plant) (r : RecordRoom) : Type 0 where
+pub record IsReady (number : ℕ) (cells : List CellFacts) (members : List Member) (g : Robot) (r : RecordRoom) : Type 0 where
   pub makes : CanMake number cells g r
   pub settles : CanSettle g.relations members r
   pub empty : TellsNothing r
 
--- With this craft, a flight has room to tell of its cycle until it has the record of it, and no update failed yet. Room
+-- With this context, a flight has room to tell of its cycle until it has the record of it, and no update failed yet. Room
 -- that is left then tells nothing.
-pub record IsFlight (number : ℕ) (cells : List Seat) (k : Craft) : Type 0 where
-  pub equipped : IsEquipped cells k.order.items k.plant k.ending k.lists (vec_capacity k.erred)
+pub record IsFlight (number : ℕ) (cells : List CellFacts) (k : CycleContext) : Type 0 where
+  pub equipped : IsEquipped cells k.order.items k.robot k.ending k.lists (vec_capacity k.erred)
   pub none_erred : is_some k.record ≡ false → k.erred.items ≡ []
-  pub ready : is_some k.record ≡ false → IsSomeAnd k.room (IsReady number cells k.order.items k.plant)
+  pub ready : is_some k.record ≡ false → IsSomeAnd k.room (IsReady number cells k.order.items k.robot)
   pub left : is_some k.record ≡ true → IfSome k.room TellsNothing
 
 -- what is seen of it
-abbrev pub facts_with : ℕ → List Seat → Craft → FlightFacts
+abbrev pub facts_with : ℕ → List CellFacts → CycleContext → FlightFacts
 facts_with number cells k = record {
   number = number;
   cells = cells;
-  plant = k.plant;
+  robot = k.robot;
   ending = k.ending;
   lists = k.lists;
   has_failed = k.has_failed;
@@ -213,22 +213,22 @@ facts_with number cells k = record {
 
 -- What a flight brings home: all that it took along as it is then, the record of its cycle, whether something failed,
 -- and whose update did; and room that is left tells nothing.
-pub record ComesHome (f : FlightFacts) (seats : List Seat) (k : Craft) (happened : Happened) : Type 0 where
-  pub cells : seats ≡ f.cells
-  pub plant : k.plant ≡ f.plant
+pub record ComesHome (f : FlightFacts) (cell_facts : List CellFacts) (k : CycleContext) (happened : Happened) : Type 0 where
+  pub cells : cell_facts ≡ f.cells
+  pub robot : k.robot ≡ f.robot
   pub ending : k.ending ≡ f.ending
   pub lists : k.lists ≡ f.lists
   pub has_failed : k.has_failed ≡ f.has_failed
   pub erred : k.erred.items ≡ f.erred
   pub told : Some happened ≡ f.outcome
-  pub equipped : IsEquipped seats k.order.items k.plant k.ending k.lists (vec_capacity k.erred)
+  pub equipped : IsEquipped cell_facts k.order.items k.robot k.ending k.lists (vec_capacity k.erred)
   pub left : IfSome k.room TellsNothing
 
 -- ---- In parts
 
 -- The cycle of the state was made, and is told of but for the stops.
-pub record HasMade (s : State) (seats : List Seat) (g : Plant) (serials : List ℕ) (r : RecordRoom) : Type 0 where
-  pub cells : AreSeatsAfter (cycle s).loaded (configuration s).running seats
+pub record HasMade (s : State) (cell_facts : List CellFacts) (g : Robot) (serials : List ℕ) (r : RecordRoom) : Type 0 where
+  pub cells : AreCellsAfter (cycle s).loaded (configuration s).running cell_facts
   pub hardware : IsMoved (landed s (cycle s)) g.hardware
   pub failed : r.failed.items ≡ failed_in s
   pub ran : r.ran.rans ≡ told_in s

@@ -1,6 +1,6 @@
 -- In reading order: where a controller stands, what stands in a cell and what the updates make of all cells, then the
 -- flight, and what calls ask and leave.
-pub mod Stations
+pub mod Workspaces
 pub mod Cells
 pub mod Flights
 pub mod Calls

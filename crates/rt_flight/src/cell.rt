@@ -5,12 +5,12 @@ ghost use Rattle.std.specs.List.{list_any};
 ghost use Rattle.cm_document.specs.declared.life.Life.TheVariants.{Active};
 ghost use Rattle.cm_slots.specs.Lives.{IsKept};
 ghost use Rattle.cm_slots.specs.Updates.{IsTimely};
-ghost use Rattle.rt_flight.specs.Cells.{flying, flying_put, seat_read, seat_run, seat_put, seat_stepped, step_of, post_of, numbers_of, precedes_in, CanFly, CanStep};
+ghost use Rattle.rt_flight.specs.Cells.{flying, flying_put, cell_read, cell_run, cell_put, cell_stepped, step_of, post_of, numbers_of, precedes_in, CanFly, CanStep};
 ghost use Rattle.rt_flight.specs.Calls.Cells.{CanPut, LeavesPut};
 
 use crate::round::Round;
 use crate::running::Running;
-use crate::station::Station;
+use crate::workspace::Workspace;
 use cm_document::Mail;
 use cm_hardware::ResourceManager;
 use cm_places::CtlPlaces;
@@ -19,10 +19,10 @@ use ctl_trait::Controller;
 use std::marker::Model;
 use switch_plan::Relations;
 
-/// A controller that runs, in its cell: its box, where it stands, and the mail that went aloft for it. Contracts see it as `Seat`.
+/// A controller that runs, in its cell: its box, where it stands, and the mail that went aloft for it. Contracts see it as `CellFacts`.
 #[derive(Drop)]
 pub struct Cell<C: Controller> {
-    station: Station,
+    workspace: Workspace,
     running: Running<C>,
     mail: Option<Mail>,
     /// How its update went, while that is not told yet.
@@ -30,44 +30,44 @@ pub struct Cell<C: Controller> {
 }
 
 impl<C: Controller> Model for Cell<C> {
-    ghost use Rattle.rt_flight.specs.Cells.{Seat};
+    ghost use Rattle.rt_flight.specs.Cells.{CellFacts};
 
-    ghost Value = { Seat };
+    ghost Value = { CellFacts };
 
-    ghost view = { λ c. record { station = c.station; ctl = c.running; mail = c.mail; done = c.done } };
+    ghost view = { λ c. record { workspace = c.workspace; ctl = c.running; mail = c.mail; done = c.done } };
 }
 
 impl<C: Controller> Cell<C> {
-    /// A controller that runs comes to its station, with the mail that goes aloft for it. It takes no memory.
-    pub fn seat(station: Station, ctl: C, mail: Option<Mail>) -> Cell<C>
+    /// A controller that runs comes to its workspace, with the mail that goes aloft for it. It takes no memory.
+    pub fn new(workspace: Workspace, ctl: C, mail: Option<Mail>) -> Cell<C>
         requires { IsKept Active (C.meaning ctl) }
-        ensures { result ≡ record { station = station; ctl = C.meaning ctl; mail = mail; done = None } }
+        ensures { result ≡ record { workspace = workspace; ctl = C.meaning ctl; mail = mail; done = None } }
     {
         Cell {
-            station,
+            workspace,
             running: Running::new(ctl),
             mail,
             done: None,
         }
     }
 
-    /// The station, and the box that leaves it. It takes no memory.
-    pub fn leave(self) -> (Station, C)
-        ensures station { result.0 ≡ self.station }
+    /// The workspace, and the box that leaves it. It takes no memory.
+    pub fn leave(self) -> (Workspace, C)
+        ensures workspace { result.0 ≡ self.workspace }
         ensures ctl { C.meaning result.1 ≡ self.ctl }
         ensures kept { IsKept Active (C.meaning result.1) }
     {
-        (self.station, self.running.into_ctl())
+        (self.workspace, self.running.into_ctl())
     }
 
     /// Where it is updated in the cycle, its states and its references are read, as the interfaces hold them now. It takes no memory.
     pub(crate) fn gather(&mut self, round: &Round<'_>, hardware: &ResourceManager)
         requires { CanFly round.now.placed round.now.related round.now.period_us (length hardware.now.loans)
             self.old }
-        ensures { self.new ≡ seat_read round.now hardware.now.loans self.old }
+        ensures { self.new ≡ cell_read round.now hardware.now.loans self.old }
     {
-        if round.updates(&self.station) {
-            self.station.gather(round.places, hardware);
+        if round.updates(&self.workspace) {
+            self.workspace.gather(round.places, hardware);
         }
     }
 
@@ -75,11 +75,11 @@ impl<C: Controller> Cell<C> {
     pub(crate) fn step(&mut self, round: &Round<'_>)
         requires timely { IsTimely round.now }
         requires can { CanStep round.now.related round.now.period_us self.old }
-        ensures run { self.new ≡ seat_run round.now self.old }
+        ensures run { self.new ≡ cell_run round.now self.old }
         ensures post { post_of self.new ≡ post_of self.old }
     {
         self.done = None;
-        if round.updates(&self.station) {
+        if round.updates(&self.workspace) {
             self.run(round);
         }
         self.mail = None;
@@ -89,14 +89,14 @@ impl<C: Controller> Cell<C> {
     fn run(&mut self, round: &Round<'_>)
         requires timely { IsTimely round.now }
         requires can { CanStep round.now.related round.now.period_us self.old }
-        ensures run { self.new ≡ record (seat_stepped (step_of round.now self.old) self.old) {
+        ensures run { self.new ≡ record (cell_stepped (step_of round.now self.old) self.old) {
           done = Some (step_of round.now self.old).done;
         } }
         ensures post { post_of self.new ≡ post_of self.old }
     {
         let mail = self.mail.take();
-        let tick = round.tick(&self.station);
-        self.done = Some(self.station.step(&mut self.running, tick, mail));
+        let tick = round.tick(&self.workspace);
+        self.done = Some(self.workspace.step(&mut self.running, tick, mail));
     }
 
     /// What its step came to is told, and its claims hold what it gave out, unless it failed. It takes no memory.
@@ -109,42 +109,42 @@ impl<C: Controller> Cell<C> {
     )
         requires { CanPut places.now (length hardware.old.loans) self.old ran.old (vec_len erred.old)
             (vec_capacity erred.old) }
-        ensures cell { self.new ≡ seat_put self.old }
+        ensures cell { self.new ≡ cell_put self.old }
         ensures flying { flying hardware.new ran.new.rans erred.new.items
             ≡ flying_put places.now self.old (flying hardware.old ran.old.rans erred.old.items) }
-        ensures leaves { LeavesPut 1 (length self.old.station.outs) (numbers_of self.old) (length hardware.old.loans)
+        ensures leaves { LeavesPut 1 (length self.old.workspace.outs) (numbers_of self.old) (length hardware.old.loans)
             (length hardware.new.loans) ran.old ran.new (vec_len erred.old) (vec_len erred.new) (vec_capacity erred.old)
             (vec_capacity erred.new) }
     {
         if let Some(done) = self.done.take() {
-            self.station.give_out(places, hardware, done);
-            self.station.tell(self.running.publishes(), done, ran);
-            push_erred(erred, self.station.serial(), done);
+            self.workspace.give_out(places, hardware, done);
+            self.workspace.tell(self.running.publishes(), done, ran);
+            push_erred(erred, self.workspace.serial(), done);
         }
     }
 
     /// Whether a controller that precedes it stands in one of these cells.
     pub(crate) fn follows(&self, cells: &[Cell<C>], relations: &Relations) -> bool
-        requires { self.now.station.place < length relations.now.leaders }
+        requires { self.now.workspace.place < length relations.now.leaders }
         ensures { result ≡ list_any (λ c. precedes_in relations.now c self.now) cells.now }
     {
-        let leaders = relations.leaders().row(self.station.place());
+        let leaders = relations.leaders().row(self.workspace.place());
         one_stands_in(cells, leaders)
     }
 }
 
 /// Whether the controller at one of these places of the description stands in one of these cells.
 fn one_stands_in<C: Controller>(cells: &[Cell<C>], places: &[u32]) -> bool
-    ensures { result ≡ list_any (λ place. list_any (λ c. place == c.station.place) cells.now) places.now }
+    ensures { result ≡ list_any (λ place. list_any (λ c. place == c.workspace.place) cells.now) places.now }
 {
     places.iter().any(|place| stands_in(cells, *place))
 }
 
 /// Whether the controller at this place of the description stands in one of these cells.
 fn stands_in<C: Controller>(cells: &[Cell<C>], place: u32) -> bool
-    ensures { result ≡ list_any (λ c. place == c.station.place) cells.now }
+    ensures { result ≡ list_any (λ c. place == c.workspace.place) cells.now }
 {
-    cells.iter().any(|cell| place == cell.station.place())
+    cells.iter().any(|cell| place == cell.workspace.place())
 }
 
 /// The serial of a controller whose update failed is told.

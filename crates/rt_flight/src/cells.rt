@@ -3,7 +3,7 @@
 ghost use Rattle.std.specs.Prelude.{◌≡◌, ◌<◌, ◌≤◌, length, map, take, vec_len, vec_capacity};
 ghost use Rattle.std.specs.List.{AllByRecursion};
 ghost use Rattle.cm_slots.specs.Updates.{IsTimely};
-ghost use Rattle.rt_flight.specs.Cells.{flying, seat_read, seat_run, seat_put, all_put, all_outs, all_numbers, post_of, CanFly, CanStep, NonePrecedes, TellsApart};
+ghost use Rattle.rt_flight.specs.Cells.{flying, cell_read, cell_run, cell_put, all_put, all_outs, all_numbers, post_of, CanFly, CanStep, NonePrecedes, TellsApart};
 ghost use Rattle.rt_flight.specs.Calls.Cells.{CanTurn, CanPutAll, LeavesPut, HaveTurned};
 
 use crate::cell::Cell;
@@ -41,7 +41,7 @@ pub(crate) fn update_all<C: Controller>(
 /// How many of these cells, from the first on, can have their turns together: those of one depth, of which none precedes another.
 fn together<C: Controller>(cells: &[Cell<C>], relations: &Relations) -> usize
     requires some { 0 < length cells.now }
-    requires related { AllByRecursion (λ c. c.station.place < length relations.now.leaders) cells.now }
+    requires related { AllByRecursion (λ c. c.workspace.place < length relations.now.leaders) cells.now }
     ensures within { (1 ≤ result) × (result ≤ length cells.now) }
     ensures apart { NonePrecedes relations.now (take result cells.now) }
 {
@@ -79,7 +79,7 @@ fn update_layer<C: Controller>(
 fn gather_all<C: Controller>(cells: &mut [Cell<C>], round: &Round<'_>, hardware: &ResourceManager)
     requires { AllByRecursion
         (CanFly round.now.placed round.now.related round.now.period_us (length hardware.now.loans)) cells.old }
-    ensures { cells.new ≡ map (seat_read round.now hardware.now.loans) cells.old }
+    ensures { cells.new ≡ map (cell_read round.now hardware.now.loans) cells.old }
 {
     for cell in cells.iter_mut() {
         cell.gather(round, hardware);
@@ -90,7 +90,7 @@ fn gather_all<C: Controller>(cells: &mut [Cell<C>], round: &Round<'_>, hardware:
 fn step_all<C: Controller>(cells: &mut [Cell<C>], round: &Round<'_>)
     requires timely { IsTimely round.now }
     requires can { AllByRecursion (CanStep round.now.related round.now.period_us) cells.old }
-    ensures run { cells.new ≡ map (seat_run round.now) cells.old }
+    ensures run { cells.new ≡ map (cell_run round.now) cells.old }
     ensures posts { map post_of cells.new ≡ map post_of cells.old }
 {
     for cell in cells.iter_mut() {
@@ -108,7 +108,7 @@ fn scatter_all<C: Controller>(
 )
     requires { CanPutAll places.now (length hardware.old.loans) cells.old ran.old (vec_len erred.old)
         (vec_capacity erred.old) }
-    ensures cells { cells.new ≡ map seat_put cells.old }
+    ensures cells { cells.new ≡ map cell_put cells.old }
     ensures flying { flying hardware.new ran.new.rans erred.new.items
         ≡ all_put places.now cells.old (flying hardware.old ran.old.rans erred.old.items) }
     ensures leaves { LeavesPut (length cells.old) (all_outs cells.old) (all_numbers cells.old)

@@ -8,7 +8,7 @@ ghost use Rattle.rt_flight.specs.Calls.Cycles.{LeavesFlight, IsQuiet, Decides};
 
 use crate::cell::Cell;
 use crate::cells::update_all;
-use crate::plant::Plant;
+use crate::robot::Robot;
 use crate::round::Round;
 use cm_model::Member;
 use cm_storage::{FailedPart, RecordRoom};
@@ -20,28 +20,28 @@ use switch_plan::Relations;
 /// components that failed go to their states on error. It takes no memory.
 pub(crate) fn make_cycle<C: Controller>(
     cells: &mut [Cell<C>],
-    plant: &mut Plant,
+    robot: &mut Robot,
     number: u64,
     erred: &mut Vec<u32>,
     room: &mut RecordRoom,
 )
-    requires can { CanMake number cells.old plant.old room.old }
+    requires can { CanMake number cells.old robot.old room.old }
     requires erred { (erred.old.items ≡ []) × (length cells.old ≤ vec_capacity erred.old) }
-    ensures made { (s : State) → IsAloftOver s number cells.old plant.old → TellsNothing room.old
-        → HasMade s cells.new plant.new erred.new.items room.new }
-    ensures kept { LeavesFlight cells.old cells.new plant.old plant.new room.old room.new (vec_capacity erred.old)
+    ensures made { (s : State) → IsAloftOver s number cells.old robot.old → TellsNothing room.old
+        → HasMade s cells.new robot.new erred.new.items room.new }
+    ensures kept { LeavesFlight cells.old cells.new robot.old robot.new room.old room.new (vec_capacity erred.old)
         (vec_capacity erred.new) }
 {
-    plant.hardware.read(number, &mut room.failed);
+    robot.hardware.read(number, &mut room.failed);
     let round = Round {
         number,
-        period_us: plant.period_us,
-        places: &plant.places,
-        relations: &plant.relations,
+        period_us: robot.period_us,
+        places: &robot.places,
+        relations: &robot.relations,
         failed: room.failed.as_slice(),
     };
-    update_all(cells, &round, &mut plant.hardware, &mut room.ran, erred);
-    plant.hardware.finish(number, plant.period_us, &mut room.failed, &mut room.bodies);
+    update_all(cells, &round, &mut robot.hardware, &mut room.ran, erred);
+    robot.hardware.finish(number, robot.period_us, &mut room.failed, &mut room.bodies);
 }
 
 /// Who stops at the end of a cycle of these controllers, where a component or an update failed; it answers whether one did. It takes no

@@ -6,7 +6,7 @@ ghost use Rattle.rt_flight.specs.Flights.{IsEquipped, IsReady, IsAloft, IsComput
 
 use crate::cell::Cell;
 use crate::compute::{make_cycle, settle};
-use crate::craft::Craft;
+use crate::context::CycleContext;
 use cm_storage::{CycleParts, CycleRecord, RecordRoom};
 use ctl_trait::Controller;
 use std::marker::Model;
@@ -20,7 +20,7 @@ pub struct Payload<C: Controller> {
     /// The running controllers, in the order of updates.
     pub cells: Vec<Cell<C>>,
     /// What works in the cycle, with who flies, and room to tell of it. Of what it has to tell of an earlier one nothing is kept.
-    pub craft: Box<Craft>,
+    pub context: Box<CycleContext>,
 }
 
 /// What a flight that is computed brings home.
@@ -29,7 +29,7 @@ pub struct Landing<C: Controller> {
     /// The running controllers.
     pub cells: Vec<Cell<C>>,
     /// What worked in the cycle, and who flew.
-    pub craft: Box<Craft>,
+    pub context: Box<CycleContext>,
     /// The record of the cycle.
     pub record: CycleRecord,
 }
@@ -40,7 +40,7 @@ pub struct Landing<C: Controller> {
 pub struct Flight<C: Controller> {
     number: u64,
     cells: Vec<Cell<C>>,
-    craft: Box<Craft>,
+    context: Box<CycleContext>,
 }
 
 impl<C: Controller> Model for Flight<C> {
@@ -48,25 +48,25 @@ impl<C: Controller> Model for Flight<C> {
 
     ghost Value = { FlightFacts };
 
-    ghost view = { λ f. facts_with f.number f.cells.items f.craft.value };
+    ghost view = { λ f. facts_with f.number f.cells.items f.context.value };
 
-    ghost invariant = { λ f. IsFlight f.number f.cells.items f.craft.value };
+    ghost invariant = { λ f. IsFlight f.number f.cells.items f.context.value };
 }
 
 impl<C: Controller> Flight<C> {
     /// A flight with this payload. It takes no memory.
     pub fn take_off(payload: Payload<C>) -> Flight<C>
-        requires equipped { IsEquipped payload.cells.items payload.craft.value.order.items payload.craft.value.plant
-            payload.craft.value.ending payload.craft.value.lists (vec_capacity payload.craft.value.erred) }
-        requires none_erred { payload.craft.value.erred.items ≡ [] }
-        requires ready { IsSomeAnd payload.craft.value.room
-            (IsReady payload.number payload.cells.items payload.craft.value.order.items payload.craft.value.plant) }
+        requires equipped { IsEquipped payload.cells.items payload.context.value.order.items payload.context.value.robot
+            payload.context.value.ending payload.context.value.lists (vec_capacity payload.context.value.erred) }
+        requires none_erred { payload.context.value.erred.items ≡ [] }
+        requires ready { IsSomeAnd payload.context.value.room
+            (IsReady payload.number payload.cells.items payload.context.value.order.items payload.context.value.robot) }
         ensures { result ≡ record {
           number = payload.number;
           cells = payload.cells.items;
-          plant = payload.craft.value.plant;
-          ending = payload.craft.value.ending;
-          lists = payload.craft.value.lists;
+          robot = payload.context.value.robot;
+          ending = payload.context.value.ending;
+          lists = payload.context.value.lists;
           has_failed = false;
           erred = [];
           outcome = None;
@@ -75,14 +75,14 @@ impl<C: Controller> Flight<C> {
         let Payload {
             number,
             cells,
-            mut craft,
+            mut context,
         } = payload;
-        craft.has_failed = false;
-        craft.record = None;
+        context.has_failed = false;
+        context.record = None;
         Flight {
             number,
             cells,
-            craft,
+            context,
         }
     }
 
@@ -97,7 +97,7 @@ impl<C: Controller> Flight<C> {
     pub fn computed(&self) -> bool
         ensures { result ≡ is_some self.now.outcome }
     {
-        self.craft.record.is_some()
+        self.context.record.is_some()
     }
 
     /// The cycle is made, of what the flight owns. It takes no memory.
@@ -107,27 +107,27 @@ impl<C: Controller> Flight<C> {
         ensures computed { is_some self.new.outcome ≡ true }
         ensures number { self.new.number ≡ self.old.number }
     {
-        let craft = &mut *self.craft;
-        let Some(room) = &mut craft.room else {
+        let context = &mut *self.context;
+        let Some(room) = &mut context.room else {
             unreachable!();
         };
         make_cycle(
             self.cells.as_mut_slice(),
-            &mut craft.plant,
+            &mut context.robot,
             self.number,
-            &mut craft.erred,
+            &mut context.erred,
             room,
         );
-        craft.has_failed = settle(
-            &mut craft.ending,
-            &craft.order,
-            &craft.plant.relations,
-            &craft.erred,
+        context.has_failed = settle(
+            &mut context.ending,
+            &context.order,
+            &context.robot.relations,
+            &context.erred,
             room,
         );
-        craft.plant.hardware.show(&mut craft.lists);
+        context.robot.hardware.show(&mut context.lists);
         let flies = !self.cells.is_empty();
-        craft.record = Some(told(self.number, flies, &mut craft.room, &mut craft.left_over));
+        context.record = Some(told(self.number, flies, &mut context.room, &mut context.left_over));
     }
 
     /// What happened in the cycle.
@@ -135,7 +135,7 @@ impl<C: Controller> Flight<C> {
         requires { is_some self.now.outcome ≡ true }
         ensures { self.now.outcome ≡ Some result.now }
     {
-        match &self.craft.record {
+        match &self.context.record {
             Some(record) => record,
             None => unreachable!(),
         }
@@ -144,19 +144,19 @@ impl<C: Controller> Flight<C> {
     /// It comes home, with all that it took along and the record of its cycle. It takes no memory.
     pub fn come_home(self) -> Landing<C>
         requires { is_some self.outcome ≡ true }
-        ensures { ComesHome self result.cells.items result.craft.value result.record }
+        ensures { ComesHome self result.cells.items result.context.value result.record }
     {
         let Flight {
             cells,
-            mut craft,
+            mut context,
             ..
         } = self;
-        let Some(record) = craft.record.take() else {
+        let Some(record) = context.record.take() else {
             unreachable!();
         };
         Landing {
             cells,
-            craft,
+            context,
             record,
         }
     }

@@ -2,18 +2,18 @@
 #![tactic(auto)]
 
 pub use cell::Cell;
-pub use craft::Craft;
+pub use context::CycleContext;
 pub use flight::{Flight, Landing, Payload};
-pub use plant::Plant;
-pub use station::Station;
+pub use robot::Robot;
+pub use workspace::Workspace;
 
 mod cell;
 mod cells;
 mod compute;
-mod craft;
+mod context;
 mod flight;
 pub mod laws;
-mod plant;
+mod robot;
 mod round;
 mod running;
-mod station;
+mod workspace;

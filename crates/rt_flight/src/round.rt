@@ -4,9 +4,9 @@ ghost use Rattle.std.specs.Prelude.{◌≡◌, ◌<◌, ◌≤◌, ◌==◌, len
 ghost use Rattle.std.specs.List.{list_any};
 ghost use Rattle.cm_model.specs.declared.tick.TheConstants.{LONGEST_PERIOD};
 ghost use Rattle.cm_slots.specs.Updates.{IsTimely};
-ghost use Rattle.rt_flight.specs.Stations.{tick_at, is_held_at, flies, IsInTime};
+ghost use Rattle.rt_flight.specs.Workspaces.{tick_at, is_held_at, flies, IsInTime};
 
-use crate::station::Station;
+use crate::workspace::Workspace;
 use chain_order::due;
 use cm_model::Tick;
 use cm_places::CtlPlaces;
@@ -45,38 +45,38 @@ impl<'a> Model for Round<'a> {
 
 impl<'a> Round<'a> {
     /// When a controller is updated.
-    pub(crate) fn tick(&self, station: &Station) -> Tick
+    pub(crate) fn tick(&self, workspace: &Workspace) -> Tick
         requires timely { IsTimely self.now }
-        requires in_time { IsInTime self.now.period_us station.now }
-        ensures tick { result ≡ tick_at self.now station.now }
+        requires in_time { IsInTime self.now.period_us workspace.now }
+        ensures tick { result ≡ tick_at self.now workspace.now }
         ensures time { (1 ≤ result.dt_us) × (result.dt_us ≤ LONGEST_PERIOD) }
     {
         Tick {
             cycle: self.number,
             time_us: self.number * u64::from(self.period_us),
-            dt_us: station.divisor * self.period_us,
+            dt_us: workspace.divisor * self.period_us,
         }
     }
 
     /// Whether a controller is updated in the cycle: it is due, and no read of its components failed.
-    pub(crate) fn updates(&self, station: &Station) -> bool
-        requires divided { 1 ≤ station.now.divisor }
-        requires related { station.now.place < length self.now.related.components }
-        ensures { result ≡ flies self.now station.now }
+    pub(crate) fn updates(&self, workspace: &Workspace) -> bool
+        requires divided { 1 ≤ workspace.now.divisor }
+        requires related { workspace.now.place < length self.now.related.components }
+        ensures { result ≡ flies self.now workspace.now }
     {
-        due(self.number, station.divisor) && !self.is_held(station)
+        due(self.number, workspace.divisor) && !self.is_held(workspace)
     }
 
     /// Whether a controller is held off: the read of one of its components failed.
-    fn is_held(&self, station: &Station) -> bool
-        requires { station.now.place < length self.now.related.components }
-        ensures { result ≡ is_held_at self.now station.now.place }
+    fn is_held(&self, workspace: &Workspace) -> bool
+        requires { workspace.now.place < length self.now.related.components }
+        ensures { result ≡ is_held_at self.now workspace.now.place }
     {
         if self.failed.is_empty() {
             return false;
         }
         self.relations
-            .components(station.place)
+            .components(workspace.place)
             .iter()
             .any(|component| has_failed(self.failed, *component))
     }

@@ -6,7 +6,7 @@ ghost use Rattle.cm_model.specs.Controllers.{ctl_step};
 ghost use Rattle.cm_model.specs.Kinds.{publishes};
 ghost use Rattle.cm_slots.specs.Lives.{once_taken, CanBeStepped, IsKept};
 ghost use Rattle.ctl_trait.specs.Taking.{CanTake};
-ghost use Rattle.rt_flight.specs.Calls.Stations.{TakesStep};
+ghost use Rattle.rt_flight.specs.Calls.Workspaces.{TakesStep};
 
 use cm_document::Mail;
 use cm_model::Tick;

@@ -7,14 +7,14 @@ use Rattle.cm_model.specs.declared.request.Request.{Request}
 use Rattle.cm_model.specs.declared.seen.Seen.{Seen}
 use Rattle.switch_plan.specs.Relations.{Related, relations_of}
 use Rattle.request_plan.specs.Acts.{IsConclusionOf, IsActWithin}
-use Rattle.request_plan.specs.Stands.{IsStand, IsSeenOf}
+use Rattle.request_plan.specs.Situations.{IsSituation, IsSeenOf}
 use Rattle.request_plan.specs.declared.acts.Conclusion.{Conclusion}
-use Rattle.request_plan.specs.declared.stand.Stand.{Stand}
+use Rattle.request_plan.specs.declared.situation.Situation.{Situation}
 
--- It can be decided by these: the relations are those of the description, and the stand fits it.
-pub record CanDecide (d : Description) (related : Related) (now : Stand) : Type 0 where
+-- It can be decided by these: the relations are those of the description, and the situation fits it.
+pub record CanDecide (d : Description) (related : Related) (now : Situation) : Type 0 where
   pub relations : related ≡ relations_of d
-  pub stand : IsStand d now
+  pub situation : IsSituation d now
 
 -- A switch can be carried out by these: the relations are those of the description, and each loaded controller has its
 -- place in it.
@@ -23,6 +23,6 @@ pub record CanSwitch (d : Description) (related : Related) (loaded : List Seen) 
   pub within : All (λ l. l.place < length d.controllers) loaded
 
 -- This is concluded of a request in each state of which this is seen, and it moves no component but one that is seen.
-pub record Concludes (d : Description) (now : Stand) (asked : Request) (c : Conclusion) : Type 0 where
+pub record Concludes (d : Description) (now : Situation) (asked : Request) (c : Conclusion) : Type 0 where
   pub concluded : (s : State) → IsSeenOf s d now → IsConclusionOf s asked c
   pub within : IsActWithin (length now.lives.items) c.act

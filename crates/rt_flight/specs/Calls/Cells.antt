@@ -4,23 +4,23 @@ use Rattle.std.specs.List.{AllByRecursion}
 use Rattle.cm_storage.specs.Ran.{Filling}
 use Rattle.cm_places.specs.Placed.{Placed}
 use Rattle.cm_slots.specs.Updates.{Aloft, IsTimely}
-use Rattle.rt_flight.specs.Stations.{IsSeatedOn}
-use Rattle.rt_flight.specs.Cells.{Seat, Flying, seats_after, all_flown, post_of, CanFly, CanTell, CanBeTold}
+use Rattle.rt_flight.specs.Workspaces.{IsConnectedTo}
+use Rattle.rt_flight.specs.Cells.{CellFacts, Flying, cells_after, all_flown, post_of, CanFly, CanTell, CanBeTold}
 
 -- What a cell gave out can be put on a board of so many interfaces, and told; there is room for its serial beside so
 -- many others.
-pub record CanPut (placed : Placed) (board : ℕ) (c : Seat) (room : Filling) (count most : ℕ) : Type 0 where
-  pub seated : IsSeatedOn placed board c.station
-  pub few_states : length c.station.states < 2 ^ 8
-  pub few_outs : length c.station.outs < 2 ^ 8
+pub record CanPut (placed : Placed) (board : ℕ) (c : CellFacts) (room : Filling) (count most : ℕ) : Type 0 where
+  pub connected : IsConnectedTo placed board c.workspace
+  pub few_states : length c.workspace.states < 2 ^ 8
+  pub few_outs : length c.workspace.outs < 2 ^ 8
   pub told : CanBeTold c room
   pub erred : count + 1 ≤ most
 
 -- the same of all of these
-pub record CanPutAll (placed : Placed) (board : ℕ) (cs : List Seat) (room : Filling) (count most : ℕ) : Type 0 where
-  pub seated : AllByRecursion (λ c. IsSeatedOn placed board c.station) cs
-  pub few_states : AllByRecursion (λ c. length c.station.states < 2 ^ 8) cs
-  pub few_outs : AllByRecursion (λ c. length c.station.outs < 2 ^ 8) cs
+pub record CanPutAll (placed : Placed) (board : ℕ) (cs : List CellFacts) (room : Filling) (count most : ℕ) : Type 0 where
+  pub connected : AllByRecursion (λ c. IsConnectedTo placed board c.workspace) cs
+  pub few_states : AllByRecursion (λ c. length c.workspace.states < 2 ^ 8) cs
+  pub few_outs : AllByRecursion (λ c. length c.workspace.outs < 2 ^ 8) cs
   pub told : CanTell cs room
   pub erred : count + length cs ≤ most
 
@@ -36,7 +36,7 @@ pub record LeavesPut (cells outs published : ℕ) (loans loans' : ℕ) (room roo
   pub capacity : most' ≡ most
 
 -- These cells can have their turns on a board of so many interfaces.
-pub record CanTurn (a : Aloft) (board : ℕ) (cs : List Seat) (room : Filling) (count most : ℕ) : Type 0 where
+pub record CanTurn (a : Aloft) (board : ℕ) (cs : List CellFacts) (room : Filling) (count most : ℕ) : Type 0 where
   pub timely : IsTimely a
   pub each : AllByRecursion (CanFly a.placed a.related a.period_us board) cs
   pub told : CanTell cs room
@@ -44,7 +44,7 @@ pub record CanTurn (a : Aloft) (board : ℕ) (cs : List Seat) (room : Filling) (
 
 -- They had their turns: they and the work come to what they come to one after the other, and who stands there and how
 -- much room each has is as before.
-pub record HaveTurned (a : Aloft) (cs cs' : List Seat) (f f' : Flying) : Type 0 where
-  pub cells : cs' ≡ seats_after a cs f
+pub record HaveTurned (a : Aloft) (cs cs' : List CellFacts) (f f' : Flying) : Type 0 where
+  pub cells : cs' ≡ cells_after a cs f
   pub flying : f' ≡ all_flown a cs f
   pub posts : map post_of cs' ≡ map post_of cs

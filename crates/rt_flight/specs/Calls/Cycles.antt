@@ -12,18 +12,18 @@ use Rattle.cm_storage.specs.declared.record_room.RecordRoom.{RecordRoom}
 use Rattle.stop_plan.specs.Ending.{IsEndingOf, HasFlags, told_in, erred_in}
 use Rattle.stop_plan.specs.declared.ending.Ending.{Ending}
 use Rattle.switch_plan.specs.Relations.{Related, relations_of}
-use Rattle.rt_flight.specs.Stations.{IsFitted}
-use Rattle.rt_flight.specs.Cells.{Seat}
+use Rattle.rt_flight.specs.Workspaces.{IsFitted}
+use Rattle.rt_flight.specs.Cells.{CellFacts}
 use Rattle.rt_flight.specs.Flights.{member_in}
-use Rattle.rt_flight.specs.declared.plant.Plant.{Plant}
+use Rattle.rt_flight.specs.declared.robot.Robot.{Robot}
 
--- A cycle that was made leaves who flies, stations that are fitted, the plant but for its hardware, who stopped, and
+-- A cycle that was made leaves who flies, workspaces that are fitted, the robot but for its hardware, who stopped, and
 -- the room for serials; and who ran, where nobody flies.
-pub record LeavesFlight (cells cells' : List Seat) (g g' : Plant) (room room' : RecordRoom) (most most' : ℕ) : Type 0
+pub record LeavesFlight (cells cells' : List CellFacts) (g g' : Robot) (room room' : RecordRoom) (most most' : ℕ) : Type 0
   where
     pub order : map member_in cells' ≡ map member_in cells
-    pub fitted : AllByRecursion (λ c. IsFitted g.places c.station) cells'
-    pub plant : g' ≡ record g { hardware = g'.hardware }
+    pub fitted : AllByRecursion (λ c. IsFitted g.places c.workspace) cells'
+    pub robot : g' ≡ record g { hardware = g'.hardware }
     pub stops : room'.stops ≡ room.stops
     pub idle : cells ≡ [] → room'.ran.rans ≡ room.ran.rans
     pub capacity : most' ≡ most

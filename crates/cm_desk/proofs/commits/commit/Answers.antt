@@ -1,10 +1,10 @@
-use Rattle.cm_desk.proofs.CommitLemmas.{can_seated, can_hold, can_show, can_claim, can_export, still_place, has_committed}
+use Rattle.cm_desk.proofs.CommitLemmas.{can_connected, can_hold, can_show, can_claim, can_export, still_place, has_committed}
 use Rattle.cm_desk.proofs.commits.commit.Goals as goal
 
 pub commit-requires : goal.commit-requires
 commit-requires g c = record {
   home = c.requires.down;
-  seated = can_seated _ _ _ _ _ _ _ _ _ _ _ c.requires.can.3;
+  connected = can_connected _ _ _ _ _ _ _ _ _ _ _ c.requires.can.3;
   has_room = can_hold _ _ _ _ _ _ _ _ _ _ _ c.requires.can.3;
 }
 

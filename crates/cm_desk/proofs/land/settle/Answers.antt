@@ -11,15 +11,15 @@ pub commit-requires-clause-can : goal.commit-requires-clause-can
 commit-requires-clause-can g c =
     let s = c.requires.0 in
     let is = c.requires.1 in
-    (landed s (cycle s), stays_active s (told_in s), nobody_again, can_settle s _ _ _ _ _ _ is.landed is.placed (is.ending c.if-craft.true))
+    (landed s (cycle s), stays_active s (told_in s), nobody_again, can_settle s _ _ _ _ _ _ is.landed is.placed (is.ending c.if-context.true))
 
-pub returns-then-craft-clause-settled : goal.returns-then-craft-clause-settled
-returns-then-craft-clause-settled g c = λ s is.
+pub returns-then-context-clause-settled : goal.returns-then-context-clause-settled
+returns-then-context-clause-settled g c = λ s is.
     settled_by s _ _ _ (c.commit.ensures.committed (landed s (cycle s)) (stays_active s (told_in s)) nobody_again
-    (can_settle s _ _ _ _ _ _ is.landed is.placed (is.ending c.if-craft.true)))
+    (can_settle s _ _ _ _ _ _ is.landed is.placed (is.ending c.if-context.true)))
 
 -- where nothing failed nobody stops
-pub returns-else-craft-clause-settled : goal.returns-else-craft-clause-settled
-returns-else-craft-clause-settled g c = λ s is.
-    let none = is.quiet c.if-craft.false in
+pub returns-else-context-clause-settled : goal.returns-else-context-clause-settled
+returns-else-context-clause-settled g c = λ s is.
+    let none = is.quiet c.if-context.false in
     settled_without s _ _ _ _ is.landed none.0 none.1

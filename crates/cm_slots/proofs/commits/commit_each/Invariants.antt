@@ -1,7 +1,7 @@
 use Rattle.std.proofs.Common.{◌≡◌, ◌++◌, false, length, map, take, drop, option_map}
 use Rattle.std.specs.List.{AllByRecursion}
 use Rattle.cm_slots.specs.Commits.{committed_at}
-use Rattle.cm_slots.specs.Seats.{IsSeated, HasRoom}
+use Rattle.cm_slots.specs.Connections.{IsConnected, HasRoom}
 use Rattle.cm_slots.specs.Slots.{box_of}
 use Rattle.cm_slots.proofs.commits.commit_each.Given as goal
 
@@ -11,7 +11,7 @@ invariant-loop-i g l = record {
   slots : take l.i l.slots ++ map (committed_at l.places l.hardware.loans l.chained l.stopped l.started) (drop l.i l.slots)
       ≡ map (committed_at l.places l.hardware.loans l.chained l.stopped l.started) l.fn.slots;
   home : map (option_map g.C.Controller.meaning) l.boxes ≡ map (box_of false) l.slots;
-  seated : AllByRecursion (IsSeated l.places (length l.hardware.loans)) (drop l.i l.slots);
+  connected : AllByRecursion (IsConnected l.places (length l.hardware.loans)) (drop l.i l.slots);
   has_room : AllByRecursion (HasRoom l.places l.fn.room) (drop l.i l.slots);
   count : length l.slots ≡ length l.fn.slots;
   places : length l.boxes ≡ length l.fn.slots;

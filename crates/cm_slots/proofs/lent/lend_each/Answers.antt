@@ -39,8 +39,8 @@ loop-index-preserved g c =
     let here = there (λ (l : Loaded). (is_active l ≡ true) × (slice_get boxes k ≡ Some (Some l.ctl))) slots k slot can.0 c.index-slots-index.is in
     let away = c.loop-index.lent.items in
     let ctl = c.lend-ctl.result in
-    let moved : map (option_map g.C.Controller.meaning) (slice_set c.loop-index.boxes k c.lend-ctl.new.berth) ≡ slice_set boxes k None =
-    map-set (option_map g.C.Controller.meaning) c.loop-index.boxes k c.lend-ctl.new.berth
+    let moved : map (option_map g.C.Controller.meaning) (slice_set c.loop-index.boxes k c.lend-ctl.new.box_slot) ≡ slice_set boxes k None =
+    map-set (option_map g.C.Controller.meaning) c.loop-index.boxes k c.lend-ctl.new.box_slot
     ∙ ap (λ b. slice_set boxes k (option_map g.C.Controller.meaning b)) c.lend-ctl.ensures.left in
     let pushed : map g.C.Controller.meaning c.push_reserved.new.self.items ≡ map g.C.Controller.meaning away ++ slot.ctl ∷ [] =
     ap (map g.C.Controller.meaning) c.push_reserved.ensures.items
@@ -55,7 +55,7 @@ loop-index-preserved g c =
           ∙ inv.lent;
       running = λ had. subst (AllByRecursion (IsKept Active)) (sym pushed)
           (all_push (IsKept Active) (map g.C.Controller.meaning away) slot.ctl (inv.running had) c.lend-ctl.ensures.kept);
-      places = length-set c.loop-index.boxes k c.lend-ctl.new.berth ∙ inv.places;
+      places = length-set c.loop-index.boxes k c.lend-ctl.new.box_slot ∙ inv.places;
       room = omega (
         arith,
         inv.room,

@@ -51,13 +51,13 @@ loop-ctl-preserved g c =
           ∙ sym (ap₂ (λ (ks : List ℕ) (cs : List CtlData). with_ctls ks cs slots) cut mapped)
           ∙ inv.slots;
       boxes = ap (with_boxes (take n run) (map meaning left))
-          (map-set (option_map meaning) boxes k c.park.new.berth ∙ ap (slice_set (map (option_map meaning) boxes) k) c.park.ensures.home)
+          (map-set (option_map meaning) boxes k c.park.new.box_slot ∙ ap (slice_set (map (option_map meaning) boxes) k) c.park.ensures.home)
           ∙ sym (with_last_box (take n run) (map meaning left) k ctl (map (option_map meaning) boxes) each)
           ∙ sym (ap₂ (λ (ks : List ℕ) (cs : List CtlData). with_boxes ks cs (map (option_map meaning) boxes)) cut mapped)
           ∙ inv.boxes;
       running = before_last (IsKept Active) (map meaning left) ctl (subst (AllByRecursion (IsKept Active)) mapped inv.running);
       within = omega (arith, below);
       count = length-set slots k c.park.new.self ∙ inv.count;
-      places = length-set boxes k c.park.new.berth ∙ inv.places;
+      places = length-set boxes k c.park.new.box_slot ∙ inv.places;
       capacity = c.pop.ensures.capacity ∙ inv.capacity;
     }

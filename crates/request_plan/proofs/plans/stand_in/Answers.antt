@@ -6,14 +6,14 @@ use Rattle.request_plan.proofs.plans.stand_in.Goals as goal
 
 pub returns-then-is_empty-clause-stood : goal.returns-then-is_empty-clause-stood
 returns-then-is_empty-clause-stood c = λ s seen.
-    nobody_stands s c.args.names c.args.checked.now c.args.stand.now
+    nobody_stands s c.args.names c.args.checked.now c.args.situation.now
     (ap (λ (names : List (List ℕ)). length names == 0) (sym c.as_slice.ensures) ∙ sym c.is_empty.ensures ∙ c.if-is_empty.true) seen
 
-pub returns-clause-stand : goal.returns-clause-stand
-returns-clause-stand c = follows c.args.checked.now c.args.stand.now c.follow.new.self c.in_ok-conclusion.conclusion.act c.requires.stand c.follow.ensures.loaded c.follow.ensures.lives
+pub returns-clause-situation : goal.returns-clause-situation
+returns-clause-situation c = follows c.args.checked.now c.args.situation.now c.follow.new.self c.in_ok-conclusion.conclusion.act c.requires.situation c.follow.ensures.loaded c.follow.ensures.lives
 
 pub returns-clause-stood : goal.returns-clause-stood
 returns-clause-stood c = λ s seen.
-    somebody_stands s c.args.names c.args.checked.now c.args.stand.now c.follow.new.self c.in_ok-conclusion.conclusion
+    somebody_stands s c.args.names c.args.checked.now c.args.situation.now c.follow.new.self c.in_ok-conclusion.conclusion
     (ap (λ (names : List (List ℕ)). length names == 0) (sym c.as_slice.ensures) ∙ sym c.is_empty.ensures ∙ c.if-is_empty.false)
     c.in_ok-conclusion.ensures.concluded c.follow.ensures.loaded c.follow.ensures.lives seen

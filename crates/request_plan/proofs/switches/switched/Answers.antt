@@ -4,7 +4,7 @@ use Rattle.cm_model.specs.Scene.{is_chained_in}
 use Rattle.chain_order.proofs.PlaceLemmas.{flags-long, flags-set}
 use Rattle.switch_plan.specs.Relations.{Related}
 use Rattle.request_plan.proofs.SetLemmas.{set_made, leaders_long}
-use Rattle.request_plan.proofs.StandLemmas.{chained_past}
+use Rattle.request_plan.proofs.SituationLemmas.{chained_past}
 use Rattle.request_plan.proofs.switches.switched.Goals as goal
 
 pub chained_in-requires : goal.chained_in-requires

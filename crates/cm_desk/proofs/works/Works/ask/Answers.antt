@@ -11,7 +11,7 @@ invariant_of-self g c =
     let a = c.self.inside in
     let s = state_of a in
     let t = state_with a.checked a.blanks a.sessions a.loads a.slots c.ask.new.self (base_in a) a.ended a.closed in
-    kept_after_ask s t a.names.items (base_in a) a.roster c.self.invariant refl c.self.invariant.unclosed
+    kept_after_ask s t a.names.items (base_in a) a.active_set c.self.invariant refl c.self.invariant.unclosed
 
 pub returns-clause-made : goal.returns-clause-made
 returns-clause-made g c =

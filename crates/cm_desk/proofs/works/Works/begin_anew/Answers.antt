@@ -8,12 +8,12 @@ use Rattle.cm_places.specs.Placed.{placed_of}
 use Rattle.request_plan.specs.Plans.{IsPlanOf}
 use Rattle.sound_laws.proofs.FallbackLemmas.{begin_leaves_none}
 use Rattle.stop_plan.specs.Ending.{members_in_order}
-use Rattle.cm_desk.specs.Bay.{base_of, stand_ins_for, IsMadeReady}
+use Rattle.cm_desk.specs.CycleResources.{base_of, stand_ins_for, IsMadeReady}
 use Rattle.cm_desk.specs.Begin.{CanTakeOff, HasTakenOff}
-use Rattle.cm_desk.specs.Roster.{IsListedOf}
-use Rattle.cm_desk.specs.Supplies.{AreSupplies}
+use Rattle.cm_desk.specs.ActiveSet.{IsListedOf}
+use Rattle.cm_desk.specs.CycleNeeds.{AreNeeds}
 use Rattle.cm_desk.specs.Works.{IsKept, state_with}
-use Rattle.cm_desk.specs.declared.bay.Bay.{Bay}
+use Rattle.cm_desk.specs.declared.resources.CycleResources.{CycleResources}
 use Rattle.cm_desk.proofs.AfterLemmas.{at_home, kept_ready, kept_with_room}
 use Rattle.cm_desk.proofs.ForgottenLemmas.{kept_forgotten, kept_then, left_then}
 use Rattle.cm_desk.proofs.BeginLemmas.{begins_down, planned_order, HasDecided, has_decided, order_decided, view_flown}
@@ -29,20 +29,20 @@ plan-requires-clause-down g c =
     let s = state_of a in
     rw (← c.self.view_is) (begins_down s (rw (← c.self.view_is) at c.requires.can))
 
-pub supplies-requires-clause-home : goal.supplies-requires-clause-home
-supplies-requires-clause-home g c =
+pub needs-requires-clause-home : goal.needs-requires-clause-home
+needs-requires-clause-home g c =
     let a = c.self.inside in
     let s = state_of a in
-    at_home a.checked a.roster.order a.bay (vec_capacity a.boxes) a.slots.aloft c.self.invariant.based (begins_down s (rw (← c.self.view_is) at c.requires.can))
+    at_home a.checked a.active_set.order a.resources (vec_capacity a.boxes) a.slots.aloft c.self.invariant.based (begins_down s (rw (← c.self.view_is) at c.requires.can))
 
 -- who is active after all that is decided is described
-pub supplies-requires-clause-can : goal.supplies-requires-clause-can
-supplies-requires-clause-can g c =
+pub needs-requires-clause-can : goal.needs-requires-clause-can
+needs-requires-clause-can g c =
     let a = c.self.inside in
     let s = state_of a in
     let planned : IsPlanOf s c.in_ok-plan.plan = subst (λ (u : State). IsPlanOf u c.in_ok-plan.plan) (sym c.self.view_is) c.in_ok-plan.ensures in
     let order : c.in_ok-plan.plan.order.items ≡ members_in_order (boundary s) = planned_order s c.in_ok-plan.plan planned in record {
-      plant = record {
+      robot = record {
         places = c.self.invariant.worked_out.placed;
         size = c.self.invariant.based.size;
         within = rw (c.deref.ensures.value, order) (order_decided s c.self.invariant.described);
@@ -59,19 +59,19 @@ pub invariant_of-self-in_err-run : goal.invariant_of-self-in_err-run
 invariant_of-self-in_err-run g c =
     kept_with_room c.self.inside (vec_capacity c.make_places.new.boxes) c.self.invariant (begins_down (state_of c.self.inside) (rw (← c.self.view_is) at c.requires.can))
 
-pub invariant_of-self-in_err-supplies : goal.invariant_of-self-in_err-supplies
-invariant_of-self-in_err-supplies g c =
-    kept_ready c.self.inside c.supplies.new.self (vec_capacity c.make_places.new.boxes) c.self.invariant (begins_down (state_of c.self.inside) (rw (← c.self.view_is) at c.requires.can))
-    c.supplies.ensures.bay
+pub invariant_of-self-in_err-needs : goal.invariant_of-self-in_err-needs
+invariant_of-self-in_err-needs g c =
+    kept_ready c.self.inside c.needs.new.self (vec_capacity c.make_places.new.boxes) c.self.invariant (begins_down (state_of c.self.inside) (rw (← c.self.view_is) at c.requires.can))
+    c.needs.ensures.resources
 
 -- what works in a cycle stays at home, and forgets whose update failed,
 pub forget_erred-requires : goal.forget_erred-requires
-forget_erred-requires g c = c.supplies.ensures.bay.home
+forget_erred-requires g c = c.needs.ensures.resources.home
 
 -- so nobody is to stand in any more, and all else is kept
 pub invariant_of-self-2 : goal.invariant_of-self-2
 invariant_of-self-2 g c =
-    kept_then c.self.inside c.supplies.new.self c.forget_erred.new.self (vec_capacity c.replace-boxes.new.dest) c.supplies.ensures.bay c.forget_erred.ensures
+    kept_then c.self.inside c.needs.new.self c.forget_erred.new.self (vec_capacity c.replace-boxes.new.dest) c.needs.ensures.resources c.forget_erred.ensures
     c.self.invariant (begins_down (state_of c.self.inside) (rw (← c.self.view_is) at c.requires.can))
 
 pub carry_out-requires-clause-down : goal.carry_out-requires-clause-down
@@ -87,7 +87,7 @@ carry_out-requires-clause-can g c =
     let s = state_of a in
     let planned : IsPlanOf s c.in_ok-plan.plan = subst (λ (u : State). IsPlanOf u c.in_ok-plan.plan) (sym c.self.view_is) c.in_ok-plan.ensures in (
       s,
-      left_then a c.supplies.new.self c.forget_erred.new.self (vec_capacity c.replace-boxes.new.dest) c.supplies.ensures.bay c.forget_erred.ensures
+      left_then a c.needs.new.self c.forget_erred.new.self (vec_capacity c.replace-boxes.new.dest) c.needs.ensures.resources c.forget_erred.ensures
           c.in_ok-plan.plan (rw (← c.self.view_is) at c.requires.steady) planned,
     )
 
@@ -100,7 +100,7 @@ put-requires-clause-loaded g c =
     let b = c.self-2.inside in
     let t = state_of b in
     let planned : IsPlanOf s c.in_ok-plan.plan = subst (λ (u : State). IsPlanOf u c.in_ok-plan.plan) (sym c.self.view_is) c.in_ok-plan.ensures in
-    let left = left_then a c.supplies.new.self c.forget_erred.new.self (vec_capacity c.replace-boxes.new.dest) c.supplies.ensures.bay c.forget_erred.ensures
+    let left = left_then a c.needs.new.self c.forget_erred.new.self (vec_capacity c.replace-boxes.new.dest) c.needs.ensures.resources c.forget_erred.ensures
     c.in_ok-plan.plan (rw (← c.self.view_is) at c.requires.steady) planned in
     let is : t ≡ boundary s = c.self-2.view_is ∙ c.carry_out.ensures s left in
     let order : c.in_ok-plan.plan.order.items ≡ members_in_order t = planned_order s c.in_ok-plan.plan planned ∙ ap members_in_order (sym is) in
@@ -120,13 +120,13 @@ forget_erred-2-requires g c =
     let b = c.self-2.inside in
     let t = state_of b in
     let planned : IsPlanOf s c.in_ok-plan.plan = subst (λ (u : State). IsPlanOf u c.in_ok-plan.plan) (sym c.self.view_is) c.in_ok-plan.ensures in
-    let left = left_then a c.supplies.new.self c.forget_erred.new.self (vec_capacity c.replace-boxes.new.dest) c.supplies.ensures.bay c.forget_erred.ensures
+    let left = left_then a c.needs.new.self c.forget_erred.new.self (vec_capacity c.replace-boxes.new.dest) c.needs.ensures.resources c.forget_erred.ensures
     c.in_ok-plan.plan (rw (← c.self.view_is) at c.requires.steady) planned in
     let is : t ≡ boundary s = c.self-2.view_is ∙ c.carry_out.ensures s left in
     let after = has_decided s t is c.self.invariant.worked_out.valid (rw (← c.self.view_is) at c.requires.can) (rw (← c.self.view_is) at c.requires.steady) (rw (← c.self.view_is) at c.requires.numbered) in
-    at_home b.checked b.roster.order b.bay (vec_capacity b.boxes) b.slots.aloft c.self-2.invariant.based after.down
+    at_home b.checked b.active_set.order b.resources (vec_capacity b.boxes) b.slots.aloft c.self-2.invariant.based after.down
 
--- and so what was supplied comes to it
+-- and so what was prepared comes to it
 pub take_in-requires-clause-home : goal.take_in-requires-clause-home
 take_in-requires-clause-home g c = c.forget_erred-2.ensures.home
 
@@ -142,7 +142,7 @@ decided_there g c =
     let s = state_of a in
     let planned : IsPlanOf s c.in_ok-plan.plan = subst (λ (u : State). IsPlanOf u c.in_ok-plan.plan) (sym c.self.view_is) c.in_ok-plan.ensures in
     c.self-2.view_is
-    ∙ c.carry_out.ensures s (left_then a c.supplies.new.self c.forget_erred.new.self (vec_capacity c.replace-boxes.new.dest) c.supplies.ensures.bay c.forget_erred.ensures
+    ∙ c.carry_out.ensures s (left_then a c.needs.new.self c.forget_erred.new.self (vec_capacity c.replace-boxes.new.dest) c.needs.ensures.resources c.forget_erred.ensures
     c.in_ok-plan.plan (rw (← c.self.view_is) at c.requires.steady) planned)
 
 decided : (g : Over) (c : goal.After-take_off-arg-3-1 g) → HasDecided (state_of c.self.inside) (state_of c.self-2.inside)
@@ -162,33 +162,33 @@ listed : (g : Over) (c : goal.After-take_off-arg-3-1 g) → IsListedOf (state_of
 listed g c =
     let kept = c.self-2.invariant in record {
       active = record { counted = ap length c.put.ensures.active ∙ kept.listed.active.counted; told = λ p below. ap (λ found. slice_index_or found p None) c.put.ensures.active ∙ kept.listed.active.told p below };
-      order = λ fresh. c.put.ensures.order ∙ planned_order (state_of c.self.inside) c.in_ok-plan.plan (planned g c) ∙ ap members_in_order (sym (decided_there g c));
-      run = λ fresh. rw (c.put.ensures.order) (rw (c.as_slice.ensures) at c.put.ensures.run);
+      order = λ current. c.put.ensures.order ∙ planned_order (state_of c.self.inside) c.in_ok-plan.plan (planned g c) ∙ ap members_in_order (sym (decided_there g c));
+      run = λ current. rw (c.put.ensures.order) (rw (c.as_slice.ensures) at c.put.ensures.run);
     }
 
--- what was supplied is for these,
-supplied : (g : Over) (c : goal.After-take_off-arg-3-1 g)
-    → AreSupplies (state_of c.self-2.inside).description c.forget_erred-2.new.self.plant.value.places c.put.new.self.order (length (state_of c.self-2.inside).loaded) c.in_ok-supplies.supplies
-supplied g c =
+-- what was prepared is for these,
+prepared : (g : Over) (c : goal.After-take_off-arg-3-1 g)
+    → AreNeeds (state_of c.self-2.inside).description c.forget_erred-2.new.self.robot.value.places c.put.new.self.order (length (state_of c.self-2.inside).loaded) c.in_ok-needs.needs
+prepared g c =
     let a = c.self.inside in
     let b = c.self-2.inside in
     let after = decided g c in
-    let placed : c.forget_erred-2.new.self.plant.value.places ≡ a.bay.plant.value.places =
-    ap (λ (x : Bay). x.plant.value.places) c.forget_erred-2.ensures.bay ∙ c.self-2.invariant.worked_out.placed ∙ ap placed_of after.description ∙ sym c.self.invariant.worked_out.placed in
-    let for_plan : AreSupplies a.checked a.bay.plant.value.places c.in_ok-plan.plan.order.items (length a.slots.loaded) c.in_ok-supplies.supplies = rw (c.deref.ensures.value, c.len.ensures) at c.in_ok-supplies.ensures.supplies in
+    let placed : c.forget_erred-2.new.self.robot.value.places ≡ a.resources.robot.value.places =
+    ap (λ (x : CycleResources). x.robot.value.places) c.forget_erred-2.ensures.resources ∙ c.self-2.invariant.worked_out.placed ∙ ap placed_of after.description ∙ sym c.self.invariant.worked_out.placed in
+    let for_plan : AreNeeds a.checked a.resources.robot.value.places c.in_ok-plan.plan.order.items (length a.slots.loaded) c.in_ok-needs.needs = rw (c.deref.ensures.value, c.len.ensures) at c.in_ok-needs.ensures.needs in
     rw (after.description, placed, c.put.ensures.order, after.counted) for_plan
 
 -- and all is ready
 ready : (g : Over) (c : goal.After-take_off-arg-3-1 g) → IsMadeReady c.forget_erred-2.new.self c.take_in.new.self
-ready g c = c.take_in.ensures.bay (state_of c.self-2.inside).description c.put.new.self.order (length (state_of c.self-2.inside).loaded) (supplied g c)
+ready g c = c.take_in.ensures.resources (state_of c.self-2.inside).description c.put.new.self.order (length (state_of c.self-2.inside).loaded) (prepared g c)
 
--- over a bay that has an empty list the same is kept,
+-- over resources that has an empty list the same is kept,
 kept : (g : Over) (c : goal.After-take_off-arg-3-1 g)
-    → IsKept (state_of c.self-2.inside) c.self-2.inside.names.items (base_of c.forget_erred-2.new.self (vec_capacity c.self-2.inside.boxes)) c.self-2.inside.roster
+    → IsKept (state_of c.self-2.inside) c.self-2.inside.names.items (base_of c.forget_erred-2.new.self (vec_capacity c.self-2.inside.boxes)) c.self-2.inside.active_set
 kept g c =
     let b = c.self-2.inside in
     let after = decided g c in
-    kept_forgotten (state_of b) b.names.items b.bay c.forget_erred-2.new.self (vec_capacity b.boxes) (vec_capacity b.boxes) b.roster c.self-2.invariant after.down
+    kept_forgotten (state_of b) b.names.items b.resources c.forget_erred-2.new.self (vec_capacity b.boxes) (vec_capacity b.boxes) b.active_set c.self-2.invariant after.down
     (record { fitted = c.self-2.invariant.based.fitted; ordered = c.self-2.invariant.based.ordered after.down }) c.forget_erred-2.ensures
 
 flies : (g : Over) (c : goal.After-take_off-arg-3-1 g)
@@ -200,9 +200,9 @@ flies g c =
     let t = state_of b in
     let many = ap length c.put.ensures.order in
     rw (c.run.ensures)
-    (can_take_off s t b.names.items c.forget_erred-2.new.self c.take_in.new.self (vec_capacity b.boxes) b.roster c.put.new.self b.slots (map g.C.Controller.meaning c.replace-boxes.result.items) (vec_capacity c.replace-boxes.result)
-    c.replace-cells.result.items (vec_capacity c.replace-cells.result) b.ended (kept g c) (decided g c) (listed g c) c.put.ensures.fresh (ready g c) refl refl refl
-    (c.take_in.ensures.supplied t.description c.put.new.self.order (length t.loaded) (supplied g c))
+    (can_take_off s t b.names.items c.forget_erred-2.new.self c.take_in.new.self (vec_capacity b.boxes) b.active_set c.put.new.self b.slots (map g.C.Controller.meaning c.replace-boxes.result.items) (vec_capacity c.replace-boxes.result)
+    c.replace-cells.result.items (vec_capacity c.replace-cells.result) b.ended (kept g c) (decided g c) (listed g c) c.put.ensures.current (ready g c) refl refl refl
+    (c.take_in.ensures.prepared t.description c.put.new.self.order (length t.loaded) (prepared g c))
     (rw (c.replace-boxes.ensures.value) (ap (map g.C.Controller.meaning) c.in_ok-make_places.ensures.boxes.0)) (omega (arith, c.in_ok-make_places.ensures.boxes.1, many, c.len-count.ensures, ap vec_capacity c.replace-boxes.ensures.value))
     (rw (c.replace-cells.ensures.value) c.in_ok-make_places.ensures.cells.0) (omega (arith, c.in_ok-make_places.ensures.cells.1, many, c.len-count.ensures, ap vec_capacity c.replace-cells.ensures.value)))
 
@@ -211,15 +211,15 @@ take_off-flight-requires g c = (state_of c.self-2.inside, flies g c)
 
 -- where it took off the state is that of the cycle which began
 begun_there : (g : Over) (c : goal.After-take_off-flight g)
-    → HasTakenOff (state_of c.self-2.inside) c.self-2.inside.slots c.take_off-flight.new.slots c.take_in.new.self c.take_off-flight.new.bay c.take_off-flight.result
+    → HasTakenOff (state_of c.self-2.inside) c.self-2.inside.slots c.take_off-flight.new.slots c.take_in.new.self c.take_off-flight.new.resources c.take_off-flight.result
     → state_with c.self-2.inside.checked c.self-2.inside.blanks c.self-2.inside.sessions c.self-2.inside.loads c.take_off-flight.new.slots c.self-2.inside.requests
-    (base_of c.take_off-flight.new.bay (vec_capacity c.take_off-flight.new.boxes)) c.self-2.inside.ended c.self-2.inside.closed ≡ begun (state_of c.self-2.inside)
+    (base_of c.take_off-flight.new.resources (vec_capacity c.take_off-flight.new.boxes)) c.self-2.inside.ended c.self-2.inside.closed ≡ begun (state_of c.self-2.inside)
 begun_there g c off =
     let b = c.self-2.inside in
-    view_flown b.checked b.blanks b.sessions b.loads b.slots c.take_off-flight.new.slots b.requests (base_in b) (base_of c.take_off-flight.new.bay (vec_capacity c.take_off-flight.new.boxes))
+    view_flown b.checked b.blanks b.sessions b.loads b.slots c.take_off-flight.new.slots b.requests (base_in b) (base_of c.take_off-flight.new.resources (vec_capacity c.take_off-flight.new.boxes))
     b.ended b.closed off.slots off.mails
-    (ap (λ (x : Bay). x.plant.value) off.bay ∙ ap (λ (x : Bay). x.plant.value) (ready g c.before).bay ∙ ap (λ (x : Bay). x.plant.value) c.forget_erred-2.ensures.bay)
-    (ap (stand_ins_for b.checked) (ap (λ (x : Bay). x.erred.value.items) off.bay ∙ ap (λ (x : Bay). x.erred.value.items) (ready g c.before).bay ∙ c.forget_erred-2.ensures.none_erred)
+    (ap (λ (x : CycleResources). x.robot.value) off.resources ∙ ap (λ (x : CycleResources). x.robot.value) (ready g c.before).resources ∙ ap (λ (x : CycleResources). x.robot.value) c.forget_erred-2.ensures.resources)
+    (ap (stand_ins_for b.checked) (ap (λ (x : CycleResources). x.erred.value.items) off.resources ∙ ap (λ (x : CycleResources). x.erred.value.items) (ready g c.before).resources ∙ c.forget_erred-2.ensures.none_erred)
     ∙ sym (nobody g c.before))
 
 pub invariant_of-self-3 : goal.invariant_of-self-3
@@ -227,7 +227,7 @@ invariant_of-self-3 g c =
     let s = state_of c.self.inside in
     let b = c.self-2.inside in
     let t = state_of b in
-    let d = c.take_off-flight.new.bay in
+    let d = c.take_off-flight.new.resources in
     let room = vec_capacity c.take_off-flight.new.boxes in
     let off = c.take_off-flight.ensures.off t (flies g c.before) in
     let many = ap length c.put.ensures.order in
@@ -235,8 +235,8 @@ invariant_of-self-3 g c =
     omega (arith, c.in_ok-make_places.ensures.boxes.1, many, c.len-count.ensures, ap vec_capacity c.replace-boxes.ensures.value, c.in_ok-plan.plan.order.ok.0) in
     let same : room ≡ vec_capacity c.replace-boxes.result = c.take_off-flight.ensures.room in
     subst (λ (u : State). IsKept u b.names.items (base_of d room) c.put.new.self) (sym (begun_there g c off))
-    (kept_off s t b.names.items c.forget_erred-2.new.self c.take_in.new.self d (vec_capacity b.boxes) room b.roster c.put.new.self b.slots c.take_off-flight.new.slots c.take_off-flight.result
-    (kept g c.before) (decided g c.before) (listed g c.before) c.put.ensures.fresh (ready g c.before) off (omega (arith, fits, same)))
+    (kept_off s t b.names.items c.forget_erred-2.new.self c.take_in.new.self d (vec_capacity b.boxes) room b.active_set c.put.new.self b.slots c.take_off-flight.new.slots c.take_off-flight.result
+    (kept g c.before) (decided g c.before) (listed g c.before) c.put.ensures.current (ready g c.before) off (omega (arith, fits, same)))
 
 -- it began in the state after all that was decided
 pub returns-clause-begun : goal.returns-clause-begun

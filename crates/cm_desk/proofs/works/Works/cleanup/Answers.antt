@@ -29,7 +29,7 @@ invariant_of-self g c =
     let inactive : is_inactive l ≡ true = sym c.is_inactive.ensures.inactive ∙ c.if-not-is_inactive.false in
     let idle : is_active l ≡ false = idle_of_inactive l inactive in
     rw (c.cleanup.ensures l here.0)
-    (kept_after_change s a.names.items (base_in a) a.roster c.in-Some.index l (after_cleanup l) c.self.invariant here.0 here.1 (λ no. cc)
+    (kept_after_change s a.names.items (base_in a) a.active_set c.in-Some.index l (after_cleanup l) c.self.invariant here.0 here.1 (λ no. cc)
     (record { serial = refl; place = refl; active = sym idle }) (fit_cleanup s c.in-Some.index l here.0 c.self.invariant.fit idle))
 
 pub returns : goal.returns

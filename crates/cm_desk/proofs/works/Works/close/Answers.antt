@@ -14,7 +14,7 @@ invariant_of-self g c =
     let a = c.self.inside in
     let s = state_of a in
     let t = state_with a.checked a.blanks a.sessions a.loads a.slots c.close_all.new.self (base_in a) a.ended true in
-    kept_after_ask s t a.names.items (base_in a) a.roster c.self.invariant refl
+    kept_after_ask s t a.names.items (base_in a) a.active_set c.self.invariant refl
     (λ aloft. let no : true ≡ false = sym aloft ∙ closes_down s (rw (← c.self.view_is) at c.requires) in cc)
 
 pub returns-clause-closed : goal.returns-clause-closed

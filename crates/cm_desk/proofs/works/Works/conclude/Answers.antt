@@ -27,7 +27,7 @@ invariant_of-self g c =
     let a = c.self.inside in
     let s = state_of a in
     let t = state_with a.checked a.blanks a.sessions a.loads a.slots c.decide.new.self (base_in a) a.ended a.closed in
-    kept_after_ask s t a.names.items (base_in a) a.roster c.self.invariant refl c.self.invariant.unclosed
+    kept_after_ask s t a.names.items (base_in a) a.active_set c.self.invariant refl c.self.invariant.unclosed
 
 pub returns : goal.returns
 returns g c = λ asked later next.

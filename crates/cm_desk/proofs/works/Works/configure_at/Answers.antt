@@ -31,7 +31,7 @@ invariant_of-self g c =
     let after = still_as_described a.checked l made.0 d.params c.divisor-divisor.result c.configure.result made.1.1.0 made.1.1.1 same here.1 in
     let divided = still_divided l made.0 d.params c.divisor-divisor.result c.configure.result made.1.1.0 made.1.1.1 (divided_here a.slots.loaded c.args.index l c.self.invariant.divided here.0) in
     rw (made.1.0)
-    (kept_after_change s a.names.items (base_in a) a.roster c.args.index l made.0 c.self.invariant here.0 after.0 divided after.1
+    (kept_after_change s a.names.items (base_in a) a.active_set c.args.index l made.0 c.self.invariant here.0 after.0 divided after.1
     (fit_after_configure s c.args.index l here.0 c.self.invariant.fit d c.divisor-divisor.result made.0 c.configure.result c.self.invariant.worked_out.valid here.1 rate
     made.1.1.0 made.1.1.1))
 

@@ -1,7 +1,7 @@
 use Rattle.std.proofs.Common.{ap, sym, ◌∙◌}
 use Rattle.std.proofs.lemmas.Option.{slice_get_within}
-use Rattle.rt_flight.specs.declared.craft.Craft.{Craft}
-use Rattle.rt_flight.specs.declared.plant.Plant.{Plant}
+use Rattle.rt_flight.specs.declared.context.CycleContext.{CycleContext}
+use Rattle.rt_flight.specs.declared.robot.Robot.{Robot}
 use Rattle.switch_plan.specs.Relations.{Related}
 use Rattle.cm_desk.proofs.ActingLemmas.{chained_at}
 use Rattle.cm_desk.proofs.works.Works.is_chained.Goals as goal
@@ -11,9 +11,9 @@ pub is_led_by-requires-clause-leaders : goal.is_led_by-requires-clause-leaders
 is_led_by-requires-clause-leaders g c =
     rw (← c.self.view_is)
     (c.leaders.ensures
-    ∙ ap (λ (k : Craft). k.plant.relations.leaders) c.deref.ensures
+    ∙ ap (λ (k : CycleContext). k.robot.relations.leaders) c.deref.ensures
     ∙ ap (λ (w : Related). w.leaders)
-    (rw (ap (λ (h : Plant). h.relations) (sym (rw (c.in-Some.is) at c.self.invariant.based.home).plant)) at c.self.invariant.worked_out.related))
+    (rw (ap (λ (h : Robot). h.relations) (sym (rw (c.in-Some.is) at c.self.invariant.based.home).robot)) at c.self.invariant.worked_out.related))
 
 -- in which it has its place
 pub is_led_by-requires-clause-within : goal.is_led_by-requires-clause-within

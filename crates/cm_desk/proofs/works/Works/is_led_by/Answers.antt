@@ -6,7 +6,7 @@ use Rattle.cm_model.specs.Order.{precedes_at}
 use Rattle.chain_order.specs.Links.{linked, places_below}
 use Rattle.chain_order.proofs.LinkLemmas.{length-each_below}
 use Rattle.cm_desk.proofs.CommitLemmas.{places_within}
-use Rattle.cm_desk.proofs.RosterLemmas.{led_by}
+use Rattle.cm_desk.proofs.ActiveSetLemmas.{led_by}
 use Rattle.cm_desk.proofs.Insides.{state_of}
 use Rattle.cm_desk.proofs.works.Works.is_led_by.Goals as goal
 
@@ -28,5 +28,5 @@ returns g c =
     let s = state_of a in
     rw (← c.self.view_is)
     (c.has_any.ensures
-    ∙ ap (list_any (λ q. is_some (slice_index_or a.roster.active q None))) (c.row.ensures.row ∙ ap (λ links. linked links c.args.place) (rw (← c.self.view_is) at c.requires.leaders))
-    ∙ led_by cs a.slots.loaded a.roster.active (places_within a.checked a.slots.loaded c.self.invariant.described) c.self.invariant.listed.active c.args.place)
+    ∙ ap (list_any (λ q. is_some (slice_index_or a.active_set.active q None))) (c.row.ensures.row ∙ ap (λ links. linked links c.args.place) (rw (← c.self.view_is) at c.requires.leaders))
+    ∙ led_by cs a.slots.loaded a.active_set.active (places_within a.checked a.slots.loaded c.self.invariant.described) c.self.invariant.listed.active c.args.place)

@@ -3,7 +3,7 @@ use Rattle.std.proofs.lemmas.Option.{same_Some}
 use Rattle.cm_model.specs.Cycle.{cycle}
 use Rattle.cm_model.specs.State.{State}
 use Rattle.cm_slots.specs.Slots.{Slotted}
-use Rattle.cm_desk.specs.Bay.{base_of, stand_ins_for}
+use Rattle.cm_desk.specs.CycleResources.{base_of, stand_ins_for}
 use Rattle.cm_desk.specs.End.{CanLand}
 use Rattle.cm_desk.specs.Works.{IsKept}
 use Rattle.cm_desk.proofs.AfterLemmas.{ended_view}
@@ -17,7 +17,7 @@ bring_home-record-requires g c =
     let a = c.self.inside in
     let s = state_of a in
     let lands : CanLand s c.args.flight = rw (← c.self.view_is) at c.requires in
-    (s, comes_home s a.names.items a.bay (vec_capacity a.boxes) a.roster a.slots c.args.flight c.self.invariant lands refl refl)
+    (s, comes_home s a.names.items a.resources (vec_capacity a.boxes) a.active_set a.slots c.args.flight c.self.invariant lands refl refl)
 
 pub one_more-self-inside-requires : goal.one_more-self-inside-requires
 one_more-self-inside-requires g c =
@@ -32,26 +32,26 @@ invariant_of-self g c =
     let a = c.self.inside in
     let s = state_of a in
     let lands : CanLand s c.args.flight = rw (← c.self.view_is) at c.requires in
-    let home = c.bring_home-record.ensures.home s (comes_home s a.names.items a.bay (vec_capacity a.boxes) a.roster a.slots c.args.flight c.self.invariant lands refl refl) in
-    let b = c.bring_home-record.new.bay in
-    let berths = vec_capacity c.bring_home-record.new.boxes in
-    let view = ended_view a.checked a.blanks a.sessions a.loads a.slots c.bring_home-record.new.slots a.requests (base_in a) (base_of b berths) a.ended c.one_more-self-inside.result a.closed
-    c.bring_home-record.new.roster home.settled (ap (λ (x : Slotted). x.aloft) home.slots) home.no_mail c.one_more-self-inside.ensures
+    let home = c.bring_home-record.ensures.home s (comes_home s a.names.items a.resources (vec_capacity a.boxes) a.active_set a.slots c.args.flight c.self.invariant lands refl refl) in
+    let b = c.bring_home-record.new.resources in
+    let box_places = vec_capacity c.bring_home-record.new.boxes in
+    let view = ended_view a.checked a.blanks a.sessions a.loads a.slots c.bring_home-record.new.slots a.requests (base_in a) (base_of b box_places) a.ended c.one_more-self-inside.result a.closed
+    c.bring_home-record.new.active_set home.settled (ap (λ (x : Slotted). x.aloft) home.slots) home.no_mail c.one_more-self-inside.ensures
     (ap (stand_ins_for a.checked) home.erred ∙ stand_ins_after s lands.numbered) in
-    subst (λ (t : State). IsKept t a.names.items (base_of b berths) c.bring_home-record.new.roster) (sym view)
-    (kept_home s a.names.items a.bay b (vec_capacity a.boxes) berths a.roster c.bring_home-record.new.roster a.slots c.bring_home-record.new.slots c.args.flight c.self.invariant lands home)
+    subst (λ (t : State). IsKept t a.names.items (base_of b box_places) c.bring_home-record.new.active_set) (sym view)
+    (kept_home s a.names.items a.resources b (vec_capacity a.boxes) box_places a.active_set c.bring_home-record.new.active_set a.slots c.bring_home-record.new.slots c.args.flight c.self.invariant lands home)
 
 pub returns-clause-after : goal.returns-clause-after
 returns-clause-after g c =
     let a = c.self.inside in
     let s = state_of a in
     let lands : CanLand s c.args.flight = rw (← c.self.view_is) at c.requires in
-    let home = c.bring_home-record.ensures.home s (comes_home s a.names.items a.bay (vec_capacity a.boxes) a.roster a.slots c.args.flight c.self.invariant lands refl refl) in
-    let b = c.bring_home-record.new.bay in
-    let berths = vec_capacity c.bring_home-record.new.boxes in
+    let home = c.bring_home-record.ensures.home s (comes_home s a.names.items a.resources (vec_capacity a.boxes) a.active_set a.slots c.args.flight c.self.invariant lands refl refl) in
+    let b = c.bring_home-record.new.resources in
+    let box_places = vec_capacity c.bring_home-record.new.boxes in
     rw (← c.self.view_is)
-    (ended_view a.checked a.blanks a.sessions a.loads a.slots c.bring_home-record.new.slots a.requests (base_in a) (base_of b berths) a.ended c.one_more-self-inside.result a.closed
-    c.bring_home-record.new.roster home.settled (ap (λ (x : Slotted). x.aloft) home.slots) home.no_mail c.one_more-self-inside.ensures
+    (ended_view a.checked a.blanks a.sessions a.loads a.slots c.bring_home-record.new.slots a.requests (base_in a) (base_of b box_places) a.ended c.one_more-self-inside.result a.closed
+    c.bring_home-record.new.active_set home.settled (ap (λ (x : Slotted). x.aloft) home.slots) home.no_mail c.one_more-self-inside.ensures
     (ap (stand_ins_for a.checked) home.erred ∙ stand_ins_after s lands.numbered))
 
 -- it tells what the flight tells

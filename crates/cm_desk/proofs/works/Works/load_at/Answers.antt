@@ -25,5 +25,5 @@ invariant_of-self-2 g c =
     let kind : l.ctl.kind ≡ kind_of d.params = rw (c.in-Some.ensures.0) c.kind.ensures in
     let idle : is_active l ≡ false = rw (c.in-Some.ensures.0) refl in
     rw (c.load.ensures, c.reserve.ensures.same.0, c.reserve.ensures.same.1, c.in-Some.ensures.2, c.kind.ensures)
-    (kept_after_load s a.names.items (base_in a) a.roster (with_one_less a.blanks (kind_of d.params)) l c.self.invariant
+    (kept_after_load s a.names.items (base_in a) a.active_set (with_one_less a.blanks (kind_of d.params)) l c.self.invariant
     (rw (c.described_at-controller.ensures.same, kind) refl) (rw (c.in-Some.ensures.0) (λ no. cc)) idle refl refl refl (one_less a.blanks (kind_of d.params) some))

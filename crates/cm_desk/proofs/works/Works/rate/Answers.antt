@@ -17,7 +17,7 @@ invariant_of-self g c =
     let within : c.in-Some.index < length a.slots.loaded = rw (← c.self.view_is) at c.in-Some.ensures.within in
     let here = stands_here a.checked a.slots.loaded c.in-Some.index l c.self.invariant.described within (rw (c.as_slice.ensures) at c.index-as_slice-index.is) in
     rw (c.set_rate.ensures l here.0)
-    (kept_after_change s a.names.items (base_in a) a.roster c.in-Some.index l (after_rate c.args.hz l) c.self.invariant here.0 here.1
+    (kept_after_change s a.names.items (base_in a) a.active_set c.in-Some.index l (after_rate c.args.hz l) c.self.invariant here.0 here.1
     (divided_here a.slots.loaded c.in-Some.index l c.self.invariant.divided here.0)
     (record { serial = refl; place = refl; active = refl }) (fit_rate s c.in-Some.index l here.0 c.self.invariant.fit c.args.hz))
 

@@ -23,7 +23,7 @@ invariant_of-self g c =
     let allowed : reply_on (send_refusals s c.args.mail) (slice_get a.slots.loaded c.in-Some.index) ≡ reply.Done = rw (← c.self.view_is) at c.in_default-mail_refusal.ensures in
     let fits = allowed_fits s c.in-Some.index l there.0 c.args.mail (rw (← c.self.view_is) at c.requires) here.0 there.1 (subst (λ o. reply_on (send_refusals s c.args.mail) o ≡ reply.Done) here.0 allowed) in
     rw (c.post.ensures l here.0)
-    (kept_after_change s a.names.items (base_in a) a.roster c.in-Some.index l (after_send c.args.mail l) c.self.invariant here.0 here.1
+    (kept_after_change s a.names.items (base_in a) a.active_set c.in-Some.index l (after_send c.args.mail l) c.self.invariant here.0 here.1
     (divided_here a.slots.loaded c.in-Some.index l c.self.invariant.divided here.0)
     (record { serial = refl; place = refl; active = refl }) (fit_sent s c.in-Some.index l here.0 c.self.invariant.fit c.args.mail fits.0 fits.1))
 

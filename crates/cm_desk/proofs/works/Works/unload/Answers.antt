@@ -18,7 +18,7 @@ unload-ctl-requires g c =
 
 -- what was found not active is what moves out, so each in the order of updates is still loaded
 pub reindex-requires-clause-loaded : goal.reindex-requires-clause-loaded
-reindex-requires-clause-loaded g c = λ fresh.
+reindex-requires-clause-loaded g c = λ current.
     let a = c.self.inside in
     let s = state_of a in
     let l = c.index-as_slice-index.result in
@@ -26,10 +26,10 @@ reindex-requires-clause-loaded g c = λ fresh.
     let here = stands_here a.checked a.slots.loaded c.in-Some.index l c.self.invariant.described within (rw (c.as_slice.ensures) at c.index-as_slice-index.is) in
     let idle : is_active l ≡ false = sym c.is_active.ensures.active ∙ c.if-is_active.false in
     rw (c.as_slice-2.ensures, c.unload-ctl.ensures.unloaded)
-    (order_still_loaded s c.in-Some.index l a.roster.order here.0 idle (c.self.invariant.listed.order fresh))
+    (order_still_loaded s c.in-Some.index l a.active_set.order here.0 idle (c.self.invariant.listed.order current))
 
 pub reindex-requires-clause-room : goal.reindex-requires-clause-room
-reindex-requires-clause-room g c = λ fresh. as_many_at _ _ _ (c.self.invariant.listed.run fresh)
+reindex-requires-clause-room g c = λ current. as_many_at _ _ _ (c.self.invariant.listed.run current)
 
 pub reindex-requires-clause-few : goal.reindex-requires-clause-few
 reindex-requires-clause-few g c =
@@ -46,8 +46,8 @@ invariant_of-self g c =
     let here = stands_here a.checked a.slots.loaded c.in-Some.index l c.self.invariant.described within (rw (c.as_slice.ensures) at c.index-as_slice-index.is) in
     let idle : is_active l ≡ false = sym c.is_active.ensures.active ∙ c.if-is_active.false in
     rw (c.unload-ctl.ensures.unloaded)
-    (kept_after_unload s a.names.items (base_in a) a.roster c.reindex.new.self c.in-Some.index l c.self.invariant here.0 idle
-    c.reindex.ensures.active c.reindex.ensures.order c.reindex.ensures.fresh (rw (c.as_slice-2.ensures, c.unload-ctl.ensures.unloaded) at c.reindex.ensures.run))
+    (kept_after_unload s a.names.items (base_in a) a.active_set c.reindex.new.self c.in-Some.index l c.self.invariant here.0 idle
+    c.reindex.ensures.active c.reindex.ensures.order c.reindex.ensures.current (rw (c.as_slice-2.ensures, c.unload-ctl.ensures.unloaded) at c.reindex.ensures.run))
 
 pub returns-clause-made : goal.returns-clause-made
 returns-clause-made g c =

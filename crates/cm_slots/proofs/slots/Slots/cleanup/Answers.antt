@@ -41,8 +41,8 @@ invariant_of-self g c =
     let new = c.cleanup.new.self in
     let here = there (λ (m : Loaded). IsIdle m.ctl) a.slots.items c.args.index l (rw (← c.self.view_is) at c.requires) c.index_mut.ensures.value in
     let still : new.ctl.run ≡ None = rw c.cleanup.ensures.slot refl in (
-      map-set (option_map g.C.Controller.meaning) a.boxes.items c.args.index c.cleanup.new.berth
-          ∙ boxes_set a.aloft _ a.slots.items c.args.index new (option_map g.C.Controller.meaning c.cleanup.new.berth) c.self.invariant.0
+      map-set (option_map g.C.Controller.meaning) a.boxes.items c.args.index c.cleanup.new.box_slot
+          ∙ boxes_set a.aloft _ a.slots.items c.args.index new (option_map g.C.Controller.meaning c.cleanup.new.box_slot) c.self.invariant.0
           (c.cleanup.ensures.home ∙ sym (idle_is_home a.aloft new still)),
       told_set a.mail_waits a.slots.items c.args.index l new here.0 (rw c.cleanup.ensures.slot refl) c.self.invariant.1,
     )

@@ -12,7 +12,7 @@ commit_each-requires g c =
     let can = rw (← c.self.view_is) at c.requires in
     rw (c.deref_mut.ensures.value, c.deref_mut-2.ensures.value) (record {
       home = c.self.invariant.0 ∙ ap (λ (b : Bool). map (box_of b) a.slots.items) can.home;
-      seated = can.seated;
+      connected = can.connected;
       has_room = can.has_room;
     })
 

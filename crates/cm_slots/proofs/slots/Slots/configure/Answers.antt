@@ -39,8 +39,8 @@ invariant_of-self g c =
     let here = there (λ (m : Loaded). CanBeConfigured m.ctl c.args.params.now) a.slots.items c.args.index l (rw (← c.self.view_is) at c.requires) c.index_mut.ensures.value in
     let still : new.ctl.run ≡ None = still_after c.configure.result l new c.args.params.now c.args.divisor c.configure.ensures.made.0 c.configure.ensures.made.1 here.1.idle in
     let mail : new.mail ≡ l.mail = mail_after c.configure.result l new c.args.params.now c.args.divisor c.configure.ensures.made.0 c.configure.ensures.made.1 in (
-      map-set (option_map g.C.Controller.meaning) a.boxes.items c.args.index c.configure.new.berth
-          ∙ boxes_set a.aloft _ a.slots.items c.args.index new (option_map g.C.Controller.meaning c.configure.new.berth) c.self.invariant.0
+      map-set (option_map g.C.Controller.meaning) a.boxes.items c.args.index c.configure.new.box_slot
+          ∙ boxes_set a.aloft _ a.slots.items c.args.index new (option_map g.C.Controller.meaning c.configure.new.box_slot) c.self.invariant.0
           (c.configure.ensures.home ∙ sym (idle_is_home a.aloft new still)),
       told_set a.mail_waits a.slots.items c.args.index l new here.0 mail c.self.invariant.1,
     )

@@ -1,7 +1,0 @@
-use Rattle.std.proofs.Common.{ap, ◌∙◌}
-use Rattle.rt_flight.specs.declared.craft.Craft.{Craft}
-use Rattle.cm_desk.proofs.bay.Bay.erred.Goals as goal
-
--- what works in a cycle is at home with them
-pub returns-in-Some : goal.returns-in-Some
-returns-in-Some c = c.as_slice.ensures.value ∙ ap (λ (k : Craft). k.erred.items) c.deref.ensures ∙ (rw (c.in-Some.is) at c.requires).erred
