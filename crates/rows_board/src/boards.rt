@@ -4,9 +4,9 @@ ghost use Rattle.std.specs.Prelude.{◌<◌, length};
 
 use fixed_num::{Fx, Value};
 use loan_board::{Board, Loan};
+use pages_calls::described::described;
 use pages_cases::largest::AT_ALL_LIMITS;
 use pages_cases::pages::{Teller, halves, hold, hold_lines, push_parted};
-use pages_robots::described::described;
 use std::alloc::Global;
 use std::test::Fail;
 

@@ -7,9 +7,9 @@ use cm_document::Checked;
 use cm_places::CtlPlaces;
 use cm_places::laws::each_has_its_row;
 use loan_board::Board;
+use pages_calls::described::described;
 use pages_cases::largest::AT_ALL_LIMITS;
 use pages_cases::pages::{Teller, hold, push_parted};
-use pages_robots::described::described;
 use std::alloc::Global;
 use std::test::Fail;
 

@@ -1,6 +1,9 @@
-//! Tests of the public calls of controllers, call by call: a page has for each case a controller, and line by line what is asked and
-//! what is answered.
+//! Tests of the public calls of controllers, and of the stock of their blanks, call by call.
 #![tactic(auto)]
 
 #[cfg(test)]
+mod faults;
+#[cfg(test)]
 mod kinds;
+#[cfg(test)]
+mod stocks;

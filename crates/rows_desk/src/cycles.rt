@@ -13,11 +13,11 @@ use cm_model::LoopPort;
 use ctl_rack::Stock;
 use ctl_trait::Controller;
 use pages_calls::calls::call_of;
+use pages_calls::described::described;
 use pages_calls::replies::push_reply;
+use pages_calls::robots::SEVEN;
 use pages_calls::stocks::blanks;
 use pages_cases::pages::{halves, hold_told};
-use pages_robots::described::described;
-use pages_robots::robots::SEVEN;
 use std::alloc::Global;
 use std::test::Fail;
 

@@ -1,8 +1,8 @@
 //! Flights: what is called while a cycle is aloft, a flight that another thread computes, and one that is dropped.
 
 use crate::lines::hold_calls;
+use pages_calls::robots::SEVEN;
 use pages_cases::pages::joined;
-use pages_robots::robots::SEVEN;
 use std::alloc::Global;
 use std::test::Fail;
 use std::thread::Threads;

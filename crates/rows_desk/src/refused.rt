@@ -1,7 +1,7 @@
 //! A desk to whose calls memory may be refused: `scripts/replay memory` refuses each allocation of the test in turn.
 
 use crate::lines::hold_calls;
-use pages_robots::robots::SEVEN;
+use pages_calls::robots::SEVEN;
 use std::test::Fail;
 
 /// Fails if a call that was refused memory has changed the history, or if it has another answer when it is made again.

@@ -5,9 +5,9 @@ use cm_hardware::ResourceManager;
 use cm_model::{CompLine, IfaceLine};
 use fixed_num::Value;
 use iface_names::{IfaceName, Kind, Name};
+use pages_calls::described::described;
 use pages_cases::largest::AT_ALL_LIMITS;
 use pages_cases::pages::{Teller, hold};
-use pages_robots::described::described;
 use std::alloc::Global;
 use std::test::Fail;
 

@@ -2,9 +2,9 @@
 
 use crate::scripts::CountsOfScript;
 use make_document::make_document;
+use pages_calls::described::described;
 use pages_cases::largest::Summed;
 use pages_cases::pages::{Teller, halves, hold, hold_lines};
-use pages_robots::described::described;
 use std::alloc::Global;
 use std::str;
 use std::test::Fail;

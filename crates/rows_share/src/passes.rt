@@ -2,7 +2,7 @@
 
 use crate::aside::hold_aside;
 use crate::lines::hold_calls;
-use pages_robots::robots::SEVEN;
+use pages_calls::robots::SEVEN;
 use std::test::Fail;
 
 /// One controller, and no hardware.
