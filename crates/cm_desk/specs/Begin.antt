@@ -72,7 +72,8 @@ pub record HasBegun (before after : State) (flight : FlightFacts) (decisions : L
 -- indices of those that run, in the order of updates; what a cycle works on, which is at home and has all ready that
 -- the cycle needs; and room for a box of each and an empty list for their cells. The state that comes of it is valid,
 -- steady and numbered, and all that is kept of controllers holds in it.
-pub record CanTakeOff (s : State) (slots : Slotted) (indices : List ℕ) (b : CycleResources) (boxes : List CtlData) (box_room : ℕ)
+pub record CanTakeOff (s : State) (slots : Slotted) (indices : List ℕ) (b : CycleResources) (boxes : List CtlData)
+    (box_room : ℕ)
     (cells : List CellFacts) (cell_room count : ℕ)
     : Type 0 where
   pub valid : IsValid s.description
@@ -104,7 +105,13 @@ pub record CanTakeOff (s : State) (slots : Slotted) (indices : List ℕ) (b : Cy
 -- the lists are written down; and there is room for the workspaces.
 pub record HasTakenOff (s : State) (before after : Slotted) (b b' : CycleResources) (f : FlightFacts) : Type 0 where
   pub slots : after ≡ record before { loaded = (begun s).loaded; aloft = true }
-  pub resources : b' ≡ record b { idle_context = None; mails = b'.mails; buffers = b'.buffers; lists = b'.lists; told = b'.told }
+  pub resources : b' ≡ record b {
+    idle_context = None;
+    mails = b'.mails;
+    buffers = b'.buffers;
+    lists = b'.lists;
+    told = b'.told;
+  }
   pub mails : b'.mails.value.items ≡ (begun s).mails
   pub none_stands : b'.buffers.workspaces.items ≡ []
   pub stands : length (members_in_order (begun s)) ≤ vec_capacity b'.buffers.workspaces

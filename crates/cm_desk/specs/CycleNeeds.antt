@@ -106,8 +106,8 @@ pub record CanPrepare (d : Description) (placed : Placed) (s : HardwareSize) (or
   pub size : IsSizeOf d s
   pub within : All (λ m. m.place < length d.controllers) order
 
--- There are the workspaces of these controllers; the same controllers once more, for the flight; room for the serials of
--- those that fail, and for the mail of so many that are loaded; and a record with room.
+-- There are the workspaces of these controllers; the same controllers once more, for the flight; room for the serials
+-- of those that fail, and for the mail of so many that are loaded; and a record with room.
 pub record AreNeeds (d : Description) (placed : Placed) (members : List Member) (loaded : ℕ) (s : CycleNeeds) : Type 0
   where
     pub workspaces : AreWorkspaces placed members s.workspaces.items
@@ -128,7 +128,8 @@ pub record IsFittedOut (d : Description) (placed : Placed) (members : List Membe
 
 -- So it can from what cycles left over and what works in a cycle: it is known who stands at the workspaces, which are
 -- fitted, no update failed, and in the room for a record nothing is told.
-pub record CanPrepareFrom (d : Description) (s : HardwareSize) (order : List Member) (buffers : CycleBuffers) (k : CycleContext) : Type 0
+pub record CanPrepareFrom (d : Description) (s : HardwareSize) (order : List Member) (buffers : CycleBuffers)
+    (k : CycleContext) : Type 0
   where
     pub robot : CanPrepare d k.robot.places s order
     pub kept : AreKept k.robot.places buffers.workspaces.items k.order.items

@@ -28,10 +28,10 @@ use Rattle.cm_desk.specs.declared.resources.CycleResources.{CycleResources}
 use Rattle.cm_desk.specs.declared.needs.HardwareSize.{HardwareSize}
 
 -- What is seen of it: what a cycle works on and the sets of its end, as they stand at home, or as they were when they
--- left; what of it is at home; the mail that is aloft; the workspaces that are at home, and who stands there; the places
--- of the controllers whose update failed in the cycle that landed last, where the next has not begun; the lists that
--- were written down, whether they are those of the hardware, and room for the next; and for how many of those that run
--- there is room for a box and for a workspace.
+-- left; what of it is at home; the mail that is aloft; the workspaces that are at home, and who stands there; the
+-- places of the controllers whose update failed in the cycle that landed last, where the next has not begun; the lists
+-- that were written down, whether they are those of the hardware, and room for the next; and for how many of those that
+-- run there is room for a box and for a workspace.
 pub record Base : Type 0 where
   pub robot : Robot
   pub ending : Ending
@@ -135,8 +135,8 @@ pub record IsBased (d : Description) (aloft : Bool) (order : List Member) (b : B
   pub stands : aloft ≡ true → length order ≤ b.stands
   pub box_places : aloft ≡ true → length order ≤ b.box_places
 
--- Of resources whose hardware changed, all else stays, and it is at home. The lists may not be those of the hardware any
--- more.
+-- Of resources whose hardware changed, all else stays, and it is at home. The lists may not be those of the hardware
+-- any more.
 pub record IsRewired (before after : CycleResources) : Type 0 where
   pub robot : after.robot.value ≡ record before.robot.value { hardware = after.robot.value.hardware }
   pub ending : after.ending.value ≡ before.ending.value
@@ -156,7 +156,11 @@ pub record IsRewired (before after : CycleResources) : Type 0 where
 pub record IsMadeReady (before after : CycleResources) : Type 0 where
   pub kept : AreKept before.robot.value.places after.buffers.workspaces.items after.members.value.items
   pub home : IsAtHome after
-  pub resources : after ≡ record before { idle_context = after.idle_context; members = after.members; buffers = after.buffers }
+  pub resources : after ≡ record before {
+    idle_context = after.idle_context;
+    members = after.members;
+    buffers = after.buffers;
+  }
 
 -- All is ready in it for a cycle in which these controllers are active, of so many that are loaded.
 pub record IsPrepared (d : Description) (order : List Member) (loaded : ℕ) (b : CycleResources) : Type 0 where

@@ -64,7 +64,8 @@ pub record IsSettledIn (before after : CycleContext) : Type 0 where
 
 -- The flight comes home to these: the controllers of the state, whose boxes are away; who was looked up as active; and
 -- resources with room for the lists, for the workspaces and for the boxes.
-pub record CanComeHome (s : State) (slots : Slotted) (looked : Listed) (b : CycleResources) (box_room : ℕ) (flight : FlightFacts)
+pub record CanComeHome (s : State) (slots : Slotted) (looked : Listed) (b : CycleResources) (box_room : ℕ)
+    (flight : FlightFacts)
     : Type 0 where
   pub lands : CanLand s flight
   pub valid : IsValid s.description
@@ -80,8 +81,9 @@ pub record CanComeHome (s : State) (slots : Slotted) (looked : Listed) (b : Cycl
 
 -- It came home: all is as after the cycle, and at home, with the places of those whose update failed; the lists, where
 -- they are told, are those of the hardware.
-pub record HasComeHome (s : State) (before after : Slotted) (looked : Listed) (b b' : CycleResources) (flight : FlightFacts) : Type
-    0 where
+pub record HasComeHome (s : State) (before after : Slotted) (looked : Listed) (b b' : CycleResources)
+    (flight : FlightFacts)
+    : Type 0 where
   pub settled : HasSettled s after.loaded b'.robot.value.hardware looked
   pub slots : after ≡ record before { loaded = after.loaded; aloft = false }
   pub robot : b'.robot.value ≡ record flight.robot { hardware = b'.robot.value.hardware }

@@ -30,9 +30,10 @@ cells_filled loaded mails (i ∷ is) (s ∷ ss) (c ∷ cs) =
     (slice_get loaded i) []
 cells_filled loaded mails _ _ _ = []
 
--- The cells can be filled: a controller stands at each index, there is a workspace and a box for each, each runs, and there is
--- room in an empty list for all.
-pub record CanFill (loaded : List Loaded) (run : List ℕ) (ss : List WorkspaceFacts) (ctls : List CtlData) (cells : List CellFacts)
+-- The cells can be filled: a controller stands at each index, there is a workspace and a box for each, each runs, and
+-- there is room in an empty list for all.
+pub record CanFill (loaded : List Loaded) (run : List ℕ) (ss : List WorkspaceFacts) (ctls : List CtlData)
+    (cells : List CellFacts)
     (capacity : ℕ) : Type 0 where
   pub within : All (λ i. i < length loaded) run
   pub workspaces : length ss ≡ length run

@@ -12,10 +12,10 @@ ghost use Rattle.request_plan.specs.Plans.{IsPlanOf, AreConclusionsOf};
 ghost use Rattle.cm_desk.specs.CycleResources.{fallbacks_at, stand_ins_for};
 ghost use Rattle.cm_desk.specs.Begin.{IsNext, IsLeftOf, CanAct, CanBegin, HasBegun, CanTakeOff, HasTakenOff, none_waits};
 
-use crate::resources::CycleResources;
-use crate::filling::fill_cells;
 use crate::active_set::ActiveSet;
+use crate::filling::fill_cells;
 use crate::needs::empty;
+use crate::resources::CycleResources;
 use crate::works::{Works, described_at};
 use cm_document::{Checked, CtlDesc, Life};
 use cm_model::{Decision, Seen};
@@ -44,7 +44,12 @@ impl<C: Controller> Works<C> {
         }
         let count = self.active_set.order().len();
         make_places(&mut self.cells, &mut self.boxes, count)?;
-        self.resources.prepare(alloc, &self.checked, self.active_set.order(), self.slots.len())?;
+        self.resources.prepare(
+            alloc,
+            &self.checked,
+            self.active_set.order(),
+            self.slots.len(),
+        )?;
         let cells = std::mem::replace(&mut self.cells, Vec::new(alloc));
         let flight = take_off(
             &mut self.slots,
@@ -230,7 +235,8 @@ impl<C: Controller> Works<C> {
         requires can { (after : State) × IsSwitchOf self.old after switched.now }
         ensures { (after : State) → IsSwitchOf self.old after switched.now → self.new ≡ after }
     {
-        self.resources.switch(&mut self.slots, &mut self.active_set, switched);
+        self.resources
+            .switch(&mut self.slots, &mut self.active_set, switched);
     }
 
     /// A component comes to a lifecycle state.

@@ -254,8 +254,8 @@ impl<C: Controller> Desk<C> {
         let _ = &self.works;
     }
 
-    /// The book: the history, which is legal and sound, and the boxes of the loaded controllers, by serial, each with the data that the history
-    /// gives it. It takes no memory.
+    /// The book: the history, which is legal and sound, and the boxes of the loaded controllers, by serial, each with
+    /// the data that the history gives it. It takes no memory.
     pub fn finish(self) -> Book<C>
         requires closed { (now_of self).closed ≡ true }
         ensures { IsHandedOver self result.history.items (map C.meaning result.boxes.items) }

@@ -11,8 +11,8 @@ use cm_slots::{MailAloft, Slot, take_mail};
 use ctl_trait::Controller;
 use rt_flight::{Cell, Workspace};
 
-/// The cells of those that run are filled, whose slots stand at these indices in the order of updates: each comes to its workspace, with its box and the mail
-/// that is aloft for it. There is room: the call takes no memory.
+/// The cells of those that run are filled, whose slots stand at these indices in the order of updates: each comes to
+/// its workspace, with its box and the mail that is aloft for it. There is room: the call takes no memory.
 pub(crate) fn fill_cells<C: Controller>(
     slots: &[Slot<C>],
     run: &[u32],

@@ -6,10 +6,10 @@ ghost use Rattle.cm_model.specs.State.{State};
 ghost use Rattle.cm_desk.specs.End.{CanLand, CanComeHome, HasComeHome, CanSettle, HasSettled, IsSettledIn};
 ghost use Rattle.cm_desk.specs.Works.{KeepsRest};
 
-use crate::resources::CycleResources;
-use crate::filling::empty_cells;
-use crate::commits::commit;
 use crate::active_set::ActiveSet;
+use crate::commits::commit;
+use crate::filling::empty_cells;
+use crate::resources::CycleResources;
 use crate::works::Works;
 use cm_slots::{Room, Slots};
 use cm_storage::CycleRecord;

@@ -5,21 +5,21 @@
 pub use book::Book;
 pub use desk::Desk;
 
+mod active_set;
 mod answer;
-mod resources;
 mod begin;
-mod filling;
 mod book;
 mod commits;
 mod console;
 mod cycles;
 mod desk;
+mod filling;
 mod land;
 pub mod laws;
 mod lines;
-mod active_set;
-mod start;
 mod needs;
+mod resources;
+mod start;
 mod works;
 
 /// The entries of a book are fewer than this.

@@ -58,7 +58,10 @@ impl<C: Controller> Works<C> {
         ensures { result ≡ is_chained self.now controller.now }
     {
         match &self.resources.idle_context {
-            Some(idle_context) => self.is_led_by(idle_context.robot.relations.leaders(), slot.place()),
+            Some(idle_context) => self.is_led_by(
+                idle_context.robot.relations.leaders(),
+                slot.place(),
+            ),
             None => self.has_precedent(controller),
         }
     }

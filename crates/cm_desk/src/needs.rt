@@ -79,8 +79,8 @@ fn copy_of(alloc: Global, members: &[Member]) -> Result<Vec<Member>, Memory>
     Ok(copy)
 }
 
-/// All that a cycle needs is made ready in which these controllers are active, of so many that are loaded: their workspaces, and in what works
-/// in the cycle who they are and room to tell of it. What others left over is used again.
+/// All that a cycle needs is made ready in which these controllers are active, of so many that are loaded: their
+/// workspaces, and in what works in the cycle who they are and room to tell of it. What others left over is used again.
 pub(crate) fn prepare(
     alloc: Global,
     checked: &Checked,
@@ -141,7 +141,11 @@ fn fit_workspaces(
 }
 
 /// New workspaces for these controllers.
-fn new_workspaces(alloc: Global, places: &CtlPlaces, order: &[Member]) -> Result<Vec<Workspace>, Memory>
+fn new_workspaces(
+    alloc: Global,
+    places: &CtlPlaces,
+    order: &[Member],
+) -> Result<Vec<Workspace>, Memory>
     requires { All (λ m. HasRows places.now m.place) order.now }
     ensures { IfOk result (λ all. AreWorkspaces places.now order.now all.items) }
 {
@@ -224,8 +228,8 @@ fn is_silent(size: HardwareSize, order: &[Member]) -> bool
     size.failures == 0 && size.joints == 0 && order.is_empty()
 }
 
-/// A record for a cycle of hardware of this size in which these controllers are active, with room for all that it can tell. Its parts come to stand
-/// in the place that another cycle left over, where there is one.
+/// A record for a cycle of hardware of this size in which these controllers are active, with room for all that it can
+/// tell. Its parts come to stand in the place that another cycle left over, where there is one.
 fn record_for(
     alloc: Global,
     checked: &Checked,

@@ -14,9 +14,9 @@ ghost use Rattle.cm_desk.specs.CycleNeeds.{AreNeeds};
 ghost use Rattle.rt_flight.specs.Flights.{TellsNothing};
 ghost use Rattle.cm_desk.specs.Works.{CanSwitch, HasSwitched, KeepsRest};
 
-use crate::commits::commit;
 use crate::active_set::ActiveSet;
-use crate::needs::{HardwareSize, CycleNeeds, empty, needs_for, prepare};
+use crate::commits::commit;
+use crate::needs::{CycleNeeds, HardwareSize, empty, needs_for, prepare};
 use cm_document::{Checked, Life};
 use cm_hardware::{Lists, ResourceManager};
 use cm_model::{CompLine, IfaceLine, Member, SECOND_US};
@@ -86,7 +86,11 @@ impl CycleBuffers {
 
 impl CycleResources {
     /// The hardware of a description at start, with what is worked out of it.
-    pub(crate) fn make(alloc: Global, checked: &Checked, ending: Ending) -> Result<CycleResources, Memory>
+    pub(crate) fn make(
+        alloc: Global,
+        checked: &Checked,
+        ending: Ending,
+    ) -> Result<CycleResources, Memory>
         requires { HasFlags (length checked.now.controllers) ending }
         ensures { IfOk result (IsAtStart checked.now) }
     {
@@ -155,7 +159,10 @@ impl CycleResources {
         ensures resources { IsRewired self.old self.new }
     {
         let mut idle_context = self.leave();
-        let answer = idle_context.robot.hardware.move_component(component, target);
+        let answer = idle_context
+            .robot
+            .hardware
+            .move_component(component, target);
         self.rest(idle_context);
         answer
     }
@@ -168,7 +175,8 @@ impl CycleResources {
         switched: &Switched,
     )
         requires { CanSwitch self.old slots.old active_set.old switched.now }
-        ensures committed { HasSwitched self.old self.new slots.old slots.new active_set.old active_set.new switched.now }
+        ensures committed { HasSwitched self.old self.new slots.old slots.new active_set.old active_set.new
+            switched.now }
         ensures resources { IsRewired self.old self.new }
         ensures rest { KeepsRest active_set.old active_set.new self.old.room self.new.room slots.old slots.new }
     {
@@ -187,8 +195,8 @@ impl CycleResources {
         self.rest(idle_context);
     }
 
-    /// All that a cycle needs in which these controllers are active, of so many that are loaded. What is at home stays so; the workspaces that
-    /// are there are used for it, or lost where memory runs out.
+    /// All that a cycle needs in which these controllers are active, of so many that are loaded. What is at home stays
+    /// so; the workspaces that are there are used for it, or lost where memory runs out.
     pub(crate) fn needs(
         &mut self,
         alloc: Global,
@@ -293,7 +301,8 @@ impl CycleResources {
         self.told = false;
     }
 
-    /// What works in a cycle leaves for one, with room for its lists; those that are told here meanwhile are the ones of now. It takes no memory.
+    /// What works in a cycle leaves for one, with room for its lists; those that are told here meanwhile are the ones
+    /// of now. It takes no memory.
     pub(crate) fn send_out(&mut self) -> Box<CycleContext>
         requires { CanSendOut self.old }
         ensures { HasSentOut self.old self.new result }
@@ -322,10 +331,11 @@ impl CycleResources {
         self.mails = Snapshot::of(&self.buffers.mails);
     }
 
-    /// The lists that it wrote down are told from now on, which are as the hardware is where nothing failed; those of before are room for the
-    /// next.
+    /// The lists that it wrote down are told from now on, which are as the hardware is where nothing failed; those of
+    /// before are room for the next.
     fn unload(&mut self, context: &mut CycleContext)
-        ensures resources { self.new ≡ record self.old { lists = context.old.lists; told = not context.old.has_failed } }
+        ensures resources { self.new
+            ≡ record self.old { lists = context.old.lists; told = not context.old.has_failed } }
         ensures context { context.new ≡ record context.old { lists = self.old.lists } }
     {
         std::mem::swap(&mut self.lists, &mut context.lists);

@@ -4,8 +4,8 @@ ghost use Rattle.std.specs.Prelude.{◌≡◌, map, length, IfOk};
 ghost use Rattle.cm_desk.specs.CycleResources.{IsAtStart};
 ghost use Rattle.cm_desk.specs.ActiveSet.{IsOfNobody};
 
-use crate::resources::CycleResources;
 use crate::active_set::ActiveSet;
+use crate::resources::CycleResources;
 use cm_document::{Checked, CtlDesc};
 use fixed_num::Memory;
 use iface_names::Name;

@@ -7,8 +7,8 @@ ghost use Rattle.cm_model.specs.Machine.{is_loaded_at, is_sold_out_at, with_load
 ghost use Rattle.cm_model.specs.State.{boot};
 ghost use Rattle.cm_desk.specs.Works.{IsAnswered, load_reply};
 
-use crate::resources::CycleResources;
 use crate::active_set::ActiveSet;
+use crate::resources::CycleResources;
 use crate::start::{at_start, names_of};
 use cm_document::{Checked, CtlDesc};
 use cm_model::{Reply, Why};

@@ -58,7 +58,8 @@ fn commit_one<C: Controller>(
     stopped: &PlaceSet,
     started: &PlaceSet,
 )
-    requires { CanCommitOne slot.old (option_map C.meaning box_slot.old) places.now (length hardware.now.loans) room.old }
+    requires { CanCommitOne slot.old (option_map C.meaning box_slot.old) places.now
+        (length hardware.now.loans) room.old }
     ensures committed { slot.new
         ≡ committed_at places.now hardware.now.loans chained.now stopped.now started.now slot.old }
     ensures home { option_map C.meaning box_slot.new ≡ Some slot.new.ctl }
@@ -81,7 +82,8 @@ fn start<C: Controller>(
     room: &mut Room,
     chained: bool,
 )
-    requires { CanCommitOne slot.old (option_map C.meaning box_slot.old) places.now (length hardware.now.loans) room.old }
+    requires { CanCommitOne slot.old (option_map C.meaning box_slot.old) places.now
+        (length hardware.now.loans) room.old }
     ensures started { slot.new
         ≡ come (numbers_at hardware.now.loans (linked places.now.reads slot.old.place)) chained slot.old }
     ensures home { option_map C.meaning box_slot.new ≡ Some slot.new.ctl }

@@ -22,7 +22,8 @@ ghost use Rattle.cm_slots.specs.Connections.{widest, IsConnected, HasRoom};
 /// A loaded controller of a valid description, with its own parameters, stands on the board of that description, and there is room for
 /// what it has.
 pub fn own_controllers_are_connected()
-    ensures connected { (d : Description) (l : Loaded) → IsValid d → l.place < length d.controllers → IsOwn d.controllers l
+    ensures connected { (d : Description) (l : Loaded) → IsValid d → l.place < length d.controllers
+        → IsOwn d.controllers l
         → IsConnected (placed_of d) (length (interfaces_of d)) l }
     ensures room { (d : Description) (l : Loaded) → IsValid d → l.place < length d.controllers
         → HasRoom (placed_of d) widest l }

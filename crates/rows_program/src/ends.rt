@@ -8,8 +8,8 @@ use pages_cases::pages::hold_told;
 use std::alloc::Global;
 use std::cell::RefCell;
 use std::fmt::Display;
-use std::io::{Eprint, ErrorKind};
 use std::io;
+use std::io::{Eprint, ErrorKind};
 use std::test::Fail;
 
 /// A runtime that only hears what is told on standard error.

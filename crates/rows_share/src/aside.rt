@@ -20,8 +20,8 @@ use shared_desk::{Pass, SharedDesk};
 use std::alloc::Global;
 use std::sync::Wait;
 use std::test::Fail;
-use std::thread::Threads;
 use std::thread;
+use std::thread::Threads;
 
 /// What stands before the line that the first session calls on a thread of its own.
 const ASIDE: &str = "\naside 0 ";

@@ -24,8 +24,8 @@ use shared_desk::{Pass, SharedDesk};
 use std::alloc::Global;
 use std::sync::Wait;
 use std::test::Fail;
-use std::thread::Threads;
 use std::thread;
+use std::thread::Threads;
 
 /// How many sessions call at once.
 const SESSIONS: u32 = 8;

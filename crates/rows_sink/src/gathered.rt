@@ -5,8 +5,8 @@ use pages_cases::pages::{Teller, expanded, hold_lines};
 use pages_cases::words::part;
 use pages_runs::runs::OF_PROGRAM;
 use std::alloc::{AllocError, Global};
-use std::io::{ErrorKind, Write};
 use std::io;
+use std::io::{ErrorKind, Write};
 use std::test::Fail;
 
 #[test]

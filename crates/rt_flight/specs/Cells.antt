@@ -20,7 +20,8 @@ use Rattle.cm_slots.specs.Lives.{IsKept}
 use Rattle.cm_slots.specs.Updates.{Aloft, put_on, board_after, with_erred}
 use Rattle.ctl_trait.specs.Taking.{CanTake}
 use Rattle.switch_plan.specs.Relations.{Related}
-use Rattle.rt_flight.specs.Workspaces.{WorkspaceFacts, gathered, flies, tick_at, step_from, told_of, IsConnectedTo, IsInTime}
+use Rattle.rt_flight.specs.Workspaces.{WorkspaceFacts, gathered, flies, tick_at, step_from, told_of, IsConnectedTo}
+use Rattle.rt_flight.specs.Workspaces.{IsInTime}
 
 -- A controller that runs, in its cell: where it stands, its data, and the mail that went aloft for it; and how its
 -- update went, while what it gave out is not yet put into its claims.
@@ -52,7 +53,8 @@ cell_stepped step c = record {
 -- the cell after its turn, while the board holds this: where it is not updated its mail is lost
 abbrev pub cell_after : Aloft → List Loan → CellFacts → CellFacts
 cell_after a loans c =
-    if flies a c.workspace then cell_stepped (step_of a (cell_gathered a.placed loans c)) (cell_gathered a.placed loans c)
+    if flies a c.workspace
+    then cell_stepped (step_of a (cell_gathered a.placed loans c)) (cell_gathered a.placed loans c)
     else record c { mail = None; done = None }
 
 -- What the updates work on together: the hardware; what is told so far, and the serials of those whose update failed.
@@ -183,7 +185,8 @@ post_of c = record {
 pub record CanStep (relations : Related) (period_us : ℕ) (c : CellFacts) : Type 0 where
   pub kept : IsKept Active c.ctl
   pub counts : IfSome c.ctl.params
-      (λ params. AreItsCounts params (length c.workspace.states) (length c.workspace.references) (length c.workspace.outs))
+      (λ params. AreItsCounts params (length c.workspace.states) (length c.workspace.references)
+      (length c.workspace.outs))
   pub related : c.workspace.place < length relations.components
   pub led : c.workspace.place < length relations.leaders
   pub in_time : IsInTime period_us c.workspace

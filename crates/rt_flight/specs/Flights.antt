@@ -185,13 +185,14 @@ pub record IsBlank (r : RecordRoom) : Type 0 where
   pub none_stopped : r.stops.items ≡ []
 
 -- Until it is computed, all of it can be done, with this record to tell in.
-pub record IsReady (number : ℕ) (cells : List CellFacts) (members : List Member) (g : Robot) (r : RecordRoom) : Type 0 where
-  pub makes : CanMake number cells g r
-  pub settles : CanSettle g.relations members r
-  pub empty : TellsNothing r
+pub record IsReady (number : ℕ) (cells : List CellFacts) (members : List Member) (g : Robot) (r : RecordRoom) : Type 0
+  where
+    pub makes : CanMake number cells g r
+    pub settles : CanSettle g.relations members r
+    pub empty : TellsNothing r
 
--- With this context, a flight has room to tell of its cycle until it has the record of it, and no update failed yet. Room
--- that is left then tells nothing.
+-- With this context, a flight has room to tell of its cycle until it has the record of it, and no update failed yet.
+-- Room that is left then tells nothing.
 pub record IsFlight (number : ℕ) (cells : List CellFacts) (k : CycleContext) : Type 0 where
   pub equipped : IsEquipped cells k.order.items k.robot k.ending k.lists (vec_capacity k.erred)
   pub none_erred : is_some k.record ≡ false → k.erred.items ≡ []
@@ -213,24 +214,26 @@ facts_with number cells k = record {
 
 -- What a flight brings home: all that it took along as it is then, the record of its cycle, whether something failed,
 -- and whose update did; and room that is left tells nothing.
-pub record ComesHome (f : FlightFacts) (cell_facts : List CellFacts) (k : CycleContext) (happened : Happened) : Type 0 where
-  pub cells : cell_facts ≡ f.cells
-  pub robot : k.robot ≡ f.robot
-  pub ending : k.ending ≡ f.ending
-  pub lists : k.lists ≡ f.lists
-  pub has_failed : k.has_failed ≡ f.has_failed
-  pub erred : k.erred.items ≡ f.erred
-  pub told : Some happened ≡ f.outcome
-  pub equipped : IsEquipped cell_facts k.order.items k.robot k.ending k.lists (vec_capacity k.erred)
-  pub left : IfSome k.room TellsNothing
+pub record ComesHome (f : FlightFacts) (cell_facts : List CellFacts) (k : CycleContext) (happened : Happened) : Type 0
+  where
+    pub cells : cell_facts ≡ f.cells
+    pub robot : k.robot ≡ f.robot
+    pub ending : k.ending ≡ f.ending
+    pub lists : k.lists ≡ f.lists
+    pub has_failed : k.has_failed ≡ f.has_failed
+    pub erred : k.erred.items ≡ f.erred
+    pub told : Some happened ≡ f.outcome
+    pub equipped : IsEquipped cell_facts k.order.items k.robot k.ending k.lists (vec_capacity k.erred)
+    pub left : IfSome k.room TellsNothing
 
 -- ---- In parts
 
 -- The cycle of the state was made, and is told of but for the stops.
-pub record HasMade (s : State) (cell_facts : List CellFacts) (g : Robot) (serials : List ℕ) (r : RecordRoom) : Type 0 where
-  pub cells : AreCellsAfter (cycle s).loaded (configuration s).running cell_facts
-  pub hardware : IsMoved (landed s (cycle s)) g.hardware
-  pub failed : r.failed.items ≡ failed_in s
-  pub ran : r.ran.rans ≡ told_in s
-  pub bodies : r.bodies.items ≡ (cycle s).happened.bodies
-  pub erred : serials ≡ erred_in (told_in s)
+pub record HasMade (s : State) (cell_facts : List CellFacts) (g : Robot) (serials : List ℕ) (r : RecordRoom) : Type 0
+  where
+    pub cells : AreCellsAfter (cycle s).loaded (configuration s).running cell_facts
+    pub hardware : IsMoved (landed s (cycle s)) g.hardware
+    pub failed : r.failed.items ≡ failed_in s
+    pub ran : r.ran.rans ≡ told_in s
+    pub bodies : r.bodies.items ≡ (cycle s).happened.bodies
+    pub erred : serials ≡ erred_in (told_in s)

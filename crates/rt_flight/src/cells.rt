@@ -52,8 +52,8 @@ fn together<C: Controller>(cells: &[Cell<C>], relations: &Relations) -> usize
     count
 }
 
-/// These cells, of which none precedes another, have their turns together: all read, then all make their steps, and then what they gave out is
-/// put into their claims. It takes no memory.
+/// These cells, of which none precedes another, have their turns together: all read, then all make their steps, and
+/// then what they gave out is put into their claims. It takes no memory.
 fn update_layer<C: Controller>(
     cells: &mut [Cell<C>],
     round: &Round<'_>,

@@ -127,7 +127,12 @@ impl<C: Controller> Flight<C> {
         );
         context.robot.hardware.show(&mut context.lists);
         let flies = !self.cells.is_empty();
-        context.record = Some(told(self.number, flies, &mut context.room, &mut context.left_over));
+        context.record = Some(told(
+            self.number,
+            flies,
+            &mut context.room,
+            &mut context.left_over,
+        ));
     }
 
     /// What happened in the cycle.

@@ -41,8 +41,8 @@ pub record HasParked (before after : Slotted) (indices : List ℕ) (ctls : List 
 
 -- The boxes at these indices can leave one after the other: there is a slot for each, with a place for its box, and
 -- room for so many beside those that have left.
-pub record CanLendEach (loaded : List Loaded) (boxes : List (Option CtlData)) (run : List ℕ) (count capacity : ℕ) : Type
-    0 where
+pub record CanLendEach (loaded : List Loaded) (boxes : List (Option CtlData)) (run : List ℕ) (count capacity : ℕ)
+    : Type 0 where
   pub can : CanLeave loaded run boxes
   pub within : AllByRecursion (λ k. k < length loaded) run
   pub places : length boxes ≡ length loaded
@@ -65,7 +65,7 @@ pub record CanParkEach (loaded : List Loaded) (boxes : List (Option CtlData)) (r
   pub running : AllByRecursion (IsKept Active) ctls
 
 -- They are back.
-pub record AreBack (run : List ℕ) (ctls : List CtlData) (old new : List Loaded) (had has : List (Option CtlData)) : Type
-    0 where
+pub record AreBack (run : List ℕ) (ctls : List CtlData) (old new : List Loaded) (had has : List (Option CtlData))
+    : Type 0 where
   pub slots : new ≡ with_ctls run ctls old
   pub boxes : has ≡ with_boxes run ctls had

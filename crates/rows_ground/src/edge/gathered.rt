@@ -5,8 +5,8 @@ use outside_io::{Sink, StdSink, write_whole};
 use pages_cases::pages::{Teller, hold_lines};
 use pages_cases::words::part;
 use std::alloc::Global;
-use std::io::{ErrorKind, Write};
 use std::io;
+use std::io::{ErrorKind, Write};
 use std::test::Fail;
 
 #[test]

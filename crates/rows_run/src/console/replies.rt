@@ -1,4 +1,5 @@
-//! What is told of each call, in each lifecycle state of its controller but active; what is told while it is active stands with the switches.
+//! What is told of each call, in each lifecycle state of its controller but active; what is told while it is active
+//! stands with the switches.
 
 /// A forward of two joints, a passthrough with a rate of its own, a forward above it, a pid, a trajectory, a broadcaster,
 /// a mock that is never ready and fails always, and one that refuses to be configured.

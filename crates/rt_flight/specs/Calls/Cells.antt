@@ -17,12 +17,13 @@ pub record CanPut (placed : Placed) (board : ℕ) (c : CellFacts) (room : Fillin
   pub erred : count + 1 ≤ most
 
 -- the same of all of these
-pub record CanPutAll (placed : Placed) (board : ℕ) (cs : List CellFacts) (room : Filling) (count most : ℕ) : Type 0 where
-  pub connected : AllByRecursion (λ c. IsConnectedTo placed board c.workspace) cs
-  pub few_states : AllByRecursion (λ c. length c.workspace.states < 2 ^ 8) cs
-  pub few_outs : AllByRecursion (λ c. length c.workspace.outs < 2 ^ 8) cs
-  pub told : CanTell cs room
-  pub erred : count + length cs ≤ most
+pub record CanPutAll (placed : Placed) (board : ℕ) (cs : List CellFacts) (room : Filling) (count most : ℕ) : Type 0
+  where
+    pub connected : AllByRecursion (λ c. IsConnectedTo placed board c.workspace) cs
+    pub few_states : AllByRecursion (λ c. length c.workspace.states < 2 ^ 8) cs
+    pub few_outs : AllByRecursion (λ c. length c.workspace.outs < 2 ^ 8) cs
+    pub told : CanTell cs room
+    pub erred : count + length cs ≤ most
 
 -- Then the board is as large as before; of the room for what is told so much is left at least; and so many serials more
 -- stand there at most, within the same capacity.

@@ -19,7 +19,8 @@ use Rattle.rt_flight.specs.declared.robot.Robot.{Robot}
 
 -- A cycle that was made leaves who flies, workspaces that are fitted, the robot but for its hardware, who stopped, and
 -- the room for serials; and who ran, where nobody flies.
-pub record LeavesFlight (cells cells' : List CellFacts) (g g' : Robot) (room room' : RecordRoom) (most most' : ℕ) : Type 0
+pub record LeavesFlight (cells cells' : List CellFacts) (g g' : Robot) (room room' : RecordRoom) (most most' : ℕ)
+    : Type 0
   where
     pub order : map member_in cells' ≡ map member_in cells
     pub fitted : AllByRecursion (λ c. IsFitted g.places c.workspace) cells'
