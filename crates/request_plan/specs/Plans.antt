@@ -43,9 +43,9 @@ pub record IsPlanOf (s : State) (plan : Plan) : Type 0 where
   pub decisions : plan.decisions ≡ told_of_fallbacks s s.fallbacks ++ decisions_between s (boundary s)
 
 -- This is concluded of those that are to stand in, and this is seen of the state after it.
-pub record HaveStoodInBy (s : State) (names : List (List ℕ)) (first : Option Conclusion) (d : Description)
+pub record HaveStoodInBy (s : State) (names : List (List ℕ)) (concluded_first : Option Conclusion) (d : Description)
     (situation : Situation) : Type 0 where
-  pub first : IsStandingIn s names first
+  pub first : IsStandingIn s names concluded_first
   pub seen : IsSeenOf (after_standing_in s names) d situation
 
 -- These are concluded of requests in a state, and this is seen of the state after all of them.
