@@ -53,19 +53,20 @@ module _ (a b cycles n count : ℕ) (round : RoundOf a b) (held : ℕ → List V
       let told : Asked = with_done (with_request asked stopping) in
       let h₁ : Held = held_in (concluded s stopping).state in
       let s₁ : State = between cycles (eight (but_stopped b (but_sent a (one_value z) (running held)))) h₁ told n in
+      let there = round cycles n held h (with_request asked stopping) z in
       let decided : boundary s ≡ s₁ =
-      one_decided cycles (eight (but_sent a (one_value z) (running held))) h asked n count are stopping ∙ round.stopped cycles n held h (with_request asked stopping) z in
+      one_decided cycles (eight (but_sent a (one_value z) (running held))) h asked n count are stopping ∙ there.stopped in
       record {
         flying = eight (but_stopped b (running held));
         holding = h₁;
         mails = record { serial = a; mail = one_value z } ∷ [];
         decisions = record { ticket = Some (length asked.outcomes); outcome = outcome.Done [] } ∷ [];
-        begins = ap begun decided ∙ begun_is s₁ (round.due held z)
-            ∙ ap₂ (λ (loaded : List Loaded) (mails : List MailAloft). aloft_with mails (between cycles loaded h₁ told n)) (round.mailed held z).0 (round.mailed held z).1;
+        begins = ap begun decided ∙ begun_is s₁ there.due
+            ∙ ap₂ (λ (loaded : List Loaded) (mails : List MailAloft). aloft_with mails (between cycles loaded h₁ told n)) there.mailed.0 there.mailed.1;
         tells = ap (λ (after : State). decisions_between s after) decided
             ∙ one_told cycles (eight (but_sent a (one_value z) (running held))) h asked n count are stopping s₁ refl;
         adds = one_adds (length asked.outcomes);
-        ends = round.flown cycles n held h₁ told z;
+        ends = (round cycles n held h₁ told z).flown;
       }
 
   -- it is asked to start again: all eight are updated
@@ -77,7 +78,7 @@ module _ (a b cycles n count : ℕ) (round : RoundOf a b) (held : ℕ → List V
       let h₁ : Held = held_in (concluded s starting).state in
       let s₁ : State = between cycles (eight (running (with_values b (Unset ∷ []) held))) h₁ told n in
       let decided : boundary s ≡ s₁ =
-      one_decided cycles (eight (but_stopped b (running held))) h asked n count are starting ∙ round.started cycles n held h (with_request asked starting) in
+      one_decided cycles (eight (but_stopped b (running held))) h asked n count are starting ∙ (round cycles n held h (with_request asked starting) (pos 0)).started in
       record {
         flying = eight (running (with_values b (Unset ∷ []) held));
         holding = h₁;

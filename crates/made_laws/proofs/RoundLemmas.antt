@@ -1,5 +1,5 @@
 -- What the requests and the mail of a round come to, for each of the eight controllers that it may be about: computed.
-use Rattle.std.proofs.Common.{◌≡◌, ℕ, zero, suc, ◌+◌, ◌%◌, ◌<◌, List, [], ◌∷◌, length, map, filter_map, ℤ, Some, refl, ap, arith}
+use Rattle.std.proofs.Common.{◌≡◌, ℕ, zero, suc, ◌+◌, ◌%◌, ◌<◌, List, [], ◌∷◌, length, map, filter_map, ℤ, Some, refl, arith}
 use Rattle.std.specs.Prelude.{◌==◌, if◌then◌else◌}
 use Rattle.std.specs.Fmt.{digits}
 use Rattle.std.specs.List.{AllByRecursion}
@@ -20,8 +20,8 @@ use Rattle.cm_model.specs.declared.request.Request.TheVariants as request
 use Rattle.make_document.specs.Made.{controller_name}
 use Rattle.make_document.specs.Meant.{strictly}
 use Rattle.made_laws.proofs.AskedLemmas.{with_done}
-use Rattle.made_laws.proofs.DueLemmas.{mail_of, without_mail, cycle_is}
-use Rattle.made_laws.proofs.Standing.{running, but_stopped, but_sent, eight, Held, held_in, Asked, between, aloft_with, ComesTo}
+use Rattle.made_laws.proofs.DueLemmas.{mail_of, without_mail}
+use Rattle.made_laws.proofs.Standing.{running, but_stopped, but_sent, eight, Held, held_in, Asked, between, aloft_with, ComesTo, comes_to}
 
 -- these values, but others at one place
 abbrev pub with_values : ℕ → List Value → (ℕ → List Value) → ℕ → List Value
@@ -38,135 +38,48 @@ sent_state cycles a held z h asked n = between cycles (eight (but_sent a (one_va
 abbrev pub stopped_state : ℕ → ℕ → (ℕ → List Value) → Held → Asked → ℕ → State
 stopped_state cycles b held h asked n = between cycles (eight (but_stopped b (running held))) h asked n
 
--- A round of these two controllers.
-pub record RoundOf (a b : ℕ) : Type 0 where
+-- What a round of these two controllers comes to, from where it begins.
+pub record RoundComesTo (a b cycles n : ℕ) (held : ℕ → List Value) (h : Held) (asked : Asked) (z : ℤ) : Type 0 where
   -- the one is sent to
-  pub sent : (cycles n : ℕ) (held : ℕ → List Value) (h : Held) (asked : Asked) (z : ℤ)
-      → step (between cycles (eight (running held)) h asked n) 0 (call.Send (controller_name a) (one_value z)) ≡ Some (sent_state cycles a held z h asked n, reply.Done)
+  pub sent : step (between cycles (eight (running held)) h asked n) 0 (call.Send (controller_name a) (one_value z)) ≡ Some (sent_state cycles a held z h asked n, reply.Done)
   -- the other is stopped
-  pub stopped : (cycles n : ℕ) (held : ℕ → List Value) (h : Held) (asked : Asked) (z : ℤ)
-      → with_outcome (concluded (sent_state cycles a held z h asked n) (request.Switch (strictly (controller_name b ∷ []) [])))
+  pub stopped : with_outcome (concluded (sent_state cycles a held z h asked n) (request.Switch (strictly (controller_name b ∷ []) [])))
       ≡ between cycles (eight (but_stopped b (but_sent a (one_value z) (running held))))
       (held_in (concluded (sent_state cycles a held z h asked n) (request.Switch (strictly (controller_name b ∷ []) []))).state) (with_done asked) n
   -- the mail of the one goes aloft
-  pub mailed : (held : ℕ → List Value) (z : ℤ)
-      → (map without_mail (eight (but_stopped b (but_sent a (one_value z) (running held)))) ≡ eight (but_stopped b (running held)))
+  pub mailed : (map without_mail (eight (but_stopped b (but_sent a (one_value z) (running held)))) ≡ eight (but_stopped b (running held)))
       × (filter_map mail_of (eight (but_stopped b (but_sent a (one_value z) (running held)))) ≡ record { serial = a; mail = one_value z } ∷ [])
-  pub due : (held : ℕ → List Value) (z : ℤ) → AllByRecursion (λ (l : Loaded). l.divisor ≡ Some 1) (eight (but_stopped b (but_sent a (one_value z) (running held))))
+  pub due : AllByRecursion (λ (l : Loaded). l.divisor ≡ Some 1) (eight (but_stopped b (but_sent a (one_value z) (running held))))
   -- the other seven are updated
-  pub flown : (cycles n : ℕ) (held : ℕ → List Value) (h : Held) (asked : Asked) (z : ℤ)
-      → ComesTo cycles (aloft_with (record { serial = a; mail = one_value z } ∷ []) (stopped_state cycles b held h asked n))
+  pub flown : ComesTo cycles (aloft_with (record { serial = a; mail = one_value z } ∷ []) (stopped_state cycles b held h asked n))
       (eight (but_stopped b (running (with_values a (Num z ∷ []) held)))) asked n 7
   -- the other is started
-  pub started : (cycles n : ℕ) (held : ℕ → List Value) (h : Held) (asked : Asked)
-      → with_outcome (concluded (stopped_state cycles b held h asked n) (request.Switch (strictly [] (controller_name b ∷ []))))
+  pub started : with_outcome (concluded (stopped_state cycles b held h asked n) (request.Switch (strictly [] (controller_name b ∷ []))))
       ≡ between cycles (eight (running (with_values b (Unset ∷ []) held)))
       (held_in (concluded (stopped_state cycles b held h asked n) (request.Switch (strictly [] (controller_name b ∷ [])))).state) (with_done asked) n
 
-round_0 : RoundOf 0 1
-unfolding rank_within stays_within reaches commit after_cycle step digits
-round_0 = record {
-  sent = λ cycles n held h asked z. refl;
-  stopped = λ cycles n held h asked z. refl;
-  mailed = λ held z. (refl, refl);
-  due = λ held z. (refl, (refl, (refl, (refl, (refl, (refl, (refl, (refl, tt))))))));
-  flown = λ cycles n held h asked z. (let all = cycle_is (aloft_with (record { serial = 0; mail = one_value z } ∷ []) (stopped_state cycles 1 held h asked n)) ((refl, refl), ((refl, refl), ((refl, refl), ((refl, refl), ((refl, refl), ((refl, refl), ((refl, refl), tt))))))) in
-      record { state = ap (after_cycle (aloft_with (record { serial = 0; mail = one_value z } ∷ []) (stopped_state cycles 1 held h asked n))) all; count = ap (λ c. length c.happened.ran) all });
-  started = λ cycles n held h asked. refl;
-}
+-- A round of these two controllers, from wherever it begins.
+abbrev pub RoundOf : ℕ → ℕ → Type 0
+RoundOf a b =
+    (cycles n : ℕ) (held : ℕ → List Value) (h : Held) (asked : Asked) (z : ℤ) → RoundComesTo a b cycles n held h asked z
 
-round_1 : RoundOf 1 2
-unfolding rank_within stays_within reaches commit after_cycle step digits
-round_1 = record {
-  sent = λ cycles n held h asked z. refl;
-  stopped = λ cycles n held h asked z. refl;
-  mailed = λ held z. (refl, refl);
-  due = λ held z. (refl, (refl, (refl, (refl, (refl, (refl, (refl, (refl, tt))))))));
-  flown = λ cycles n held h asked z. (let all = cycle_is (aloft_with (record { serial = 1; mail = one_value z } ∷ []) (stopped_state cycles 2 held h asked n)) ((refl, refl), ((refl, refl), ((refl, refl), ((refl, refl), ((refl, refl), ((refl, refl), ((refl, refl), tt))))))) in
-      record { state = ap (after_cycle (aloft_with (record { serial = 1; mail = one_value z } ∷ []) (stopped_state cycles 2 held h asked n))) all; count = ap (λ c. length c.happened.ran) all });
-  started = λ cycles n held h asked. refl;
-}
-
-round_2 : RoundOf 2 3
-unfolding rank_within stays_within reaches commit after_cycle step digits
-round_2 = record {
-  sent = λ cycles n held h asked z. refl;
-  stopped = λ cycles n held h asked z. refl;
-  mailed = λ held z. (refl, refl);
-  due = λ held z. (refl, (refl, (refl, (refl, (refl, (refl, (refl, (refl, tt))))))));
-  flown = λ cycles n held h asked z. (let all = cycle_is (aloft_with (record { serial = 2; mail = one_value z } ∷ []) (stopped_state cycles 3 held h asked n)) ((refl, refl), ((refl, refl), ((refl, refl), ((refl, refl), ((refl, refl), ((refl, refl), ((refl, refl), tt))))))) in
-      record { state = ap (after_cycle (aloft_with (record { serial = 2; mail = one_value z } ∷ []) (stopped_state cycles 3 held h asked n))) all; count = ap (λ c. length c.happened.ran) all });
-  started = λ cycles n held h asked. refl;
-}
-
-round_3 : RoundOf 3 4
-unfolding rank_within stays_within reaches commit after_cycle step digits
-round_3 = record {
-  sent = λ cycles n held h asked z. refl;
-  stopped = λ cycles n held h asked z. refl;
-  mailed = λ held z. (refl, refl);
-  due = λ held z. (refl, (refl, (refl, (refl, (refl, (refl, (refl, (refl, tt))))))));
-  flown = λ cycles n held h asked z. (let all = cycle_is (aloft_with (record { serial = 3; mail = one_value z } ∷ []) (stopped_state cycles 4 held h asked n)) ((refl, refl), ((refl, refl), ((refl, refl), ((refl, refl), ((refl, refl), ((refl, refl), ((refl, refl), tt))))))) in
-      record { state = ap (after_cycle (aloft_with (record { serial = 3; mail = one_value z } ∷ []) (stopped_state cycles 4 held h asked n))) all; count = ap (λ c. length c.happened.ran) all });
-  started = λ cycles n held h asked. refl;
-}
-
-round_4 : RoundOf 4 5
-unfolding rank_within stays_within reaches commit after_cycle step digits
-round_4 = record {
-  sent = λ cycles n held h asked z. refl;
-  stopped = λ cycles n held h asked z. refl;
-  mailed = λ held z. (refl, refl);
-  due = λ held z. (refl, (refl, (refl, (refl, (refl, (refl, (refl, (refl, tt))))))));
-  flown = λ cycles n held h asked z. (let all = cycle_is (aloft_with (record { serial = 4; mail = one_value z } ∷ []) (stopped_state cycles 5 held h asked n)) ((refl, refl), ((refl, refl), ((refl, refl), ((refl, refl), ((refl, refl), ((refl, refl), ((refl, refl), tt))))))) in
-      record { state = ap (after_cycle (aloft_with (record { serial = 4; mail = one_value z } ∷ []) (stopped_state cycles 5 held h asked n))) all; count = ap (λ c. length c.happened.ran) all });
-  started = λ cycles n held h asked. refl;
-}
-
-round_5 : RoundOf 5 6
-unfolding rank_within stays_within reaches commit after_cycle step digits
-round_5 = record {
-  sent = λ cycles n held h asked z. refl;
-  stopped = λ cycles n held h asked z. refl;
-  mailed = λ held z. (refl, refl);
-  due = λ held z. (refl, (refl, (refl, (refl, (refl, (refl, (refl, (refl, tt))))))));
-  flown = λ cycles n held h asked z. (let all = cycle_is (aloft_with (record { serial = 5; mail = one_value z } ∷ []) (stopped_state cycles 6 held h asked n)) ((refl, refl), ((refl, refl), ((refl, refl), ((refl, refl), ((refl, refl), ((refl, refl), ((refl, refl), tt))))))) in
-      record { state = ap (after_cycle (aloft_with (record { serial = 5; mail = one_value z } ∷ []) (stopped_state cycles 6 held h asked n))) all; count = ap (λ c. length c.happened.ran) all });
-  started = λ cycles n held h asked. refl;
-}
-
-round_6 : RoundOf 6 7
-unfolding rank_within stays_within reaches commit after_cycle step digits
-round_6 = record {
-  sent = λ cycles n held h asked z. refl;
-  stopped = λ cycles n held h asked z. refl;
-  mailed = λ held z. (refl, refl);
-  due = λ held z. (refl, (refl, (refl, (refl, (refl, (refl, (refl, (refl, tt))))))));
-  flown = λ cycles n held h asked z. (let all = cycle_is (aloft_with (record { serial = 6; mail = one_value z } ∷ []) (stopped_state cycles 7 held h asked n)) ((refl, refl), ((refl, refl), ((refl, refl), ((refl, refl), ((refl, refl), ((refl, refl), ((refl, refl), tt))))))) in
-      record { state = ap (after_cycle (aloft_with (record { serial = 6; mail = one_value z } ∷ []) (stopped_state cycles 7 held h asked n))) all; count = ap (λ c. length c.happened.ran) all });
-  started = λ cycles n held h asked. refl;
-}
-
-round_7 : RoundOf 7 0
-unfolding rank_within stays_within reaches commit after_cycle step digits
-round_7 = record {
-  sent = λ cycles n held h asked z. refl;
-  stopped = λ cycles n held h asked z. refl;
-  mailed = λ held z. (refl, refl);
-  due = λ held z. (refl, (refl, (refl, (refl, (refl, (refl, (refl, (refl, tt))))))));
-  flown = λ cycles n held h asked z. (let all = cycle_is (aloft_with (record { serial = 7; mail = one_value z } ∷ []) (stopped_state cycles 0 held h asked n)) ((refl, refl), ((refl, refl), ((refl, refl), ((refl, refl), ((refl, refl), ((refl, refl), ((refl, refl), tt))))))) in
-      record { state = ap (after_cycle (aloft_with (record { serial = 7; mail = one_value z } ∷ []) (stopped_state cycles 0 held h asked n))) all; count = ap (λ c. length c.happened.ran) all });
-  started = λ cycles n held h asked. refl;
-}
-
--- each of them
+-- each of them, computed
 pub round_of : (r : ℕ) → r < 8 → RoundOf r ((r + 1) % 8)
-round_of zero below = round_0
-round_of (suc zero) below = round_1
-round_of (suc (suc zero)) below = round_2
-round_of (suc (suc (suc zero))) below = round_3
-round_of (suc (suc (suc (suc zero)))) below = round_4
-round_of (suc (suc (suc (suc (suc zero))))) below = round_5
-round_of (suc (suc (suc (suc (suc (suc zero)))))) below = round_6
-round_of (suc (suc (suc (suc (suc (suc (suc zero))))))) below = round_7
+unfolding rank_within stays_within reaches commit after_cycle step digits
+round_of zero below cycles n held h asked z =
+    record { sent = refl; stopped = refl; mailed = (refl, refl); due = (refl, (refl, (refl, (refl, (refl, (refl, (refl, (refl, tt)))))))); flown = comes_to _ _ _ _ _ _ ((refl, refl), ((refl, refl), ((refl, refl), ((refl, refl), ((refl, refl), ((refl, refl), ((refl, refl), tt))))))) refl refl; started = refl }
+round_of (suc zero) below cycles n held h asked z =
+    record { sent = refl; stopped = refl; mailed = (refl, refl); due = (refl, (refl, (refl, (refl, (refl, (refl, (refl, (refl, tt)))))))); flown = comes_to _ _ _ _ _ _ ((refl, refl), ((refl, refl), ((refl, refl), ((refl, refl), ((refl, refl), ((refl, refl), ((refl, refl), tt))))))) refl refl; started = refl }
+round_of (suc (suc zero)) below cycles n held h asked z =
+    record { sent = refl; stopped = refl; mailed = (refl, refl); due = (refl, (refl, (refl, (refl, (refl, (refl, (refl, (refl, tt)))))))); flown = comes_to _ _ _ _ _ _ ((refl, refl), ((refl, refl), ((refl, refl), ((refl, refl), ((refl, refl), ((refl, refl), ((refl, refl), tt))))))) refl refl; started = refl }
+round_of (suc (suc (suc zero))) below cycles n held h asked z =
+    record { sent = refl; stopped = refl; mailed = (refl, refl); due = (refl, (refl, (refl, (refl, (refl, (refl, (refl, (refl, tt)))))))); flown = comes_to _ _ _ _ _ _ ((refl, refl), ((refl, refl), ((refl, refl), ((refl, refl), ((refl, refl), ((refl, refl), ((refl, refl), tt))))))) refl refl; started = refl }
+round_of (suc (suc (suc (suc zero)))) below cycles n held h asked z =
+    record { sent = refl; stopped = refl; mailed = (refl, refl); due = (refl, (refl, (refl, (refl, (refl, (refl, (refl, (refl, tt)))))))); flown = comes_to _ _ _ _ _ _ ((refl, refl), ((refl, refl), ((refl, refl), ((refl, refl), ((refl, refl), ((refl, refl), ((refl, refl), tt))))))) refl refl; started = refl }
+round_of (suc (suc (suc (suc (suc zero))))) below cycles n held h asked z =
+    record { sent = refl; stopped = refl; mailed = (refl, refl); due = (refl, (refl, (refl, (refl, (refl, (refl, (refl, (refl, tt)))))))); flown = comes_to _ _ _ _ _ _ ((refl, refl), ((refl, refl), ((refl, refl), ((refl, refl), ((refl, refl), ((refl, refl), ((refl, refl), tt))))))) refl refl; started = refl }
+round_of (suc (suc (suc (suc (suc (suc zero)))))) below cycles n held h asked z =
+    record { sent = refl; stopped = refl; mailed = (refl, refl); due = (refl, (refl, (refl, (refl, (refl, (refl, (refl, (refl, tt)))))))); flown = comes_to _ _ _ _ _ _ ((refl, refl), ((refl, refl), ((refl, refl), ((refl, refl), ((refl, refl), ((refl, refl), ((refl, refl), tt))))))) refl refl; started = refl }
+round_of (suc (suc (suc (suc (suc (suc (suc zero))))))) below cycles n held h asked z =
+    record { sent = refl; stopped = refl; mailed = (refl, refl); due = (refl, (refl, (refl, (refl, (refl, (refl, (refl, (refl, tt)))))))); flown = comes_to _ _ _ _ _ _ ((refl, refl), ((refl, refl), ((refl, refl), ((refl, refl), ((refl, refl), ((refl, refl), ((refl, refl), tt))))))) refl refl; started = refl }
 round_of (suc (suc (suc (suc (suc (suc (suc (suc r)))))))) below = absurd (omega (arith, below))

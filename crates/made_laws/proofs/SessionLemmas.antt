@@ -108,5 +108,5 @@ settles_sent a b cycles n round held h asked z made lines to session entries upd
     let sending : Call = call.Send (controller_name a) (one_value z) in
     let later : List Entry = with_entry made 0 sending reply.Done in
     settles_by cycles n (point s made (ready (sending ∷ lines))) (point (sent_state cycles a held z h asked n) later (ready lines)) to session more updates done
-    (advance_on 0 (point s made (ready (sending ∷ lines))) sending (sent_state cycles a held z h asked n) reply.Done refl (round.sent cycles n held h asked z))
+    (advance_on 0 (point s made (ready (sending ∷ lines))) sending (sent_state cycles a held z h asked n) reply.Done refl ((round cycles n held h asked z).sent))
     (rest later (entry_counts made 0 sending reply.Done n entries updates done 0 0 0 done_adds counts))

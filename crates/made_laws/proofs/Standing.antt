@@ -1,7 +1,8 @@
 -- The state of a made run between two cycles and aloft, whatever the controllers hold, and a cycle of it.
-use Rattle.std.proofs.Common.{◌≡◌, ℕ, ◌+◌, true, false, List, [], ◌∷◌, length, Some, None, refl, ap}
+use Rattle.std.proofs.Common.{◌≡◌, ℕ, ◌+◌, true, false, List, [], ◌∷◌, length, Some, None, refl, ap, ◌∙◌}
 use Rattle.std.specs.Prelude.{◌==◌, if◌then◌else◌}
 use Rattle.std.specs.Fmt.{digits}
+use Rattle.std.specs.List.{AllByRecursion}
 use Rattle.fixed_num.specs.declared.value.BodyState.{BodyState}
 use Rattle.fixed_num.specs.declared.value.Value.{Value}
 use Rattle.cm_document.specs.declared.call.Mail.{Mail}
@@ -10,7 +11,7 @@ use Rattle.cm_document.specs.declared.description.Params.TheVariants as params
 use Rattle.cm_document.specs.declared.life.Life.TheVariants.{Active}
 use Rattle.cm_model.specs.BestEffort.{stays_within}
 use Rattle.cm_model.specs.Commit.{commit}
-use Rattle.cm_model.specs.Cycle.{reaches, cycle, after_cycle}
+use Rattle.cm_model.specs.Cycle.{reaches, active_order, is_held_off, cycle, after_cycle}
 use Rattle.cm_model.specs.Order.{rank_within}
 use Rattle.cm_model.specs.State.{State, Loaded, MailAloft}
 use Rattle.cm_model.specs.Values.{InterfaceValue}
@@ -90,11 +91,19 @@ pub record ComesTo (cycles : ℕ) (s : State) (loaded : List Loaded) (asked : As
   pub state : after_cycle s (cycle s) ≡ between cycles loaded (held_in (after_cycle s (cycle_of_all s))) asked (n + 1)
   pub count : length (cycle s).happened.ran ≡ updated
 
+-- A cycle in which all are due that are active, computed.
+pub comes_to : (cycles : ℕ) (s : State) (loaded : List Loaded) (asked : Asked) (n updated : ℕ)
+    → AllByRecursion (λ (l : Loaded). (l.divisor ≡ Some 1) × (is_held_off s l ≡ false)) (active_order s)
+    → after_cycle s (cycle_of_all s) ≡ between cycles loaded (held_in (after_cycle s (cycle_of_all s))) asked (n + 1)
+    → length (cycle_of_all s).happened.ran ≡ updated
+    → ComesTo cycles s loaded asked n updated
+comes_to cycles s loaded asked n updated due state count =
+    let all = cycle_is s due in
+    record { state = ap (after_cycle s) all ∙ state; count = ap (λ c. length c.happened.ran) all ∙ count }
+
 -- all eight run
 pub plain_cycle : (cycles n : ℕ) (held : ℕ → List Value) (h : Held) (asked : Asked)
     → ComesTo cycles (aloft_with [] (between cycles (eight (running held)) h asked n)) (eight (running held)) asked n 8
 unfolding rank_within stays_within reaches commit after_cycle digits
 plain_cycle cycles n held h asked =
-    let s = aloft_with [] (between cycles (eight (running held)) h asked n) in
-    let all = cycle_is s ((refl, refl), ((refl, refl), ((refl, refl), ((refl, refl), ((refl, refl), ((refl, refl), ((refl, refl), ((refl, refl), tt)))))))) in
-    record { state = ap (after_cycle s) all; count = ap (λ c. length c.happened.ran) all }
+    comes_to _ _ _ _ _ _ ((refl, refl), ((refl, refl), ((refl, refl), ((refl, refl), ((refl, refl), ((refl, refl), ((refl, refl), ((refl, refl), tt)))))))) refl refl

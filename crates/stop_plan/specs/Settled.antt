@@ -4,6 +4,8 @@ use Rattle.cm_model.specs.Order.{Places, set_of}
 use Rattle.cm_model.specs.declared.member.Member.{Member}
 use Rattle.stop_plan.specs.Reports.{places_where, is_chained_by, changes_mode}
 use Rattle.stop_plan.specs.declared.ending.Ending.{Ending}
+use Rattle.stop_plan.specs.declared.sets.Change.{Change}
+use Rattle.stop_plan.specs.declared.sets.Change.TheVariants.{Stops, Restarts}
 
 -- those of the active controllers that do not fall
 abbrev pub staying : List Member → Places → Places
@@ -17,6 +19,11 @@ is_stopped_by leaders before after p = not (after p) || changes_mode leaders bef
 -- It is started again, if it was active: it still is, and its chained mode changes.
 abbrev pub is_started_by : List (List ℕ) → Places → Places → ℕ → Bool
 is_started_by leaders before after p = after p && changes_mode leaders before after p
+
+-- whether it changes so
+abbrev pub is_changed_by : Change → List (List ℕ) → Places → Places → ℕ → Bool
+is_changed_by Stops = is_stopped_by
+is_changed_by Restarts = is_started_by
 
 -- Of the controllers that were active, in the order of updates, these fall and the others stay; the sets of those to
 -- stop and to start, and of those that are chained after it, are worked out by who precedes whom.

@@ -8,8 +8,8 @@ ghost use Rattle.stop_plan.specs.Settled.{IsSettled};
 
 use crate::report::Report;
 use crate::sets::{
-    Transition, gather, gather_chained, gather_started, gather_staying, gather_stopped,
-    gather_struck, spread, tell,
+    Change, Transition, gather, gather_chained, gather_changed, gather_staying, gather_struck,
+    spread, tell,
 };
 use chain_order::{Links, PlaceSet};
 use cm_model::Member;
@@ -76,8 +76,8 @@ impl Ending {
             before: &self.active,
             after: &self.set,
         };
-        gather_stopped(&mut self.stopped, &transition, order);
-        gather_started(&mut self.started, &transition, order);
+        gather_changed(&mut self.stopped, &transition, order, Change::Stops);
+        gather_changed(&mut self.started, &transition, order, Change::Restarts);
         gather_chained(&mut self.chained, leaders, &self.set);
     }
 }

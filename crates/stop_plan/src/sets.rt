@@ -5,7 +5,7 @@ ghost use Rattle.cm_model.specs.Order.{set_of, places_of};
 ghost use Rattle.cm_model.specs.Switches.{differ};
 ghost use Rattle.chain_order.specs.Links.{linked};
 ghost use Rattle.stop_plan.specs.Reports.{IsReport, count_in, is_struck_in, places_where, is_chained_by, changes_mode};
-ghost use Rattle.stop_plan.specs.Settled.{staying, is_stopped_by, is_started_by};
+ghost use Rattle.stop_plan.specs.Settled.{staying, is_stopped_by, is_started_by, is_changed_by};
 ghost use Rattle.stop_plan.specs.Spread.{spread};
 
 use crate::report::{Report, is_struck};
@@ -81,33 +81,29 @@ pub(crate) struct Transition<'a> {
     pub(crate) after: &'a PlaceSet,
 }
 
-/// The members become those of these that are stopped.
-pub(crate) fn gather_stopped(set: &mut PlaceSet, transition: &Transition, members: &[Member])
-    requires within { All (λ m. m.place < length set.old) members.now }
-    requires flags { length set.old ≡ length transition.now.leaders.now }
-    ensures length { length set.new ≡ length set.old }
-    ensures set { set_of set.new ≡ places_where (λ m. is_stopped_by transition.now.leaders.now
-        (set_of transition.now.before.now) (set_of transition.now.after.now) m.place) members.now }
-{
-    set.clear();
-    for member in members {
-        if is_stopped(transition, member.place) {
-            set.insert(member.place);
-        }
-    }
+/// What a commit does to a controller that is active: it stops it, or starts it again.
+#[derive(Clone, Copy)]
+pub(crate) enum Change {
+    Stops,
+    Restarts,
 }
 
-/// The members become those of these that are started again.
-pub(crate) fn gather_started(set: &mut PlaceSet, transition: &Transition, members: &[Member])
+/// The members become those of these that change so.
+pub(crate) fn gather_changed(
+    set: &mut PlaceSet,
+    transition: &Transition,
+    members: &[Member],
+    change: Change,
+)
     requires within { All (λ m. m.place < length set.old) members.now }
     requires flags { length set.old ≡ length transition.now.leaders.now }
     ensures length { length set.new ≡ length set.old }
-    ensures set { set_of set.new ≡ places_where (λ m. is_started_by transition.now.leaders.now
+    ensures set { set_of set.new ≡ places_where (λ m. is_changed_by change transition.now.leaders.now
         (set_of transition.now.before.now) (set_of transition.now.after.now) m.place) members.now }
 {
     set.clear();
     for member in members {
-        if is_started(transition, member.place) {
+        if is_changed(transition, member.place, change) {
             set.insert(member.place);
         }
     }
@@ -127,6 +123,18 @@ pub(crate) fn gather_chained(set: &mut PlaceSet, leaders: &Links, active: &Place
     }
 }
 
+/// Whether an active controller changes so.
+fn is_changed(transition: &Transition, place: u32, change: Change) -> bool
+    requires { place < length transition.now.leaders.now }
+    ensures { result ≡ is_changed_by change transition.now.leaders.now
+        (set_of transition.now.before.now) (set_of transition.now.after.now) place }
+{
+    match change {
+        Change::Stops => is_stopped(transition, place),
+        Change::Restarts => is_restarted(transition, place),
+    }
+}
+
 /// Whether an active controller is stopped: it is not active afterwards, or its chained mode changes.
 fn is_stopped(transition: &Transition, place: u32) -> bool
     requires { place < length transition.now.leaders.now }
@@ -137,7 +145,7 @@ fn is_stopped(transition: &Transition, place: u32) -> bool
 }
 
 /// Whether an active controller is started again: it stays active, and its chained mode changes.
-fn is_started(transition: &Transition, place: u32) -> bool
+fn is_restarted(transition: &Transition, place: u32) -> bool
     requires { place < length transition.now.leaders.now }
     ensures { result ≡ is_started_by transition.now.leaders.now
         (set_of transition.now.before.now) (set_of transition.now.after.now) place }
