@@ -1,5 +1,5 @@
 -- The cycles of a made run: that in which a controller is stopped, that in which it is started again, and the others.
-use Rattle.std.proofs.Common.{◌≡◌, ℕ, suc, ◌<◌, List, [], ◌∷◌, length, ℤ, Some, refl, ap, ap₂, ◌∙◌}
+use Rattle.std.proofs.Common.{◌≡◌, ℕ, suc, ◌<◌, List, [], ◌∷◌, length, ℤ, pos, Some, refl, ap, ap₂, ◌∙◌}
 use Rattle.fixed_num.specs.declared.value.Value.{Value}
 use Rattle.fixed_num.specs.declared.value.Value.TheVariants.{Unset, Num}
 use Rattle.cm_document.specs.declared.call.Call.TheVariants as call
