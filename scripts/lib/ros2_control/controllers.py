@@ -13,8 +13,9 @@ USUAL_RATE = 100  # hertz, of a manager that is told none
 HIGHEST_RATE = 10_000
 INITIAL = "hardware_components_initial_state"
 TYPE = re.compile(r"[a-z]\w*/[A-Z]\w*", re.ASCII)
-# Keys of a controller in the manager's list that are read, and have no counterpart. To build one takes it out of here.
-WITHOUT_COUNTERPART = ("fallback_controllers", "params_file")
+FALLBACKS = "fallback_controllers"
+MOST_FALLBACKS = 8  # of one controller of ours
+OF_CONTROLLERS = (FALLBACKS, "params_file")  # keys of a controller in the manager's list besides its type
 
 
 @dataclass(frozen=True)
@@ -42,6 +43,8 @@ class Controller:
     reads: list = field(default_factory=list)  # nothing in place of a list for all states
     numbers: dict = field(default_factory=dict)
     exports: list = field(default_factory=list)  # the references that others may claim, by their paths in the YAML
+    fallbacks: list = field(default_factory=list)  # the names in the YAML of those that stand in for it, with their places
+    stand_ins: list = field(default_factory=list)  # the names of ours that these are
     also: list = field(default_factory=list)  # what it names besides and has to be there, each as a command or a state
     fault: Refused = None  # that counts if all of these are there
 
@@ -66,10 +69,11 @@ def manager_of(path, listing):
     if MANAGER not in found:
         raise Refused(Place(path, 1), f"there is no {MANAGER}")
     manager = found.pop(MANAGER)
-    reading = Reading(listing, found)
+    reading = Reading(listing, manager.values, found)
     rate = value_of(manager.values, "update_rate")
     rate = rate.whole("update_rate", 1, HIGHEST_RATE) if rate else USUAL_RATE
     controllers = [it for name, kind in listed(manager, found, listing) for it in reading.controllers(name, kind)]
+    find_stand_ins(controllers)
     for name, node in found.items():
         if name not in reading.listed:
             listing.left_out(node.place, f"{quoted(name)}, which {MANAGER} does not list")
@@ -88,10 +92,11 @@ def listed(manager, nodes, listing):
         elif name == INITIAL and word in ("unconfigured", "inactive"):
             continue
         elif key != "update_rate":
-            is_controller = name in nodes or word in WITHOUT_COUNTERPART or TYPE.fullmatch(node.shown())
+            is_controller = name in nodes or word in OF_CONTROLLERS or TYPE.fullmatch(node.shown())
             if is_controller and f"{name}.type" not in manager.values:
                 raise Refused(node.place, f"controller {quoted(name)} has no type")
-            listing.left_out(node.place, f"the parameter {quoted(key)} of {MANAGER}")
+            if word != FALLBACKS:
+                listing.left_out(node.place, f"the parameter {quoted(key)} of {MANAGER}")
     return found
 
 
@@ -106,16 +111,45 @@ def initial_states(manager, listing):
     return found
 
 
-class Reading:
-    """Reads controllers, one after the other."""
+def find_stand_ins(controllers):
+    """Looks up who stands in for whom. If a fallback became several of ours, all of them stand in."""
+    ours = {}
+    for it in controllers:
+        ours.setdefault(it.given, []).append(it.name)
+    for it in controllers:
+        for place, given in it.fallbacks:
+            if given == it.given:
+                raise Refused(place, f"{quoted(given)} is a fallback of its own")
+            if given not in ours:
+                raise Refused(place, f"fallback {quoted(given)} of {quoted(it.given)} is no controller of {MANAGER}")
+            it.stand_ins += ours[given]
+            if len(it.stand_ins) > MOST_FALLBACKS:
+                raise Refused(place, f"more than {MOST_FALLBACKS} controllers stand in for {quoted(it.given)}")
 
-    def __init__(self, listing, nodes):
-        self.listing, self.nodes = listing, nodes
+
+class Reading:
+    """Reads controllers, one after the other. `parameters` are those of the manager."""
+
+    def __init__(self, listing, parameters, nodes):
+        self.listing, self.parameters, self.nodes = listing, parameters, nodes
         self.names = Names("controller", listing)
         self.listed, self.left_out = set(), set()
 
     def controllers(self, given, type_node):
         """Returns what the controller of this name becomes: one of ours, or several."""
+        made, fallbacks = self.made(given, type_node), self.fallbacks(given)
+        for it in made:
+            it.fallbacks = fallbacks
+        return made
+
+    def fallbacks(self, given):
+        """Returns the names of those that stand in for it. The manager's parameter counts before that of its own node."""
+        own = value_of(self.nodes[given].values, FALLBACKS) if given in self.nodes else None
+        node = self.parameters.get(f"{given}.{FALLBACKS}") or own
+        what = f"{FALLBACKS} of {quoted(given)}"
+        return each_once(node.texts(what), what) if node else []
+
+    def made(self, given, type_node):
         kind = type_node.text(f"the type of {quoted(given)}")
         self.listed.add(given)
         name = self.names.add(given, type_node.place)
@@ -135,6 +169,7 @@ class Reading:
         rate = used.value("update_rate")
         whole.rate = rate.whole(f"update_rate of {quoted(given)}", 0, HIGHEST_RATE) if rate else 0
         made = make(self, whole, used, *more)
+        used.value(FALLBACKS)
         for name, value in used.unused().items():
             self.listing.left_out(value.place, f"the parameter {quoted(name)} of {quoted(given)}")
         return made
@@ -249,6 +284,14 @@ def named(joints, kinds):
     return [Named(f"{joint}/{kind}", at_joint, at_kind) for at_joint, joint in joints for at_kind, kind in kinds]
 
 
+def each_once(texts, what):
+    """Returns these texts with their places, and refuses a second one of a kind."""
+    for index, (place, text) in enumerate(texts):
+        if text in (it for _, it in texts[:index]):
+            raise Refused(place, f"{what} has {quoted(text)} twice")
+    return texts
+
+
 class Used:
     """The parameters of a controller, which notes those that are looked at."""
 
@@ -276,10 +319,7 @@ class Used:
         texts = node.texts(what)
         if not texts:
             raise Refused(node.place, f"{what} has no item")
-        for index, (place, text) in enumerate(texts):
-            if text in (it for _, it in texts[:index]):
-                raise Refused(place, f"{what} has {quoted(text)} twice")
-        return texts
+        return each_once(texts, what)
 
     def gains(self, joint):
         """Returns the gains of one joint: all that stands below `gains.JOINT`."""

@@ -44,6 +44,8 @@ def controller(it, linked):
     lines = ["[[controller]]", f'name = "{it.name}"', f'type = "{it.kind}"']
     if it.rate:
         lines.append(f"update_rate = {it.rate}")
+    if it.stand_ins:
+        lines.append(listed("fallback", it.stand_ins))
     claims, reads = linked.claims[it.name], linked.reads[it.name]
     if claims:
         lines.append(listed("claims", (claim.text() for claim in claims)))
