@@ -131,7 +131,7 @@ module _ (s : State) (steady : IsSteady s) (r : SwitchRequest) where
 
   -- and so it is of a best effort that no request asked for
   pub best_untold : IsDoneInPart s r (with_switch s (best (scene_of s) r.off r.on)).state
-  best_untold = untold_in_part _ _
+  best_untold = untold_in_part _ []
 
   switch_right : IsSwitchDecided r.strict s r (with_outcome (with_switch s (decided (scene_of s) r))) (with_switch s (decided (scene_of s) r)).outcome
   switch_right = either r.strict

@@ -2,6 +2,7 @@
 use Rattle.std.proofs.Common.{◌≡◌, ℕ, Bool, true, false, List, [], ◌∷◌, ◌++◌, length, map, cond, Some, None, refl, sym, ◌∙◌, subst, ap}
 use Rattle.std.specs.Prelude.{◌==◌, ◌&&◌, ◌||◌, not, filter, flat_map, Option}
 use Rattle.std.specs.List.{list_any}
+use Rattle.std.proofs.Math.Dec.{eqb-suc-zero}
 use Rattle.std.proofs.lemmas.Option.{same_Some}
 use Rattle.cm_document.specs.declared.call.Call.{Call}
 use Rattle.cm_document.specs.declared.call.Call.TheVariants.{Begin, End, Close}
@@ -31,6 +32,9 @@ use Rattle.sound_laws.proofs.ToldLemmas.{IsPlain, plain_stays, none_told}
 -- there are some
 abbrev some_of : List (List ℕ) → Bool
 some_of names = not (length names == 0)
+
+some_cons : (name : List ℕ) (names : List (List ℕ)) → some_of (name ∷ names) ≡ true
+some_cons name names = ap not (eqb-suc-zero (length names))
 
 -- ---- Requests leave those that are to stand in as they are
 
@@ -69,13 +73,14 @@ begin_leaves_none s = all_leave (after_fallbacks s) (waiting (after_fallbacks s)
 -- a begin tells of them first, where there are some
 led : (s : State) (names : List (List ℕ)) (ds : List Decision) → ticketed ds ≡ ds → IsLed (some_of names) (told_of_fallbacks s names ++ ds)
 led s [] ds all = all
-led s (name ∷ names) ds all = (refl, (_, refl), all)
+led s (name ∷ names) ds all =
+    subst (λ (b : Bool). IsLed b (told_of_fallbacks s (name ∷ names) ++ ds)) (sym (some_cons name names)) (refl, (_, refl), all)
 
 -- ---- Which ends owe them
 
 some_append : (xs ys : List (List ℕ)) → some_of (xs ++ ys) ≡ (some_of xs || some_of ys)
 some_append [] ys = refl
-some_append (x ∷ xs) ys = refl
+some_append (x ∷ xs) ys = some_cons x (xs ++ ys) ∙ sym (ap (λ (b : Bool). b || some_of ys) (some_cons x xs))
 
 -- those are to stand in after a cycle that are described for controllers whose update failed
 owes : (s : State) (ran : List Ran) → list_any (λ (one : Ran). is_error one.done && some_of (fallbacks_of s one.serial)) ran ≡ some_of (fallbacks_after s ran)
