@@ -95,12 +95,19 @@ fit_from s component n (m ∷ ms) reads claims joints =
     ap length claims.0 ∙ length-map (range_with_len 0 (length c.joints)) (claim_on (command_interfaces c) (claims_in s (commands_at component s.values))) ∙ length-range_with_len 0 (length c.joints) in
     (record { written = reads.0.written; claimed = count; joints = joints.0 }, fit_from s (component + 1) n ms reads.1 claims.1 joints.1)
 
--- the state after the end, when the components that failed have moved, with the controllers of before
-abbrev next : State → List InterfaceValue → State
-next s values =
-    moved (record s { values = values; bodies = components_stepped s values 0 s.description.components s.bodies; ended = s.ended + 1; aloft = false; mails = [] }) (lives_after s)
+-- the state after the end, when the components that failed have moved, with the controllers of before, and with these that are to stand in
+abbrev next : State → List (List ℕ) → List InterfaceValue → State
+next s fallbacks values =
+    moved (record s {
+      values = values;
+      bodies = components_stepped s values 0 s.description.components s.bodies;
+      fallbacks = fallbacks;
+      ended = s.ended + 1;
+      aloft = false;
+      mails = [];
+    }) (lives_after s)
 
-module _ (s : State) (values : List InterfaceValue) (w : Wired) (is : IsInCycle s values w) (sound : AreSound w.loans) where
+module _ (s : State) (fallbacks : List (List ℕ)) (values : List InterfaceValue) (w : Wired) (is : IsInCycle s values w) (sound : AreSound w.loans) where
   abbrev now : State
   now = record s { values = values }
 
@@ -147,7 +154,7 @@ module _ (s : State) (values : List InterfaceValue) (w : Wired) (is : IsInCycle 
   abbrev then : InterfaceValue → InterfaceValue
   then = moved_of s.lives (lives_after s) stepped
 
-  values_are : (next s values).values ≡ map then values
+  values_are : (next s fallbacks values).values ≡ map then values
   values_are = map-map (read_of _ stepped) _ values
 
   -- the components of the places
@@ -160,12 +167,12 @@ module _ (s : State) (values : List InterfaceValue) (w : Wired) (is : IsInCycle 
   free = frees (owner s) s.lives (active s) values (rw (sym is.loans) sound)
 
   -- the board after it
-  loans_are : (after_run n dt_us w).loans ≡ map (loan_of (holder (next s values)) (available (next s values))) (next s values).values
+  loans_are : (after_run n dt_us w).loans ≡ map (loan_of (holder (next s fallbacks values)) (available (next s fallbacks values))) (next s fallbacks values).values
   loans_are =
       ap (λ (ms : List Mounted). changed_where (has_left ms) vacated 0 w.places w.loans) run_is
       ∙ ap₂ (λ (places : List (Option ℕ)) (board : List Loan). changed_where (has_left ran_all) vacated 0 places board) places_are is.loans
-      ∙ places_change (owner s) (holder (next s values)) (available s) (available (next s values)) (has_left ran_all) vacated then [] values (all_move values is.empty free)
-      ∙ ap (map (loan_of (holder (next s values)) (available (next s values)))) (sym values_are)
+      ∙ places_change (owner s) (holder (next s fallbacks values)) (available s) (available (next s fallbacks values)) (has_left ran_all) vacated then [] values (all_move values is.empty free)
+      ∙ ap (map (loan_of (holder (next s fallbacks values)) (available (next s fallbacks values)))) (sym values_are)
 
   -- all bodies after their steps
   pub all_step : all_bodies (components_run n dt_us w) ≡ stepped
@@ -175,10 +182,10 @@ module _ (s : State) (values : List InterfaceValue) (w : Wired) (is : IsInCycle 
       (rw is.loans (held_all (owner s) (available s) s.description values w.components is.wired.components is.wired.interfaces))
       ∙ ap₂ (λ (cs : List CompDesc) (bodies : List BodyState). components_stepped s values 0 cs bodies) (sym is.wired.components) (sym is.wired.bodies)
 
-  stays : map (λ (v : InterfaceValue). v.interface) (next s values).values ≡ map (λ (v : InterfaceValue). v.interface) values
+  stays : map (λ (v : InterfaceValue). v.interface) (next s fallbacks values).values ≡ map (λ (v : InterfaceValue). v.interface) values
   stays = rw values_are (interfaces_stay then (moved_keeps s.lives (lives_after s) stepped) values)
 
-  pub lent_next : IsLent (next s values) (after_run n dt_us w)
+  pub lent_next : IsLent (next s fallbacks values) (after_run n dt_us w)
   lent_next =
       let ms = w.components in
       record {
@@ -211,14 +218,15 @@ unfolding cycle
 finished s w failed bodies is sound =
     let u = updates s (values_read s) in
     let owned : (i : Interface) → owner (record s { loaded = u.loaded }) i ≡ owner s i = updates_keep_owners s (values_read s) in
+    let fallbacks = (landed s (cycle s)).fallbacks in
     let after = after_run s.ended (period s.description) w in
     record {
       hardware = record {
-        lent = lent_alike (next s u.values) u.loaded after owned (updates_leave_active s (values_read s)) (lent_next s u.values w is sound);
-        claims = claimed_alike (record s { values = u.values }) (landed s (cycle s)) 0 after.components (λ i. sym (owned i)) (sym (stays s u.values w is sound)) (claimed_next s u.values w is sound);
+        lent = lent_alike (next s fallbacks u.values) u.loaded after owned (updates_leave_active s (values_read s)) (lent_next s fallbacks u.values w is sound);
+        claims = claimed_alike (record s { values = u.values }) (landed s (cycle s)) 0 after.components (λ i. sym (owned i)) (sym (stays s fallbacks u.values w is sound)) (claimed_next s fallbacks u.values w is sound);
       };
-      failed = ap (λ (l : List FailedPart). failed ++ l) (writes_next s u.values w is sound ∙ writes_told (record s { values = u.values }) w.components is.wired);
-      bodies = ap (λ (l : List BodyState). bodies ++ l) (all_step s u.values w is sound);
+      failed = ap (λ (l : List FailedPart). failed ++ l) (writes_next s fallbacks u.values w is sound ∙ writes_told (record s { values = u.values }) w.components is.wired);
+      bodies = ap (λ (l : List BodyState). bodies ++ l) (all_step s fallbacks u.values w is sound);
     }
 
 -- ---- Both, while no controller is active
