@@ -1,7 +1,9 @@
-use Rattle.std.proofs.Common.{ℕ, List, length, sym, ap, ◌∙◌}
+use Rattle.std.proofs.Common.{ℕ, false, List, length, sym, subst, ap, ◌∙◌}
 use Rattle.std.specs.Prelude.{◌==◌}
+use Rattle.cm_model.specs.declared.request.Request.TheVariants as request
 use Rattle.request_plan.proofs.ActLemmas.{follows}
 use Rattle.request_plan.proofs.PlanLemmas.{nobody_stands, somebody_stands}
+use Rattle.request_plan.specs.Acts.{IsConclusionOf}
 use Rattle.request_plan.proofs.plans.stand_in.Goals as goal
 
 pub returns-then-is_empty-clause-stood : goal.returns-then-is_empty-clause-stood
@@ -16,4 +18,5 @@ pub returns-clause-stood : goal.returns-clause-stood
 returns-clause-stood c = λ s seen.
     somebody_stands s c.args.names c.args.checked.now c.args.situation.now c.follow.new.self c.in_ok-conclusion.conclusion
     (ap (λ (names : List (List ℕ)). length names == 0) (sym c.as_slice.ensures) ∙ sym c.is_empty.ensures ∙ c.if-is_empty.false)
-    c.in_ok-conclusion.ensures.concluded c.follow.ensures.loaded c.follow.ensures.lives seen
+    (λ t seen_then. subst (λ (off : List (List ℕ)). IsConclusionOf t (request.Switch (record { on = c.args.names; off = off; strict = false })) c.in_ok-conclusion.conclusion)
+    c.new.ensures (c.in_ok-conclusion.ensures.concluded t seen_then)) c.follow.ensures.loaded c.follow.ensures.lives seen
