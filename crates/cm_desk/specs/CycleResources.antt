@@ -81,12 +81,12 @@ stand_ins_for d places = flat_map (fallbacks_at d) places
 
 -- What is at home is this, with these who flew last, the places of those whose update failed, and this room for lists;
 -- and in the room that it has for a record nothing is told.
-pub record IsHome (g : Robot) (e : Ending) (members : List Member) (erred : List ℕ) (lists : Lists)
+pub record IsHome (g : Robot) (e : Ending) (members : List Member) (erred_at : List ℕ) (lists : Lists)
     (h : Box CycleContext Global) : Type 0 where
   pub robot : h.value.robot ≡ g
   pub ending : h.value.ending ≡ e
   pub order : h.value.order.items ≡ members
-  pub erred : h.value.erred.items ≡ erred
+  pub erred : h.value.erred.items ≡ erred_at
   pub next_lists : h.value.lists ≡ lists
   pub told : IfSome h.value.room TellsNothing
 
