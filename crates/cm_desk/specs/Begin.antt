@@ -41,11 +41,11 @@ pub record IsNext (s : State) (asked : Request) (later : List Request) (c : Conc
 
 -- Of what was planned for a begin this is left to be done in a state in which nobody is to stand in any more: first
 -- what was concluded of those that were, and then of each request.
-pub record IsLeftOf (s now : State) (concluded_first : Option Conclusion) (conclusions : List Conclusion) : Type 0 where
+pub record IsLeftOf (s now : State) (concluded_first : Option Conclusion) (later : List Conclusion) : Type 0 where
   pub emptied : now ≡ record s { fallbacks = [] }
   pub steady : IsSteady s
   pub first : IsStandingIn s s.fallbacks concluded_first
-  pub conclusions : AreConclusionsOf (after_fallbacks s) (waiting (after_fallbacks s)) conclusions
+  pub conclusions : AreConclusionsOf (after_fallbacks s) (waiting (after_fallbacks s)) later
 
 -- This can be done, and leads to a steady state.
 pub record CanAct (s after : State) (done : Act) : Type 0 where
