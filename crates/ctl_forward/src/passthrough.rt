@@ -1,80 +1,42 @@
 //! The controller that gives its references, or what it was sent.
 
-ghost use Rattle.std.specs.Prelude.{◌≡◌};
-ghost use Rattle.cm_model.specs.State.{fresh};
-ghost use Rattle.cm_document.specs.declared.description.CtlKind.TheVariants as kind;
+use crate::set_ctl::{SetCtl, SetKind};
+use cm_document::{CtlKind, Params};
 
-use cm_document::{CtlKind, Mail, Params};
-use cm_model::Tick;
-use cm_storage::Done;
-use ctl_trait::{CfgFault, Controller, SetPart};
-use fixed_num::{Fx, Value};
-use std::alloc::Global;
+/// A passthrough: if it is chained it gives its references, else the values that it was sent last. Before any mail these
+/// are unset.
+pub type Passthrough = SetCtl<PassthroughKind>;
 
-/// A passthrough: where it is chained it gives its references, else the values that it was sent last; before any mail these are unset.
+/// The kind of passthroughs.
 #[derive(Debug, Drop)]
-pub struct Passthrough {
-    part: Option<SetPart>,
-}
+pub struct PassthroughKind;
 
-impl Passthrough {
-    /// A passthrough that is not configured.
-    pub fn blank() -> Passthrough
-        ensures { ⟦<Passthrough as Controller>⟧.meaning result ≡ fresh kind.Passthrough }
-    {
-        Passthrough { part: None }
-    }
-}
-
-impl Controller for Passthrough {
+impl SetKind for PassthroughKind {
+    ghost use Rattle.std.specs.Prelude.{true};
     ghost use Rattle.cm_document.specs.declared.description.CtlKind.TheVariants as kind;
     ghost use Rattle.cm_document.specs.declared.description.Params.TheVariants as params;
-    ghost use Rattle.ctl_trait.specs.Parts.{data_of};
+    ghost use Rattle.ctl_forward.specs.SetRows.{passthrough_row};
 
-    ghost meaning = { λ c. data_of kind.Passthrough params.Passthrough c.part };
+    ghost own = { kind.Passthrough };
 
-    fn kind(&self) -> CtlKind {
+    ghost with_claims = { params.Passthrough };
+
+    ghost exporting = { true };
+
+    ghost row = { passthrough_row };
+
+    fn kind() -> CtlKind {
         CtlKind::Passthrough
     }
 
-    fn configure(&mut self, alloc: Global, params: &Params) -> Result<(), CfgFault> {
-        let Params::Passthrough { outs } = params else {
-            unreachable!()
-        };
-        self.part = Some(SetPart::make(alloc, *outs)?);
-        Ok(())
-    }
-
-    fn ready(&self, _cycle: u64) -> bool {
+    fn is_exporting() -> bool {
         true
     }
 
-    fn activate(&mut self, _states: &[Fx], chained: bool) {
-        if let Some(part) = &mut self.part {
-            part.start(chained);
-        }
-    }
-
-    fn take(&mut self, mail: Mail) {
-        if let (Some(part), Mail::Values(values)) = (&mut self.part, &mail) {
-            part.take(values.as_slice());
-        }
-    }
-
-    fn update(&mut self, _tick: Tick, _states: &[Fx], refs: &[Value], outs: &mut [Value]) -> Done {
-        if let Some(part) = &self.part {
-            outs.copy_from_slice(if part.is_chained() { refs } else { part.set() });
-        }
-        Done::Ok
-    }
-
-    fn deactivate(&mut self) {
-        if let Some(part) = &mut self.part {
-            part.stop();
-        }
-    }
-
-    fn cleanup(&mut self) {
-        self.part = None;
+    fn claims(params: &Params) -> u32 {
+        let Params::Passthrough { outs } = params else {
+            unreachable!()
+        };
+        *outs
     }
 }
