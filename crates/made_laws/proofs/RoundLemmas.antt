@@ -1,5 +1,5 @@
 -- What the requests and the mail of a round come to, for each of the eight controllers that it may be about: computed.
-use Rattle.std.proofs.Common.{◌≡◌, ℕ, zero, suc, ◌+◌, ◌%◌, ◌<◌, List, [], ◌∷◌, length, map, filter_map, ℤ, Some, refl, arith}
+use Rattle.std.proofs.Common.{◌≡◌, ℕ, zero, suc, ◌+◌, ◌%◌, ◌<◌, List, [], ◌∷◌, map, filter_map, ℤ, Some, refl, arith}
 use Rattle.std.specs.Prelude.{◌==◌, if◌then◌else◌}
 use Rattle.std.specs.Fmt.{digits}
 use Rattle.std.specs.List.{AllByRecursion}
@@ -82,4 +82,4 @@ round_of (suc (suc (suc (suc (suc (suc zero)))))) below cycles n held h asked z 
     record { sent = refl; stopped = refl; mailed = (refl, refl); due = (refl, (refl, (refl, (refl, (refl, (refl, (refl, (refl, tt)))))))); flown = comes_to _ _ _ _ _ _ ((refl, refl), ((refl, refl), ((refl, refl), ((refl, refl), ((refl, refl), ((refl, refl), ((refl, refl), tt))))))) refl refl; started = refl }
 round_of (suc (suc (suc (suc (suc (suc (suc zero))))))) below cycles n held h asked z =
     record { sent = refl; stopped = refl; mailed = (refl, refl); due = (refl, (refl, (refl, (refl, (refl, (refl, (refl, (refl, tt)))))))); flown = comes_to _ _ _ _ _ _ ((refl, refl), ((refl, refl), ((refl, refl), ((refl, refl), ((refl, refl), ((refl, refl), ((refl, refl), tt))))))) refl refl; started = refl }
-round_of (suc (suc (suc (suc (suc (suc (suc (suc r)))))))) below = absurd (omega (arith, below))
+round_of (suc (suc (suc (suc (suc (suc (suc (suc r)))))))) below cycles n held h asked z = absurd (omega (arith, below))
