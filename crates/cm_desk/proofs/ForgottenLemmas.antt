@@ -23,7 +23,7 @@ use Rattle.cm_desk.proofs.AfterLemmas.{kept_idle, used_idle}
 use Rattle.cm_desk.proofs.Insides.{base_in, state_of}
 use Rattle.cm_desk.proofs.KeptLemmas.{kept_after_ask}
 
--- what is kept of a state is kept over resources that has forgotten who failed
+-- what is kept of a state is kept over resources that have forgotten who failed
 pub kept_forgotten : (s : State) (names : List (List ℕ)) (before after : CycleResources) (m n : ℕ) (looked : Listed) → IsKept s names (base_of before m) looked → s.aloft ≡ false
     → AreKept before.robot.value.places before.buffers.workspaces.items before.members.value.items → HasForgotten before after → IsKept s names (base_of after n) looked
 kept_forgotten s names before after m n looked kept down workspaces is =

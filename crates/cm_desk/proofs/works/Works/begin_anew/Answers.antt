@@ -182,7 +182,7 @@ prepared g c =
 ready : (g : Over) (c : goal.After-take_off-arg-3-1 g) → IsMadeReady c.forget_erred-2.new.self c.take_in.new.self
 ready g c = c.take_in.ensures.resources (state_of c.self-2.inside).description c.put.new.self.order (length (state_of c.self-2.inside).loaded) (prepared g c)
 
--- over resources that has an empty list the same is kept,
+-- over resources that have an empty list the same is kept,
 kept : (g : Over) (c : goal.After-take_off-arg-3-1 g)
     → IsKept (state_of c.self-2.inside) c.self-2.inside.names.items (base_of c.forget_erred-2.new.self (vec_capacity c.self-2.inside.boxes)) c.self-2.inside.active_set
 kept g c =
