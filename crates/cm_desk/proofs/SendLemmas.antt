@@ -18,6 +18,7 @@ use Rattle.cm_model.specs.declared.reply.Why.{Why}
 use Rattle.cm_model.specs.declared.reply.Why.TheVariants as why
 use Rattle.cm_model.proofs.SteadyLemmas.{not_first}
 use Rattle.ctl_trait.specs.Taking.{CanTake}
+use Rattle.cm_desk.specs.Works.{active_reply}
 use Rattle.cm_slots.proofs.FitLemmas.{sent_fits}
 use Rattle.request_plan.proofs.SituationLemmas.{chained_among}
 use Rattle.sequence.proofs.ListLemmas.{all_at}
@@ -64,55 +65,10 @@ allowed_fits s i l c mail steady there described done =
 -- what is left to refuse of one that is active, by its description
 pub refusal_is : (s : State) (i : ℕ) (l : Loaded) (c : CtlDesc) (mail : Mail) → IsSteady s → slice_get s.loaded i ≡ Some l → slice_get s.description.controllers l.place ≡ Some c → is_active l ≡ true
     → reply_on (send_refusals s mail) (slice_get s.loaded i)
-    ≡ unless_refused ((is_chained s c, why.Chained) ∷ (takes_none c.params, why.TakesNone) ∷ (not (takes c.params mail), why.WrongCount) ∷ []) reply.Done
+    ≡ active_reply (is_chained s c) c.params mail
 refusal_is s i l c mail steady there described runs = rw (there, runs, described, own_params s i l c steady there runs described) refl
 
--- ---- Each answer
-
--- so it is refused that is not active,
+-- so it is refused that is not active
 pub refused_idle : (s : State) (i : ℕ) (l : Loaded) (mail : Mail) → slice_get s.loaded i ≡ Some l → is_active l ≡ false
     → reply_on (send_refusals s mail) (slice_get s.loaded i) ≡ reply.Not why.NotActive
 refused_idle s i l mail there idle = rw (there, idle) refl
-
--- the reply of what is chained or not, takes none or some, and takes as much or not
-abbrev by_description : Bool → Bool → Bool → List (Bool × Why)
-by_description chained none fits = (chained, why.Chained) ∷ (none, why.TakesNone) ∷ (not fits, why.WrongCount) ∷ []
-
-first_chained : (chained none fits : Bool) → chained ≡ true → unless_refused (by_description chained none fits) reply.Done ≡ reply.Not why.Chained
-first_chained true none fits is = refl
-first_chained false none fits is = cc
-
-then_none : (chained none fits : Bool) → chained ≡ false → none ≡ true → unless_refused (by_description chained none fits) reply.Done ≡ reply.Not why.TakesNone
-then_none true none fits free is = cc
-then_none false true fits free is = refl
-then_none false false fits free is = cc
-
-then_count : (chained none fits answer : Bool) → chained ≡ false → none ≡ false → fits ≡ answer
-    → unless_refused (by_description chained none fits) reply.Done ≡ unless_refused (by_description false false answer) reply.Done
-then_count true none fits answer free some is = cc
-then_count false true fits answer free some is = cc
-then_count false false fits answer free some is = ap (λ (b : Bool). unless_refused (by_description false false b) reply.Done) is
-
-module _ (s : State) (i : ℕ) (l : Loaded) (c : CtlDesc) (mail : Mail) (steady : IsSteady s) (there : slice_get s.loaded i ≡ Some l)
-    (described : slice_get s.description.controllers l.place ≡ Some c) (runs : is_active l ≡ true) where
-  -- what is chained,
-  pub refused_chained : is_chained s c ≡ true → reply_on (send_refusals s mail) (slice_get s.loaded i) ≡ reply.Not why.Chained
-  refused_chained is =
-      refusal_is s i l c mail steady there described runs ∙ first_chained (is_chained s c) (takes_none c.params) (takes c.params mail) is
-
-  -- what takes no mail,
-  pub refused_none : is_chained s c ≡ false → takes_none c.params ≡ true → reply_on (send_refusals s mail) (slice_get s.loaded i) ≡ reply.Not why.TakesNone
-  refused_none free is =
-      refusal_is s i l c mail steady there described runs ∙ then_none (is_chained s c) (takes_none c.params) (takes c.params mail) free is
-
-  -- and what takes other mail;
-  pub refused_count : is_chained s c ≡ false → takes_none c.params ≡ false → takes c.params mail ≡ false
-      → reply_on (send_refusals s mail) (slice_get s.loaded i) ≡ reply.Not why.WrongCount
-  refused_count free some is =
-      refusal_is s i l c mail steady there described runs ∙ then_count (is_chained s c) (takes_none c.params) (takes c.params mail) false free some is
-
-  -- nothing else is refused
-  pub not_refused : is_chained s c ≡ false → takes_none c.params ≡ false → takes c.params mail ≡ true
-      → reply_on (send_refusals s mail) (slice_get s.loaded i) ≡ reply.Done
-  not_refused free some is =
-      refusal_is s i l c mail steady there described runs ∙ then_count (is_chained s c) (takes_none c.params) (takes c.params mail) true free some is

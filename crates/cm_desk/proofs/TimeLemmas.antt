@@ -1,11 +1,7 @@
 -- The time of a cycle of a valid description.
 use Rattle.std.proofs.Common.{◌≡◌, ℕ, ◌*◌, ◌<◌, ◌≤◌, ◌^◌, arith}
-use Rattle.std.specs.Prelude.{codes, ◌==◌, ◌&&◌, nat_le}
-use Rattle.std.proofs.lemmas.Bool.{leb-true}
-use Rattle.cm_document.specs.Valid.{few_enough, named_apart, in_range, ranged, valid, IsValid}
+use Rattle.cm_document.specs.Valid.{valid, IsValid}
 use Rattle.cm_document.specs.declared.description.Description.{Description}
-use Rattle.cm_document.specs.declared.limits.TheConstants.{VERSION, HIGHEST_RATE, MOST_CYCLES}
-use Rattle.cm_document.proofs.ReadingLemmas.{bind_Ok}
 use Rattle.cm_model.specs.Cycle.{period}
 use Rattle.std.proofs.lemmas.Nat.{mul-le}
 use Rattle.hw_component.proofs.MakingLemmas.{valid_period}

@@ -1,14 +1,17 @@
 -- What the desk keeps, and how it answers.
-use Rattle.std.specs.Prelude.{◌≡◌, ℕ, ◌+◌, ◌<◌, ◌≤◌, ◌^◌, Bool, true, false, List, [], length, map, slice_get, is_some}
-use Rattle.std.specs.Prelude.{Some, option_map, Result, Ok, Err}
+use Rattle.std.specs.Prelude.{◌≡◌, ℕ, ◌+◌, ◌<◌, ◌≤◌, ◌^◌, Bool, true, false, not, List, [], ◌∷◌, length, map, slice_get}
+use Rattle.std.specs.Prelude.{is_some, Some, option_map, Result, Ok, Err}
 use Rattle.std.specs.List.{All}
 use Rattle.cm_document.specs.Params.{kind_of}
 use Rattle.cm_document.specs.Valid.{IsValid}
+use Rattle.cm_document.specs.declared.call.Mail.{Mail}
 use Rattle.cm_document.specs.declared.description.Description.{Description}
+use Rattle.cm_document.specs.declared.description.Params.{Params}
 use Rattle.cm_model.specs.Commit.{commit}
 use Rattle.cm_model.specs.Console.{unless_refused, place_of, reply_on, with_changed, configure_refusals}
 use Rattle.cm_model.specs.Console.{after_configure}
 use Rattle.cm_model.specs.Cycle.{period}
+use Rattle.cm_model.specs.Kinds.{takes, takes_none}
 use Rattle.cm_model.specs.Machine.{load_refusals}
 use Rattle.cm_model.specs.Order.{Places, set_of}
 use Rattle.cm_model.specs.State.{State, Loaded}
@@ -152,6 +155,12 @@ HasSwitched b b' slots slots' looked looked' c = (s : State) (again : Places)
 -- the reply of a load: the first refusal that applies, else its serial
 abbrev pub load_reply : State → List ℕ → Reply
 load_reply s name = unless_refused (load_refusals s (place_of s name)) (reply.Serial s.loads)
+
+-- the reply of mail to a controller that is active, chained or not, and has these parameters
+abbrev pub active_reply : Bool → Params → Mail → Reply
+active_reply chained params mail =
+    unless_refused ((chained, why.Chained) ∷ (takes_none params, why.TakesNone) ∷ (not (takes params mail), why.WrongCount)
+    ∷ []) reply.Done
 
 -- What a configure of the loaded controller that stands there comes to: done, with what that makes of the state; or,
 -- with a fault, nothing, and it is the refusal only where that is the reply.

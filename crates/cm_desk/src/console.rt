@@ -3,14 +3,14 @@
 ghost use Rattle.std.specs.Prelude.{◌≡◌, ◌<◌, true, false, length, option_map, slice_get, Some, IsSomeAnd, IfOk, OnErr, MatchOption};
 ghost use Rattle.cm_document.specs.Params.{kind_of};
 ghost use Rattle.cm_model.specs.Console.{configure_reply, configure_effect, cleanup_reply, cleanup_effect, unload_reply, unload_effect, rate_reply, rate_effect, send_reply, send_refusals, send_effect, reply_on, moves_out};
-ghost use Rattle.cm_model.specs.Kinds.{are_ranged, takes, takes_none};
+ghost use Rattle.cm_model.specs.Kinds.{are_ranged};
 ghost use Rattle.cm_model.specs.State.{is_active};
 ghost use Rattle.cm_model.specs.Steady.{IsSteady};
-ghost use Rattle.cm_desk.specs.Works.{IsAnswered, IsAsDescribed, IsConfigured};
+ghost use Rattle.cm_desk.specs.Works.{IsAnswered, IsAsDescribed, IsConfigured, active_reply};
 
 use crate::works::{Works, described_at};
 use chain_order::divisor;
-use cm_document::{Checked, CtlDesc, Mail};
+use cm_document::{Checked, CtlDesc, Mail, Params};
 use cm_model::{Reply, Why};
 use cm_slots::Slot;
 use ctl_trait::{CfgFault, Controller, takes, takes_none};
@@ -124,17 +124,26 @@ impl<C: Controller> Works<C> {
             return Some(Why::NotActive);
         }
         let controller = described(&self.checked, slot);
-        if self.is_chained(slot, controller) {
-            return Some(Why::Chained);
-        }
-        if takes_none(&controller.params) {
-            return Some(Why::TakesNone);
-        }
-        if !takes(&controller.params, mail) {
-            return Some(Why::WrongCount);
-        }
-        None
+        refusal_of_active(self.is_chained(slot, controller), &controller.params, mail)
     }
+}
+
+/// Why a controller that is active is not sent the mail: it is chained or not, and has these parameters.
+fn refusal_of_active(chained: bool, params: &Params, mail: &Mail) -> Option<Why>
+    ensures { MatchOption result
+        (active_reply chained params.now mail.now ≡ Reply.Done)
+        (λ why. active_reply chained params.now mail.now ≡ Reply.Not why) }
+{
+    if chained {
+        return Some(Why::Chained);
+    }
+    if takes_none(params) {
+        return Some(Why::TakesNone);
+    }
+    if !takes(params, mail) {
+        return Some(Why::WrongCount);
+    }
+    None
 }
 
 /// The description of a loaded controller, whose parameters its box can be configured with.

@@ -1,9 +1,10 @@
-use Rattle.std.proofs.Common.{◌≡◌, ◌+◌, ◌≤◌, length, Some, vec_capacity, refl, ap, ◌∙◌, arith}
+use Rattle.std.proofs.Common.{◌≡◌, ◌+◌, ◌≤◌, length, Some, vec_capacity, refl, sym, ap, subst, ◌∙◌, arith}
 use Rattle.cm_document.specs.declared.call.Call.TheVariants.{Begin}
 use Rattle.cm_model.specs.Boundary.{begin_reply}
 use Rattle.cm_model.specs.Machine.{step}
 use Rattle.cm_model.specs.Scheduled.{with_entry}
-use Rattle.cm_desk.specs.Desk.{owed, seen}
+use Rattle.cm_model.specs.State.{State}
+use Rattle.cm_desk.specs.Desk.{History, owed, now_of, seen, Grows}
 use Rattle.cm_desk.proofs.BeginLemmas.{begin_step}
 use Rattle.cm_desk.proofs.BegunLemmas.{begun_begins, is_out}
 use Rattle.cm_desk.proofs.RecordLemmas.{Recorded, recorded, few_after, room_after, begin-few}
@@ -39,7 +40,13 @@ pub invariant_of-self-2 : goal.invariant_of-self-2
 invariant_of-self-2 g c = ((entry g c).keeps, c.self.invariant.1)
 
 pub returns-clause-made : goal.returns-clause-made
-returns-clause-made g c = rw (← c.self.view_is, c.self.invariant.0.ends) (entry g c).grows
+returns-clause-made g c =
+    let a = c.self.inside in
+    let before = seen a.at_boot a.works a.history.items in
+    let after = seen a.at_boot c.begin.new.self c.push_reserved.new.self.items in
+    let grown : Grows before after before.opening.sessions (Begin (now_of before).ended) (begin_reply (now_of before)) =
+    subst (λ (t : State). Grows before after a.works.sessions (Begin t.ended) (begin_reply t)) (sym c.self.invariant.0.ends) (entry g c).grows in
+    subst (λ (h : History). Grows h after h.opening.sessions (Begin (now_of h).ended) (begin_reply (now_of h))) c.self.view_is grown
 
 -- the flight is that of the cycle that began
 pub returns-clause-flight : goal.returns-clause-flight

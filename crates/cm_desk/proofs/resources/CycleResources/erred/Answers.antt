@@ -3,5 +3,5 @@ use Rattle.rt_flight.specs.declared.context.CycleContext.{CycleContext}
 use Rattle.cm_desk.proofs.resources.CycleResources.erred.Goals as goal
 
 -- what works in a cycle is at home with them
-pub returns-in-Some : goal.returns-in-Some
-returns-in-Some c = c.as_slice.ensures.value ∙ ap (λ (k : CycleContext). k.erred.items) c.deref.ensures ∙ (rw (c.in-Some.is) at c.requires).erred
+pub returns : goal.returns
+returns c = c.as_slice.ensures.value ∙ ap (λ (k : CycleContext). k.erred.items) c.deref.ensures ∙ (rw (c.in-Some.is) at c.requires).erred

@@ -113,8 +113,8 @@ pub put-requires-clause-few : goal.put-requires-clause-few
 put-requires-clause-few g c = omega (arith, ap length c.as_slice.ensures, c.self-2.invariant.few, c.self-2.invariant.counted)
 
 -- what works in a cycle is at home then, and the list is empty,
-pub forget_erred-2-requires : goal.forget_erred-2-requires
-forget_erred-2-requires g c =
+pub forget_erred-requires-2 : goal.forget_erred-requires-2
+forget_erred-requires-2 g c =
     let a = c.self.inside in
     let s = state_of a in
     let b = c.self-2.inside in

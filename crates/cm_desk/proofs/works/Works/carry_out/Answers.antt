@@ -62,16 +62,16 @@ returns-in-Some g c = λ s left.
 
 -- ---- Nobody is
 
-pub decide_all-2-requires-clause-down : goal.decide_all-2-requires-clause-down
-decide_all-2-requires-clause-down g c = c.requires.down
+pub decide_all-requires-in-None-clause-down : goal.decide_all-requires-in-None-clause-down
+decide_all-requires-in-None-clause-down g c = c.requires.down
 
-pub decide_all-2-requires-clause-steady : goal.decide_all-2-requires-clause-steady
-decide_all-2-requires-clause-steady g c =
+pub decide_all-requires-in-None-clause-steady : goal.decide_all-requires-in-None-clause-steady
+decide_all-requires-in-None-clause-steady g c =
     let left = c.requires.can.1 in
     subst IsSteady (sym left.emptied) (emptied_steady c.requires.can.0 left.steady)
 
-pub decide_all-2-requires-clause-concluded : goal.decide_all-2-requires-clause-concluded
-decide_all-2-requires-clause-concluded g c =
+pub decide_all-requires-in-None-clause-concluded : goal.decide_all-requires-in-None-clause-concluded
+decide_all-requires-in-None-clause-concluded g c =
     let s = c.requires.can.0 in
     let left = c.requires.can.1 in
     subst (λ (t : State). AreConclusionsOf t (waiting t) c.args.conclusions.items)
@@ -79,5 +79,5 @@ decide_all-2-requires-clause-concluded g c =
 
 pub returns-in-None : goal.returns-in-None
 returns-in-None g c = λ s left.
-    c.decide_all-2.ensures
+    c.decide_all-in-None.ensures
     ∙ ap (λ (t : State). all_concluded t (waiting t)) (stood_without s c.args.self.now s.fallbacks left.emptied refl (rw (c.in-None.is) at left.first))
