@@ -1,7 +1,14 @@
 //! Runs in which the update of a controller fails that has fallbacks, and what is printed of who stands in.
 
+mod joints;
+mod lists;
+mod reasons;
+
+use joints::{ARM, LEFT_OUT, WITH_REQUESTS};
+use lists::{EACH_OTHER, LIST_BY_LIST, LISTS_BY_TURNS, MOCKS};
 use pages_cases::pages::hold;
 use pages_runs::runs::{BY_TURNS, OF_PROGRAM};
+use reasons::REASONS;
 use std::test::Fail;
 
 /// A mock whose update fails in cycle 1, and the forward that stands in for it, both ready.
@@ -302,12 +309,66 @@ loop begin 1: none
 loop end 1: fail arm read; joint j1 0.000000 0.000000 0.000000; stop fwd
 loop begin 2: none
 loop end 2: joint j1 0.000000 0.000000 0.000000
-loop close: none"#;
+loop close: none
+
+version = 1
+update_rate = 100
+cycles = 2
+[[controller]]
+name = "mk"
+type = "mock"
+fallback = ["spare"]
+fail_update = [1]
+[[controller]]
+name = "spare"
+type = "mock"
+--- script ---
+session s
+load mk
+load spare
+configure mk
+configure spare
+switch strict +mk
+await 2
+switch strict +spare
+list controllers
+=> ok
+s load mk: ok 0
+s load spare: ok 1
+s configure mk: ok
+s configure spare: ok
+s switch strict +mk: queued 0
+loop begin 0: 0 done
+loop end 0: run mk ok
+s told 0: done
+loop begin 1: none
+loop end 1: run mk error; stop mk
+s await 2: ok
+s switch strict +spare: queued 1
+loop close: 1 loop_ended
+s told 1: loop_ended
+s list controllers: mk mock inactive 0 every 1; spare mock inactive 1 every 1"#;
 
 #[test]
 fn fallbacks_stand_in_for_a_controller_whose_update_failed(rt: HostRuntime) -> Result<(), Fail> {
     let alloc = rt.alloc();
     hold(alloc, &OF_PROGRAM, ROBOT, STAND_INS)?;
     hold(alloc, &BY_TURNS, ROBOT, CALLS_BETWEEN)?;
-    hold(alloc, &OF_PROGRAM, "", NOBODY)
+    hold(alloc, &OF_PROGRAM, "", NOBODY)?;
+    hold(alloc, &OF_PROGRAM, "", REASONS)
+}
+
+#[test]
+fn the_lists_of_several_are_asked_for_as_one(rt: HostRuntime) -> Result<(), Fail> {
+    let alloc = rt.alloc();
+    hold(alloc, &OF_PROGRAM, MOCKS, LIST_BY_LIST)?;
+    hold(alloc, &BY_TURNS, MOCKS, LISTS_BY_TURNS)?;
+    hold(alloc, &OF_PROGRAM, "", EACH_OTHER)
+}
+
+#[test]
+fn a_fallback_is_left_out_for_what_stands_in_its_way(rt: HostRuntime) -> Result<(), Fail> {
+    let alloc = rt.alloc();
+    hold(alloc, &OF_PROGRAM, ARM, LEFT_OUT)?;
+    hold(alloc, &OF_PROGRAM, ARM, WITH_REQUESTS)
 }

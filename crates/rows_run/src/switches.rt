@@ -4,6 +4,7 @@ mod plans;
 mod stops;
 
 use pages_cases::pages::hold;
+use pages_runs::documents::MOVED;
 use pages_runs::runs::OF_PROGRAM;
 use plans::{CHAINS, FOLLOWER_RESTARTS, REFUSALS, ROBOT, WHILE_ACTIVE};
 use std::test::Fail;
@@ -12,6 +13,7 @@ use stops::{ARM_AND_LEG, OF_SEVERAL, ONE_OF_TWO};
 #[test]
 fn switches_take_effect(rt: HostRuntime) -> Result<(), Fail> {
     let alloc = rt.alloc();
+    hold(alloc, &OF_PROGRAM, MOVED, OF_MOVED)?;
     hold(alloc, &OF_PROGRAM, "", SWITCHES)?;
     hold(alloc, &OF_PROGRAM, "", REQUESTS)?;
     hold(alloc, &OF_PROGRAM, "", FAILURES)?;
@@ -28,30 +30,8 @@ fn a_switch_is_done_refused_or_left_in_part(rt: HostRuntime) -> Result<(), Fail>
     hold(alloc, &OF_PROGRAM, ARM_AND_LEG, ONE_OF_TWO)
 }
 
-/// What becomes of switches: the first whole run of one joint; a chain that was loaded in the wrong order; no names, a name twice and a
-/// restart by name; and a lower update rate, at which the value is taken in the next cycle that is due.
-pub const SWITCHES: &str = r#"version = 1
-update_rate = 100
-cycles = 3
-[[component]]
-name = "arm"
-kind = "actuator"
-[[component.joint]]
-name = "j1"
-vmax = 1
-command = ["position"]
-state = ["position"]
-[[controller]]
-name = "fwd"
-type = "forward"
-claims = ["j1/position"]
---- script ---
-session a
-load fwd
-configure fwd
-switch strict +fwd
-send fwd 0.5
-=> ok
+/// The first whole run of one joint.
+const OF_MOVED: &str = "=> ok
 a load fwd: ok 0
 a configure fwd: ok
 a switch strict +fwd: queued 0
@@ -63,9 +43,11 @@ loop begin 1: none
 loop end 1: run fwd ok 0.500000; joint j1 0.010000 1.000000 0.000000
 loop begin 2: none
 loop end 2: run fwd ok 0.500000; joint j1 0.020000 1.000000 0.000000
-loop close: none
+loop close: none";
 
-version = 1
+/// What becomes of switches: a chain that was loaded in the wrong order; no names, a name twice and a restart by name; and
+/// a lower update rate, at which the value is taken in the next cycle that is due.
+pub const SWITCHES: &str = r#"version = 1
 update_rate = 100
 cycles = 3
 [[component]]
