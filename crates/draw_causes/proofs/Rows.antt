@@ -8,7 +8,7 @@ use Rattle.cm_model.specs.declared.cause.Cause.TheVariants as cause
 use Rattle.cm_model.specs.declared.reply.Why.TheVariants as why
 use Rattle.draw_causes.specs.declared.failures.Failure.TheVariants as failure
 use Rattle.draw_causes.specs.declared.failures.StopKind.TheVariants as stop
-use Rattle.draw_causes.specs.Words.{is_own, why_words, why_mend, draw_causes, cause_mend, failure_mend, stop_words}
+use Rattle.draw_causes.specs.Words.{is_own, why_words, why_mend, cause_words, cause_mend, fallback_mend, failure_mend, stop_words}
 use Rattle.draw_causes.specs.Words.{stop_mend}
 
 -- a joint's own interface, and a reference for it
@@ -31,15 +31,15 @@ it_is_of_another = refl
 it_is_its_own : is_own (codes "pt") (cause.MissingFollower reference) ≡ true
 it_is_its_own = refl
 
-of_the_leader : draw_causes (codes "lead") (cause.MissingFollower reference)
+of_the_leader : cause_words (codes "lead") (cause.MissingFollower reference)
     ≡ codes "lead claims pt/j1/position, whose controller would not be active"
 of_the_leader = refl
 
-of_the_follower : draw_causes (codes "pt") (cause.MissingFollower reference)
+of_the_follower : cause_words (codes "pt") (cause.MissingFollower reference)
     ≡ codes "pt is needed, because pt/j1/position is claimed"
 of_the_follower = refl
 
-of_both : draw_causes (codes "other") (cause.Conflict own (codes "fwd"))
+of_both : cause_words (codes "other") (cause.Conflict own (codes "fwd"))
     ≡ codes "other claims j1/position, which fwd claims, too"
 of_both = refl
 
@@ -47,10 +47,21 @@ both_are_mended : cause_mend (codes "other") (cause.Conflict own (codes "fwd"))
     ≡ codes "have only one of other and fwd active at a time"
 both_are_mended = refl
 
+-- A fallback that is active already is not to be taken off a list; one in conflict is mended like any other.
+it_goes_on : fallback_mend (codes "fwd") cause.AlreadyActive ≡ codes "nothing, fwd goes on"
+it_goes_on = refl
+
+it_is_to_be_loaded : fallback_mend (codes "fwd") cause.Unknown ≡ codes "load and configure fwd first"
+it_is_to_be_loaded = refl
+
+it_is_at_odds : fallback_mend (codes "other") (cause.Conflict own (codes "fwd"))
+    ≡ codes "have only one of other and fwd active at a time"
+it_is_at_odds = refl
+
 a_read : failure_mend failure.Read ≡ codes "take the cycle out of its fail_read in the document"
 a_read = refl
 
-two_modes : draw_causes (codes "speed") (cause.ModeRefused (codes "j1"))
+two_modes : cause_words (codes "speed") (cause.ModeRefused (codes "j1"))
     ≡ codes "speed would have j1 driven in two modes"
 two_modes = refl
 

@@ -76,21 +76,21 @@ missing_mend name interface =
     ++ (interface_text interface ++ (codes " active whenever " ++ (name ++ codes " is")))
 
 -- what speaks against a name
-abbrev pub draw_causes : List ℕ → Cause → List ℕ
-draw_causes name cause.Unknown = name ++ codes " is not there"
-draw_causes name cause.Twice = name ++ codes " is named twice in one list"
-draw_causes name cause.NotActive = name ++ codes " is not active"
-draw_causes name cause.NotConfigured = name ++ codes " is not configured"
-draw_causes name cause.AlreadyActive = name ++ codes " is active already"
-draw_causes name (cause.MissingFollower interface) = missing_words name interface
-draw_causes name (cause.Unavailable interface) =
+abbrev pub cause_words : List ℕ → Cause → List ℕ
+cause_words name cause.Unknown = name ++ codes " is not there"
+cause_words name cause.Twice = name ++ codes " is named twice in one list"
+cause_words name cause.NotActive = name ++ codes " is not active"
+cause_words name cause.NotConfigured = name ++ codes " is not configured"
+cause_words name cause.AlreadyActive = name ++ codes " is active already"
+cause_words name (cause.MissingFollower interface) = missing_words name interface
+cause_words name (cause.Unavailable interface) =
     name ++ codes " needs " ++ interface_text interface ++ codes ", which is not available"
-draw_causes name (cause.Conflict interface owner) =
+cause_words name (cause.Conflict interface owner) =
     name ++ (codes " claims " ++ (interface_text interface ++ (codes ", which " ++ (owner ++ codes " claims, too"))))
-draw_causes name (cause.ModeRefused joint) = name ++ (codes " would have " ++ (joint ++ codes " driven in two modes"))
-draw_causes name cause.NotReady = name ++ codes " is not ready"
-draw_causes name cause.NoSuchMove = name ++ codes " cannot go there"
-draw_causes name (cause.InUse controller) = name ++ codes " is in use by " ++ controller
+cause_words name (cause.ModeRefused joint) = name ++ (codes " would have " ++ (joint ++ codes " driven in two modes"))
+cause_words name cause.NotReady = name ++ codes " is not ready"
+cause_words name cause.NoSuchMove = name ++ codes " cannot go there"
+cause_words name (cause.InUse controller) = name ++ codes " is in use by " ++ controller
 
 -- what would mend it
 abbrev pub cause_mend : List ℕ → Cause → List ℕ
@@ -110,6 +110,13 @@ cause_mend name (cause.ModeRefused joint) =
 cause_mend name cause.NotReady = codes "ask for " ++ name ++ codes " again in a later cycle"
 cause_mend name cause.NoSuchMove = codes "leave " ++ name ++ codes " as it is, because it is finalized"
 cause_mend name (cause.InUse controller) = codes "deactivate " ++ controller ++ codes " first"
+
+-- What would mend that a fallback was left out, which no session asked for.
+abbrev pub fallback_mend : List ℕ → Cause → List ℕ
+fallback_mend name cause.Unknown = codes "load and configure " ++ name ++ codes " first"
+fallback_mend name cause.Twice = codes "nothing, " ++ name ++ codes " is asked for once"
+fallback_mend name cause.AlreadyActive = codes "nothing, " ++ name ++ codes " goes on"
+fallback_mend name cause = cause_mend name cause
 
 -- ---- Failures and stops
 

@@ -2,7 +2,7 @@
 
 ghost use Rattle.std.specs.Prelude.{◌≡◌, ◌++◌, OnOk, string_bytes};
 ghost use Rattle.iface_names.specs.Names.{same_name};
-ghost use Rattle.draw_causes.specs.Words.{is_reference_of, is_own, draw_causes, cause_mend};
+ghost use Rattle.draw_causes.specs.Words.{is_reference_of, is_own, cause_words, cause_mend, fallback_mend};
 ghost use Rattle.draw_causes.specs.Words.{missing_words, missing_mend};
 
 use cm_model::Cause;
@@ -35,7 +35,7 @@ fn is_reference_of(interface: &IfaceName, name: &Name) -> bool
 
 /// Appends what speaks against a name.
 pub fn push_cause(text: &mut String, name: &Name, cause: &Cause) -> Result<(), Memory>
-    ensures { OnOk result (string_bytes text.new ≡ string_bytes text.old ++ draw_causes name.now cause.now) }
+    ensures { OnOk result (string_bytes text.new ≡ string_bytes text.old ++ cause_words name.now cause.now) }
 {
     match cause {
         Cause::Unknown => write!(text, "{name} is not there")?,
@@ -104,6 +104,19 @@ pub fn push_cause_mend(text: &mut String, name: &Name, cause: &Cause) -> Result<
         Cause::NotReady => write!(text, "ask for {name} again in a later cycle")?,
         Cause::NoSuchMove => write!(text, "leave {name} as it is, because it is finalized")?,
         Cause::InUse(controller) => write!(text, "deactivate {controller} first")?,
+    }
+    Ok(())
+}
+
+/// Appends what would mend that a fallback was left out.
+pub fn push_fallback_mend(text: &mut String, name: &Name, cause: &Cause) -> Result<(), Memory>
+    ensures { OnOk result (string_bytes text.new ≡ string_bytes text.old ++ fallback_mend name.now cause.now) }
+{
+    match cause {
+        Cause::Unknown => write!(text, "load and configure {name} first")?,
+        Cause::Twice => write!(text, "nothing, {name} is asked for once")?,
+        Cause::AlreadyActive => write!(text, "nothing, {name} goes on")?,
+        _ => push_cause_mend(text, name, cause)?,
     }
     Ok(())
 }

@@ -2,7 +2,7 @@
 //! `specs/Words.antt` is the table of the sentences.
 #![tactic(auto)]
 
-pub use causes::{is_own, push_cause, push_cause_mend};
+pub use causes::{is_own, push_cause, push_cause_mend, push_fallback_mend};
 pub use failures::{Failure, StopKind, failure_mend, failure_words, push_stop, push_stop_mend};
 pub use whys::{CLOSED_MEND, why_mend, why_words};
 
