@@ -1,8 +1,11 @@
-//! What a run leaves behind, in words.
+//! What a run leaves behind: its history, and its book in words.
 
+use crate::runs::{OF_PROGRAM, ample_sink, run_over};
 use cm_desk::Book;
+use cm_model::Entry;
 use cm_top::Status;
 use ctl_trait::Controller;
+use pages_calls::stocks::blanks;
 use std::alloc::Global;
 use std::test::Fail;
 
@@ -47,4 +50,16 @@ fn push_unready<C: Controller>(told: &mut String, ctl: &C, cycle: u64) -> Result
         write!(told, ", not ready in {cycle}")?;
     }
     Ok(())
+}
+
+/// The history of the run of a document, over so many blanks of each kind.
+pub fn history_of(alloc: Global, text: &str, in_stock: u32) -> Result<Vec<Entry>, Fail> {
+    let mut source = OF_PROGRAM.source(alloc, text)?;
+    let mut sink = ample_sink(alloc)?;
+    let blanks = blanks(alloc, in_stock)?;
+    let (_, book) = run_over(alloc, &mut source, &mut sink, blanks);
+    match book {
+        Some(Book { history, .. }) => Ok(history),
+        None => Err(Fail::new("the run leaves no book")),
+    }
 }

@@ -29,3 +29,27 @@ controller = [
     { name = "mk", type = "mock" },
 ]
 "#;
+
+/// A joint that a controller moves for three cycles: 321 bytes. Further lines of its session may follow.
+pub const MOVED: &str = r#"version = 1
+update_rate = 100
+cycles = 3
+[[component]]
+name = "arm"
+kind = "actuator"
+[[component.joint]]
+name = "j1"
+vmax = 1
+command = ["position"]
+state = ["position"]
+[[controller]]
+name = "fwd"
+type = "forward"
+claims = ["j1/position"]
+--- script ---
+session a
+load fwd
+configure fwd
+switch strict +fwd
+send fwd 0.5
+"#;

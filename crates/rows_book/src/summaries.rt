@@ -1,13 +1,13 @@
 //! Summaries of the histories that runs leave behind, and of those of made documents.
 
-use cm_desk::Book;
 use cm_document::Checked;
 use cm_model::Entry;
 use make_document::make_document;
 use pages_calls::described::described;
-use pages_calls::stocks::blanks;
 use pages_cases::pages::{Teller, halves, hold};
-use pages_runs::runs::{IN_STOCK, OF_PROGRAM, ample_sink, run_over, without_end};
+use pages_runs::books::history_of;
+use pages_runs::documents::{FIRST, MOVED};
+use pages_runs::runs::{IN_STOCK, ample_sink, without_end};
 use std::alloc::Global;
 use std::str;
 use std::test::Fail;
@@ -21,7 +21,7 @@ impl Teller for Summaries {
     fn told(&self, alloc: Global, text: &str) -> Result<String, Fail> {
         let (description, _) = halves(text, "--- script ---\n")?;
         let checked = described(alloc, description)?;
-        let history = history_of(alloc, text)?;
+        let history = history_of(alloc, text, IN_STOCK)?;
         summed_up(alloc, &checked, history.as_slice())
     }
 }
@@ -37,18 +37,6 @@ impl Teller for OfMade {
     }
 }
 
-/// The history of the run of a document.
-fn history_of(alloc: Global, text: &str) -> Result<Vec<Entry>, Fail> {
-    let mut source = OF_PROGRAM.source(alloc, text)?;
-    let mut sink = ample_sink(alloc)?;
-    let blanks = blanks(alloc, IN_STOCK)?;
-    let (_, book) = run_over(alloc, &mut source, &mut sink, blanks);
-    match book {
-        Some(Book { history, .. }) => Ok(history),
-        None => Err(Fail::new("no book")),
-    }
-}
-
 fn summed_up(alloc: Global, checked: &Checked, history: &[Entry]) -> Result<String, Fail> {
     let mut sink = ample_sink(alloc)?;
     write_summary(alloc, &mut sink, checked, history)?;
@@ -57,7 +45,10 @@ fn summed_up(alloc: Global, checked: &Checked, history: &[Entry]) -> Result<Stri
 
 #[test]
 fn a_history_is_summed_up(rt: HostRuntime) -> Result<(), Fail> {
-    hold(rt.alloc(), &Summaries, "", OF_RUNS)
+    let alloc = rt.alloc();
+    hold(alloc, &Summaries, FIRST, OF_FIRST)?;
+    hold(alloc, &Summaries, MOVED, OF_MOVED)?;
+    hold(alloc, &Summaries, "", AT_CLOSE)
 }
 
 #[test]
@@ -65,54 +56,22 @@ fn runs_of_made_documents_are_summed_up(rt: HostRuntime) -> Result<(), Fail> {
     hold(rt.alloc(), &OfMade, "", OF_MADE)
 }
 
-/// Calls that do nothing are entries too. A value is sent after the first cycle and brings the joint on in the two others; then a
-/// name that is not loaded, which is refused; and a switch that still waits at the close, at a described position.
-const OF_RUNS: &str = r#"version = 1
-update_rate = 100
-cycles = 2
-[[controller]]
-name = "mk"
-type = "mock"
---- script ---
-session a
-load mk
-list controllers
-load nosuch
-load mk
-=> cycles 2
+/// Calls that do nothing are entries too.
+const OF_FIRST: &str = "=> cycles 2
 entries 9
 updates 0
-asks 0 done 0 refused 0 ended 0
+asks 0 done 0 refused 0 ended 0";
 
-version = 1
-update_rate = 100
-cycles = 3
-[[component]]
-name = "arm"
-kind = "actuator"
-[[component.joint]]
-name = "j1"
-vmax = 1
-command = ["position"]
-state = ["position"]
-[[controller]]
-name = "fwd"
-type = "forward"
-claims = ["j1/position"]
---- script ---
-session a
-load fwd
-configure fwd
-switch strict +fwd
-send fwd 0.5
-switch strict +nosuch
+/// A value is sent after the first cycle and brings the joint on in the two others; then a name that is not loaded is refused.
+const OF_MOVED: &str = "switch strict +nosuch
 => cycles 3
 entries 14
 updates 3
 asks 2 done 1 refused 1 ended 0
-joint j1 0.020000
+joint j1 0.020000";
 
-version = 1
+/// A switch still waits at the close, at a described position.
+const AT_CLOSE: &str = r#"version = 1
 update_rate = 100
 cycles = 0
 [[component]]

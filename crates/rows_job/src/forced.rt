@@ -22,6 +22,11 @@ fn two_sessions_call_in_either_order(rt: HostRuntime) -> Result<(), Fail> {
 }
 
 #[test]
+fn a_session_calls_between_a_failure_and_who_stands_in(rt: HostRuntime) -> Result<(), Fail> {
+    hold(&rt, rt.alloc(), STAND_INS, TIMES)
+}
+
+#[test]
 fn each_order_that_session_a_begins_prints_what_its_turns_print(
     rt: HostRuntime,
 ) -> Result<(), Fail> {
@@ -93,6 +98,98 @@ loop begin 0: none
 b load fwd: ok 0
 a load fwd: loaded
 loop end 0: joint j1 0.000000 0.000000 0.000000
+loop close: none";
+
+/// A mock fails in cycle 1. The session calls while the cycle is aloft in which another one stands in for it; or in the
+/// pause before that, where it takes away who is to stand in, or asks for it too late.
+const STAND_INS: &str = "cycles = 3
+--- script ---
+session a
+load mk
+load fwd
+configure mk
+configure fwd
+switch strict +mk
+list components
+unload fwd
+order: begun 0, before 0 0, answered 0 4, computed 0, begun 1, before 0 5, answered 0 5, computed 1, \
+begun 2, before 0 6, answered 0 6, computed 2
+=> ok
+loop begin 0: none
+a load mk: ok 0
+a load fwd: ok 1
+a configure mk: ok
+a configure fwd: ok
+a switch strict +mk: queued 0
+loop end 0: joint j1 0.000000 0.000000 0.000000
+loop begin 1: 0 done
+a told 0: done
+a list components: arm actuator active
+loop end 1: run mk error; joint j1 0.000000 0.000000 0.000000; stop mk
+loop begin 2: fallback done
+a unload fwd: active
+loop end 2: run fwd ok unset; joint j1 0.000000 0.000000 0.000000
+loop close: none
+
+cycles = 3
+--- script ---
+session a
+load mk
+load fwd
+configure mk
+configure fwd
+switch strict +mk
+list components
+unload fwd
+order: begun 0, before 0 0, answered 0 4, computed 0, begun 1, before 0 5, answered 0 5, computed 1, \
+landed 1, before 0 6, answered 0 6, paused 1, begun 2
+=> ok
+loop begin 0: none
+a load mk: ok 0
+a load fwd: ok 1
+a configure mk: ok
+a configure fwd: ok
+a switch strict +mk: queued 0
+loop end 0: joint j1 0.000000 0.000000 0.000000
+loop begin 1: 0 done
+a told 0: done
+a list components: arm actuator active
+loop end 1: run mk error; joint j1 0.000000 0.000000 0.000000; stop mk
+a unload fwd: ok
+loop begin 2: fallback done dropped fwd unknown
+loop end 2: joint j1 0.000000 0.000000 0.000000
+loop close: none
+
+cycles = 3
+--- script ---
+session a
+load mk
+load fwd
+configure mk
+configure fwd
+switch strict +mk
+list components
+switch strict +fwd
+list components
+order: begun 0, before 0 0, answered 0 4, computed 0, begun 1, before 0 5, answered 0 5, computed 1, \
+landed 1, before 0 6, answered 0 6, paused 1, begun 2, before 0 7, answered 0 7, computed 2
+=> ok
+loop begin 0: none
+a load mk: ok 0
+a load fwd: ok 1
+a configure mk: ok
+a configure fwd: ok
+a switch strict +mk: queued 0
+loop end 0: joint j1 0.000000 0.000000 0.000000
+loop begin 1: 0 done
+a told 0: done
+a list components: arm actuator active
+loop end 1: run mk error; joint j1 0.000000 0.000000 0.000000; stop mk
+a switch strict +fwd: queued 1
+loop begin 2: fallback done; 1 refused fwd already_active
+a told 1: refused fwd already_active
+a list components: arm actuator active
+loop end 2: run fwd ok unset; joint j1 0.000000 0.000000 0.000000
 loop close: none";
 
 /// The script of the orders: each session has two lines.

@@ -18,7 +18,8 @@ use std::sync::Wait;
 use std::test::Fail;
 use std::thread::Threads;
 
-/// A document of one joint with a controller. The cycles and the script stand behind it.
+/// A document of one joint with a controller, and with a mock for which that one stands in. The cycles and the script
+/// stand behind it.
 pub const ARM: &str = r#"version = 1
 update_rate = 100
 component = [
@@ -26,7 +27,10 @@ component = [
         { name = "j1", vmax = 1, command = ["position"], state = ["position"] },
     ] },
 ]
-controller = [{ name = "fwd", type = "forward", claims = ["j1/position"] }]
+controller = [
+    { name = "fwd", type = "forward", claims = ["j1/position"] },
+    { name = "mk", type = "mock", fallback = ["fwd"], fail_update = [1] },
+]
 "#;
 
 /// What stands before the marks, in the last line of a case.

@@ -1,14 +1,121 @@
 //! The pages and the whys of documents that are run over a stock.
 
-use cm_desk::Book;
 use cm_document::{Document, LONGEST_DOCUMENT};
 use cm_model::Entry;
 use cm_top::read_document;
 use draw_page::{page_of, whys_of};
-use pages_calls::stocks::blanks;
-use pages_runs::runs::{IN_STOCK, OF_PROGRAM, ample_sink, run_over};
+use pages_cases::pages::Teller;
+use pages_runs::books::history_of;
+use pages_runs::runs::{IN_STOCK, without_end};
 use std::alloc::Global;
 use std::test::Fail;
+
+/// What stands before all documents here but the longest one.
+pub const HEAD: &str = "version = 1\nupdate_rate = 100\n";
+
+/// A chain above a joint that cannot be read in cycle 2, a broadcaster of one that cannot be written in cycle 3 and is
+/// finalized for that, and a mock whose update fails in cycle 1. A script follows.
+pub const FAILING: &str = r#"version = 1
+update_rate = 100
+cycles = 6
+[[component]]
+name = "arm"
+kind = "actuator"
+fail_read = [2]
+[[component.joint]]
+name = "j1"
+vmax = 1
+command = ["position"]
+state = ["position"]
+[[component]]
+name = "hand"
+kind = "actuator"
+on_error = "finalized"
+fail_write = [3]
+[[component.joint]]
+name = "k1"
+vmax = 1
+command = ["position"]
+state = ["position"]
+[[controller]]
+name = "pt"
+type = "passthrough"
+claims = ["j1/position"]
+[[controller]]
+name = "lead"
+type = "forward"
+claims = ["pt/j1/position"]
+[[controller]]
+name = "jsb"
+type = "broadcaster"
+reads = ["k1/position"]
+[[controller]]
+name = "mk"
+type = "mock"
+fail_update = [1]
+--- script ---
+"#;
+
+/// Two mocks fail in cycle 1. Of those that they name one is not loaded, one is active, one commands that one's joint,
+/// and one is named by both.
+pub const STAND_INS: &str = r#"version = 1
+update_rate = 100
+cycles = 3
+[[component]]
+name = "arm"
+kind = "actuator"
+joint = [{ name = "j1", vmax = 1, command = ["position"] }]
+[[controller]]
+name = "mk"
+type = "mock"
+fallback = ["spare", "other", "idle", "fwd"]
+fail_update = [1]
+[[controller]]
+name = "mk2"
+type = "mock"
+fallback = ["idle"]
+fail_update = [1]
+[[controller]]
+name = "fwd"
+type = "forward"
+claims = ["j1/position"]
+[[controller]]
+name = "other"
+type = "forward"
+claims = ["j1/position"]
+[[controller]]
+name = "idle"
+type = "mock"
+[[controller]]
+name = "spare"
+type = "mock"
+--- script ---
+session a
+load mk
+load mk2
+load fwd
+load other
+load idle
+configure mk
+configure mk2
+configure fwd
+configure other
+configure idle
+switch strict +mk +mk2 +fwd
+"#;
+
+/// Tells what was not done as asked in the run of a document, or went wrong, over so many blanks of each kind.
+#[derive(Clone, Copy)]
+pub struct Whys {
+    pub in_stock: u32,
+}
+
+impl Teller for Whys {
+    fn told(&self, alloc: Global, text: &str) -> Result<String, Fail> {
+        let told = whys(alloc, text, self.in_stock)?;
+        without_end(alloc, told.as_str())
+    }
+}
 
 /// The page that shows the run of a document.
 pub fn drawn(alloc: Global, text: &str) -> Result<String, Fail> {
@@ -17,8 +124,7 @@ pub fn drawn(alloc: Global, text: &str) -> Result<String, Fail> {
     page(alloc, &document, history.as_slice())
 }
 
-/// What was not done as asked in the run of a document, or went wrong, over so many blanks of each kind.
-pub fn whys(alloc: Global, text: &str, in_stock: u32) -> Result<String, Fail> {
+fn whys(alloc: Global, text: &str, in_stock: u32) -> Result<String, Fail> {
     let document = read(alloc, text.as_bytes())?;
     let history = history_of(alloc, text, in_stock)?;
     told(alloc, &document, history.as_slice())
@@ -32,18 +138,6 @@ fn read(alloc: Global, bytes: &[u8]) -> Result<Document, Fail> {
     match read_document(alloc, bytes) {
         Ok(document) => Ok(document),
         Err(_) => Err(Fail::new("the document is refused")),
-    }
-}
-
-/// The history of the run of a document, over so many blanks of each kind.
-fn history_of(alloc: Global, text: &str, in_stock: u32) -> Result<Vec<Entry>, Fail> {
-    let mut source = OF_PROGRAM.source(alloc, text)?;
-    let mut sink = ample_sink(alloc)?;
-    let blanks = blanks(alloc, in_stock)?;
-    let (_, book) = run_over(alloc, &mut source, &mut sink, blanks);
-    match book {
-        Some(Book { history, .. }) => Ok(history),
-        None => Err(Fail::new("the run leaves no book")),
     }
 }
 

@@ -1,80 +1,72 @@
-//! Why something was not done in a run, or went wrong, in words, with what would mend it: each reason, cause, failure and stop.
+//! Why something was not done in a run, or went wrong, in words, with what would mend it: each reason, cause, failure
+//! and stop.
 
-use crate::drawn::whys;
+use crate::drawn::{FAILING, HEAD, STAND_INS, Whys};
+use pages_cases::pages::hold;
 use pages_runs::runs::IN_STOCK;
-use std::alloc::Global;
 use std::test::Fail;
+
+/// What is told of runs over the program's stock.
+const OF_PROGRAM: Whys = Whys { in_stock: IN_STOCK };
 
 #[test]
 fn each_reason_of_a_call_that_does_nothing_is_told(rt: HostRuntime) -> Result<(), Fail> {
-    hold(rt.alloc(), CALLS, IN_STOCK, CALLS_TOLD)?;
-    hold(rt.alloc(), STOCK, 1, STOCK_TOLD)?;
-    hold(rt.alloc(), LATE, IN_STOCK, LATE_TOLD)
+    let alloc = rt.alloc();
+    hold(alloc, &OF_PROGRAM, HEAD, CALLS)?;
+    hold(alloc, &Whys { in_stock: 1 }, HEAD, OF_ONE_BLANK)?;
+    hold(alloc, &OF_PROGRAM, HEAD, LATE)
 }
 
 #[test]
 fn each_cause_of_a_refusal_is_told(rt: HostRuntime) -> Result<(), Fail> {
-    hold(rt.alloc(), CAUSES, IN_STOCK, CAUSES_TOLD)
+    hold(rt.alloc(), &OF_PROGRAM, HEAD, CAUSES)
 }
 
 #[test]
 fn each_failure_and_stop_is_told(rt: HostRuntime) -> Result<(), Fail> {
-    hold(rt.alloc(), FAILING, IN_STOCK, FAILING_TOLD)
+    hold(rt.alloc(), &OF_PROGRAM, FAILING, FAILURES)
+}
+
+#[test]
+fn each_fallback_that_is_left_out_is_told(rt: HostRuntime) -> Result<(), Fail> {
+    hold(rt.alloc(), &OF_PROGRAM, STAND_INS, LEFT_OUT)
 }
 
 #[test]
 fn a_run_in_which_all_was_done_says_so(rt: HostRuntime) -> Result<(), Fail> {
-    hold(rt.alloc(), QUIET, IN_STOCK, QUIET_TOLD)
+    hold(rt.alloc(), &OF_PROGRAM, HEAD, QUIET)
 }
 
-/// Fails if the run of this document over so many blanks of each kind is not told so.
-fn hold(alloc: Global, document: &str, in_stock: u32, told: &str) -> Result<(), Fail> {
-    let found = whys(alloc, document, in_stock)?;
-    if found.as_str() == told {
-        return Ok(());
-    }
-    Err(Fail::new(format!(in alloc; "it is told\n{found}and not\n{told}")?))
-}
-
-/// Calls before the first cycle, and calls while a chain and a broadcaster run.
-const CALLS: &str = "\
-version = 1
-update_rate = 100
-cycles = 2
-
+/// Calls before the first cycle, and calls while a chain and a broadcaster run. A controller that is not loaded is told
+/// before one that is not active; one that is chained before what it is sent.
+const CALLS: &str = r#"cycles = 2
 [[component]]
-name = \"arm\"
-kind = \"system\"
-
+name = "arm"
+kind = "system"
 [[component.joint]]
-name = \"j1\"
+name = "j1"
 vmax = 1
-command = [\"position\", \"velocity\"]
-state = [\"position\"]
-
+command = ["position", "velocity"]
+state = ["position"]
 [[controller]]
-name = \"fwd\"
-type = \"forward\"
-claims = [\"j1/position\"]
-
+name = "fwd"
+type = "forward"
+claims = ["j1/position"]
 [[controller]]
-name = \"pt\"
-type = \"passthrough\"
-claims = [\"j1/position\"]
-
+name = "pt"
+type = "passthrough"
+claims = ["j1/position"]
 [[controller]]
-name = \"lead\"
-type = \"forward\"
-claims = [\"pt/j1/position\"]
-
+name = "lead"
+type = "forward"
+claims = ["pt/j1/position"]
 [[controller]]
-name = \"jsb\"
-type = \"broadcaster\"
-reads = [\"j1/position\"]
-
+name = "jsb"
+type = "broadcaster"
+reads = ["j1/position"]
 [[controller]]
-name = \"odd\"
-type = \"mock\"
+name = "odd"
+type = "mock"
 refuse_config = true
 --- script ---
 session a
@@ -97,11 +89,7 @@ send pt 0.1
 send jsb 0.1
 send lead 0.1 0.2
 unload lead
-";
-
-/// A controller that is not loaded is told before one that is not active; one that is chained before what it is sent.
-const CALLS_TOLD: &str = "\
-cycle 0, a: load ghost: refused, it is not described
+=> cycle 0, a: load ghost: refused, it is not described
     mend: name a controller that the document describes
 cycle 0, a: send fwd 0.100000: refused, it is not loaded
     mend: load it first, or leave this call out
@@ -120,44 +108,30 @@ cycle 1, a: send jsb 0.100000: refused, it takes no values
 cycle 1, a: send lead 0.100000 0.200000: refused, the values do not fit what it claims
     mend: send what its type takes, with one value for each of its claims
 cycle 1, a: unload lead: refused, it is active
-    mend: deactivate it first
-";
+    mend: deactivate it first"#;
 
-/// A second mock where the stock has one.
-const STOCK: &str = "\
-version = 1
-update_rate = 100
-cycles = 1
-
+/// A second mock where the stock has one. An unload gives no blank back.
+const OF_ONE_BLANK: &str = r#"cycles = 1
 [[controller]]
-name = \"mk\"
-type = \"mock\"
-
+name = "mk"
+type = "mock"
 [[controller]]
-name = \"mk2\"
-type = \"mock\"
+name = "mk2"
+type = "mock"
 --- script ---
 session a
 load mk
 unload mk
 load mk2
-";
+=> cycle 0, a: load mk2: refused, none of its type is left in stock
+    mend: load fewer of its type, because an unload gives none back"#;
 
-/// An unload gives no blank back.
-const STOCK_TOLD: &str = "\
-cycle 0, a: load mk2: refused, none of its type is left in stock
-    mend: load fewer of its type, because an unload gives none back
-";
-
-/// More requests than can wait before the only cycle, one that waits as the loop closes, and one after that.
-const LATE: &str = "\
-version = 1
-update_rate = 100
-cycles = 1
-
+/// More requests than can wait before the only cycle, one that waits as the loop closes, and one after that. Four may
+/// wait, so the fifth is turned away.
+const LATE: &str = r#"cycles = 1
 [[controller]]
-name = \"mk\"
-type = \"mock\"
+name = "mk"
+type = "mock"
 --- script ---
 session a
 load mk
@@ -173,92 +147,71 @@ session d
 switch strict
 session e
 switch strict
-";
-
-/// Four may wait, so the fifth is turned away.
-const LATE_TOLD: &str = "\
-cycle 0, e: switch strict: refused, the queue is full
+=> cycle 0, e: switch strict: refused, the queue is full
     mend: wait until a request is decided, and ask again
 at the close, a: switch strict +mk: not decided, the loop closed
     mend: ask in an earlier cycle, or let the document run more cycles
 after the close, a: switch strict: refused, the loop is closed
-    mend: ask in an earlier cycle, or let the document run more cycles
-";
+    mend: ask in an earlier cycle, or let the document run more cycles"#;
 
-/// A request a cycle. That of cycle 3 brings on fwd, and that of cycle 14 a chain in its place.
-const CAUSES: &str = "\
-version = 1
-update_rate = 100
-cycles = 17
-
+/// A request a cycle. That of cycle 3 brings on fwd, and that of cycle 14 a chain in its place. From there on lead
+/// commands pt, which may therefore not leave alone.
+const CAUSES: &str = r#"cycles = 17
 [[component]]
-name = \"arm\"
-kind = \"system\"
-
+name = "arm"
+kind = "system"
 [[component.joint]]
-name = \"j1\"
+name = "j1"
 vmax = 1
-command = [\"position\", \"velocity\"]
-state = [\"position\"]
-
+command = ["position", "velocity"]
+state = ["position"]
 [[component]]
-name = \"leg\"
-kind = \"actuator\"
-initial = \"unconfigured\"
-
+name = "leg"
+kind = "actuator"
+initial = "unconfigured"
 [[component.joint]]
-name = \"k1\"
+name = "k1"
 vmax = 1
-command = [\"position\"]
-state = [\"position\"]
-
+command = ["position"]
+state = ["position"]
 [[component]]
-name = \"probe\"
-kind = \"sensor\"
-initial = \"finalized\"
-
+name = "probe"
+kind = "sensor"
+initial = "finalized"
 [[component.joint]]
-name = \"tip\"
+name = "tip"
 vmax = 0
-state = [\"position\"]
-
+state = ["position"]
 [[controller]]
-name = \"fwd\"
-type = \"forward\"
-claims = [\"j1/position\"]
-
+name = "fwd"
+type = "forward"
+claims = ["j1/position"]
 [[controller]]
-name = \"other\"
-type = \"forward\"
-claims = [\"j1/position\"]
-
+name = "other"
+type = "forward"
+claims = ["j1/position"]
 [[controller]]
-name = \"speed\"
-type = \"forward\"
-claims = [\"j1/velocity\"]
-
+name = "speed"
+type = "forward"
+claims = ["j1/velocity"]
 [[controller]]
-name = \"step\"
-type = \"forward\"
-claims = [\"k1/position\"]
-
+name = "step"
+type = "forward"
+claims = ["k1/position"]
 [[controller]]
-name = \"pt\"
-type = \"passthrough\"
-claims = [\"j1/position\"]
-
+name = "pt"
+type = "passthrough"
+claims = ["j1/position"]
 [[controller]]
-name = \"lead\"
-type = \"forward\"
-claims = [\"pt/j1/position\"]
-
+name = "lead"
+type = "forward"
+claims = ["pt/j1/position"]
 [[controller]]
-name = \"raw\"
-type = \"mock\"
-
+name = "raw"
+type = "mock"
 [[controller]]
-name = \"mk\"
-type = \"mock\"
+name = "mk"
+type = "mock"
 not_ready = [8]
 --- script ---
 session a
@@ -294,11 +247,7 @@ hw ghost active
 switch best -fwd +pt +lead
 switch best -pt +raw
 switch strict -pt
-";
-
-/// From cycle 14 on lead commands pt, which may therefore not leave alone.
-const CAUSES_TOLD: &str = "\
-cycle 0, a: switch strict +fwd +fwd: refused, fwd is named twice in one list
+=> cycle 0, a: switch strict +fwd +fwd: refused, fwd is named twice in one list
     mend: name fwd once in each list
 cycle 1, a: switch strict -fwd: refused, fwd is not active
     mend: leave fwd off the list to deactivate
@@ -329,60 +278,10 @@ cycle 15, a: switch best -pt +raw: left out, pt is needed, because pt/j1/positio
 cycle 15, a: switch best -pt +raw: left out, raw is not configured
     mend: configure raw first
 cycle 16, a: switch strict -pt: refused, lead claims pt/j1/position, whose controller would not be active
-    mend: have the controller of pt/j1/position active whenever lead is
-";
+    mend: have the controller of pt/j1/position active whenever lead is"#;
 
-/// A chain above a joint that cannot be read in cycle 2, a broadcaster of one that cannot be written in cycle 3 and is finalized for
-/// that, and a mock whose update fails in cycle 1.
-const FAILING: &str = "\
-version = 1
-update_rate = 100
-cycles = 5
-
-[[component]]
-name = \"arm\"
-kind = \"actuator\"
-fail_read = [2]
-
-[[component.joint]]
-name = \"j1\"
-vmax = 1
-command = [\"position\"]
-state = [\"position\"]
-
-[[component]]
-name = \"hand\"
-kind = \"actuator\"
-on_error = \"finalized\"
-fail_write = [3]
-
-[[component.joint]]
-name = \"k1\"
-vmax = 1
-command = [\"position\"]
-state = [\"position\"]
-
-[[controller]]
-name = \"pt\"
-type = \"passthrough\"
-claims = [\"j1/position\"]
-
-[[controller]]
-name = \"lead\"
-type = \"forward\"
-claims = [\"pt/j1/position\"]
-
-[[controller]]
-name = \"jsb\"
-type = \"broadcaster\"
-reads = [\"k1/position\"]
-
-[[controller]]
-name = \"mk\"
-type = \"mock\"
-fail_update = [1]
---- script ---
-session a
+/// Who leads is updated first, and stops first.
+const FAILURES: &str = r"session a
 load pt
 load lead
 load jsb
@@ -392,11 +291,7 @@ configure lead
 configure jsb
 configure mk
 switch strict +lead +pt +jsb +mk
-";
-
-/// Who leads is updated first, and stops first.
-const FAILING_TOLD: &str = "\
-cycle 1, mk: its update failed
+=> cycle 1, mk: its update failed
     mend: take the cycle out of its fail_update in the document
 cycle 1, mk: stopped, its update failed
     mend: activate mk again
@@ -409,26 +304,34 @@ cycle 2, pt: stopped, it uses arm, which failed
 cycle 3, hand: its write failed
     mend: take the cycle out of its fail_write in the document
 cycle 3, jsb: stopped, it uses hand, which failed and stays finalized
-    mend: set on_error of hand to unconfigured in the document
-";
+    mend: set on_error of hand to unconfigured in the document";
+
+/// The names on the lists come first, in their order, and then those that were tried.
+const LEFT_OUT: &str = r"=> cycle 1, mk: its update failed
+    mend: take the cycle out of its fail_update in the document
+cycle 1, mk2: its update failed
+    mend: take the cycle out of its fail_update in the document
+cycle 1, mk: stopped, its update failed
+    mend: activate mk again
+cycle 1, mk2: stopped, its update failed
+    mend: activate mk2 again
+cycle 2: fallback spare for mk: left out, spare is not there
+    mend: load and configure spare first
+cycle 2: fallback fwd for mk: left out, fwd is active already
+    mend: nothing, fwd goes on
+cycle 2: fallback idle for mk and mk2: left out, idle is named twice in one list
+    mend: nothing, idle is asked for once
+cycle 2: fallback other for mk: left out, other claims j1/position, which fwd claims, too
+    mend: have only one of other and fwd active at a time";
 
 /// A run in which all is done.
-const QUIET: &str = "\
-version = 1
-update_rate = 100
-cycles = 1
-
+const QUIET: &str = r#"cycles = 1
 [[controller]]
-name = \"mk\"
-type = \"mock\"
+name = "mk"
+type = "mock"
 --- script ---
 session a
 load mk
 configure mk
 switch strict +mk
-";
-
-/// What is told then.
-const QUIET_TOLD: &str = "\
-Nothing was refused, left out or stopped, and nothing failed.
-";
+=> Nothing was refused, left out or stopped, and nothing failed."#;

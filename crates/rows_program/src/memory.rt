@@ -10,11 +10,12 @@ use std::process::Abort;
 use std::sync::Wait;
 use std::thread::Threads;
 
-/// An arm that cannot be read in cycle 1, a forward that commands it, and a mock whose update fails in cycle 2: they are switched on
-/// together, both are stopped, and the forward is refused while the arm is down. The last request waits until the loop closes.
+/// An arm that cannot be read in cycle 1, a forward that commands it, and a mock whose update fails in cycle 2: they are
+/// switched on together, both are stopped, and the forward is refused while the arm is down, and left out as a fallback.
+/// The last request waits until the loop closes.
 const DOCUMENT: &str = r#"version = 1
 update_rate = 100
-cycles = 3
+cycles = 4
 [[component]]
 name = "arm"
 kind = "actuator"
@@ -31,26 +32,35 @@ claims = ["j1/position"]
 [[controller]]
 name = "mk"
 type = "mock"
+fallback = ["spare", "fwd"]
 fail_update = [2]
+[[controller]]
+name = "spare"
+type = "mock"
 --- script ---
 session a
 load fwd
 load mk
+load spare
 configure fwd
 configure mk
+configure spare
 switch strict +fwd +mk
 send fwd 0.5
 hw arm active
 list interfaces
 switch strict +fwd
 hw arm inactive
+switch strict -spare
 "#;
 
 /// What a run of it prints.
 const TRACE: &str = "a load fwd: ok 0
 a load mk: ok 1
+a load spare: ok 2
 a configure fwd: ok
 a configure mk: ok
+a configure spare: ok
 a switch strict +fwd +mk: queued 0
 loop begin 0: 0 done
 loop end 0: run fwd ok unset; run mk ok; joint j1 0.000000 0.000000 0.000000
@@ -66,8 +76,12 @@ loop begin 2: 2 refused fwd unavailable j1/position
 loop end 2: run mk error; joint j1 0.000000 0.000000 0.000000; stop mk
 a told 2: refused fwd unavailable j1/position
 a hw arm inactive: queued 3
-loop close: 3 loop_ended
-a told 3: loop_ended
+loop begin 3: fallback done dropped fwd unavailable j1/position; 3 done
+loop end 3: run spare ok; joint j1 0.000000 0.000000 0.000000
+a told 3: done
+a switch strict -spare: queued 4
+loop close: 4 loop_ended
+a told 4: loop_ended
 ";
 
 /// Where at most one allocation is refused, at most one of two runs may want memory: that one has printed a front of the trace, and

@@ -4,39 +4,13 @@ use cm_top::Status;
 use outside_io::{MemSink, MemSource};
 use pages_calls::stocks::blanks;
 use pages_cases::pages::hold_told;
+use pages_runs::documents::MOVED;
 use pages_runs::runs::{AMPLE, IN_STOCK, OF_PROGRAM, run_over};
 use std::alloc::Global;
 use std::str;
 use std::test::Fail;
 
-/// A joint that a controller moves for three cycles: 324 bytes.
-const MOVED: &str = r#"version = 1
-update_rate = 100
-cycles = 3
-
-[[component]]
-name = "arm"
-kind = "actuator"
-
-[[component.joint]]
-name = "j1"
-vmax = 1
-command = ["position"]
-state = ["position"]
-
-[[controller]]
-name = "fwd"
-type = "forward"
-claims = ["j1/position"]
---- script ---
-session a
-load fwd
-configure fwd
-switch strict +fwd
-send fwd 0.5
-"#;
-
-/// Its trace, with a bar where a call of the sink ends that takes ten bytes at a time.
+/// The trace of the joint that is moved, with a bar where a call of the sink ends that takes ten bytes at a time.
 const PIECES: &str = "a load fwd|: ok 0
 |a configur|e fwd: ok
 |a switch s|trict +fwd|: queued 0|
@@ -51,7 +25,7 @@ const PIECES: &str = "a load fwd|: ok 0
 |loop close|: none
 ";
 
-/// Each read gives eight bytes of the document, so the forty-first gives the last four, and the one behind it the end.
+/// Each read gives eight bytes of the document, so the forty-first gives the last, and the one behind it the end.
 const READS: usize = 42;
 
 #[test]
