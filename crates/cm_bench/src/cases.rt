@@ -103,7 +103,7 @@ impl SplitMix {
     }
 
     /// The next number, of up to a thousand units either way.
-    pub fn number(&mut self) -> Fx {
+    fn number(&mut self) -> Fx {
         self.within(FAR)
     }
 

@@ -8,32 +8,27 @@ use lines::{FastLine, PlainLine};
 use lives::tell_live;
 use plan::TurnsAsked;
 use ranks::{FastOrder, PlainOrder};
-use reading::{DescriptionChecker, DescriptionReader, ScriptReader, TomlReader};
 use std::alloc::Global;
+use std::env;
 use std::process::ExitCode;
 use std::rt::{Clock, Env};
 use std::sync::Wait;
 use std::thread::Threads;
-use std::{env, io};
 use steps::{FastStep, PlainStep};
-use texts::Texts;
-use timing::{Pair, Title, Trial};
+use timing::{Title, Trial};
 use words::{live_runs_of, plan_of};
 
 mod bodies;
 mod callers;
 mod cases;
 mod crowds;
-mod described;
 mod desks;
 mod lines;
 mod lives;
 mod plain;
 mod plan;
 mod ranks;
-mod reading;
 mod steps;
-mod texts;
 mod timing;
 mod words;
 
@@ -63,8 +58,7 @@ where
     let motions = compare_motions(rt, plan)?;
     let callers = compare_callers(rt, plan)?;
     let requests = compare_requests(rt, plan)?;
-    let readers = compare_readers(rt, plan)?;
-    Ok(motions && callers && requests && readers)
+    Ok(motions && callers && requests)
 }
 
 /// Prints the lines of what a cycle does: numbers and steps.
@@ -77,15 +71,14 @@ where
     Ok(numbers && steps)
 }
 
-/// Prints the lines of what is done with a description and a history: orders, traces and checks.
+/// Prints the lines of what is done with a description and a history: orders and traces.
 fn compare_requests<R>(rt: &R, plan: TurnsAsked) -> anyhow::Result<bool>
 where
     R: Clock + Print + AllocGlobal,
 {
     let orders = compare_orders(rt, plan)?;
     let lines = compare_lines(rt, plan)?;
-    let checks = compare_checks(rt, plan)?;
-    Ok(orders && lines && checks)
+    Ok(orders && lines)
 }
 
 /// Prints the lines of a product, a ratio and a number's text, over the same cases.
@@ -173,83 +166,6 @@ where
 
 /// A line of 255 numbers is made in some microseconds, so it gets one turn for so many of the others.
 const LINE_SHARE: u64 = 200;
-
-/// Prints the line of the checks, over a description near every limit: what reading it takes, and what checking it takes besides.
-fn compare_checks<R>(rt: &R, plan: TurnsAsked) -> anyhow::Result<bool>
-where
-    R: Clock + Print + AllocGlobal,
-{
-    let alloc = rt.alloc();
-    let cases = [described::made(alloc)?];
-    let course = Trial {
-        cases: cases.as_slice(),
-        turns: plan.turns / CHECK_SHARE + 1,
-    };
-    compare_checked(rt, &course)
-}
-
-fn compare_checked<R>(rt: &R, course: &Trial<'_, String>) -> anyhow::Result<bool>
-where
-    R: Clock + Print + AllocGlobal,
-{
-    let alloc = rt.alloc();
-    let mut reader = DescriptionReader { alloc };
-    let pair = course.compare(rt, &mut reader, &mut DescriptionChecker { alloc })?;
-    tell_checks(rt, course.turns, &pair)?;
-    Ok(pair.same)
-}
-
-fn tell_checks<R: Print>(rt: &R, turns: u64, pair: &Pair) -> io::Result<()> {
-    if !pair.same {
-        return println!(rt; "check: bytes differ");
-    }
-    if turns == 1 {
-        return println!(rt; "check: same bytes");
-    }
-    let (read, checked) = (pair.plain, pair.fast.besides(pair.plain));
-    println!(rt; "check: same bytes, {read} ns read, {checked} ns checked")
-}
-
-/// A description is read in some hundred microseconds, so it gets one turn for so many of the others.
-const CHECK_SHARE: u64 = 2_000;
-
-/// Prints the line of the readers, the kit's of TOML beside that of scripts over as many bytes, and says whether both read all.
-fn compare_readers<R>(rt: &R, plan: TurnsAsked) -> anyhow::Result<bool>
-where
-    R: Clock + Print + AllocGlobal,
-{
-    let alloc = rt.alloc();
-    let cases = [texts::made(alloc, plan.seed)?];
-    let course = Trial {
-        cases: cases.as_slice(),
-        turns: plan.turns / READER_SHARE + 1,
-    };
-    compare_read(rt, &course, cases[0].script.len())
-}
-
-fn compare_read<R>(rt: &R, course: &Trial<'_, Texts>, bytes: usize) -> anyhow::Result<bool>
-where
-    R: Clock + Print + AllocGlobal,
-{
-    let alloc = rt.alloc();
-    let pair = course.compare(rt, &mut TomlReader { alloc }, &mut ScriptReader { alloc })?;
-    tell_readers(rt, course.turns, &pair, bytes)?;
-    Ok(pair.same)
-}
-
-fn tell_readers<R: Print>(rt: &R, turns: u64, pair: &Pair, bytes: usize) -> io::Result<()> {
-    if !pair.same {
-        return println!(rt; "script: bytes differ");
-    }
-    if turns == 1 {
-        return println!(rt; "script: same bytes");
-    }
-    let (toml, script) = (pair.plain.bytes_a_us(bytes), pair.fast.bytes_a_us(bytes));
-    println!(rt; "script: same bytes, {toml} bytes a us by toml, {script}")
-}
-
-/// A reader goes over a whole text, so it gets one turn for so many of the others.
-const READER_SHARE: u64 = 100_000;
 
 // ---- What the lines are called
 

@@ -42,16 +42,6 @@ impl Tenths {
     pub fn of(nanos: u128, turns: u128) -> Tenths {
         Tenths(nanos.saturating_mul(10).checked_div(turns).unwrap_or(0))
     }
-
-    /// What this time is more than another; 0 where it is less.
-    pub fn besides(self, other: Tenths) -> Tenths {
-        Tenths(self.0.saturating_sub(other.0))
-    }
-
-    /// How many bytes a microsecond that is, where so many take this time: again in tenths.
-    pub fn bytes_a_us(self, bytes: usize) -> Tenths {
-        Tenths((bytes as u128 * 100_000).checked_div(self.0).unwrap_or(0))
-    }
 }
 
 impl fmt::Display for Tenths {

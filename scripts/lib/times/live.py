@@ -66,9 +66,9 @@ def tell_waiting(program, document, alone):
 
 def of_callers(bench):
     """Returns the rows of the callers: the least times of a call."""
-    runs = [bodies.measured(bench)[0] for _ in range(bodies.RUNS)]
+    runs = [bodies.measured(bench) for _ in range(bodies.RUNS)]
     for name, callers in CALLERS.items():
-        mutex, passes = bodies.best(min, [pairs[name] for pairs in runs])
+        mutex, passes = bodies.least(runs, name)
         yield callers, f"{mutex:.0f} ns", f"{passes:.0f} ns", f"{1e9 / mutex:,.0f}", f"{1e9 / passes:,.0f}"
 
 
