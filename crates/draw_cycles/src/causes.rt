@@ -1,9 +1,11 @@
 //! What became of requests and calls, and why, in plain words.
 
+use cm_document::CtlDesc;
 use cm_model::{Dropped, Outcome, Why};
 use draw_causes::{push_cause, why_words};
 use draw_replay::{Answered, Became};
 use fixed_num::Memory;
+use iface_names::Name;
 use std::alloc::Global;
 
 /// When a request was decided, or a call did nothing, who asked, what, and what became of it; behind that the trace's own words.
@@ -38,7 +40,41 @@ pub fn push_asked(text: &mut String, answered: &Answered<'_>) -> Result<(), Memo
     match (answered.asked, answered.ticket) {
         (Some(asked), _) => write!(text, "{}", asked.call)?,
         (None, Some(ticket)) => write!(text, "request {ticket}")?,
-        (None, None) => text.push_str("fallback")?,
+        (None, None) => push_fallbacks(text, answered.failed.as_slice())?,
+    }
+    Ok(())
+}
+
+/// Appends the fallbacks of those whose updates failed, and whose they are.
+fn push_fallbacks(text: &mut String, failed: &[&CtlDesc]) -> Result<(), Memory> {
+    let mut before = "fallback ";
+    for controller in failed {
+        text.push_str(before)?;
+        push_names(text, controller.fallback.as_slice())?;
+        write!(text, " for {}", controller.name)?;
+        before = ", and ";
+    }
+    Ok(())
+}
+
+fn push_names(text: &mut String, names: &[Name]) -> Result<(), Memory> {
+    let mut before = "";
+    for name in names {
+        write!(text, "{before}{name}")?;
+        before = " ";
+    }
+    Ok(())
+}
+
+/// Appends a fallback that is left out, and whose it is.
+pub fn push_fallback(text: &mut String, failed: &[&CtlDesc], name: &Name) -> Result<(), Memory> {
+    write!(text, "fallback {name}")?;
+    let mut before = " for ";
+    for controller in failed {
+        if controller.fallback.as_slice().contains(name) {
+            write!(text, "{before}{}", controller.name)?;
+            before = " and ";
+        }
     }
     Ok(())
 }

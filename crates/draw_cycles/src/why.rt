@@ -1,10 +1,10 @@
 //! What was not done as asked, or went wrong, as lines of plain text: why, and below that what would mend it.
 
-use crate::causes::{push_answered, push_asked, push_when};
+use crate::causes::{push_answered, push_asked, push_fallback, push_when};
 use cm_model::{Dropped, Outcome};
 use draw_causes::{
-    CLOSED_MEND, failure_mend, failure_words, push_cause, push_cause_mend, push_stop,
-    push_stop_mend, why_mend,
+    CLOSED_MEND, failure_mend, failure_words, push_cause, push_cause_mend, push_fallback_mend,
+    push_stop, push_stop_mend, why_mend,
 };
 use draw_replay::{Answered, Became, Incident, Replay};
 use fixed_num::Memory;
@@ -107,11 +107,17 @@ fn push_dropped(
     dropped: &Dropped,
 ) -> Result<(), Memory> {
     push_when(text, answered)?;
-    push_asked(text, answered)?;
+    match answered.failed.is_empty() {
+        true => push_asked(text, answered)?,
+        false => push_fallback(text, answered.failed.as_slice(), &dropped.name)?,
+    }
     text.push_str(": left out, ")?;
     push_cause(text, &dropped.name, &dropped.cause)?;
     text.push_str(MEND)?;
-    push_cause_mend(text, &dropped.name, &dropped.cause)?;
+    match answered.failed.is_empty() {
+        true => push_cause_mend(text, &dropped.name, &dropped.cause)?,
+        false => push_fallback_mend(text, &dropped.name, &dropped.cause)?,
+    }
     text.push_str("\n")?;
     Ok(())
 }

@@ -7,6 +7,7 @@ use cm_storage::FailedPart;
 use fixed_num::Memory;
 use iface_names::Name;
 use std::alloc::Global;
+use std::mem;
 
 /// A call as a session makes it.
 #[derive(Clone, Copy)]
@@ -28,8 +29,8 @@ pub struct Present<'a> {
     lives: Vec<Option<Life>>,
     /// Whether each is chained, by place.
     chained: Vec<bool>,
-    /// Whether the update of each failed in the cycle that ended last, by place.
-    erred: Vec<bool>,
+    /// Those whose update failed in the cycle that ended last, and who have fallbacks, in the order of their updates.
+    erred: Vec<&'a CtlDesc>,
     /// The lifecycle state of each component, by place.
     pub components: Vec<Life>,
     /// How many cycles have ended.
@@ -61,7 +62,7 @@ impl<'a> Present<'a> {
             links,
             lives: same(alloc, links.len(), None)?,
             chained: same(alloc, links.len(), false)?,
-            erred: same(alloc, links.len(), false)?,
+            erred: Vec::new(alloc),
             components: initial(alloc, description)?,
             ended: 0,
             sessions,
@@ -178,22 +179,18 @@ impl<'a> Present<'a> {
     }
 
     /// The update of the controller at this place failed.
-    pub fn note_erred(&mut self, place: usize) {
-        if let Some(erred) = self.erred.get_mut(place) {
-            *erred = true;
+    pub fn note_erred(&mut self, place: usize) -> Result<(), Memory> {
+        if let Some(controller) = self.description.controllers.as_slice().get(place) {
+            if !controller.fallback.as_slice().is_empty() {
+                self.erred.push(controller)?;
+            }
         }
+        Ok(())
     }
 
-    /// Whether its update failed in the cycle that ended last.
-    pub fn has_erred(&self, place: usize) -> bool {
-        self.erred.get(place).copied().unwrap_or(false)
-    }
-
-    /// In the cycle that ends now no update has failed yet.
-    pub fn forget_erred(&mut self) {
-        for erred in &mut self.erred {
-            *erred = false;
-        }
+    /// Those whose fallbacks are asked for now, and then for nobody's.
+    pub fn take_erred(&mut self, alloc: Global) -> Vec<&'a CtlDesc> {
+        mem::replace(&mut self.erred, Vec::new(alloc))
     }
 
     /// A component comes to a lifecycle state.

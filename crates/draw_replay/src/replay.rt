@@ -7,7 +7,7 @@ use crate::incidents::{Incident, push_incidents};
 use crate::links::{Linked, component_place, controller_place};
 use crate::present::{Asked, Present};
 use crate::rows::{ColumnState, Event, Row, blank_rows, mark_row};
-use cm_document::{Call, Script, SwitchRequest};
+use cm_document::{Call, CtlDesc, Script, SwitchRequest};
 use cm_model::{Cause, Decision, Dropped, Entry, Outcome, Reply, Why};
 use cm_storage::{CycleRecord, Done, FailedPart, RanRef};
 use draw_causes::is_own;
@@ -24,15 +24,17 @@ pub enum Became<'a> {
     Not(Why),
 }
 
-/// A request that was decided, or a call that did nothing.
-#[derive(Clone, Copy)]
+/// A request that was decided, fallbacks that were asked for, or a call that did nothing.
+#[derive(Drop)]
 pub struct Answered<'a> {
     /// The cycle at whose begin it was decided, or before whose end the call came; the number of cycles where all had ended.
     pub cycle: u64,
-    /// The ticket of a request that got one; fallbacks are asked for without one.
+    /// The ticket of a request that got one.
     pub ticket: Option<u32>,
     /// The name of the session that asked, and what it asked, where that is known.
     pub asked: Option<Asked<'a>>,
+    /// The controllers whose fallbacks were asked for because their updates failed, in the order of these; of a request, none.
+    pub failed: Vec<&'a CtlDesc>,
     /// What became of it.
     pub became: Became<'a>,
 }
@@ -73,6 +75,7 @@ pub struct Replay<'a> {
     pub courses: Vec<JointCourse>,
     /// How often things happened.
     pub counts: RunCounts,
+    alloc: Global,
     columns: Columns,
     present: Present<'a>,
 }
@@ -119,6 +122,7 @@ impl<'a> Replay<'a> {
                 failed: 0,
                 stopped: 0,
             },
+            alloc,
             columns,
             present: Present::at_start(alloc, linked, script)?,
         })
@@ -153,6 +157,7 @@ impl<'a> Replay<'a> {
             cycle,
             ticket: None,
             asked: Some(asked),
+            failed: Vec::new(self.alloc),
             became: Became::Not(why),
         })?;
         self.incidents.push(Incident::Answered(number))?;
@@ -182,34 +187,55 @@ impl<'a> Replay<'a> {
 
     fn read_decision(&mut self, decision: &'a Decision) -> Result<(), Memory> {
         let number = self.answered.len();
-        let asked = match decision.ticket {
-            Some(ticket) => self.present.asked_under(ticket),
-            None => None,
-        };
-        let cycle = self.present.ended;
-        self.answered.push(Answered {
-            cycle,
-            ticket: decision.ticket,
-            asked,
-            became: Became::Decided(&decision.outcome),
-        })?;
-        if event_of(&decision.outcome) != Event::Done {
+        let column = self.columns.of_cycle(self.present.ended);
+        let event = event_of(&decision.outcome);
+        match decision.ticket {
+            Some(ticket) => self.read_request(ticket, &decision.outcome)?,
+            None => self.read_fallbacks(&decision.outcome)?,
+        }
+        if event != Event::Done {
             self.incidents.push(Incident::Answered(number))?;
         }
-        if decision.ticket.is_some() {
-            self.count(&decision.outcome);
-        }
-        let column = self.columns.of_cycle(cycle);
         self.requests
-            .mark(column, event_of(&decision.outcome), cycle, number);
-        match &decision.outcome {
-            Outcome::Done { dropped } if decision.ticket.is_none() => {
-                self.stand_in(dropped.as_slice())
-            }
+            .mark(column, event, self.present.ended, number);
+        Ok(())
+    }
+
+    /// A request was decided.
+    fn read_request(&mut self, ticket: u32, outcome: &'a Outcome) -> Result<(), Memory> {
+        let number = self.answered.len();
+        let asked = self.present.asked_under(ticket);
+        self.count(outcome);
+        self.answered.push(Answered {
+            cycle: self.present.ended,
+            ticket: Some(ticket),
+            asked,
+            failed: Vec::new(self.alloc),
+            became: Became::Decided(outcome),
+        })?;
+        match outcome {
             Outcome::Done { dropped } => self.carry_out(asked, dropped.as_slice()),
-            Outcome::Refused(name, _) => self.mark_refused(name, column, number),
+            Outcome::Refused(name, _) => self.mark_refused(name, number),
             Outcome::LoopEnded => {}
         }
+        Ok(())
+    }
+
+    /// The fallbacks of those whose updates failed were asked for: they are active, but for those that are left out.
+    fn read_fallbacks(&mut self, outcome: &'a Outcome) -> Result<(), Memory> {
+        let failed = self.present.take_erred(self.alloc);
+        if let Outcome::Done { dropped } = outcome {
+            for controller in &failed {
+                self.start_all(controller.fallback.as_slice(), dropped.as_slice());
+            }
+        }
+        self.answered.push(Answered {
+            cycle: self.present.ended,
+            ticket: None,
+            asked: None,
+            failed,
+            became: Became::Decided(outcome),
+        })?;
         Ok(())
     }
 
@@ -224,8 +250,9 @@ impl<'a> Replay<'a> {
     }
 
     /// A request is refused because of this controller or component.
-    fn mark_refused(&mut self, name: &Name, column: usize, number: usize) {
+    fn mark_refused(&mut self, name: &Name, number: usize) {
         let description = self.present.description;
+        let column = self.columns.of_cycle(self.present.ended);
         if controller_place(description.controllers.as_slice(), name).is_some() {
             self.mark_controller(name, column, number);
         } else if let Some(place) = component_place(description, name) {
@@ -276,16 +303,6 @@ impl<'a> Replay<'a> {
         self.start_all(request.on.as_slice(), dropped);
     }
 
-    /// The fallbacks of the controllers whose update failed are active, but for those that are left out.
-    fn stand_in(&mut self, dropped: &[Dropped]) {
-        let description = self.present.description;
-        for (place, controller) in description.controllers.as_slice().iter().enumerate() {
-            if self.present.has_erred(place) {
-                self.start_all(controller.fallback.as_slice(), dropped);
-            }
-        }
-    }
-
     fn start_all(&mut self, names: &[Name], dropped: &[Dropped]) {
         for name in names {
             if !is_left_out(name, dropped) {
@@ -310,9 +327,9 @@ impl<'a> Replay<'a> {
         let cycle = record.cycle();
         let column = self.columns.of_cycle(cycle);
         self.read_failures(record.failed(), column, cycle);
-        self.present.forget_erred();
+        drop(self.present.take_erred(self.alloc));
         for ran in record.ran() {
-            self.read_update(&ran, column, cycle);
+            self.read_update(&ran, column, cycle)?;
         }
         for (course, body) in self.courses.iter_mut().zip(record.bodies()) {
             course.reach(column, body.x.micro());
@@ -343,12 +360,11 @@ impl<'a> Replay<'a> {
     }
 
     /// What an update gave stands at the joints whose positions it commands.
-    fn read_update(&mut self, ran: &RanRef<'_>, column: usize, cycle: u64) {
+    fn read_update(&mut self, ran: &RanRef<'_>, column: usize, cycle: u64) -> Result<(), Memory> {
         let Some(place) = self.present.place_of(ran.serial) else {
-            return;
+            return Ok(());
         };
         if ran.done == Done::Error {
-            self.present.note_erred(place);
             self.counts.failed = self.counts.failed.saturating_add(1);
             mark_row(
                 &mut self.controllers,
@@ -357,17 +373,18 @@ impl<'a> Replay<'a> {
                 Event::UpdateFailed,
                 cycle,
             );
-            return;
+            return self.present.note_erred(place);
         }
         let all = self.present.links;
         let Some(links) = all.get(place) else {
-            return;
+            return Ok(());
         };
         for (claim, value) in links.claims.iter().zip(ran.outs) {
             if let Some(course) = self.courses.get_mut(claim.joint) {
                 course.take(place, claim, value.get());
             }
         }
+        Ok(())
     }
 
     /// What each controller and component was in this column.
