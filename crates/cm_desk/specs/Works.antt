@@ -20,6 +20,7 @@ use Rattle.cm_model.specs.Sound.{CanRunTogether}
 use Rattle.cm_model.specs.declared.blanks.Blanks.{Blanks}
 use Rattle.cm_model.specs.declared.reply.Reply.{Reply}
 use Rattle.cm_model.specs.declared.reply.Reply.TheVariants as reply
+use Rattle.cm_model.specs.declared.reply.Why.{Why}
 use Rattle.cm_model.specs.declared.reply.Why.TheVariants as why
 use Rattle.cm_hardware.specs.Wiring.{Wired}
 use Rattle.cm_hardware.specs.Holding.{IsHardwareOf, IsMoved}
@@ -156,11 +157,14 @@ HasSwitched b b' slots slots' looked looked' c = (s : State) (again : Places)
 abbrev pub load_reply : State → List ℕ → Reply
 load_reply s name = unless_refused (load_refusals s (place_of s name)) (reply.Serial s.loads)
 
--- the reply of mail to a controller that is active, chained or not, and has these parameters
+-- why mail is refused by a controller that is active, chained or not, and has these parameters
+abbrev pub active_refusals : Bool → Params → Mail → List (Bool × Why)
+active_refusals chained params mail =
+    (chained, why.Chained) ∷ (takes_none params, why.TakesNone) ∷ (not (takes params mail), why.WrongCount) ∷ []
+
+-- the reply to mail then
 abbrev pub active_reply : Bool → Params → Mail → Reply
-active_reply chained params mail =
-    unless_refused ((chained, why.Chained) ∷ (takes_none params, why.TakesNone) ∷ (not (takes params mail), why.WrongCount)
-    ∷ []) reply.Done
+active_reply chained params mail = unless_refused (active_refusals chained params mail) reply.Done
 
 -- What a configure of the loaded controller that stands there comes to: done, with what that makes of the state; or,
 -- with a fault, nothing, and it is the refusal only where that is the reply.
