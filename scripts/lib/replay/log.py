@@ -5,6 +5,7 @@ from dataclasses import dataclass
 from .layout import INTERFACE
 
 CALLS = ("load", "configure", "cleanup", "unload", "rate", "send")
+FALLBACK = "fallback"  # what stands in place of a ticket if fallbacks were asked for
 LOG = "Requests, and calls that were refused"
 NOTHING = "Nothing was refused, left out or stopped, and nothing failed."
 MEND = "    mend: "
@@ -12,7 +13,7 @@ MEND = "    mend: "
 
 @dataclass(frozen=True)
 class Row:
-    """A row of the log: a request that was decided, or a call that did nothing."""
+    """A row of the log: a request that was decided, fallbacks that were asked for, or a call that did nothing."""
     ticket: str
     cycle: str
     who: str
@@ -64,28 +65,36 @@ class Told:
     def decide(self, reply):
         for one in reply.split("; ") if reply != "none" else []:
             ticket, outcome = one.split(" ", 1)
-            self.rows.append(Row(ticket, self.now(), *self.asked[ticket], outcome))
-            self.decided(*self.asked[ticket], outcome)
+            if ticket == FALLBACK:
+                self.rows.append(Row("", self.now(), "", FALLBACK, outcome))
+                self.whys += [f"cycle {self.ended}: {FALLBACK} {name} for " for name in left_out_of(outcome)]
+            else:
+                self.rows.append(Row(ticket, self.now(), *self.asked[ticket], outcome))
+                self.decided(*self.asked[ticket], outcome)
 
     def decided(self, who, call, outcome):
         if outcome == "loop_ended":
             self.whys.append(f"at the close, {who}: {call}: not decided, ")
         elif outcome.startswith("refused "):
             self.whys.append(f"cycle {self.ended}, {who}: {call}: refused, {outcome.split(' ')[1]} ")
-        elif " dropped " in outcome:
-            for one in outcome.split(" dropped ")[1].split(", "):
-                self.whys.append(f"cycle {self.ended}, {who}: {call}: left out, {one.split(' ')[0]} ")
+        for name in left_out_of(outcome):
+            self.whys.append(f"cycle {self.ended}, {who}: {call}: left out, {name} ")
 
     def counts(self):
         decided = [it for it in self.rows if it.ticket]
         turned = [it for it in self.rows if not it.ticket and it.call.split(" ")[0] in ("switch", "hw")]
-        others = [it for it in self.rows if not it.ticket and it not in turned]
+        others = [it for it in self.rows if not it.ticket and it.call != FALLBACK and it not in turned]
         count = lambda word: sum(it.outcome.split(" ")[0] == word for it in decided)
         text = f"requests: {count('done')} done, {count('refused')} refused"
         text += f", {count('loop_ended')} not decided" if count("loop_ended") else ""
         text += f", {len(turned)} turned away" if turned else ""
         text += f" · other calls refused: {len(others)}" if others else ""
         return f"{text} · failures: {self.failed} · stops of controllers: {self.stopped}"
+
+
+def left_out_of(outcome):
+    """The names that were left out of what was done."""
+    return [one.split(" ")[0] for one in outcome.split(" dropped ")[1].split(", ")] if " dropped " in outcome else []
 
 
 def log_of(page):
@@ -132,7 +141,9 @@ def row_faults(row, facts, lines):
     if not said.startswith(call):
         yield f"the log's words `{said[:80]}` do not begin with the call `{row.call[:80]}`"
     if not cut:
-        yield from outcome_faults(row, said[len(call):])
+        said = said[len(call):]
+        # Behind fallbacks stands whose they are.
+        yield from outcome_faults(row, said[said.find(":"):] if row.call == FALLBACK else said)
 
 
 def outcome_faults(row, said):
@@ -145,7 +156,7 @@ def outcome_faults(row, said):
             yield f"`{row.call}: {row.outcome}` is told without {name}"
     if row.ticket and word == "refused" and row.outcome.split(" ")[1] not in said:
         yield f"`{row.call}: {row.outcome}` is told without its name"
-    dropped = row.outcome.split("dropped ")[1].count(", ") + 1 if "dropped " in row.outcome else 0
+    dropped = len(left_out_of(row.outcome))
     if said.count(";without") != dropped:
         yield f"`{row.call}: {row.outcome}` tells {said.count(';without')} that were left out"
 

@@ -3,7 +3,7 @@
 import functools
 import sys
 
-STAGE = "r13"  # what it is told that the program accepts
+STAGE = "r15"  # what it is told that the program accepts
 
 
 @functools.cache
