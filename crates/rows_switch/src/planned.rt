@@ -12,12 +12,14 @@ use pages_calls::robots::ARM_AND_LEG;
 use pages_cases::acts::{Player, hold_acts};
 use pages_cases::pages::push_parted;
 use request_plan::{Act, Conclusion, Plan, Requests, Situation, Switched};
+use sequence::Seq;
 use std::alloc::Global;
 use std::test::Fail;
 use switch_plan::Relations;
 
 /// Each line has one request more that waits, and what is planned for it behind those before it: what becomes of it, who is stopped,
-/// started, active and chained, and the order of updates after it. A fifth does not come to wait, and a close ends all that do.
+/// started, active and chained, and the order of updates after it. A fifth does not come to wait, and a close ends all that do. Those
+/// behind `fallback` stand in before all requests.
 const PLANS: &str = r#"top inactive
 middle inactive
 base inactive
@@ -68,6 +70,15 @@ strict -watch -watch => refused watch twice / fwd watch
 best -watch +watch -fwd => done -fwd -watch +watch =watch / watch
 
 fwd inactive
+other inactive
+watch inactive
+fallback +nosuch +fwd +other +watch +fwd => done dropped nosuch unknown, fwd twice, other conflict j1/position fwd \
++fwd +watch =fwd =watch / fwd watch
+strict -fwd +other => done -fwd +other =other =watch / other watch
+strict +fwd => refused fwd conflict j1/position other / other watch
+fallback +other => done +other =other / other
+
+fwd inactive
 told 0 => not yet
 strict +fwd => done +fwd =fwd / fwd
 hw leg finalized => done 1 finalized / fwd
@@ -86,10 +97,12 @@ fn requests_are_planned_one_after_the_other(rt: HostRuntime) -> Result<(), Fail>
     hold_acts::<Queue>(rt.alloc(), ARM_AND_LEG, PLANS)
 }
 
-/// A scene in which requests wait. Besides a request an act is `close`, or `told TICKET`: what became of the request.
+/// A scene in which requests wait. Besides a request an act is `close`, `told TICKET`: what became of the request, or `fallback` with
+/// the names of those that are to stand in.
 #[derive(Drop)]
 struct Queue {
     scene: Scene,
+    fallbacks: Seq<Name>,
     requests: Requests,
     is_closed: bool,
 }
@@ -98,6 +111,7 @@ impl Player for Queue {
     fn begin(alloc: Global, robot: &str, lines: &str) -> Result<Queue, Fail> {
         Ok(Queue {
             scene: Scene::begin(alloc, robot, lines)?,
+            fallbacks: Seq::new(alloc),
             requests: Requests::none(alloc),
             is_closed: false,
         })
@@ -106,6 +120,7 @@ impl Player for Queue {
     fn told(&mut self, alloc: Global, words: &str) -> Result<String, Fail> {
         match words.split_once(" ") {
             Some(("told", ticket)) => self.outcome_of(alloc, ticket.parse()?),
+            Some(("fallback", _)) => self.stand_in(alloc, words),
             None if words == "close" => self.close(alloc),
             _ => self.ask(alloc, words),
         }
@@ -117,10 +132,17 @@ impl Queue {
     fn ask(&mut self, alloc: Global, words: &str) -> Result<String, Fail> {
         let asked = request(alloc, words)?;
         match self.requests.ask(alloc, self.is_closed, asked)? {
-            Reply::Queued(_) => self.told_of(alloc, &self.plan(alloc)?),
+            Reply::Queued(_) => self.last_told(alloc, &self.plan(alloc)?),
             Reply::Not(why) => Ok(format!(in alloc; "{why}")?),
             _ => Err(Fail::new("another reply")),
         }
+    }
+
+    /// These are to stand in, and are planned before the requests.
+    fn stand_in(&mut self, alloc: Global, words: &str) -> Result<String, Fail> {
+        let names = request_of(alloc, words)?;
+        self.fallbacks = names.on.clone()?;
+        self.first_told(alloc, &self.plan(alloc)?)
     }
 
     fn outcome_of(&self, alloc: Global, ticket: u32) -> Result<String, Fail> {
@@ -145,20 +167,35 @@ impl Queue {
         Ok(told)
     }
 
-    /// The plan for those that wait.
+    /// The plan for those that stand in and those that wait.
     fn plan(&self, alloc: Global) -> Result<Plan, Fail> {
         let checked = &self.scene.checked;
         let relations = Relations::of(alloc, checked)?;
         let situation = situation_of(&self.scene)?;
-        Ok(self.requests.plan(alloc, checked, &relations, situation)?)
+        let names = self.fallbacks.clone()?;
+        Ok(
+            self.requests
+                .plan(alloc, checked, &relations, situation, names)?,
+        )
     }
 
-    /// What is told of the last request of a plan, and of the order after it.
-    fn told_of(&self, alloc: Global, plan: &Plan) -> Result<String, Fail> {
+    /// What is told of those that stand in.
+    fn first_told(&self, alloc: Global, plan: &Plan) -> Result<String, Fail> {
+        let first = plan.first.as_ref().ok_or("nobody stands in")?;
+        self.told_of(alloc, plan, first)
+    }
+
+    /// What is told of the last request.
+    fn last_told(&self, alloc: Global, plan: &Plan) -> Result<String, Fail> {
+        let last = plan.conclusions.last().ok_or("nothing is planned")?;
+        self.told_of(alloc, plan, last)
+    }
+
+    /// What is told of a conclusion of a plan, and of the order after all of it.
+    fn told_of(&self, alloc: Global, plan: &Plan, conclusion: &Conclusion) -> Result<String, Fail> {
         hold_decisions(plan)?;
         let mut told = String::new(alloc);
-        let last = plan.conclusions.last().ok_or("nothing is planned")?;
-        self.push_conclusion(alloc, &mut told, last)?;
+        self.push_conclusion(alloc, &mut told, conclusion)?;
         told.push_str(" /")?;
         for member in plan.order.iter() {
             told.push_str(" ")?;
@@ -211,9 +248,12 @@ fn push_signed(told: &mut String, sign: &str, name: &str) -> Result<(), Fail> {
     Ok(())
 }
 
-/// Fails where what is told by ticket is not what was concluded.
+/// Fails where what is told is not what was concluded: of those that stand in first, and then by ticket.
 fn hold_decisions(plan: &Plan) -> Result<(), Fail> {
-    let decisions = plan.decisions.as_slice();
+    let decisions = match &plan.first {
+        Some(conclusion) => behind_first(conclusion, plan.decisions.as_slice())?,
+        None => plan.decisions.as_slice(),
+    };
     if decisions.len() != plan.conclusions.len() {
         return Err(Fail::new("not each is told"));
     }
@@ -221,6 +261,18 @@ fn hold_decisions(plan: &Plan) -> Result<(), Fail> {
         hold_decision(&plan.conclusions, ticket, decision)?;
     }
     Ok(())
+}
+
+/// The decisions behind the first, which is that on those that stand in.
+fn behind_first<'a>(
+    conclusion: &Conclusion,
+    decisions: &'a [Decision],
+) -> Result<&'a [Decision], Fail> {
+    let (first, others) = decisions.split_first().ok_or("not each is told")?;
+    if first.ticket.is_some() || first.outcome != conclusion.outcome {
+        return Err(Fail::new("another outcome is told of those that stand in"));
+    }
+    Ok(others)
 }
 
 fn hold_decision(
