@@ -1,8 +1,7 @@
 -- How the loop stands after each call of it, as its pass has then seen.
-use Rattle.std.proofs.Common.{◌≡◌, ℕ, ◌+◌, ◌<◌, Bool, true, false, List, Option, Some, None, refl, sym, ap, ap₂, subst, ◌∙◌, arith}
-use Rattle.std.specs.Prelude.{◌≢◌, ◌-◌, ◌==◌, nat_lt, not, ◌&&◌, IfSome}
+use Rattle.std.proofs.Common.{◌≡◌, ℕ, ◌+◌, Bool, true, false, List, Option, Some, None, refl, sym, ap, ap₂, subst, ◌∙◌, arith}
+use Rattle.std.specs.Prelude.{◌≢◌, ◌-◌, IfSome}
 use mathlib.Core.List.{IsPrefix}
-use Rattle.std.proofs.lemmas.Bool.Decides.{nat_tests}
 use Rattle.cm_document.specs.declared.call.Call.{Call}
 use Rattle.cm_document.specs.declared.call.Call.TheVariants.{Begin, End, Close}
 use Rattle.cm_document.specs.declared.description.Description.{Description}
@@ -18,7 +17,7 @@ use Rattle.cm_model.specs.Sessions.{entries_by}
 use Rattle.cm_model.specs.declared.entry.Entry.{Entry}
 use Rattle.cm_model.specs.declared.reply.Reply.TheVariants as reply
 use Rattle.cm_desk.specs.Desk.{History, Grows, GoesOnWithoutLoop, IsOut, MayLand, now_of}
-use Rattle.cm_desk.proofs.LoopLemmas.{stands_alike}
+use Rattle.cm_desk.proofs.LoopLemmas.{begins_where, closes_where, stands_alike}
 use Rattle.rt_flight.specs.Flights.{FlightFacts}
 use Rattle.turn_lock.specs.declared.kept.Kept.{Ghosts}
 use Rattle.turn_lock.specs.declared.lock.TurnLock.{TurnLock}
@@ -87,24 +86,10 @@ closed_so old new who r left aloft closed grows so =
 
 -- ---- When
 
-begins_where : (aloft closed : Bool) (ended cycles left : ℕ) → aloft ≡ false → closed ≡ false → left ≢ 0 → left ≡ cycles - ended
-    → (((not aloft && not closed) && ended == ended) && nat_lt ended cycles) ≡ true
-begins_where true closed ended cycles left home unclosed some is = cc
-begins_where false true ended cycles left home unclosed some is = cc
-begins_where false false ended cycles left home unclosed some is =
-    let less : ended < cycles = omega (arith, is, some) in
-    let same : (ended == ended) ≡ true = grind (arith, nat_tests) in
-    let more : nat_lt ended cycles ≡ true = grind (arith, nat_tests) in
-    rw (same, more) refl
-
 -- a cycle can begin where none is aloft, the loop is open and cycles are left
 pub begins_so : (now : State) (stand : Stand) → StandsSo now stand → stand.aloft ≡ false → stand.closed ≡ false → stand.left ≢ 0 → can_begin now now.ended ≡ true
-begins_so now stand so home unclosed some = begins_where now.aloft now.closed now.ended now.description.cycles stand.left (sym so.aloft ∙ home) (sym so.closed ∙ unclosed) some so.left
-
-closes_where : (aloft closed : Bool) → aloft ≡ false → closed ≡ false → (not aloft && not closed) ≡ true
-closes_where true closed home unclosed = cc
-closes_where false true home unclosed = cc
-closes_where false false home unclosed = refl
+begins_so now stand so home unclosed some =
+    begins_where now.aloft now.closed now.ended now.description.cycles (sym so.aloft ∙ home) (sym so.closed ∙ unclosed) (omega (arith, so.left, some))
 
 -- and the loop can close where none is aloft and it is open
 pub closes_so : (now : State) (stand : Stand) → StandsSo now stand → stand.aloft ≡ false → stand.closed ≡ false → can_close now ≡ true
