@@ -1,5 +1,6 @@
 -- A desk may cross threads where its boxes may.
 use denote.RattleType.{RattleType}
+use denote.Builtin.{u32}
 use denote.Hole.{as_row}
 use denote.Param.Send.{IsSend, sendable, view_send}
 use denote.Param.SendFields.{declared_send, as_row_send}
@@ -79,7 +80,7 @@ seen_send T = as_row_send (Snapshot.the_field T) (snapshot_send T)
 resources_send : IsSend CycleResources.the_row
 resources_send = declared_send CycleResources.the_type (
   option.the_send (Box.the_row CycleContext.the_row Heap.the_row heap_ghosts) (heap.Box-send CycleContext.the_row context.the_send),
-  (seen_send Robot.the_row, (seen_send Ending.the_row, (seen_send (Vec.the_row MailAloft.the_row Heap.the_row heap_ghosts), (seen_send (Vec.the_row Member.the_row Heap.the_row heap_ghosts), (buffers.the_send, (lists.the_send, (search sendable, (seen_send Lists.the_row, (size.the_send, (room.the_send, tt)))))))))),
+  (seen_send Robot.the_row, (seen_send Ending.the_row, (seen_send (Vec.the_row MailAloft.the_row Heap.the_row heap_ghosts), (seen_send (Vec.the_row Member.the_row Heap.the_row heap_ghosts), (seen_send (Vec.the_row u32 Heap.the_row heap_ghosts), (buffers.the_send, (lists.the_send, (search sendable, (seen_send Lists.the_row, (size.the_send, (room.the_send, tt))))))))))),
 )
 
 works_send : (C : RattleType) (m : Ghosts C.Denot) → IsSend C → IsSend (Works.the_row C m)
