@@ -112,7 +112,7 @@ pub struct Whys {
 
 impl Teller for Whys {
     fn told(&self, alloc: Global, text: &str) -> Result<String, Fail> {
-        let told = whys(alloc, text, self.in_stock)?;
+        let told = in_words(alloc, text, self.in_stock)?;
         without_end(alloc, told.as_str())
     }
 }
@@ -124,7 +124,7 @@ pub fn drawn(alloc: Global, text: &str) -> Result<String, Fail> {
     page(alloc, &document, history.as_slice())
 }
 
-fn whys(alloc: Global, text: &str, in_stock: u32) -> Result<String, Fail> {
+fn in_words(alloc: Global, text: &str, in_stock: u32) -> Result<String, Fail> {
     let document = read(alloc, text.as_bytes())?;
     let history = history_of(alloc, text, in_stock)?;
     told(alloc, &document, history.as_slice())
