@@ -1,12 +1,12 @@
 -- The form of a description is sound: table by table, whatever keys a table has.
-use Rattle.std.proofs.Common.{◌≡◌, List, [], ◌++◌, Some, is_ok, take}
+use Rattle.std.proofs.Common.{◌≡◌, Bool, true, false, List, [], ◌++◌, Some, is_ok, take}
 use Rattle.std.specs.Prelude.{codes}
 use Rattle.toml.specs.Data.{Members, get_member}
 use Rattle.iface_names.specs.declared.interface.IfaceName.{IfaceName}
 use Rattle.cm_document.specs.Vocabulary.{controller_kinds}
 use Rattle.cm_document.specs.Forms.{fault_in, word_in}
 use Rattle.cm_document.specs.Tables.{walk}
-use Rattle.cm_document.specs.Described.{joint_table, component_table, controller_table, controller_form, top_table, described_states, description_form, description_in, all_faults, fits_description}
+use Rattle.cm_document.specs.Described.{joint_table, component_table, controller_table, controller_form, group_table, top_table, described_states, is_second, description_form, description_in, all_faults, fits_description}
 use Rattle.cm_document.specs.declared.description.CtlKind.{CtlKind}
 use Rattle.cm_document.specs.declared.description.CtlKind.TheVariants.{Pid}
 use Rattle.cm_document.proofs.FormLemmas.{Tells, Tells-first, Tells-fits, IsSound, IsSoundTable, sound_parts, walk-IsSound, chosen-Tells}
@@ -31,14 +31,19 @@ controller-IsSound states = record {
       (λ kind. walk (controller_table states kind)) (λ kind. walk-IsSound (controller_table-IsSound states kind)) prefix ms;
 }
 
-top-IsSound : (states : List IfaceName) → IsSoundTable (top_table states)
+group-IsSound : IsSoundTable group_table
+unfolding group_table
+group-IsSound = search sound_parts depth 20
+
+top-IsSound : (states : List IfaceName) (second : Bool) → IsSoundTable (top_table states second)
 unfolding top_table
-top-IsSound states = search (sound_parts, component-IsSound, controller-IsSound) depth 20
+top-IsSound states true = search (sound_parts, component-IsSound, controller-IsSound, group-IsSound) depth 24
+top-IsSound states false = search (sound_parts, component-IsSound, controller-IsSound) depth 24
 
 -- the whole tree
 description-Tells : (ms : Members) → Tells (description_in (Some ms)) (all_faults ms) (fits_description ms)
 unfolding description_form
-description-Tells ms = (walk-IsSound (top-IsSound (described_states ms))).tells [] ms
+description-Tells ms = (walk-IsSound (top-IsSound (described_states ms) (is_second ms))).tells [] ms
 
 -- the fault that is told of a tree is the first of all its faults
 pub description-first : (ms : Members) → fault_in (description_in (Some ms)) ≡ take 1 (all_faults ms)

@@ -110,6 +110,7 @@ all_states : description_in (tree_of (codes "version = 1\nupdate_rate = 100\ncyc
         reads = interface.Joint (codes "j1") Velocity ∷ interface.Joint (codes "j1") Position ∷ [];
         params = Broadcaster 2;
       } ∷ [];
+      groups = [];
     })
 unfolding tree_of is_utf8 chars toml_on_literals digits description_form top_table described_states component_table joint_table controller_table number_of interface_of
 all_states = refl

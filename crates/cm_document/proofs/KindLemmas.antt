@@ -1,5 +1,5 @@
 -- A kind stands once among the states and once among the commands of each joint that is read.
-use Rattle.std.proofs.Common.{◌≡◌, ℕ, ◌+◌, ℤ, false, List, [], ◌∷◌, ◌++◌, Option, Some, None, Ok, Err, subst}
+use Rattle.std.proofs.Common.{◌≡◌, ℕ, ◌+◌, ℤ, Bool, true, false, List, [], ◌∷◌, ◌++◌, Option, Some, None, Ok, Err, subst}
 use Rattle.std.specs.Prelude.{IfOk, codes}
 use Rattle.std.specs.Cmp.{decided}
 use Rattle.std.specs.List.{AllByRecursion, IsDistinct, list_any}
@@ -12,12 +12,13 @@ use Rattle.iface_names.specs.declared.interface.IfaceName.{IfaceName}
 use Rattle.iface_names.specs.declared.kind.Kind.{Kind}
 use Rattle.cm_document.specs.Forms.{item_path, placed, new_kind, kind_in, items_from, list_read, list_after, tables_of}
 use Rattle.cm_document.specs.Tables.{defaulted, walk}
-use Rattle.cm_document.specs.Described.{a_joint, a_component, a_description, joint_table, component_table, top_table, described_states, description_form}
+use Rattle.cm_document.specs.Described.{a_joint, a_component, a_description, a_grouped, joint_table, component_table, top_table, described_states, is_second, description_form}
 use Rattle.cm_document.specs.Valid.{IsDescribed}
 use Rattle.cm_document.specs.declared.description.CompDesc.{CompDesc}
 use Rattle.cm_document.specs.declared.description.CompKind.{CompKind}
 use Rattle.cm_document.specs.declared.description.CtlDesc.{CtlDesc}
 use Rattle.cm_document.specs.declared.description.Description.{Description}
+use Rattle.cm_document.specs.declared.description.GroupDesc.{GroupDesc}
 use Rattle.cm_document.specs.declared.description.JointDesc.{JointDesc}
 use Rattle.cm_document.specs.declared.faults.Wrong.TheVariants as wrong
 use Rattle.cm_document.specs.declared.life.Life.{Life}
@@ -99,16 +100,21 @@ abbrev pub DescribesOnce : Description → Type 0
 DescribesOnce d = AllByRecursion JointsOnce d.components
 
 -- and a description with such components
-description_gives : (states : List IfaceName) → Gives (top_table states).form.read DescribesOnce
+description_gives : (states : List IfaceName) (second : Bool) → Gives (top_table states second).form.read DescribesOnce
 unfolding top_table
-description_gives states =
+description_gives states false =
     any_key {A = List CtlDesc} _ _ _ (next_key _ _ (AllByRecursion JointsOnce) _
     (any_key {A = ℕ} _ _ _ (any_key {A = ℕ} _ _ _ (any_key {A = ℕ} _ _ _ (filled_gives a_description _
     (λ version update_rate cycles components once controllers. once)))))
     (defaulted_gives (codes "component") (tables_of (walk component_table)) [] _ (tables_give (walk component_table) JointsOnce (walk_gives component_table JointsOnce component_gives)) tt))
+description_gives states true =
+    any_key {A = List GroupDesc} _ _ _ (any_key {A = List CtlDesc} _ _ _ (next_key _ _ (AllByRecursion JointsOnce) _
+    (any_key {A = ℕ} _ _ _ (any_key {A = ℕ} _ _ _ (any_key {A = ℕ} _ _ _ (filled_gives a_grouped _
+    (λ version update_rate cycles components once controllers groups. once)))))
+    (defaulted_gives (codes "component") (tables_of (walk component_table)) [] _ (tables_give (walk component_table) JointsOnce (walk_gives component_table JointsOnce component_gives)) tt)))
 
 -- No kind stands twice in a joint of a description that a tree stands for.
 pub IsDescribed-DescribesOnce : (d : Description) → IsDescribed d → DescribesOnce d
 unfolding description_form
 IsDescribed-DescribesOnce d (ms, e) =
-    subst (λ r. IfOk r DescribesOnce) e ((walk_gives (top_table (described_states ms)) DescribesOnce (description_gives (described_states ms))).given [] ms)
+    subst (λ r. IfOk r DescribesOnce) e ((walk_gives (top_table (described_states ms) (is_second ms)) DescribesOnce (description_gives (described_states ms) (is_second ms))).given [] ms)

@@ -3,7 +3,7 @@ use Rattle.std.proofs.Common.{◌≡◌, map, Option, Some, None, Result, Ok, Er
 use Rattle.toml.specs.Data.{Members}
 use Rattle.cm_document.specs.Reading.{◌>>=◌}
 use Rattle.cm_document.specs.Described.{states_of, description_in}
-use Rattle.cm_document.specs.Valid.{valid, few_enough, named_apart, in_range, links_exist, claimable, fallbacks_exist, loop_free, IsDescribed, IsValid}
+use Rattle.cm_document.specs.Valid.{valid, few_enough, named_apart, in_range, links_exist, claimable, fallbacks_exist, members_exist, loop_free, IsDescribed, IsValid}
 use Rattle.cm_document.specs.declared.description.CtlDesc.{CtlDesc}
 use Rattle.cm_document.specs.declared.description.Description.{Description}
 use Rattle.cm_document.specs.declared.faults.CheckFault.{CheckFault}
@@ -28,7 +28,8 @@ valid_same d e h =
     step_keeps (in_range d) _ d e (λ _ e h.
     step_keeps (links_exist (claimable d) (states_of d.components) d.controllers) _ d e (λ _ e h.
     step_keeps (fallbacks_exist (map (λ (c : CtlDesc). c.name) d.controllers) d.controllers) _ d e (λ _ e h.
-    step_keeps (loop_free d.controllers) _ d e (λ _ e h. cc) h) h) h) h) h) h
+    step_keeps (members_exist (map (λ (c : CtlDesc). c.name) d.controllers) d.groups) _ d e (λ _ e h.
+    step_keeps (loop_free d.controllers) _ d e (λ _ e h. cc) h) h) h) h) h) h) h
 
 -- a description that was read and in which no check found a fault is valid
 pub checked_IsValid : (d e : Description) → IsDescribed d → valid d ≡ Ok e → IsValid e

@@ -1,6 +1,6 @@
 -- What is known of a valid description, part by part. Each check is a field here, and whoever needs one takes it from here.
 use Rattle.std.proofs.Common.{◌≡◌, ℕ, ◌<◌, ◌≤◌, ◌^◌, Bool, true, false, List, [], length, map, Option, Some, None, Result, Ok, Err, refl, arith, inl, inr}
-use Rattle.std.specs.Prelude.{nat_lt, nat_le, ◌==◌, ◌&&◌, codes, sum_by}
+use Rattle.std.specs.Prelude.{nat_lt, nat_le, ◌==◌, ◌&&◌, if◌then◌else◌, codes, sum_by}
 use Rattle.std.specs.Cmp.{IsEquivalence}
 use Rattle.std.specs.List.{IsDistinct}
 use Rattle.std.proofs.lemmas.Bool.{cases_Bool, ltb-false, leb-true, and_parts}
@@ -10,15 +10,17 @@ use Rattle.iface_names.specs.Names.{same_name}
 use Rattle.iface_names.specs.Sameness.{same_interface-IsEquivalence}
 use Rattle.iface_names.specs.declared.interface.IfaceName.{IfaceName}
 use Rattle.cm_document.specs.Described.{states_of}
+use Rattle.cm_document.specs.Limits.{is_version, limits_of}
 use Rattle.cm_document.specs.Links.{joints_of, commands_of, references_of, first_in_loop}
-use Rattle.cm_document.specs.Valid.{fallbacks_exist, limited, few_enough, repeated_after, apart, names_apart, interfaces_apart, links_apart, named_apart, ranged, each_ranged, component_ranged, controller_ranged, in_range, claimable, links_exist, name_at, loop_free, valid, IsValid}
+use Rattle.cm_document.specs.Valid.{fallbacks_exist, members_exist, members_apart, group_ranged, limited, few_enough, repeated_after, apart, names_apart, interfaces_apart, links_apart, named_apart, ranged, each_ranged, component_ranged, controller_ranged, in_range, claimable, links_exist, name_at, loop_free, valid, IsValid}
 use Rattle.cm_document.specs.declared.description.CtlDesc.{CtlDesc}
 use Rattle.cm_document.specs.declared.description.Description.{Description}
+use Rattle.cm_document.specs.declared.limits.Limits.{Limits}
 use Rattle.cm_document.specs.declared.faults.CheckFault.{CheckFault}
 use Rattle.cm_document.specs.declared.faults.CheckFault.TheVariants.{NameTwice, ChainLoop}
 use Rattle.cm_document.specs.declared.faults.What.{What}
-use Rattle.cm_document.specs.declared.faults.What.TheVariants.{Components, Joints, States, Commands, Controllers, References, Claims}
-use Rattle.cm_document.specs.declared.limits.TheConstants.{VERSION, HIGHEST_RATE, MOST_CYCLES, MOST_COMPONENTS, MOST_JOINTS, MOST_STATES, MOST_COMMANDS, MOST_CONTROLLERS, MOST_REFERENCES, MOST_CLAIMS, MOST_READS}
+use Rattle.cm_document.specs.declared.faults.What.TheVariants.{Components, Joints, States, Commands, Controllers, References, Claims, Reads}
+use Rattle.cm_document.specs.declared.limits.TheConstants.{SECOND_VERSION, LIMITS_1, LIMITS_2, MOST_GROUPS, HIGHEST_RATE, MOST_CYCLES, MOST_COMPONENTS, MOST_JOINTS, MOST_STATES, MOST_COMMANDS, MOST_CONTROLLERS, MOST_REFERENCES, MOST_CLAIMS, MOST_READS}
 use Rattle.cm_document.proofs.DistinctLemmas.{repeated_after-IsDistinct}
 use Rattle.cm_document.proofs.ReadingLemmas.{bind_Ok}
 
@@ -34,6 +36,7 @@ pub record HasFew (d : Description) : Type 0 where
   pub references : length (references_of d.controllers) ≤ MOST_REFERENCES
   pub claims : sum_by (λ (c : CtlDesc). length c.claims) d.controllers ≤ MOST_CLAIMS
   pub reads : sum_by (λ (c : CtlDesc). length c.reads) d.controllers ≤ MOST_READS
+  pub groups : length d.groups ≤ MOST_GROUPS
 
 -- names differ
 pub record NamesDiffer (d : Description) : Type 0 where
@@ -41,16 +44,19 @@ pub record NamesDiffer (d : Description) : Type 0 where
   pub joints : IsDistinct same_name (map (λ j. j.name) (joints_of d.components))
   pub controllers : IsDistinct same_name (map (λ c. c.name) d.controllers)
   pub references : IsDistinct same_interface (references_of d.controllers)
+  pub groups : IsDistinct same_name (map (λ g. g.name) d.groups)
   pub links : links_apart d.controllers ≡ Ok tt
+  pub members : members_apart d.groups ≡ Ok tt
 
 -- numbers are within their ranges
 pub record IsWithinRanges (d : Description) : Type 0 where
-  pub version : (d.version == VERSION) ≡ true
+  pub version : is_version d.version ≡ true
   pub rate_is_some : 1 ≤ d.update_rate
   pub rate : d.update_rate ≤ HIGHEST_RATE
   pub cycles : d.cycles ≤ MOST_CYCLES
   pub components : each_ranged component_ranged (codes "component") 0 d.components ≡ Ok tt
   pub controllers : each_ranged controller_ranged (codes "controller") 0 d.controllers ≡ Ok tt
+  pub groups : each_ranged group_ranged (codes "group") 0 d.groups ≡ Ok tt
 
 -- Of a valid description:
 pub record ValidParts (d : Description) : Type 0 where
@@ -61,6 +67,8 @@ pub record ValidParts (d : Description) : Type 0 where
   pub links : links_exist (claimable d) (states_of d.components) d.controllers ≡ Ok tt
   -- each fallback is another described controller;
   pub fallbacks : fallbacks_exist (map (λ c. c.name) d.controllers) d.controllers ≡ Ok tt
+  -- each member of a group is described;
+  pub members : members_exist (map (λ c. c.name) d.controllers) d.groups ≡ Ok tt
   -- and no controller precedes itself at some distance.
   pub loop_free : first_in_loop d.controllers ≡ None
 
@@ -102,24 +110,64 @@ interfaces_apart-IsDistinct names e = apart-IsDistinct same_interface same_inter
 
 -- ---- Each part
 
+-- no version has more than the most
+record AreMost (limits : Limits) : Type 0 where
+  components : limits.components ≤ MOST_COMPONENTS
+  joints : limits.joints ≤ MOST_JOINTS
+  states : limits.states ≤ MOST_STATES
+  commands : limits.commands ≤ MOST_COMMANDS
+  controllers : limits.controllers ≤ MOST_CONTROLLERS
+  references : limits.references ≤ MOST_REFERENCES
+  claims : limits.claims ≤ MOST_CLAIMS
+  reads : limits.reads ≤ MOST_READS
+  groups : limits.groups ≤ MOST_GROUPS
+
+most : (second : Bool) → AreMost (if second then LIMITS_2 else LIMITS_1)
+most true = record {
+  components = omega arith;
+  joints = omega arith;
+  states = omega arith;
+  commands = omega arith;
+  controllers = omega arith;
+  references = omega arith;
+  claims = omega arith;
+  reads = omega arith;
+  groups = omega arith;
+}
+most false = record {
+  components = omega arith;
+  joints = omega arith;
+  states = omega arith;
+  commands = omega arith;
+  controllers = omega arith;
+  references = omega arith;
+  claims = omega arith;
+  reads = omega arith;
+  groups = omega arith;
+}
+
 few_parts : (d : Description) → few_enough d ≡ Ok tt → HasFew d
 few_parts d e =
-    let components = bind_Ok (limited Components (length d.components) MOST_COMPONENTS) _ tt e in
-    let joints = bind_Ok (limited Joints (length (joints_of d.components)) MOST_JOINTS) _ tt components.2 in
-    let states = bind_Ok (limited States (length (states_of d.components)) MOST_STATES) _ tt joints.2 in
-    let commands = bind_Ok (limited Commands (length (commands_of d.components)) MOST_COMMANDS) _ tt states.2 in
-    let controllers = bind_Ok (limited Controllers (length d.controllers) MOST_CONTROLLERS) _ tt commands.2 in
-    let references = bind_Ok (limited References (length (references_of d.controllers)) MOST_REFERENCES) _ tt controllers.2 in
-    let claims = bind_Ok (limited Claims (sum_by (λ (c : CtlDesc). length c.claims) d.controllers) MOST_CLAIMS) _ tt references.2 in
+    let limits = limits_of d.version in
+    let all = most (d.version == SECOND_VERSION) in
+    let components = bind_Ok (limited Components (length d.components) limits.components) _ tt e in
+    let joints = bind_Ok (limited Joints (length (joints_of d.components)) limits.joints) _ tt components.2 in
+    let states = bind_Ok (limited States (length (states_of d.components)) limits.states) _ tt joints.2 in
+    let commands = bind_Ok (limited Commands (length (commands_of d.components)) limits.commands) _ tt states.2 in
+    let controllers = bind_Ok (limited Controllers (length d.controllers) limits.controllers) _ tt commands.2 in
+    let references = bind_Ok (limited References (length (references_of d.controllers)) limits.references) _ tt controllers.2 in
+    let claims = bind_Ok (limited Claims (sum_by (λ (c : CtlDesc). length c.claims) d.controllers) limits.claims) _ tt references.2 in
+    let reads = bind_Ok (limited Reads (sum_by (λ (c : CtlDesc). length c.reads) d.controllers) limits.reads) _ tt claims.2 in
     record {
-      components = within_limit _ _ _ components.1;
-      joints = within_limit _ _ _ joints.1;
-      states = within_limit _ _ _ states.1;
-      commands = within_limit _ _ _ commands.1;
-      controllers = within_limit _ _ _ controllers.1;
-      references = within_limit _ _ _ references.1;
-      claims = within_limit _ _ _ claims.1;
-      reads = within_limit _ _ _ claims.2;
+      components = omega (arith, within_limit _ _ _ components.1, all.components);
+      joints = omega (arith, within_limit _ _ _ joints.1, all.joints);
+      states = omega (arith, within_limit _ _ _ states.1, all.states);
+      commands = omega (arith, within_limit _ _ _ commands.1, all.commands);
+      controllers = omega (arith, within_limit _ _ _ controllers.1, all.controllers);
+      references = omega (arith, within_limit _ _ _ references.1, all.references);
+      claims = omega (arith, within_limit _ _ _ claims.1, all.claims);
+      reads = omega (arith, within_limit _ _ _ reads.1, all.reads);
+      groups = omega (arith, within_limit _ _ _ reads.2, all.groups);
     }
 
 name_parts : (d : Description) → named_apart d ≡ Ok tt → NamesDiffer d
@@ -128,20 +176,25 @@ name_parts d e =
     let joints = bind_Ok (names_apart (map (λ j. j.name) (joints_of d.components))) _ tt components.2 in
     let controllers = bind_Ok (names_apart (map (λ c. c.name) d.controllers)) _ tt joints.2 in
     let references = bind_Ok (interfaces_apart (references_of d.controllers)) _ tt controllers.2 in
+    let groups = bind_Ok (names_apart (map (λ g. g.name) d.groups)) _ tt references.2 in
+    let links = bind_Ok (links_apart d.controllers) _ tt groups.2 in
     record {
       components = names_apart-IsDistinct _ components.1;
       joints = names_apart-IsDistinct _ joints.1;
       controllers = names_apart-IsDistinct _ controllers.1;
       references = interfaces_apart-IsDistinct _ references.1;
-      links = references.2;
+      groups = names_apart-IsDistinct _ groups.1;
+      links = links.1;
+      members = links.2;
     }
 
 range_parts : (d : Description) → in_range d ≡ Ok tt → IsWithinRanges d
 range_parts d e =
-    let version = bind_Ok (ranged (d.version == VERSION) (codes "version")) _ tt e in
+    let version = bind_Ok (ranged (is_version d.version) (codes "version")) _ tt e in
     let rate = bind_Ok (ranged (nat_le 1 d.update_rate && nat_le d.update_rate HIGHEST_RATE) (codes "update_rate")) _ tt version.2 in
     let cycles = bind_Ok (ranged (nat_le d.cycles MOST_CYCLES) (codes "cycles")) _ tt rate.2 in
     let components = bind_Ok (each_ranged component_ranged (codes "component") 0 d.components) _ tt cycles.2 in
+    let controllers = bind_Ok (each_ranged controller_ranged (codes "controller") 0 d.controllers) _ tt components.2 in
     let both = and_parts (nat_le 1 d.update_rate) (nat_le d.update_rate HIGHEST_RATE) (in_range_passes _ _ rate.1) in
     record {
       version = in_range_passes _ _ version.1;
@@ -149,7 +202,8 @@ range_parts d e =
       rate = leb-true d.update_rate HIGHEST_RATE both.1;
       cycles = leb-true d.cycles MOST_CYCLES (in_range_passes _ _ cycles.1);
       components = components.1;
-      controllers = components.2;
+      controllers = controllers.1;
+      groups = controllers.2;
     }
 
 -- ---- All of them
@@ -163,13 +217,15 @@ valid_parts d e =
     let ranges = bind_Ok (in_range d) _ d names.2 in
     let links = bind_Ok (links_exist (claimable d) (states_of d.components) d.controllers) _ d ranges.2 in
     let fallbacks = bind_Ok (fallbacks_exist (map (λ (c : CtlDesc). c.name) d.controllers) d.controllers) _ d links.2 in
-    let loops = bind_Ok (loop_free d.controllers) _ d fallbacks.2 in
+    let members = bind_Ok (members_exist (map (λ (c : CtlDesc). c.name) d.controllers) d.groups) _ d fallbacks.2 in
+    let loops = bind_Ok (loop_free d.controllers) _ d members.2 in
     record {
       few = few_parts d few.1;
       names = name_parts d names.1;
       ranges = range_parts d ranges.1;
       links = links.1;
       fallbacks = fallbacks.1;
+      members = members.1;
       loop_free = none_told (λ place. ChainLoop (name_at d.controllers place)) (first_in_loop d.controllers) loops.1;
     }
 

@@ -4,7 +4,7 @@ use Rattle.std.specs.Prelude.{codes}
 use Rattle.std.specs.Fmt.{digits}
 use Rattle.iface_names.specs.declared.interface.IfaceName.TheVariants as interface
 use Rattle.iface_names.specs.declared.kind.Kind.TheVariants.{Position, Effort}
-use Rattle.cm_document.specs.Described.{a_controller, a_headed, a_description, a_joint, a_component}
+use Rattle.cm_document.specs.Described.{a_controller, a_headed, a_description, a_grouped, a_group, a_joint, a_component}
 use Rattle.cm_document.specs.Valid.{valid}
 use Rattle.cm_document.specs.declared.description.CompDesc.{CompDesc}
 use Rattle.cm_document.specs.declared.description.CompKind.{CompKind}
@@ -12,7 +12,8 @@ use Rattle.cm_document.specs.declared.description.CompKind.TheVariants.{Sensor, 
 use Rattle.cm_document.specs.declared.description.CtlDesc.{CtlDesc}
 use Rattle.cm_document.specs.declared.description.Description.{Description}
 use Rattle.cm_document.specs.declared.description.Params.TheVariants.{Forward, Passthrough, Mock}
-use Rattle.cm_document.specs.declared.faults.CheckFault.TheVariants.{NameTwice, BadRange, NoInterface, NoFallback, ChainLoop}
+use Rattle.cm_document.specs.declared.faults.CheckFault.TheVariants.{TooMany, NameTwice, BadRange, NoInterface, NoFallback, NoMember, ChainLoop}
+use Rattle.cm_document.specs.declared.faults.What.TheVariants.{Groups}
 use Rattle.cm_document.specs.declared.life.Life.TheVariants.{Unconfigured, Active}
 
 -- a passthrough that claims the reference of another
@@ -87,6 +88,37 @@ nine_fallbacks : valid (controllers_alone (falls_back_on (codes "m")
     ≡ Err (BadRange (codes "controller[0].fallback"))
 unfolding valid digits
 nine_fallbacks = refl
+
+-- ---- The second version
+
+-- a group of these members, beside two mocks
+abbrev grouped : ℕ → List (List ℕ) → Description
+grouped version members = a_grouped version 100 2 [] (falls_back_on (codes "m") [] ∷ falls_back_on (codes "k") [] ∷ []) (a_group (codes "g") members ∷ [])
+
+both_in_a_group : valid (grouped 2 (codes "k" ∷ codes "m" ∷ [])) ≡ Ok (grouped 2 (codes "k" ∷ codes "m" ∷ []))
+unfolding valid digits
+both_in_a_group = refl
+
+no_member : valid (grouped 2 (codes "k" ∷ codes "l" ∷ [])) ≡ Err (NoMember (codes "g") (codes "l"))
+unfolding valid digits
+no_member = refl
+
+member_twice : valid (grouped 2 (codes "k" ∷ codes "k" ∷ [])) ≡ Err (NameTwice (codes "k"))
+unfolding valid digits
+member_twice = refl
+
+empty_group : valid (grouped 2 []) ≡ Err (BadRange (codes "group[0].members"))
+unfolding valid digits
+empty_group = refl
+
+-- a third version has the limits of the first, under which no group can stand
+third_version : valid (grouped 3 (codes "k" ∷ [])) ≡ Err (TooMany Groups)
+unfolding valid digits
+third_version = refl
+
+third_without_groups : valid (a_description 3 100 2 [] []) ≡ Err (BadRange (codes "version"))
+unfolding valid digits
+third_without_groups = refl
 
 -- two controllers of one name
 named_twice : valid (controllers_alone (passes_to (codes "p") (codes "p") ∷ passes_to (codes "p") (codes "q") ∷ [])) ≡ Err (NameTwice (codes "p"))

@@ -1,8 +1,9 @@
 -- The tables of a description, one line a key, in the order in which the keys are visited, and the walk over the whole.
-use Rattle.std.specs.Prelude.{ℕ, ◌-◌, ◌^◌, min, ℤ, pos, Bool, false, if◌then◌else◌, List, [], ◌∷◌, ◌++◌, length, map}
-use Rattle.std.specs.Prelude.{flat_map, codes, Option, Some, None, Result, Ok, Err}
+use Rattle.std.specs.Prelude.{ℕ, ◌-◌, ◌^◌, min, ℤ, pos, ◌==◌, Bool, true, false, if◌then◌else◌, List, [], ◌∷◌, ◌++◌}
+use Rattle.std.specs.Prelude.{length, map, flat_map, codes, Option, Some, None, Result, Ok, Err}
 use Rattle.std.specs.Str.{is_utf8}
-use Rattle.toml.specs.Data.{Members, get_member}
+use Rattle.std.specs.Option.{option_map_or}
+use Rattle.toml.specs.Data.{Data, integer, Members, get_member}
 use Rattle.toml.specs.Parse.{parse_document}
 use Rattle.fixed_num.specs.Micro.{largest}
 use Rattle.fixed_num.specs.declared.TheConstants.{MICRO}
@@ -21,12 +22,14 @@ use Rattle.cm_document.specs.declared.description.CtlKind.{CtlKind}
 use Rattle.cm_document.specs.declared.description.CtlKind.TheVariants.{Forward, Passthrough, Pid, Trajectory}
 use Rattle.cm_document.specs.declared.description.CtlKind.TheVariants.{Broadcaster, Mock}
 use Rattle.cm_document.specs.declared.description.Description.{Description}
+use Rattle.cm_document.specs.declared.description.GroupDesc.{GroupDesc}
 use Rattle.cm_document.specs.declared.description.JointDesc.{JointDesc}
 use Rattle.cm_document.specs.declared.description.Params.{Params}
 use Rattle.cm_document.specs.declared.description.Params.TheVariants as params
 use Rattle.cm_document.specs.declared.faults.DescFault.{DescFault}
 use Rattle.cm_document.specs.declared.faults.DescFault.TheVariants.{NotToml}
 use Rattle.cm_document.specs.declared.life.Life.{Life}
+use Rattle.cm_document.specs.declared.limits.TheConstants.{SECOND_VERSION}
 use Rattle.cm_document.specs.declared.life.Life.TheVariants.{Unconfigured, Active}
 
 -- ---- The tree
@@ -203,24 +206,55 @@ controller_form states = record {
 abbrev pub component_key : Table (List CompDesc)
 component_key = defaulted (codes "component") (tables_of (walk component_table)) []
 
--- a description of these values
-abbrev pub a_description : ℕ → ℕ → ℕ → List CompDesc → List CtlDesc → Description
-a_description version update_rate cycles components controllers = record {
+-- a description of these values, with groups
+abbrev pub a_grouped : ℕ → ℕ → ℕ → List CompDesc → List CtlDesc → List GroupDesc → Description
+a_grouped version update_rate cycles components controllers groups = record {
   version = version;
   update_rate = update_rate;
   cycles = cycles;
   components = components;
   controllers = controllers;
+  groups = groups;
 }
 
--- the keys of the top table; `all` stands for these states
-unfoldable pub top_table : List IfaceName → Table Description
-top_table states = filled a_description
+-- one without groups
+abbrev pub a_description : ℕ → ℕ → ℕ → List CompDesc → List CtlDesc → Description
+a_description version update_rate cycles components controllers =
+    a_grouped version update_rate cycles components controllers []
+
+-- a group of these values
+abbrev pub a_group : List ℕ → List (List ℕ) → GroupDesc
+a_group name members = record { name = name; members = members }
+
+-- the keys of a group
+unfoldable pub group_table : Table GroupDesc
+group_table = filled a_group
+    & required (codes "name") (one name_in)
+    & required (codes "members") (list_of name_in)
+
+-- the keys that the top table has in every version; `all` stands for these states
+abbrev pub top_common : {A : Type 0} → (ℕ → ℕ → ℕ → List CompDesc → List CtlDesc → A) → List IfaceName → Table A
+top_common make states = filled make
     & required (codes "version") (one whole_in)
     & required (codes "update_rate") (one whole_in)
     & required (codes "cycles") (one whole_in)
     & component_key
     & defaulted (codes "controller") (tables_of (controller_form states)) []
+
+-- the keys of the top table: the second version has groups besides
+unfoldable pub top_table : List IfaceName → Bool → Table Description
+top_table states false = top_common a_description states
+top_table states true =
+    top_common a_grouped states & defaulted (codes "group") (tables_of (walk group_table)) []
+
+-- the value is the whole 2
+abbrev pub is_two : Data → Bool
+is_two (integer (pos n)) = n == SECOND_VERSION
+is_two _ = false
+
+-- a tree is of the second version exactly where the whole 2 stands at its key
+abbrev pub is_second : Members → Bool
+is_second ms = option_map_or is_two (get_member (codes "version") ms) false
 
 -- every state interface that a tree describes: those of its components, where these are read
 unfoldable pub described_states : Members → List IfaceName
@@ -229,9 +263,9 @@ described_states ms = elim (component_key.form.read [] ms) [ Ok components ↦ s
 -- the form of the whole tree
 unfoldable pub description_form : Form Members Description
 description_form = record {
-  read = λ prefix ms. (walk (top_table (described_states ms))).read prefix ms;
-  faults = λ prefix ms. (walk (top_table (described_states ms))).faults prefix ms;
-  fits = λ ms. (walk (top_table (described_states ms))).fits ms;
+  read = λ prefix ms. (walk (top_table (described_states ms) (is_second ms))).read prefix ms;
+  faults = λ prefix ms. (walk (top_table (described_states ms) (is_second ms))).faults prefix ms;
+  fits = λ ms. (walk (top_table (described_states ms) (is_second ms))).fits ms;
 }
 
 -- the description that a tree is, or its first fault; no tree is no TOML

@@ -7,6 +7,7 @@ pub mod Forms
 pub mod Tables
 pub mod Described
 pub mod Links
+pub mod Limits
 pub mod Valid
 pub mod Places
 pub mod Lines

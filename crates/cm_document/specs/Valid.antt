@@ -1,5 +1,5 @@
 -- What a description must meet besides its form, in the order in which a fault counts: counts, names, ranges,
--- interfaces, fallbacks, loops.
+-- interfaces, fallbacks, members, loops.
 use Rattle.std.specs.Prelude.{◌≡◌, ℕ, ◌+◌, ℤ, pos, int_le, Bool, true, not, ◌&&◌, nat_lt, nat_le, ◌==◌, if◌then◌else◌}
 use Rattle.std.specs.Prelude.{List, [], ◌∷◌, ◌++◌, length, sum_by, map, codes, slice_get, Option, Some, None, Result}
 use Rattle.std.specs.Prelude.{Ok, Err}
@@ -9,13 +9,11 @@ use Rattle.toml.specs.Data.{Members}
 use Rattle.iface_names.specs.Names.{same_name}
 use Rattle.iface_names.specs.Interfaces.{same_interface, interface_text}
 use Rattle.iface_names.specs.declared.interface.IfaceName.{IfaceName}
-use Rattle.cm_document.specs.declared.limits.TheConstants.{VERSION, HIGHEST_RATE, MOST_CYCLES, MOST_COMPONENTS}
-use Rattle.cm_document.specs.declared.limits.TheConstants.{MOST_JOINTS, MOST_STATES, MOST_COMMANDS, MOST_CONTROLLERS}
-use Rattle.cm_document.specs.declared.limits.TheConstants.{MOST_REFERENCES, MOST_CLAIMS, MOST_READS}
-use Rattle.cm_document.specs.declared.limits.TheConstants.{MOST_FALLBACKS}
+use Rattle.cm_document.specs.declared.limits.TheConstants.{HIGHEST_RATE, MOST_CYCLES, MOST_FALLBACKS, MOST_MEMBERS}
 use Rattle.cm_document.specs.Reading.{◌>>=◌}
 use Rattle.cm_document.specs.Forms.{item_path, inside}
 use Rattle.cm_document.specs.Described.{states_of, description_form}
+use Rattle.cm_document.specs.Limits.{is_version, limits_of}
 use Rattle.cm_document.specs.Params.{fewest_claims, most_claims, reads_beside, limits_at}
 use Rattle.cm_document.specs.Links.{joints_of, commands_of, references_of, is_among, first_in_loop}
 use Rattle.cm_document.specs.declared.description.CompDesc.{CompDesc}
@@ -23,14 +21,15 @@ use Rattle.cm_document.specs.declared.description.CompKind.{CompKind}
 use Rattle.cm_document.specs.declared.description.CompKind.TheVariants.{Sensor, Actuator}
 use Rattle.cm_document.specs.declared.description.CtlDesc.{CtlDesc}
 use Rattle.cm_document.specs.declared.description.Description.{Description}
+use Rattle.cm_document.specs.declared.description.GroupDesc.{GroupDesc}
 use Rattle.cm_document.specs.declared.description.JointDesc.{JointDesc}
 use Rattle.cm_document.specs.declared.description.Params.{Params}
 use Rattle.cm_document.specs.declared.faults.CheckFault.{CheckFault}
 use Rattle.cm_document.specs.declared.faults.CheckFault.TheVariants.{TooMany, NameTwice, BadRange, NoInterface}
-use Rattle.cm_document.specs.declared.faults.CheckFault.TheVariants.{NoFallback, ChainLoop}
+use Rattle.cm_document.specs.declared.faults.CheckFault.TheVariants.{NoFallback, NoMember, ChainLoop}
 use Rattle.cm_document.specs.declared.faults.What.{What}
 use Rattle.cm_document.specs.declared.faults.What.TheVariants.{Components, Joints, States, Commands, Controllers}
-use Rattle.cm_document.specs.declared.faults.What.TheVariants.{References, Claims, Reads}
+use Rattle.cm_document.specs.declared.faults.What.TheVariants.{References, Claims, Reads, Groups}
 
 -- ---- Counts
 
@@ -38,17 +37,18 @@ use Rattle.cm_document.specs.declared.faults.What.TheVariants.{References, Claim
 abbrev pub limited : What → ℕ → ℕ → Result (Unit {0}) CheckFault
 limited what number limit = if nat_lt limit number then Err (TooMany what) else Ok tt
 
--- none of the counts is above its limit
+-- none of the counts is above the limit of the version
 abbrev pub few_enough : Description → Result (Unit {0}) CheckFault
 few_enough d =
-    limited Components (length d.components) MOST_COMPONENTS >>= λ _.
-    limited Joints (length (joints_of d.components)) MOST_JOINTS >>= λ _.
-    limited States (length (states_of d.components)) MOST_STATES >>= λ _.
-    limited Commands (length (commands_of d.components)) MOST_COMMANDS >>= λ _.
-    limited Controllers (length d.controllers) MOST_CONTROLLERS >>= λ _.
-    limited References (length (references_of d.controllers)) MOST_REFERENCES >>= λ _.
-    limited Claims (sum_by (λ c. length c.claims) d.controllers) MOST_CLAIMS >>= λ _.
-    limited Reads (sum_by (λ c. length c.reads) d.controllers) MOST_READS
+    limited Components (length d.components) (limits_of d.version).components >>= λ _.
+    limited Joints (length (joints_of d.components)) (limits_of d.version).joints >>= λ _.
+    limited States (length (states_of d.components)) (limits_of d.version).states >>= λ _.
+    limited Commands (length (commands_of d.components)) (limits_of d.version).commands >>= λ _.
+    limited Controllers (length d.controllers) (limits_of d.version).controllers >>= λ _.
+    limited References (length (references_of d.controllers)) (limits_of d.version).references >>= λ _.
+    limited Claims (sum_by (λ c. length c.claims) d.controllers) (limits_of d.version).claims >>= λ _.
+    limited Reads (sum_by (λ c. length c.reads) d.controllers) (limits_of d.version).reads >>= λ _.
+    limited Groups (length d.groups) (limits_of d.version).groups
 
 -- ---- Names
 
@@ -78,15 +78,22 @@ links_apart (c ∷ cs) =
     names_apart c.fallback >>= λ _.
     links_apart cs
 
--- Components, joints and controllers are each named in a space of their own; references and the links of a controller
--- differ too.
+-- no group names a member twice
+abbrev pub members_apart : List GroupDesc → Result (Unit {0}) CheckFault
+members_apart [] = Ok tt
+members_apart (g ∷ gs) = names_apart g.members >>= λ _. members_apart gs
+
+-- Components, joints, controllers and groups are each named in a space of their own; references, the links of a
+-- controller and the members of a group differ too.
 abbrev pub named_apart : Description → Result (Unit {0}) CheckFault
 named_apart d =
     names_apart (map (λ c. c.name) d.components) >>= λ _.
     names_apart (map (λ j. j.name) (joints_of d.components)) >>= λ _.
     names_apart (map (λ c. c.name) d.controllers) >>= λ _.
     interfaces_apart (references_of d.controllers) >>= λ _.
-    links_apart d.controllers
+    names_apart (map (λ g. g.name) d.groups) >>= λ _.
+    links_apart d.controllers >>= λ _.
+    members_apart d.groups
 
 -- ---- Ranges, in the order of the walk
 
@@ -155,14 +162,20 @@ controller_ranged prefix c =
     ranged (reads_fit c.params (length c.claims) (length c.reads)) (prefix ++ codes "reads") >>= λ _.
     limits_ranged prefix c.params
 
--- the version, the rate, which is not 0, and the cycles; then the components and the controllers
+-- a group has from one to as many members as it may have
+abbrev pub group_ranged : List ℕ → GroupDesc → Result (Unit {0}) CheckFault
+group_ranged prefix g =
+    ranged (nat_le 1 (length g.members) && nat_le (length g.members) MOST_MEMBERS) (prefix ++ codes "members")
+
+-- the version, the rate, which is not 0, and the cycles; then the components, the controllers and the groups
 abbrev pub in_range : Description → Result (Unit {0}) CheckFault
 in_range d =
-    ranged (d.version == VERSION) (codes "version") >>= λ _.
+    ranged (is_version d.version) (codes "version") >>= λ _.
     ranged (nat_le 1 d.update_rate && nat_le d.update_rate HIGHEST_RATE) (codes "update_rate") >>= λ _.
     ranged (nat_le d.cycles MOST_CYCLES) (codes "cycles") >>= λ _.
     each_ranged component_ranged (codes "component") 0 d.components >>= λ _.
-    each_ranged controller_ranged (codes "controller") 0 d.controllers
+    each_ranged controller_ranged (codes "controller") 0 d.controllers >>= λ _.
+    each_ranged group_ranged (codes "group") 0 d.groups
 
 -- ---- Interfaces
 
@@ -201,6 +214,20 @@ abbrev pub fallbacks_exist : List (List ℕ) → List CtlDesc → Result (Unit {
 fallbacks_exist described [] = Ok tt
 fallbacks_exist described (c ∷ cs) = stand_in described c >>= λ _. fallbacks_exist described cs
 
+-- ---- Members
+
+-- the members of a group are described: else the first that is not is told
+abbrev pub are_described : List (List ℕ) → GroupDesc → Result (Unit {0}) CheckFault
+are_described described g = elim (find (λ name. not (list_any (same_name name) described)) g.members) [
+  | None ↦ Ok tt
+  | Some name ↦ Err (NoMember g.name name)
+]
+
+-- so are those of each of these groups, in order
+abbrev pub members_exist : List (List ℕ) → List GroupDesc → Result (Unit {0}) CheckFault
+members_exist described [] = Ok tt
+members_exist described (g ∷ gs) = are_described described g >>= λ _. members_exist described gs
+
 -- ---- Loops
 
 -- the name of the controller at a place
@@ -222,6 +249,7 @@ valid d =
     in_range d >>= λ _.
     links_exist (claimable d) (states_of d.components) d.controllers >>= λ _.
     fallbacks_exist (map (λ c. c.name) d.controllers) d.controllers >>= λ _.
+    members_exist (map (λ c. c.name) d.controllers) d.groups >>= λ _.
     loop_free d.controllers >>= λ _.
     Ok d
 

@@ -16,7 +16,7 @@ use std::alloc::AllocError;
 /// What is described: the manager's rate, how long it runs, the components and the controllers.
 #[derive(Clone, Debug, PartialEq, Eq, Drop)]
 pub struct Description {
-    /// The version of the format, 1.
+    /// The version of the format, 1 or 2.
     pub version: u32,
     /// The manager's update rate, 1 to 10,000 hertz.
     pub update_rate: u32,
@@ -26,6 +26,17 @@ pub struct Description {
     pub components: Seq<CompDesc>,
     /// The controllers, at most 64, in written order: the place of each is its number here.
     pub controllers: Seq<CtlDesc>,
+    /// The groups, at most 16, in written order; none in version 1.
+    pub groups: Seq<GroupDesc>,
+}
+
+/// Controllers that a switch can name together.
+#[derive(Clone, Debug, PartialEq, Eq, Drop)]
+pub struct GroupDesc {
+    /// Its name, which no other group has.
+    pub name: Name,
+    /// The names of its members, 1 to 32, in written order.
+    pub members: Seq<Name>,
 }
 
 /// What a hardware component is for.

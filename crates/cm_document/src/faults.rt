@@ -51,27 +51,30 @@ pub enum What {
     /// More than 16 components.
     #[error("components")]
     Components,
-    /// More than 32 joints.
+    /// More joints than the version's limit.
     #[error("joints")]
     Joints,
-    /// More than 96 state interfaces.
+    /// More state interfaces than the version's limit.
     #[error("states")]
     States,
-    /// More than 96 command interfaces of components.
+    /// More command interfaces of components than the version's limit.
     #[error("commands")]
     Commands,
     /// More than 64 controllers.
     #[error("controllers")]
     Controllers,
-    /// More than 96 references.
+    /// More references than the version's limit.
     #[error("references")]
     References,
-    /// More than 192 claims in all controllers together.
+    /// More claims in all controllers together than the version's limit.
     #[error("claims")]
     Claims,
-    /// More than 256 reads in all controllers together.
+    /// More reads in all controllers together than the version's limit.
     #[error("reads")]
     Reads,
+    /// More than 16 groups.
+    #[error("groups")]
+    Groups,
 }
 
 /// The first fault of a description that was read.
@@ -100,6 +103,14 @@ pub enum CheckFault {
         /// The controller that it is to stand in for.
         controller: Name,
         /// The name that is given for it.
+        name: Name,
+    },
+    /// A member of a group that is no described controller.
+    #[error("no_member {group} {name}")]
+    NoMember {
+        /// The group.
+        group: Name,
+        /// The name that is given as its member.
         name: Name,
     },
     /// The first controller that precedes itself at some distance.

@@ -6,16 +6,17 @@ pub use call::{Call, Mail, Point2, SwitchRequest};
 pub use checked::Checked;
 pub use cycles::Cycles;
 pub use description::{
-    CompDesc, CompKind, CtlDesc, CtlKind, Description, Exports, JointDesc, Params,
+    CompDesc, CompKind, CtlDesc, CtlKind, Description, Exports, GroupDesc, JointDesc, Params,
 };
 pub use document::Document;
 pub use faults::{CheckFault, DescFault, DescProblem, DocumentFault, ScriptFault, What, Wrong};
 pub use life::Life;
 pub use limits::{
-    HIGHEST_RATE, LONGEST_DOCUMENT, LONGEST_LINE, MOST_CALLS, MOST_CLAIMS, MOST_CLAIMS_OF_ONE,
-    MOST_COMMANDS, MOST_COMPONENTS, MOST_CONTROLLERS, MOST_CYCLES, MOST_DIGITS_OF_WHOLE,
-    MOST_FALLBACKS, MOST_JOINTS, MOST_NAMES, MOST_POINTS, MOST_READS, MOST_REFERENCES,
-    MOST_SESSIONS, MOST_STATES, MOST_VALUES, VERSION,
+    FIRST_VERSION, HIGHEST_RATE, LIMITS_1, LIMITS_2, LONGEST_DOCUMENT, LONGEST_LINE, Limits,
+    MOST_CALLS, MOST_CLAIMS, MOST_CLAIMS_OF_ONE, MOST_COMMANDS, MOST_COMPONENTS, MOST_CONTROLLERS,
+    MOST_CYCLES, MOST_DIGITS_OF_WHOLE, MOST_FALLBACKS, MOST_GROUPS, MOST_JOINTS, MOST_MEMBERS,
+    MOST_NAMES, MOST_POINTS, MOST_READS, MOST_REFERENCES, MOST_SESSIONS, MOST_STATES, MOST_VALUES,
+    SECOND_VERSION, limits_of,
 };
 pub use script::{Grammar, Script, ScriptLine, SessionText, Turn, Verb, whole_grammar};
 pub use text::Text;

@@ -7,7 +7,7 @@ use Rattle.std.proofs.lemmas.Option.{same_Some}
 use Rattle.sequence.proofs.ListLemmas.{all_at}
 use Rattle.iface_names.specs.declared.interface.IfaceName.{IfaceName}
 use Rattle.cm_document.specs.Forms.{item_path, inside, tables_of}
-use Rattle.cm_document.specs.Described.{count, a_description, claiming_table, pid_table, trajectory_table, broadcaster_table, mock_table, controller_table, controller_form, type_of, top_table, described_states, description_form}
+use Rattle.cm_document.specs.Described.{count, a_description, a_grouped, claiming_table, pid_table, trajectory_table, broadcaster_table, mock_table, controller_table, controller_form, type_of, top_table, described_states, is_second, description_form}
 use Rattle.cm_document.specs.Params.{fewest_claims, most_claims, limits_at}
 use Rattle.cm_document.specs.Valid.{not_negative, ranged, each_ranged, controller_ranged, claims_fit, reads_fit, none_negative, limits_ranged, IsDescribed, IsValid}
 use Rattle.cm_document.specs.declared.description.CompDesc.{CompDesc}
@@ -15,6 +15,7 @@ use Rattle.cm_document.specs.declared.description.CtlDesc.{CtlDesc}
 use Rattle.cm_document.specs.declared.description.CtlKind.{CtlKind}
 use Rattle.cm_document.specs.declared.description.CtlKind.TheVariants as kind
 use Rattle.cm_document.specs.declared.description.Description.{Description}
+use Rattle.cm_document.specs.declared.description.GroupDesc.{GroupDesc}
 use Rattle.cm_document.specs.declared.description.Params.{Params}
 use Rattle.cm_document.specs.declared.description.Params.TheVariants.{Forward, Passthrough, Pid, Trajectory, Broadcaster, Mock}
 use Rattle.cm_document.specs.declared.limits.TheConstants.{HIGHEST_RATE, MOST_FALLBACKS}
@@ -89,9 +90,14 @@ controller_gives states = record {
 abbrev AllShaped : Description → Type 0
 AllShaped d = AllByRecursion IsShaped d.controllers
 
-top_gives : (states : List IfaceName) → Gives (top_table states).form.read AllShaped
+top_gives : (states : List IfaceName) (second : Bool) → Gives (top_table states second).form.read AllShaped
 unfolding top_table
-top_gives states =
+top_gives states true =
+    any_key {A = List GroupDesc} _ _ _ (next_key _ _ (AllByRecursion IsShaped) _
+    (any_key {A = List CompDesc} _ _ _ (any_key {A = ℕ} _ _ _ (any_key {A = ℕ} _ _ _ (any_key {A = ℕ} _ _ _ (filled_gives a_grouped _
+    (λ version update_rate cycles components controllers shaped groups. shaped))))))
+    (defaulted_gives (codes "controller") (tables_of (controller_form states)) [] _ (tables_give (controller_form states) IsShaped (controller_gives states)) tt))
+top_gives states false =
     next_key _ _ (AllByRecursion IsShaped) AllShaped
     (any_key {A = List CompDesc} _ _ _ (any_key {A = ℕ} _ _ _ (any_key {A = ℕ} _ _ _ (any_key {A = ℕ} _ _ _ (filled_gives a_description _
     (λ version update_rate cycles components controllers shaped. shaped))))))
@@ -100,7 +106,7 @@ top_gives states =
 IsDescribed-AllShaped : (d : Description) → IsDescribed d → AllShaped d
 unfolding description_form
 IsDescribed-AllShaped d (ms, same) =
-    subst (λ read. IfOk read AllShaped) same ((walk_gives (top_table (described_states ms)) AllShaped (top_gives (described_states ms))).given [] ms)
+    subst (λ read. IfOk read AllShaped) same ((walk_gives (top_table (described_states ms) (is_second ms)) AllShaped (top_gives (described_states ms) (is_second ms))).given [] ms)
 
 -- the parameters of each controller of a description tell of its claims and its reads
 pub described_shapes : (d : Description) → IsDescribed d → (place : ℕ) (c : CtlDesc) → slice_get d.controllers place ≡ Some c → IsShaped c
