@@ -15,7 +15,7 @@ use Rattle.cm_document.specs.Links.{joints_of, commands_of, references_of, first
 use Rattle.cm_document.specs.Valid.{fallbacks_exist, members_exist, members_apart, group_ranged, limited, few_enough, repeated_after, apart, names_apart, interfaces_apart, links_apart, named_apart, ranged, each_ranged, component_ranged, controller_ranged, in_range, claimable, links_exist, name_at, loop_free, valid, IsValid}
 use Rattle.cm_document.specs.declared.description.CtlDesc.{CtlDesc}
 use Rattle.cm_document.specs.declared.description.Description.{Description}
-use Rattle.cm_document.specs.declared.limits.Limits.{Limits}
+use Rattle.cm_document.specs.declared.limits.VersionLimits.{VersionLimits}
 use Rattle.cm_document.specs.declared.faults.CheckFault.{CheckFault}
 use Rattle.cm_document.specs.declared.faults.CheckFault.TheVariants.{NameTwice, ChainLoop}
 use Rattle.cm_document.specs.declared.faults.What.{What}
@@ -75,7 +75,7 @@ pub record ValidParts (d : Description) : Type 0 where
 -- ---- What a check that passes says
 
 -- what is within its limit is not above it
-within_limit : (what : What) (number limit : ℕ) → limited what number limit ≡ Ok tt → number ≤ limit
+pub within_limit : (what : What) (number limit : ℕ) → limited what number limit ≡ Ok tt → number ≤ limit
 within_limit what number limit e =
     elim (cases_Bool (nat_lt limit number)) [
       | inl above ↦ (let f = rw above at e in cc)
@@ -111,18 +111,19 @@ interfaces_apart-IsDistinct names e = apart-IsDistinct same_interface same_inter
 -- ---- Each part
 
 -- no version has more than the most
-record AreMost (limits : Limits) : Type 0 where
-  components : limits.components ≤ MOST_COMPONENTS
-  joints : limits.joints ≤ MOST_JOINTS
-  states : limits.states ≤ MOST_STATES
-  commands : limits.commands ≤ MOST_COMMANDS
-  controllers : limits.controllers ≤ MOST_CONTROLLERS
-  references : limits.references ≤ MOST_REFERENCES
-  claims : limits.claims ≤ MOST_CLAIMS
-  reads : limits.reads ≤ MOST_READS
-  groups : limits.groups ≤ MOST_GROUPS
+pub record AreMost (limits : VersionLimits) : Type 0 where
+  pub components : limits.components ≤ MOST_COMPONENTS
+  pub joints : limits.joints ≤ MOST_JOINTS
+  pub states : limits.states ≤ MOST_STATES
+  pub commands : limits.commands ≤ MOST_COMMANDS
+  pub controllers : limits.controllers ≤ MOST_CONTROLLERS
+  pub references : limits.references ≤ MOST_REFERENCES
+  pub claims : limits.claims ≤ MOST_CLAIMS
+  pub reads : limits.reads ≤ MOST_READS
+  pub groups : limits.groups ≤ MOST_GROUPS
 
-most : (second : Bool) → AreMost (if second then LIMITS_2 else LIMITS_1)
+-- and so of either
+pub most : (second : Bool) → AreMost (if second then LIMITS_2 else LIMITS_1)
 most true = record {
   components = omega arith;
   joints = omega arith;

@@ -3,7 +3,7 @@ use Rattle.std.specs.Prelude.{ℕ, ◌-◌, ◌^◌, min, ℤ, pos, ◌==◌, Bo
 use Rattle.std.specs.Prelude.{length, map, flat_map, codes, Option, Some, None, Result, Ok, Err}
 use Rattle.std.specs.Str.{is_utf8}
 use Rattle.std.specs.Option.{option_map_or}
-use Rattle.toml.specs.Data.{Data, integer, Members, get_member}
+use Rattle.toml.specs.Data.{Data, Members, get_member}
 use Rattle.toml.specs.Parse.{parse_document}
 use Rattle.fixed_num.specs.Micro.{largest}
 use Rattle.fixed_num.specs.declared.TheConstants.{MICRO}
@@ -249,8 +249,7 @@ top_table states true =
 
 -- the value is the whole 2
 abbrev pub is_two : Data → Bool
-is_two (integer (pos n)) = n == SECOND_VERSION
-is_two _ = false
+is_two d = elim (whole_in d) [ Ok n ↦ n == SECOND_VERSION | Err e ↦ false ]
 
 -- a tree is of the second version exactly where the whole 2 stands at its key
 abbrev pub is_second : Members → Bool

@@ -56,7 +56,7 @@ pub const MOST_MEMBERS: usize = 32;
 
 /// How much a description may have, by its version.
 #[derive(Clone, Copy, Debug, PartialEq, Eq)]
-pub struct Limits {
+pub struct VersionLimits {
     /// Components.
     pub components: usize,
     /// Joints of all components together.
@@ -78,7 +78,7 @@ pub struct Limits {
 }
 
 /// Those of the first version, and of every version that there is not.
-pub const LIMITS_1: Limits = Limits {
+pub const LIMITS_1: VersionLimits = VersionLimits {
     components: MOST_COMPONENTS,
     joints: 32,
     states: 96,
@@ -91,7 +91,7 @@ pub const LIMITS_1: Limits = Limits {
 };
 
 /// Those of the second version: the most that any may have.
-pub const LIMITS_2: Limits = Limits {
+pub const LIMITS_2: VersionLimits = VersionLimits {
     components: MOST_COMPONENTS,
     joints: MOST_JOINTS,
     states: MOST_STATES,
@@ -125,7 +125,7 @@ pub const MOST_POINTS: usize = 64;
 pub const MOST_VALUES: usize = 32;
 
 /// How much a description of this version may have.
-pub fn limits_of(version: u32) -> Limits
+pub fn limits_of(version: u32) -> VersionLimits
     ensures { result ≡ limits_of version }
 {
     if version == SECOND_VERSION {

@@ -31,6 +31,10 @@ system joints commands states number = a_component (codes "c" ++ decimal number)
 abbrev systems : ℕ → ℕ → ℕ → ℕ → Description
 systems count joints commands states = a_description 1 100 5 (numbered (system joints commands states) count) []
 
+-- the same in the second version
+abbrev systems_of_second : ℕ → ℕ → ℕ → ℕ → Description
+systems_of_second count joints commands states = a_description 2 100 5 (numbered (system joints commands states) count) []
+
 most_states : verdict (systems 1 1 0 96) ≡ Ok tt
 unfolding verdict valid digits
 most_states = refl
@@ -60,3 +64,20 @@ states_and_commands = refl
 joints_and_the_rest : verdict (systems 1 33 3 3) ≡ Err (TooMany Joints)
 unfolding verdict valid digits
 joints_and_the_rest = refl
+
+-- the second version has more room
+most_states_of_second : verdict (systems_of_second 1 1 0 192) ≡ Ok tt
+unfolding verdict valid digits
+most_states_of_second = refl
+
+one_state_more_of_second : verdict (systems_of_second 1 1 0 193) ≡ Err (TooMany States)
+unfolding verdict valid digits
+one_state_more_of_second = refl
+
+most_commands_of_second : verdict (systems_of_second 1 1 192 0) ≡ Ok tt
+unfolding verdict valid digits
+most_commands_of_second = refl
+
+joints_of_second : verdict (systems_of_second 1 65 3 3) ≡ Err (TooMany Joints)
+unfolding verdict valid digits
+joints_of_second = refl

@@ -6,27 +6,27 @@ ghost use Rattle.cm_document.specs.Links.{joints_of, commands_of, commands_of_jo
 ghost use Rattle.cm_document.specs.Valid.{limited, few_enough};
 ghost use Rattle.desc_check.specs.Counts.{counted};
 
-use cm_document::{
-    CheckFault, CompDesc, CtlDesc, Description, JointDesc, MOST_CLAIMS, MOST_COMMANDS,
-    MOST_COMPONENTS, MOST_CONTROLLERS, MOST_JOINTS, MOST_READS, MOST_REFERENCES, MOST_STATES, What,
-};
+use cm_document::{CheckFault, CompDesc, CtlDesc, Description, JointDesc, What, limits_of};
 
-/// None of the counts is above its limit: else TooMany of the first that is.
-#[tactic(auto, using(crate::proofs::CountLemmas::limited_counted))]
+/// None of the counts is above the limit of the version: else TooMany of the first that is.
+#[tactic(auto, using(crate::proofs::LimitLemmas::joints_counted, crate::proofs::LimitLemmas::states_counted, crate::proofs::LimitLemmas::commands_counted, crate::proofs::LimitLemmas::references_counted, crate::proofs::LimitLemmas::claims_counted, crate::proofs::LimitLemmas::reads_counted, crate::proofs::LimitLemmas::few_controllers))]
 pub fn few_enough(description: &Description) -> Result<(), CheckFault>
     ensures few { OnOk result (length description.now.controllers < 2 ^ 32) }
     ensures exact { result ≡ few_enough description.now }
 {
     let components = description.components.as_slice();
     let controllers = description.controllers.as_slice();
-    limited(What::Components, components.len(), MOST_COMPONENTS)?;
-    limited(What::Joints, joints(components), MOST_JOINTS)?;
-    limited(What::States, states(components), MOST_STATES)?;
-    limited(What::Commands, commands(components), MOST_COMMANDS)?;
-    limited(What::Controllers, controllers.len(), MOST_CONTROLLERS)?;
-    limited(What::References, references(controllers), MOST_REFERENCES)?;
-    limited(What::Claims, claims(controllers), MOST_CLAIMS)?;
-    limited(What::Reads, reads(controllers), MOST_READS)
+    let groups = description.groups.as_slice();
+    let limits = limits_of(description.version);
+    limited(What::Components, components.len(), limits.components)?;
+    limited(What::Joints, joints(components), limits.joints)?;
+    limited(What::States, states(components), limits.states)?;
+    limited(What::Commands, commands(components), limits.commands)?;
+    limited(What::Controllers, controllers.len(), limits.controllers)?;
+    limited(What::References, references(controllers), limits.references)?;
+    limited(What::Claims, claims(controllers), limits.claims)?;
+    limited(What::Reads, reads(controllers), limits.reads)?;
+    limited(What::Groups, groups.len(), limits.groups)
 }
 
 /// There are no more of these than the limit.

@@ -54,7 +54,7 @@ fn can_stand_in(described: &[CtlDesc], controller: &CtlDesc, name: &Name) -> boo
 }
 
 /// Whether one of these has this name.
-fn is_described(described: &[CtlDesc], name: &Name) -> bool
+pub(crate) fn is_described(described: &[CtlDesc], name: &Name) -> bool
     ensures { result ≡ list_any (same_name name.now) (map (λ c. c.name) described.now) }
 {
     described.iter().any(|other| *name == other.name)

@@ -6,25 +6,28 @@ ghost use Rattle.sequence.specs.Answers.{Answers};
 ghost use Rattle.iface_names.specs.Interfaces.{same_interface};
 ghost use Rattle.iface_names.specs.Names.{same_name};
 ghost use Rattle.cm_document.specs.Links.{joints_of};
-ghost use Rattle.cm_document.specs.Valid.{repeated_after, names_apart, interfaces_apart, links_apart, named_apart};
+ghost use Rattle.cm_document.specs.Valid.{repeated_after, names_apart, interfaces_apart, links_apart, members_apart, named_apart};
 
 use crate::references::references;
-use cm_document::{CheckFault, CompDesc, CtlDesc, Description, JointDesc, Text};
+use cm_document::{CheckFault, CompDesc, CtlDesc, Description, GroupDesc, JointDesc, Text};
 use iface_names::{IfaceName, Name};
 use std::alloc::{AllocError, Global};
 
-/// No name stands twice among the components, the joints, the controllers, the references, or the claims, reads or
-/// fallbacks of one controller: else NameTwice of the first that does.
+/// No name stands twice among the components, the joints, the controllers, the references, the groups, the claims, reads
+/// or fallbacks of one controller, or the members of one group: else NameTwice of the first that does.
 pub fn named_apart(alloc: Global, description: &Description) -> Result<(), CheckFault>
     ensures { Answers CheckFault.Memory (named_apart description.now) result }
 {
     let components = description.components.as_slice();
     let controllers = description.controllers.as_slice();
+    let groups = description.groups.as_slice();
     names_apart(alloc, component_names(alloc, components)?.as_slice())?;
     names_apart(alloc, joint_names(alloc, components)?.as_slice())?;
     names_apart(alloc, controller_names(alloc, controllers)?.as_slice())?;
     interfaces_apart(alloc, references(alloc, controllers)?.as_slice())?;
-    links_apart(alloc, controllers)
+    names_apart(alloc, group_names(alloc, groups)?.as_slice())?;
+    links_apart(alloc, controllers)?;
+    members_apart(alloc, groups)
 }
 
 /// No controller claims an interface twice, reads one twice, or names a fallback twice.
@@ -34,7 +37,17 @@ fn links_apart(alloc: Global, controllers: &[CtlDesc]) -> Result<(), CheckFault>
     for controller in controllers {
         interfaces_apart(alloc, controller.claims.as_slice())?;
         interfaces_apart(alloc, controller.reads())?;
-        fallbacks_apart(alloc, controller.fallback.as_slice())?;
+        listed_apart(alloc, controller.fallback.as_slice())?;
+    }
+    Ok(())
+}
+
+/// No group names a member twice.
+fn members_apart(alloc: Global, groups: &[GroupDesc]) -> Result<(), CheckFault>
+    ensures { Answers CheckFault.Memory (members_apart groups.now) result }
+{
+    for group in groups {
+        listed_apart(alloc, group.members.as_slice())?;
     }
     Ok(())
 }
@@ -49,8 +62,8 @@ fn names_apart(alloc: Global, names: &[&Name]) -> Result<(), CheckFault>
     }
 }
 
-/// Fallbacks that differ: else NameTwice of the first that stands earlier too.
-fn fallbacks_apart(alloc: Global, names: &[Name]) -> Result<(), CheckFault>
+/// Names of a list that differ: else NameTwice of the first that stands earlier too.
+fn listed_apart(alloc: Global, names: &[Name]) -> Result<(), CheckFault>
     ensures { Answers CheckFault.Memory (names_apart names.now) result }
 {
     match repeated(names) {
@@ -114,6 +127,17 @@ fn controller_names<'a>(
     let mut names = Vec::new(alloc);
     for controller in controllers {
         names.push(&controller.name)?;
+    }
+    Ok(names)
+}
+
+/// The names of the groups.
+fn group_names<'a>(alloc: Global, groups: &'a [GroupDesc]) -> Result<Vec<&'a Name>, AllocError>
+    ensures { IfOk result (λ names. map (λ name. name.now) names.items ≡ map (λ g. g.name) groups.now) }
+{
+    let mut names = Vec::new(alloc);
+    for group in groups {
+        names.push(&group.name)?;
     }
     Ok(names)
 }

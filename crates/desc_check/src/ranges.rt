@@ -3,11 +3,12 @@
 ghost use Rattle.std.specs.Prelude.{◌≡◌, ◌++◌, codes, length, IfOk};
 ghost use Rattle.sequence.specs.Answers.{Answers};
 ghost use Rattle.cm_document.specs.Forms.{item_path, inside};
-ghost use Rattle.cm_document.specs.Valid.{ranged, not_negative, each_ranged, may_have, joint_ranged, joint_count_fits, component_ranged, claims_fit, reads_fit, limits_ranged, controller_ranged, in_range};
+ghost use Rattle.cm_document.specs.Limits.{is_version};
+ghost use Rattle.cm_document.specs.Valid.{ranged, not_negative, each_ranged, may_have, joint_ranged, joint_count_fits, component_ranged, claims_fit, reads_fit, limits_ranged, controller_ranged, group_ranged, in_range};
 
 use cm_document::{
-    CheckFault, CompDesc, CompKind, CtlDesc, Description, HIGHEST_RATE, JointDesc, MOST_CYCLES,
-    MOST_FALLBACKS, Params, Text, VERSION,
+    CheckFault, CompDesc, CompKind, CtlDesc, Description, FIRST_VERSION, GroupDesc, HIGHEST_RATE,
+    JointDesc, MOST_CYCLES, MOST_FALLBACKS, MOST_MEMBERS, Params, SECOND_VERSION, Text,
 };
 use fixed_num::Fx;
 use std::alloc::{AllocError, Global};
@@ -17,11 +18,19 @@ pub fn in_range(alloc: Global, description: &Description) -> Result<(), CheckFau
     ensures { Answers CheckFault.Memory (in_range description.now) result }
 {
     let rate = description.update_rate;
-    ranged(alloc, description.version == VERSION, "", "version")?;
+    ranged(alloc, is_version(description.version), "", "version")?;
     ranged(alloc, 1 <= rate && rate <= HIGHEST_RATE, "", "update_rate")?;
     ranged(alloc, description.cycles <= MOST_CYCLES, "", "cycles")?;
     components_ranged(alloc, description.components.as_slice())?;
-    controllers_ranged(alloc, description.controllers.as_slice())
+    controllers_ranged(alloc, description.controllers.as_slice())?;
+    groups_ranged(alloc, description.groups.as_slice())
+}
+
+/// There is such a version.
+fn is_version(version: u32) -> bool
+    ensures { result ≡ is_version version }
+{
+    version == FIRST_VERSION || version == SECOND_VERSION
 }
 
 /// The ranges of each component.
@@ -159,6 +168,30 @@ fn limits_ranged(alloc: Global, prefix: &str, params: &Params) -> Result<(), Che
     ranged(alloc, not_negative(*imax), prefix, "imax")?;
     ranged(alloc, not_negative(*omax), prefix, "omax")?;
     Ok(())
+}
+
+/// The ranges of each group.
+fn groups_ranged(alloc: Global, groups: &[GroupDesc]) -> Result<(), CheckFault>
+    ensures { Answers CheckFault.Memory (each_ranged group_ranged (codes "group") 0 groups.now) result }
+{
+    for (index, group) in groups.iter().enumerate() {
+        let prefix = item_prefix(alloc, "group", index)?;
+        group_ranged(alloc, prefix.as_str(), group)?;
+    }
+    Ok(())
+}
+
+/// One member at least, and no more than a group may have.
+fn group_ranged(alloc: Global, prefix: &str, group: &GroupDesc) -> Result<(), CheckFault>
+    ensures { Answers CheckFault.Memory (group_ranged prefix.now group.now) result }
+{
+    let members = group.members.as_slice().len();
+    ranged(
+        alloc,
+        1 <= members && members <= MOST_MEMBERS,
+        prefix,
+        "members",
+    )
 }
 
 /// Not below 0.

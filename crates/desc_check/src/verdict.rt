@@ -8,6 +8,7 @@ use crate::counts::few_enough;
 use crate::fallbacks::fallbacks_exist;
 use crate::interfaces::links_exist;
 use crate::loops::loop_free;
+use crate::members::members_exist;
 use crate::names::named_apart;
 use crate::ranges::in_range;
 use cm_document::{CheckFault, Checked, Description};
@@ -23,7 +24,7 @@ pub fn check(alloc: Global, description: Description) -> Result<Checked, CheckFa
     Ok(Checked::hold(description))
 }
 
-/// The description is valid, or its first fault is told: counts, then names, ranges, interfaces, fallbacks and loops.
+/// The description is valid, or its first fault is told: counts, then names, ranges, interfaces, fallbacks, members and loops.
 #[tactic(auto, unfolding(cm_document::specs::Valid::valid, crate::specs::Verdict::verdict))]
 pub(crate) fn no_fault(alloc: Global, description: &Description) -> Result<(), CheckFault>
     ensures { Answers CheckFault.Memory (verdict description.now) result }
@@ -33,5 +34,6 @@ pub(crate) fn no_fault(alloc: Global, description: &Description) -> Result<(), C
     in_range(alloc, description)?;
     links_exist(alloc, description)?;
     fallbacks_exist(description)?;
+    members_exist(description)?;
     loop_free(alloc, description)
 }

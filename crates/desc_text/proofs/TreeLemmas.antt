@@ -1,15 +1,15 @@
 -- Lemmas about keys, and about the tree of a text.
-use Rattle.std.proofs.Common.{◌≡◌, ℕ, List, [], ◌∷◌, Some, None, Ok, inl, inr}
+use Rattle.std.proofs.Common.{◌≡◌, ℕ, List, [], ◌∷◌, ◌++◌, true, false, Some, None, Ok, inl, inr}
 use Rattle.std.specs.Prelude.{IsUtf8, codes}
 use Rattle.std.specs.Str.{is_utf8}
 use Rattle.std.proofs.lemmas.Bool.{cases_Bool}
 use Rattle.std.proofs.lemmas.Str.{IsUtf8-from_is_utf8, is_utf8-from_IsUtf8}
 use Rattle.toml.specs.Data.{Members, get_member}
 use Rattle.toml.specs.Parse.{parse_document}
-use Rattle.cm_document.specs.Described.{tree_of, component_key, controller_form, a_description, described_states, description_form, top_table, states_of}
+use Rattle.cm_document.specs.Described.{tree_of, component_key, controller_form, group_table, a_grouped, a_description, described_states, top_table, states_of}
 use Rattle.cm_document.specs.Forms.{one, tables_of, whole_in}
 use Rattle.cm_document.specs.Reading.{◌>>=◌}
-use Rattle.cm_document.specs.Tables.{none_unlisted, unlisted, required_read, defaulted_read}
+use Rattle.cm_document.specs.Tables.{none_unlisted, unlisted, required_read, defaulted_read, walk}
 use Rattle.cm_document.specs.declared.description.CompDesc.{CompDesc}
 
 -- the tree of a text that was parsed
@@ -26,19 +26,34 @@ tree_of_refused text refused =
       | inr other ↦ rw other
     ]
 
--- the keys of the top table, in the order in which they are visited
+-- the keys that the top table has in every version, in the order in which they are visited
 abbrev pub top_keys : List (List ℕ)
 top_keys = codes "version" ∷ codes "update_rate" ∷ codes "cycles" ∷ codes "component" ∷ codes "controller" ∷ []
 
--- where all before the controllers was read, they are left; `all` stands for the states of the components
-pub top_read : (ms : Members) (version rate cycles : ℕ) (components shown : List CompDesc)
+-- In the first version the controllers are left where all before them was read; `shown` stands for the components whose states are `all`.
+pub first_read : (ms : Members) (version rate cycles : ℕ) (components shown : List CompDesc)
     → none_unlisted [] (unlisted top_keys ms) ≡ Ok tt
     → required_read (one whole_in) (codes "version") (get_member (codes "version") ms) ≡ Ok version
     → required_read (one whole_in) (codes "update_rate") (get_member (codes "update_rate") ms) ≡ Ok rate
     → required_read (one whole_in) (codes "cycles") (get_member (codes "cycles") ms) ≡ Ok cycles
     → component_key.form.read [] ms ≡ Ok components → shown ≡ components
-    → description_form.read [] ms
+    → (walk (top_table (described_states ms) false)).read [] ms
     ≡ (defaulted_read (tables_of (controller_form (states_of shown))) [] (codes "controller") (get_member (codes "controller") ms)
     >>= λ controllers. Ok (a_description version rate cycles components controllers))
-unfolding description_form described_states top_table
-top_read ms version rate cycles components shown listed a b c d same = rw (same, listed, a, b, c, d, described_states, description_form, top_table)
+unfolding described_states top_table
+first_read ms version rate cycles components shown listed a b c d same = rw (same, listed, a, b, c, d, described_states, top_table)
+
+-- In the second version the controllers are left, and the groups behind them.
+pub second_read : (ms : Members) (version rate cycles : ℕ) (components shown : List CompDesc)
+    → none_unlisted [] (unlisted (top_keys ++ codes "group" ∷ []) ms) ≡ Ok tt
+    → required_read (one whole_in) (codes "version") (get_member (codes "version") ms) ≡ Ok version
+    → required_read (one whole_in) (codes "update_rate") (get_member (codes "update_rate") ms) ≡ Ok rate
+    → required_read (one whole_in) (codes "cycles") (get_member (codes "cycles") ms) ≡ Ok cycles
+    → component_key.form.read [] ms ≡ Ok components → shown ≡ components
+    → (walk (top_table (described_states ms) true)).read [] ms
+    ≡ ((defaulted_read (tables_of (controller_form (states_of shown))) [] (codes "controller") (get_member (codes "controller") ms)
+    >>= λ controllers. Ok (a_grouped version rate cycles components controllers))
+    >>= λ make. defaulted_read (tables_of (walk group_table)) [] (codes "group") (get_member (codes "group") ms)
+    >>= λ groups. Ok (make groups))
+unfolding described_states top_table
+second_read ms version rate cycles components shown listed a b c d same = rw (same, listed, a, b, c, d, described_states, top_table)

@@ -76,7 +76,7 @@ impl Keys<'_> {
 }
 
 /// The value at a key of a table.
-fn look_up<'a>(table: &'a Table, key: &str) -> Option<&'a Value>
+pub fn look_up<'a>(table: &'a Table, key: &str) -> Option<&'a Value>
     ensures { option_map (λ v. view v.now) result ≡ get_member key.now (table_view table.now) }
 {
     table.get(key)

@@ -9,6 +9,7 @@ mod controller;
 mod cycles;
 mod faults;
 mod forms;
+mod group;
 mod joint;
 mod keys;
 mod paths;

@@ -44,7 +44,8 @@ impl Rule for Cycle {
     }
 }
 
-fn whole_of(value: &Value) -> Result<u32, Wrong>
+/// A whole.
+pub fn whole_of(value: &Value) -> Result<u32, Wrong>
     ensures { result ≡ whole_in (view value.now) }
 {
     match value {

@@ -4,6 +4,7 @@ ghost use Rattle.cm_document.specs.Valid.{IsDescribed};
 
 mod chains;
 mod counts;
+mod groups;
 mod links;
 mod names;
 mod orders;
@@ -16,6 +17,7 @@ use cm_document::{DescProblem, Description};
 use counts::{CLAIMS, JOINTS, PARTS, SHARES};
 use desc_check::check;
 use desc_text::read_description;
+use groups::{GROUPS, SECOND};
 use links::{LINKS, LINKS_OF_AN_ARM};
 use names::{NAMES, NAMES_OF_AN_ARM};
 use orders::{ORDERS, ORDERS_OF_AN_ARM};
@@ -70,6 +72,11 @@ fn links_and_orders(rt: HostRuntime) -> Result<(), Fail> {
     hold(alloc, &Checks, TOP, ORDERS)?;
     hold(alloc, &Checks, ARM, ORDERS_OF_AN_ARM)?;
     hold(alloc, &Loops, TOP, CHAINS)
+}
+
+#[test]
+fn groups_of_the_second_version(rt: HostRuntime) -> Result<(), Fail> {
+    hold(rt.alloc(), &Checks, SECOND, GROUPS)
 }
 
 #[test]

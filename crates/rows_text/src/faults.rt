@@ -28,12 +28,14 @@ description: too_many controllers
 description: too_many references
 description: too_many claims
 description: too_many reads
+description: too_many groups
 description: name_twice pid
 description: name_twice pid/j1/position
 description: bad_range version
 description: no_interface fwd j1/velocity
 description: no_interface traj pid/j1/effort
 description: no_fallback mk fwd
+description: no_member arms mk
 description: chain_loop pid
 description: out of memory
 script: bad_line 30
@@ -118,7 +120,7 @@ fn push_counts(printed: &mut String) -> Result<(), Fail> {
     Ok(())
 }
 
-const EACH: [What; 8] = [
+const EACH: [What; 9] = [
     What::Components,
     What::Joints,
     What::States,
@@ -127,6 +129,7 @@ const EACH: [What; 8] = [
     What::References,
     What::Claims,
     What::Reads,
+    What::Groups,
 ];
 
 /// The other faults of the checks.
@@ -142,6 +145,11 @@ fn push_checks(alloc: Global, printed: &mut String) -> Result<(), Fail> {
         name: Name::read(alloc, b"fwd")?,
     };
     push_check(printed, fallback)?;
+    let member = CheckFault::NoMember {
+        group: Name::read(alloc, b"arms")?,
+        name: Name::read(alloc, b"mk")?,
+    };
+    push_check(printed, member)?;
     push_check(printed, CheckFault::ChainLoop(Name::read(alloc, b"pid")?))?;
     push_check(printed, CheckFault::Memory)
 }

@@ -1,10 +1,10 @@
 """Answers: does the program run what is at all limits at once? `scripts/replay sizes` has each limit by itself, and one more of each.
 
-The document has as many components, joints, states, commands, controllers, references, claims, reads and fallbacks as it may have, names
-as long as names may be, as many sessions, calls and turns as a script may have, with as many names in a switch, values in a list and
-points in a send, a line as long as lines may be, and as many bytes as a document may have. It is run by each job that the program has: for
-a few cycles, compared with another implementation if one is named, and for many, of which the lines are counted. With `--whole` it is
-also run for as many cycles as there may be, which takes a gigabyte.
+The document is of the first version. It has as many components, joints, states, commands, controllers, references, claims, reads and
+fallbacks as it may have, names as long as names may be, as many sessions, calls and turns as a script may have, with as many names in a
+switch, values in a list and points in a send, a line as long as lines may be, and as many bytes as a document may have. It is run by each
+job that the program has: for a few cycles, compared with another implementation if one is named, and for many, of which the lines are
+counted. With `--whole` it is also run for as many cycles as there may be, which takes a gigabyte.
 Prints a line a run, with the processor's seconds, and last `N passed, M failed`. The exit status is 1 if one failed.
 """
 
@@ -15,17 +15,17 @@ from . import programs
 from .other import STAGE, judge
 from .sizes.parts import (
     CALLS, CLAIMS_OF_ONE, CONTROLLERS, CYCLES, JOINTS, KINDS, LINE, LONGEST, NAME, RATE, SESSIONS, component, controller, head, joint, limit,
-    quoted)
+    of_first, quoted)
 from .streams import LEAST, USAGE
 
 FEW, MANY = 20, 2_000  # cycles
 LIMIT = 600  # seconds
 JOBS = ("run", "steps", "live")
 COMPONENTS, NAMES = limit("cm_document::MOST_COMPONENTS"), limit("cm_document::MOST_NAMES")
-READS, VALUES = limit("cm_document::MOST_READS"), limit("cm_document::MOST_VALUES")
+READS, VALUES = of_first("reads"), limit("cm_document::MOST_VALUES")
 POINTS, FALLBACKS = limit("cm_document::MOST_POINTS"), limit("cm_document::MOST_FALLBACKS")
-PASSTHROUGHS = limit("cm_document::MOST_REFERENCES") // CLAIMS_OF_ONE
-FORWARDS = limit("cm_document::MOST_CLAIMS") // CLAIMS_OF_ONE - PASSTHROUGHS
+PASSTHROUGHS = of_first("references") // CLAIMS_OF_ONE
+FORWARDS = of_first("claims") // CLAIMS_OF_ONE - PASSTHROUGHS
 BROADCASTERS = READS // CLAIMS_OF_ONE
 MOCKS = CONTROLLERS - PASSTHROUGHS - FORWARDS - BROADCASTERS
 JOINT_NAMES = [f"j{k}".ljust(NAME, "_") for k in range(JOINTS)]

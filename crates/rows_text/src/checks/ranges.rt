@@ -11,6 +11,11 @@ update_rate = 10000
 cycles = 100000
 => valid
 
+version = 2
+update_rate = 1
+cycles = 0
+=> valid
+
 version = 0
 update_rate = 1
 cycles = 0
@@ -18,7 +23,7 @@ cycles = 0
 
 cycles = 100001
 update_rate = 0
-version = 2
+version = 3
 => bad_range version
 
 cycles = 100001

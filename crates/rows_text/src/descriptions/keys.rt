@@ -80,6 +80,8 @@ fn letter<'a>(told: &'a str, path: &str) -> &'a str {
 fn every_key_is_read_by_its_rule(rt: HostRuntime) -> Result<(), Fail> {
     let alloc = rt.alloc();
     hold_lines(alloc, &TOP, "", OF_THE_TOP)?;
+    hold_lines(alloc, &SECOND_TOP, "", OF_THE_SECOND_TOP)?;
+    hold_lines(alloc, &GROUP, "", OF_A_GROUP)?;
     hold_lines(alloc, &COMPONENT, "", OF_A_COMPONENT)?;
     hold_lines(alloc, &JOINT, "", OF_A_JOINT)
 }
@@ -110,6 +112,19 @@ const TOP: Table = Table {
     before: "",
     lines: "version = 1\nupdate_rate = 100\ncycles = 5",
     path: "",
+};
+
+/// The least top table of the second version, and a group.
+const SECOND_TOP: Table = Table {
+    before: "version = 2\n",
+    lines: "update_rate = 100\ncycles = 5",
+    path: "",
+};
+
+const GROUP: Table = Table {
+    before: "version = 2\nupdate_rate = 100\ncycles = 5\n[[group]]\n",
+    lines: "name = \"g\"\nmembers = []",
+    path: "group[0].",
 };
 
 const COMPONENT: Table = Table {
@@ -178,8 +193,24 @@ update_rate => krfbbbbb
 cycles => krfbbbbb
 component => rbbbbbrb
 controller => rbbbbbrb
+group => rkkkkkkk
 joint => rkkkkkkk
 Version => rkkkkkkk";
+
+/// Of those of the second version.
+const OF_THE_SECOND_TOP: &str = "\
+update_rate => krfbbbbb
+cycles => krfbbbbb
+component => rbbbbbrb
+controller => rbbbbbrb
+group => rbbbbbrb
+joint => rkkkkkkk";
+
+/// Of the keys of a group.
+const OF_A_GROUP: &str = "\
+name => kbbrbbbb
+members => kbbbbbrb
+type => rkkkkkkk";
 
 /// Of the keys of a component.
 const OF_A_COMPONENT: &str = "\

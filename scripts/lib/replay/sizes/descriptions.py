@@ -132,6 +132,27 @@ def version(size):
     return case(head().replace("version = 1", f"version = {size}"))
 
 
+def of_second(described):
+    return described.replace("version = 1", "version = 2", 1)
+
+
+def second_joints(size):
+    return case(of_second(head()) + arm(size), ["session a", "list interfaces", "list components"])
+
+
+def group(name, members):
+    return f'[[group]]\nname = "{name}"\nmembers = [{", ".join(quoted(members))}]\n'
+
+
+def groups(size):
+    return case(of_second(head()) + controller("m", "mock") + "".join(group(name, ["m"]) for name in named("g", size)))
+
+
+def members(size):
+    names = named("m", size)
+    return case(of_second(head()) + "".join(controller(name, "mock") for name in names) + group("g", names))
+
+
 def quantity(key, size):
     """A joint that has it, and a controller; where it may, another with the opposite."""
     pid = key in ("kp", "ki", "kd", "imax", "omax")

@@ -15,7 +15,7 @@ cited = set()
 
 @functools.cache
 def limit(path):
-    """The constant of this path, as `cm_document::MOST_JOINTS`, by the sources of its crate."""
+    """The constant of this path, as `cm_document::MOST_CALLS`, by the sources of its crate."""
     crate, name = path.split("::")
     cited.add(path)
     texts = (it.read_text() for it in sorted((TOP / "crates" / crate / "src").rglob("*.rt")))
@@ -23,14 +23,22 @@ def limit(path):
     return int(value)
 
 
+@functools.cache
+def of_first(what):
+    """How much of this a description of the first version may have, by the record of its limits; `MOST_` of it is the most in any."""
+    cited.add(f"cm_document::MOST_{what.upper()}")
+    limits = (TOP / "crates/cm_document/src/limits.rt").read_text()
+    (said,) = re.findall(rf"(?ms)^pub const LIMITS_1: VersionLimits = VersionLimits {{.*?^    {what}: (\w+),$", limits)
+    return int(said) if said.isdecimal() else limit(f"cm_document::{said}")
+
+
 def without_row():
     """The limits on documents that no row cites."""
-    names = re.findall(r"(?m)^pub const (\w+)", (TOP / "crates/cm_document/src/limits.rt").read_text())
+    names = re.findall(r"(?m)^pub const (\w+): \w+ = [\d_]+;", (TOP / "crates/cm_document/src/limits.rt").read_text())
     return [name for name in names if f"cm_document::{name}" not in cited]
 
 
-JOINTS, STATES = limit("cm_document::MOST_JOINTS"), limit("cm_document::MOST_STATES")
-COMMANDS, CYCLES = limit("cm_document::MOST_COMMANDS"), limit("cm_document::MOST_CYCLES")
+JOINTS, STATES, COMMANDS, CYCLES = of_first("joints"), of_first("states"), of_first("commands"), limit("cm_document::MOST_CYCLES")
 CONTROLLERS, CLAIMS_OF_ONE = limit("cm_document::MOST_CONTROLLERS"), limit("cm_document::MOST_CLAIMS_OF_ONE")
 CALLS, SESSIONS = limit("cm_document::MOST_CALLS"), limit("cm_document::MOST_SESSIONS")
 LONGEST, LINE = limit("cm_document::LONGEST_DOCUMENT"), limit("cm_document::LONGEST_LINE")

@@ -8,7 +8,7 @@ from typing import Callable, Optional
 from . import calls, descriptions
 from .parts import (
     BLANKS, CALLS, CLAIMS_OF_ONE, COMMANDS, CONTROLLERS, CYCLES, DECIMALS, DIGITS, JOINTS, LINE, LONGEST, NAME, RATE, ROUNDS,
-    SESSIONS, STATES, TOP, TYPES, UNITS, Case, limit)
+    SESSIONS, STATES, TOP, TYPES, UNITS, Case, limit, of_first)
 
 EACH = 130  # up to this limit each size is tried
 WHOLE = 2**32 - 1  # the largest whole of a description
@@ -78,9 +78,9 @@ def rows_of_descriptions():
     yield Row("failing controllers", BLANKS, descriptions.failing_controllers)
     yield Row("chained controllers", CONTROLLERS, descriptions.chained_controllers, least=1)
     yield Row("leaders", CLAIMS_OF_ONE, descriptions.leaders, least=1)
-    yield Row("references", limit("cm_document::MOST_REFERENCES"), descriptions.references, too_many("references"))
-    yield Row("claims", limit("cm_document::MOST_CLAIMS"), descriptions.claims, too_many("claims"))
-    yield Row("reads", limit("cm_document::MOST_READS"), descriptions.reads, too_many("reads"))
+    yield Row("references", of_first("references"), descriptions.references, too_many("references"))
+    yield Row("claims", of_first("claims"), descriptions.claims, too_many("claims"))
+    yield Row("reads", of_first("reads"), descriptions.reads, too_many("reads"))
     out_of_range = bad_range("controller[0].claims")
     for kind in ("forward", "passthrough", "trajectory"):
         yield Row(f"claims of a {kind}", CLAIMS_OF_ONE, of(descriptions.claims_of_one, kind), out_of_range, 1, out_of_range)
@@ -91,7 +91,13 @@ def rows_of_descriptions():
     yield Row("described rate", RATE, descriptions.described_rate, bad_range("controller[0].update_rate"))
     yield Row("cycles", CYCLES, descriptions.cycles, bad_range("cycles"))
     yield Row("cycle of failures", CYCLES - 1, descriptions.cycle_of_failures)
-    yield Row("version", limit("cm_document::VERSION"), descriptions.version, bad_range("version"), 1, bad_range("version"))
+    first, second = limit("cm_document::FIRST_VERSION"), limit("cm_document::SECOND_VERSION")
+    yield Row("version", second, descriptions.version, bad_range("version"), first, bad_range("version"))
+    most_joints = limit("cm_document::MOST_JOINTS")
+    yield Row("joints of the second version", most_joints, descriptions.second_joints, too_many("joints"), 1, bad_range("component[0].joint"))
+    yield Row("groups", limit("cm_document::MOST_GROUPS"), descriptions.groups, too_many("groups"))
+    out_of_group = bad_range("group[0].members")
+    yield Row("members", limit("cm_document::MOST_MEMBERS"), descriptions.members, out_of_group, 1, out_of_group)
     for name, path in PATHS.items():
         yield Row(f"{name} in units", UNITS, of(descriptions.quantity, name), bad_value(path))
     yield Row("decimals", DECIMALS, descriptions.decimals, bad_value("component[0].joint[0].vmax"))

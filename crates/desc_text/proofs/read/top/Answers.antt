@@ -1,14 +1,8 @@
-use Rattle.std.proofs.Common.{rules}
-use Rattle.toml.specs.View.{table_view}
-use Rattle.desc_text.proofs.TreeLemmas.{top_read}
+use Rattle.std.proofs.Common.{sym, ◌∙◌}
 use Rattle.desc_text.proofs.read.top.Goals as goal
 
-pub returns-in_err-controllers : goal.returns-in_err-controllers
-returns-in_err-controllers c =
-    rw (top_read (table_view c.args.table.now) c.in_ok-version.version c.in_ok-update_rate.update_rate c.in_ok-cycles.cycles c.in_ok-components.components c.as_slice.result.now
-    (search rules) (search rules) (search rules) (search rules) (search rules) (search rules)) (search rules)
+pub returns-then-is_second : goal.returns-then-is_second
+returns-then-is_second c = rw (sym c.is_second.ensures ∙ c.if-is_second.true) c.second.ensures
 
-pub returns : goal.returns
-returns c =
-    rw (top_read (table_view c.args.table.now) c.in_ok-version.version c.in_ok-update_rate.update_rate c.in_ok-cycles.cycles c.in_ok-components.components c.as_slice.result.now
-    (search rules) (search rules) (search rules) (search rules) (search rules) (search rules)) (search rules)
+pub returns-else-is_second : goal.returns-else-is_second
+returns-else-is_second c = rw (sym c.is_second.ensures ∙ c.if-is_second.false) c.first.ensures
