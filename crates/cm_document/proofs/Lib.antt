@@ -10,6 +10,7 @@ pub mod GivenLemmas
 pub mod KindLemmas
 pub mod ValidLemmas
 pub mod ValidParts
+pub mod PickLemmas
 pub mod PlaceLemmas
 pub mod RouteLemmas
 pub mod ChainLemmas

@@ -9,6 +9,7 @@ use Rattle.cm_document.specs.CallText.{script_text}
 use Rattle.cm_document.specs.ScriptRules.{with_line, script_with}
 use Rattle.cm_document.specs.declared.call.Call.TheVariants.{Load, Configure, Cleanup, Unload, Rate, Send, Switch, Hardware, Await, ListControllers, ListInterfaces, ListComponents}
 use Rattle.cm_document.specs.declared.call.Mail.TheVariants.{Values, Points}
+use Rattle.cm_document.specs.declared.call.Pick.TheVariants.{One, Group}
 use Rattle.cm_document.specs.declared.life.Life.TheVariants.{Finalized}
 use Rattle.cm_document.specs.declared.script.Turn.TheVariants as turn
 use Rattle.cm_document.specs.declared.faults.ScriptFault.{ScriptFault}
@@ -34,14 +35,14 @@ unfolding script_with with_line script_text number_of spelled digits
 no_session = refl
 
 -- every form of a session's line
-every_call : script_with whole_grammar 1 (codes "session a\nload c\nconfigure c\ncleanup c\nunload c\nrate c 007\nsend c 0.5 -1\nsend c @1 1 2 @20 3 4\nswitch strict +c -d +e\nswitch best\nhw arm finalized\nawait 12\nlist controllers\nlist interfaces\nlist components\n")
+every_call : script_with whole_grammar 1 (codes "session a\nload c\nconfigure c\ncleanup c\nunload c\nrate c 007\nsend c 0.5 -1\nsend c @1 1 2 @20 3 4\nswitch strict +c -d +@e\nswitch best\nhw arm finalized\nawait 12\nlist controllers\nlist interfaces\nlist components\n")
     ≡ Ok (record {
       sessions = record {
         name = codes "a";
         lines = Load (codes "c") ∷ Configure (codes "c") ∷ Cleanup (codes "c") ∷ Unload (codes "c") ∷ Rate (codes "c") 7
             ∷ Send (codes "c") (Values (pos 500000 ∷ negsuc 999999 ∷ []))
             ∷ Send (codes "c") (Points (record { at_us = 1; values = pos 1000000 ∷ pos 2000000 ∷ [] } ∷ record { at_us = 20; values = pos 3000000 ∷ pos 4000000 ∷ [] } ∷ []))
-            ∷ Switch (record { on = codes "c" ∷ codes "e" ∷ []; off = codes "d" ∷ []; strict = true })
+            ∷ Switch (record { on = One (codes "c") ∷ Group (codes "e") ∷ []; off = One (codes "d") ∷ []; strict = true })
             ∷ Switch (record { on = []; off = []; strict = false })
             ∷ Hardware (codes "arm") Finalized ∷ Await 12 ∷ ListControllers ∷ ListInterfaces ∷ ListComponents ∷ [];
       } ∷ [];
@@ -51,8 +52,8 @@ unfolding script_with with_line script_text number_of spelled digits
 every_call = refl
 
 -- its text: numbers in their one spelling, names to deactivate before those to activate
-printed_calls : reprinted (codes "session a\nrate c 007\nsend c 0.5 -1\nsend c @1 1 2 @20 3 -0\nswitch strict +c -d +e\nswitch best\n")
-    ≡ Ok (codes "session a\nrate c 7\nsend c 0.500000 -1.000000\nsend c @1 1.000000 2.000000 @20 3.000000 0.000000\nswitch strict -d +c +e\nswitch best\n")
+printed_calls : reprinted (codes "session a\nrate c 007\nsend c 0.5 -1\nsend c @1 1 2 @20 3 -0\nswitch strict +c -@d +@e\nswitch best\n")
+    ≡ Ok (codes "session a\nrate c 7\nsend c 0.500000 -1.000000\nsend c @1 1.000000 2.000000 @20 3.000000 0.000000\nswitch strict -@d +c +@e\nswitch best\n")
 unfolding script_with with_line script_text number_of spelled digits
 printed_calls = refl
 
@@ -64,6 +65,15 @@ scheduled_turns : script_with whole_grammar 1 (codes "session a\nload c\nsession
     })
 unfolding script_with with_line script_text number_of spelled digits
 scheduled_turns = refl
+
+-- a group without a name, and one before its sign
+nameless_group : script_with whole_grammar 1 (codes "session a\nswitch strict +@\n") ≡ Err (BadLine 2)
+unfolding script_with with_line script_text number_of spelled digits
+nameless_group = refl
+
+unsigned_group : script_with whole_grammar 1 (codes "session a\nswitch strict @+e\n") ≡ Err (BadLine 2)
+unfolding script_with with_line script_text number_of spelled digits
+unsigned_group = refl
 
 -- times that stand still are no points
 times_stand_still : script_with whole_grammar 1 (codes "session a\nsend c @5 1 @5 2\n") ≡ Err (BadLine 2)

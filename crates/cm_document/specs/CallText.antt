@@ -8,6 +8,8 @@ use Rattle.cm_document.specs.declared.call.Call.{Call}
 use Rattle.cm_document.specs.declared.call.Call.TheVariants as call
 use Rattle.cm_document.specs.declared.call.Mail.{Mail}
 use Rattle.cm_document.specs.declared.call.Mail.TheVariants.{Values, Points}
+use Rattle.cm_document.specs.declared.call.Pick.{Pick}
+use Rattle.cm_document.specs.declared.call.Pick.TheVariants.{One, Group}
 use Rattle.cm_document.specs.declared.call.Point2.{Point2}
 use Rattle.cm_document.specs.declared.call.SwitchRequest.{SwitchRequest}
 use Rattle.cm_document.specs.declared.script.Script.{Script}
@@ -30,9 +32,14 @@ abbrev pub mail_text : Mail → List ℕ
 mail_text (Values values) = values_text values
 mail_text (Points points) = flat_map point_text points
 
--- names, each after a space and this sign
-abbrev pub signed_text : List ℕ → List (List ℕ) → List ℕ
-signed_text sign names = flat_map (λ name. codes " " ++ sign ++ name) names
+-- a controller by its name, or a group by its name after an `@`
+abbrev pub pick_text : Pick → List ℕ
+pick_text (One name) = name
+pick_text (Group name) = codes "@" ++ name
+
+-- picks, each after a space and this sign
+abbrev pub signed_text : List ℕ → List Pick → List ℕ
+signed_text sign picks = flat_map (λ pick. codes " " ++ sign ++ pick_text pick) picks
 
 -- a switch: those to deactivate before those to activate
 abbrev pub switch_text : SwitchRequest → List ℕ

@@ -9,6 +9,7 @@ pub mod Described
 pub mod Links
 pub mod Limits
 pub mod Valid
+pub mod Picks
 pub mod Places
 pub mod Lines
 pub mod Grammars

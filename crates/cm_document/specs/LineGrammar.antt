@@ -13,6 +13,8 @@ use Rattle.cm_document.specs.declared.call.Call.{Call}
 use Rattle.cm_document.specs.declared.call.Call.TheVariants as call
 use Rattle.cm_document.specs.declared.call.Mail.{Mail}
 use Rattle.cm_document.specs.declared.call.Mail.TheVariants.{Values, Points}
+use Rattle.cm_document.specs.declared.call.Pick.{Pick}
+use Rattle.cm_document.specs.declared.call.Pick.TheVariants.{One, Group}
 use Rattle.cm_document.specs.declared.call.Point2.{Point2}
 use Rattle.cm_document.specs.declared.call.SwitchRequest.{SwitchRequest}
 use Rattle.cm_document.specs.declared.script.Grammar.{Grammar}
@@ -105,16 +107,21 @@ mail_in (word ∷ words) =
 
 -- ---- Switches
 
--- the name behind this sign
-abbrev pub behind : ℕ → List ℕ → Option (List ℕ)
-behind sign [] = None
-behind sign (b ∷ bs) = if b == sign then name_word bs else None
+-- a controller, `NAME`, or a group, `@NAME`
+abbrev pub pick_word : List ℕ → Option Pick
+pick_word [] = None
+pick_word (b ∷ bs) = if b == 64 then option_map Group (name_word bs) else option_map One (name_word (b ∷ bs))
 
--- a name to activate, `+NAME`, or to deactivate, `-NAME`
+-- what stands behind this sign
+abbrev pub behind : ℕ → List ℕ → Option Pick
+behind sign [] = None
+behind sign (b ∷ bs) = if b == sign then pick_word bs else None
+
+-- what is to be activated, `+NAME` or `+@NAME`, or deactivated, `-NAME` or `-@NAME`
 abbrev pub is_signed : List ℕ → Bool
 is_signed word = is_some (behind 43 word) || is_some (behind 45 word)
 
--- a switch of these words, where each is a signed name; each list keeps its order
+-- a switch of these words, where each is one of those; each list keeps its order
 abbrev pub switch_in : Option Bool → List (List ℕ) → Option SwitchRequest
 switch_in None words = None
 switch_in (Some strict) words =

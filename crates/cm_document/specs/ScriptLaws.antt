@@ -10,6 +10,8 @@ use Rattle.cm_document.specs.declared.call.Call.{Call}
 use Rattle.cm_document.specs.declared.call.Call.TheVariants as call
 use Rattle.cm_document.specs.declared.call.Mail.{Mail}
 use Rattle.cm_document.specs.declared.call.Mail.TheVariants.{Values, Points}
+use Rattle.cm_document.specs.declared.call.Pick.{Pick}
+use Rattle.cm_document.specs.declared.call.Pick.TheVariants.{One, Group}
 use Rattle.cm_document.specs.declared.call.Point2.{Point2}
 use Rattle.cm_document.specs.declared.call.SwitchRequest.{SwitchRequest}
 use Rattle.cm_document.specs.declared.script.Grammar.{Grammar}
@@ -52,11 +54,16 @@ abbrev pub CanBeSent : Mail → Type 0
 CanBeSent (Values values) = AreValues values
 CanBeSent (Points points) = ArePoints points
 
--- a switch of at most 128 names
+-- a controller or a group is named by a name
+abbrev pub IsPick : Pick → Type 0
+IsPick (One name) = IsName name
+IsPick (Group name) = IsName name
+
+-- a switch of at most 128 words
 pub record CanBeAsked (request : SwitchRequest) : Type 0 where
   pub few : length request.on + length request.off ≤ MOST_NAMES
-  pub on : AllByRecursion IsName request.on
-  pub off : AllByRecursion IsName request.off
+  pub on : AllByRecursion IsPick request.on
+  pub off : AllByRecursion IsPick request.off
 
 -- A call that a line of a script can say, within its limits. What a session is told and the loop's calls have no line.
 abbrev pub CanBeWritten : Call → Type 0

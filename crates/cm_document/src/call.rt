@@ -75,13 +75,22 @@ pub struct Point2 {
     pub values: Seq<Fx>,
 }
 
-/// Which controllers are to become active and inactive together. A name on both lists is a restart.
+/// Which controllers a word of a switch names.
+#[derive(Clone, Debug, PartialEq, Eq, Drop)]
+pub enum Pick {
+    /// The controller of this name.
+    One(Name),
+    /// The members of the group of this name.
+    Group(Name),
+}
+
+/// Which controllers are to become active and inactive together. A controller that both lists name restarts.
 #[derive(Clone, Debug, PartialEq, Eq, Drop)]
 pub struct SwitchRequest {
-    /// The controllers to activate, in their order.
-    pub on: Seq<Name>,
-    /// The controllers to deactivate, in their order.
-    pub off: Seq<Name>,
+    /// What is to be activated, in its order, as it was written.
+    pub on: Seq<Pick>,
+    /// What is to be deactivated, in its order, as it was written.
+    pub off: Seq<Pick>,
     /// Whether all of it is to be done or nothing; otherwise what can be done is done.
     pub strict: bool,
 }

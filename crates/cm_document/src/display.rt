@@ -4,13 +4,12 @@ ghost use Rattle.std.specs.Prelude.{Some, flat_map};
 ghost use Rattle.std.specs.Fmt.{DisplaysOnOk};
 ghost use Rattle.cm_document.specs.CallText.{values_text, point_text, signed_text};
 
-use crate::call::{Call, Mail, Point2, SwitchRequest};
+use crate::call::{Call, Mail, Pick, Point2, SwitchRequest};
 use crate::description::{CompKind, CtlKind};
 use crate::life::Life;
 use crate::script::Verb;
 use crate::vocabulary::strictness_word;
 use fixed_num::Fx;
-use iface_names::Name;
 use std::fmt;
 use std::fmt::{Display, Formatter, Write};
 
@@ -85,6 +84,20 @@ impl Display for Mail {
     }
 }
 
+impl Display for Pick {
+    ghost use Rattle.std.specs.Prelude.{Some};
+    ghost use Rattle.cm_document.specs.CallText.{pick_text};
+
+    ghost output = { λ pick. Some (pick_text pick) };
+
+    fn fmt<W: Write>(&self, f: &mut Formatter<W>) -> fmt::Result {
+        match self {
+            Pick::One(name) => write!(f, "{name}"),
+            Pick::Group(name) => write!(f, "@{name}"),
+        }
+    }
+}
+
 impl Display for SwitchRequest {
     ghost use Rattle.std.specs.Prelude.{Some};
     ghost use Rattle.cm_document.specs.CallText.{switch_text};
@@ -149,11 +162,11 @@ fn write_points<W: Write>(points: &[Point2], f: &mut Formatter<W>) -> fmt::Resul
     Ok(())
 }
 
-fn write_signed<W: Write>(sign: &str, names: &[Name], f: &mut Formatter<W>) -> fmt::Result
-    ensures { DisplaysOnOk W.write_str_gives f.old result (Some (signed_text sign.now names.now)) f.new }
+fn write_signed<W: Write>(sign: &str, picks: &[Pick], f: &mut Formatter<W>) -> fmt::Result
+    ensures { DisplaysOnOk W.write_str_gives f.old result (Some (signed_text sign.now picks.now)) f.new }
 {
-    for name in names {
-        write!(f, " {sign}{name}")?;
+    for pick in picks {
+        write!(f, " {sign}{pick}")?;
     }
     Ok(())
 }

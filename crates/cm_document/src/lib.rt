@@ -2,7 +2,7 @@
 //! Nothing here reads a byte. Read `specs/` first, in the order of `specs/Lib.antt`.
 #![tactic(auto)]
 
-pub use call::{Call, Mail, Point2, SwitchRequest};
+pub use call::{Call, Mail, Pick, Point2, SwitchRequest};
 pub use checked::Checked;
 pub use cycles::Cycles;
 pub use description::{
@@ -18,6 +18,7 @@ pub use limits::{
     MOST_POINTS, MOST_READS, MOST_REFERENCES, MOST_SESSIONS, MOST_STATES, MOST_VALUES,
     SECOND_VERSION, VersionLimits, limits_of,
 };
+pub use picks::{flat, group_of, has_group};
 pub use script::{Grammar, Script, ScriptLine, SessionText, Turn, Verb, whole_grammar};
 pub use text::Text;
 pub use vocabulary::{
@@ -34,6 +35,7 @@ mod faults;
 pub mod laws;
 mod life;
 mod limits;
+mod picks;
 mod script;
 mod text;
 mod vocabulary;

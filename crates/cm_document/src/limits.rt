@@ -115,7 +115,7 @@ pub const MOST_SESSIONS: usize = 8;
 /// The calls and turns of a script together.
 pub const MOST_CALLS: u32 = 10_000;
 
-/// The names of a switch, those to activate and those to deactivate together.
+/// The words of a switch, those to activate and those to deactivate together.
 pub const MOST_NAMES: usize = 128;
 
 /// The points of one `send`.

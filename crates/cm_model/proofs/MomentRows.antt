@@ -1,11 +1,13 @@
 -- Worked rows of what a begin decides: moments of two states and a reply, written down by hand, that are right, and others that are not.
-use Rattle.std.proofs.Common.{◌≡◌, ℕ, Bool, true, false, List, [], ◌∷◌, length, map, pos, Option, Some, None, refl, sym, ap, subst, ◌∙◌, true≢false, arith}
+use Rattle.std.proofs.Common.{◌≡◌, ℕ, zero, suc, ◌<◌, Bool, true, false, List, [], ◌∷◌, length, get_or, map, inl, inr, pos, Option, Some, None, refl, sym, ap, subst, ◌∙◌, true≢false, arith}
 use Rattle.std.specs.Prelude.{codes, ◌==◌, ◌&&◌, is_some}
 use Rattle.std.specs.List.{list_any}
 use Rattle.std.proofs.lemmas.Option.{same_Some}
 use Rattle.sequence.proofs.ListLemmas.{any_map}
 use Rattle.fixed_num.specs.declared.value.Value.TheVariants.{Unset}
 use Rattle.cm_document.specs.declared.call.Call.TheVariants.{Begin}
+use Rattle.cm_document.specs.declared.call.Pick.{Pick}
+use Rattle.cm_document.specs.declared.call.Pick.TheVariants.{One, Group}
 use Rattle.cm_document.specs.declared.call.SwitchRequest.{SwitchRequest}
 use Rattle.cm_document.specs.declared.life.Life.{Life}
 use Rattle.cm_document.specs.declared.life.Life.TheVariants.{Inactive, Active}
@@ -49,16 +51,16 @@ IsRight moment = DecidesFrom moment.before moment
 
 -- the forward is to come, to leave, and to restart; the pid is to restart
 abbrev forward_request : SwitchRequest
-forward_request = record { on = codes "fwd" ∷ []; off = []; strict = true }
+forward_request = record { on = One (codes "fwd") ∷ []; off = []; strict = true }
 
 abbrev forward_on : Request
 forward_on = request.Switch forward_request
 
 abbrev forward_off : Request
-forward_off = request.Switch (record { on = []; off = codes "fwd" ∷ []; strict = true })
+forward_off = request.Switch (record { on = []; off = One (codes "fwd") ∷ []; strict = true })
 
 abbrev pid_on_both : SwitchRequest
-pid_on_both = record { on = codes "pid" ∷ []; off = codes "pid" ∷ []; strict = true }
+pid_on_both = record { on = One (codes "pid") ∷ []; off = One (codes "pid") ∷ []; strict = true }
 
 abbrev pid_again : Request
 pid_again = request.Switch pid_on_both
@@ -206,13 +208,34 @@ abbrev refused_so : State
 refused_so = record (told (rests 0 0 ∷ []) forward_on (outcome.Refused (codes "fwd") cause.NoSuchMove)) { aloft = true }
 
 untrue_cause : IsRight (begin_of (asked (rests 0 0 ∷ []) forward_on) (outcome.Refused (codes "fwd") cause.NoSuchMove) refused_so) → ⊥
-untrue_cause (next, step, last) = step.rightly.1
+untrue_cause (next, step, last) = elim step.rightly.1 [
+  | inl (is, group) ↦ (let never : cause.NoSuchMove ≡ cause.NoGroup = is in cc)
+  | inr none ↦ none
+]
+
+-- a controller is refused as a group that is not there
+abbrev refused_as_group : State
+refused_as_group = record (told (rests 0 0 ∷ []) forward_on (outcome.Refused (codes "fwd") cause.NoGroup)) { aloft = true }
+
+no_group_named : (n : ℕ) → get_or (One (codes "fwd") ∷ []) n (Group (codes "fwd")) ≡ Group (codes "fwd") → n < 1 → ⊥
+no_group_named zero is below = (let never : One (codes "fwd") ≡ Group (codes "fwd") = is in cc)
+no_group_named (suc n) is below = omega (arith, below)
+
+no_such_group : IsRight (begin_of (asked (rests 0 0 ∷ []) forward_on) (outcome.Refused (codes "fwd") cause.NoGroup) refused_as_group) → ⊥
+no_such_group (next, step, last) = elim step.rightly.1 [
+  | inl (is, group) ↦
+      elim group.listed [
+        | inl (n, below, at) ↦ omega (arith, below)
+        | inr (n, below, at) ↦ no_group_named n at below
+      ]
+  | inr none ↦ none
+]
 
 -- ---- A switch of best effort
 
 -- two run that claim one interface
 abbrev rival_at_best : Request
-rival_at_best = request.Switch (record { on = codes "traj2" ∷ []; off = []; strict = false })
+rival_at_best = request.Switch (record { on = One (codes "traj2") ∷ []; off = []; strict = false })
 
 abbrev rivals_run : State
 rivals_run = record (told (runs 0 0 false ∷ runs 1 3 false ∷ []) rival_at_best (outcome.Done [])) { aloft = true }

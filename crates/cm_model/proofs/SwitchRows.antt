@@ -1,7 +1,9 @@
 -- Order and switches on a description of seven controllers over one joint, written down by hand: computed from the definitions.
-use Rattle.std.proofs.Common.{◌≡◌, ℕ, true, false, List, [], ◌∷◌, map, refl}
+use Rattle.std.proofs.Common.{◌≡◌, ℕ, Bool, true, false, List, [], ◌∷◌, map, refl}
 use Rattle.std.specs.Prelude.{codes}
 use Rattle.std.specs.Fmt.{digits}
+use Rattle.cm_document.specs.declared.call.Pick.{Pick}
+use Rattle.cm_document.specs.declared.call.Pick.TheVariants.{One, Group}
 use Rattle.cm_document.specs.declared.call.SwitchRequest.{SwitchRequest}
 use Rattle.cm_document.specs.declared.life.Life.TheVariants.{Unconfigured, Active}
 use Rattle.cm_model.proofs.Worked.{controllers, robot}
@@ -184,3 +186,55 @@ restarted = refl
 nothing : planned_text (running 0 fwd ∷ []) (strictly [] []) ≡ codes "done;;"
 unfolding rank_within digits
 nothing = refl
+
+-- ---- Groups
+
+-- the same robot, with a group of the pid and the trajectory
+abbrev with_group : List Seen → Scene
+with_group loaded = record {
+  description = record robot { groups = record { name = codes "motion"; members = codes "pid" ∷ codes "traj" ∷ [] } ∷ [] };
+  loaded = loaded;
+  components = Active ∷ [];
+}
+
+-- the plan of a switch of these words
+abbrev grouped_text : List Seen → Bool → List Pick → List Pick → List ℕ
+grouped_text loaded whole off on = plan_text (plan_of (with_group loaded) (record { on = on; off = off; strict = whole }))
+
+abbrev motion : Pick
+motion = Group (codes "motion")
+
+-- a group comes
+group_comes : grouped_text (inactive 0 pid ∷ inactive 1 traj ∷ []) true [] (motion ∷ []) ≡ codes "done;; +0 +1"
+unfolding rank_within digits
+group_comes = refl
+
+-- on both lists it restarts
+group_restarts : grouped_text (chained 0 pid ∷ running 1 traj ∷ []) true (motion ∷ []) (motion ∷ []) ≡ codes "done; -1 -0; +0 +1"
+unfolding rank_within digits
+group_restarts = refl
+
+-- it leaves, but for one that is to come
+group_but_one : grouped_text (chained 0 pid ∷ running 1 traj ∷ []) true (motion ∷ []) (One (codes "pid") ∷ []) ≡ codes "done; -1 -0; +0"
+unfolding rank_within digits
+group_but_one = refl
+
+-- a group that is not described
+no_such_group : grouped_text (inactive 0 mk ∷ []) true [] (Group (codes "mk") ∷ One (codes "mk") ∷ []) ≡ codes "refused mk no_group;;"
+unfolding rank_within digits
+no_such_group = refl
+
+-- its name is no controller's: that one does not stand there twice
+no_such_group_at_best : grouped_text (inactive 0 mk ∷ []) false [] (Group (codes "mk") ∷ One (codes "mk") ∷ []) ≡ codes "done dropped mk no_group;; +0"
+unfolding rank_within stays_within digits
+no_such_group_at_best = refl
+
+-- faults stand in the order of the flat list
+no_such_group_later : grouped_text [] true [] (One (codes "fwd") ∷ Group (codes "mk") ∷ []) ≡ codes "refused fwd unknown;;"
+unfolding rank_within digits
+no_such_group_later = refl
+
+-- a controller is named by a group and by itself
+member_twice : grouped_text (inactive 0 pid ∷ inactive 1 traj ∷ []) false [] (motion ∷ One (codes "pid") ∷ []) ≡ codes "done dropped pid twice;; +0 +1"
+unfolding rank_within stays_within digits
+member_twice = refl

@@ -1,8 +1,9 @@
 -- What worked rows of calls are written with: calls, one after the other, with their replies as they print.
-use Rattle.std.proofs.Common.{ℕ, true, false, List, [], ◌∷◌}
+use Rattle.std.proofs.Common.{ℕ, true, false, List, [], ◌∷◌, map}
 use Rattle.std.specs.Prelude.{flat_map, unwrap_or}
 use Rattle.cm_document.specs.declared.call.Call.{Call}
 use Rattle.cm_document.specs.declared.call.Call.TheVariants.{Load, Configure, Switch}
+use Rattle.cm_document.specs.declared.call.Pick.TheVariants.{One}
 use Rattle.cm_model.specs.Items.{Names}
 use Rattle.cm_model.specs.Machine.{reply_of, answered}
 use Rattle.cm_model.specs.State.{State}
@@ -24,12 +25,12 @@ abbrev pub after : State → List Call → State
 after s [] = s
 after s (call ∷ calls) = after (made s call).0 calls
 
--- a strict switch, and one of best effort
+-- a strict switch of controllers, and one of best effort
 abbrev pub strictly : List (List ℕ) → List (List ℕ) → Call
-strictly off on = Switch (record { on = on; off = off; strict = true })
+strictly off on = Switch (record { on = map One on; off = map One off; strict = true })
 
 abbrev pub at_best : List (List ℕ) → List (List ℕ) → Call
-at_best off on = Switch (record { on = on; off = off; strict = false })
+at_best off on = Switch (record { on = map One on; off = map One off; strict = false })
 
 -- a controller is loaded and configured
 abbrev pub ready : List (List ℕ) → List Call

@@ -1,7 +1,8 @@
 -- What worked rows of switches are written with: loaded controllers as a switch is decided by them, requests, and
 -- plans as text.
-use Rattle.std.proofs.Common.{ℕ, true, false, List, ◌++◌}
+use Rattle.std.proofs.Common.{ℕ, true, false, List, ◌++◌, map}
 use Rattle.std.specs.Prelude.{codes, decimal, flat_map}
+use Rattle.cm_document.specs.declared.call.Pick.TheVariants.{One}
 use Rattle.cm_document.specs.declared.call.SwitchRequest.{SwitchRequest}
 use Rattle.cm_document.specs.declared.life.Life.TheVariants.{Unconfigured, Inactive, Active}
 use Rattle.cm_model.specs.Causes.{outcome_text}
@@ -25,12 +26,12 @@ fresh serial place = record { serial = serial; place = place; life = Unconfigure
 abbrev pub unready : ℕ → ℕ → Seen
 unready serial place = record { serial = serial; place = place; life = Inactive; chained = false; ready = false }
 
--- a strict switch, and one of best effort
+-- a strict switch of controllers, and one of best effort
 abbrev pub strictly : List (List ℕ) → List (List ℕ) → SwitchRequest
-strictly off on = record { on = on; off = off; strict = true }
+strictly off on = record { on = map One on; off = map One off; strict = true }
 
 abbrev pub at_best : List (List ℕ) → List (List ℕ) → SwitchRequest
-at_best off on = record { on = on; off = off; strict = false }
+at_best off on = record { on = map One on; off = map One off; strict = false }
 
 -- a plan as text: the outcome, the serials to deactivate, and those to activate
 abbrev pub plan_text : Planned → List ℕ

@@ -1,8 +1,11 @@
 -- How a switch is decided of which is done what can be done.
-use Rattle.std.specs.Prelude.{ℕ, zero, suc, not, ◌&&◌, ◌||◌, if◌then◌else◌, List, [], ◌∷◌, ◌++◌, length, filter_map}
+use Rattle.std.specs.Prelude.{ℕ, zero, suc, Bool, not, ◌&&◌, ◌||◌, if◌then◌else◌, List, [], ◌∷◌, ◌++◌, length, filter_map}
 use Rattle.std.specs.Prelude.{find, Option, Some, None, option_map}
 use Rattle.iface_names.specs.declared.interface.IfaceName.{IfaceName}
 use Rattle.cm_document.specs.Links.{refs_of}
+use Rattle.cm_document.specs.Picks.{flat}
+use Rattle.cm_document.specs.declared.call.Pick.{Pick}
+use Rattle.cm_document.specs.declared.call.Pick.TheVariants.{One, Group}
 use Rattle.cm_document.specs.declared.call.SwitchRequest.{SwitchRequest}
 use Rattle.cm_model.specs.Order.{Places, places_of, with_one, height, by_rank}
 use Rattle.cm_model.specs.Scene.{Scene, controllers_in, described, active, loaded_all, is_chained_in, is_claimed_by}
@@ -16,20 +19,22 @@ use Rattle.cm_model.specs.declared.planned.Planned.{Planned}
 
 -- ---- Lists without their faults
 
--- the names that something speaks against, with it
-abbrev pub faulty : (List (List ℕ) → List ℕ → Option Cause) → List (List ℕ) → List (List ℕ) → List Dropped
+-- the names of a flat list that something speaks against, with it: each group, and controllers
+abbrev pub faulty : (List (List ℕ) → List ℕ → Option Cause) → List (List ℕ) → List Pick → List Dropped
 faulty fault before [] = []
-faulty fault before (name ∷ names) = elim (fault before name) [
-  | Some reason ↦ with_name name reason ∷ faulty fault (before ++ name ∷ []) names
-  | None ↦ faulty fault (before ++ name ∷ []) names
+faulty fault before (Group name ∷ picks) = with_name name cause.NoGroup ∷ faulty fault before picks
+faulty fault before (One name ∷ picks) = elim (fault before name) [
+  | Some reason ↦ with_name name reason ∷ faulty fault (before ++ name ∷ []) picks
+  | None ↦ faulty fault (before ++ name ∷ []) picks
 ]
 
--- the others
-abbrev pub faultless : (List (List ℕ) → List ℕ → Option Cause) → List (List ℕ) → List (List ℕ) → List (List ℕ)
+-- the other controllers
+abbrev pub faultless : (List (List ℕ) → List ℕ → Option Cause) → List (List ℕ) → List Pick → List (List ℕ)
 faultless fault before [] = []
-faultless fault before (name ∷ names) = elim (fault before name) [
-  | Some reason ↦ faultless fault (before ++ name ∷ []) names
-  | None ↦ name ∷ faultless fault (before ++ name ∷ []) names
+faultless fault before (Group name ∷ picks) = faultless fault before picks
+faultless fault before (One name ∷ picks) = elim (fault before name) [
+  | Some reason ↦ faultless fault (before ++ name ∷ []) picks
+  | None ↦ name ∷ faultless fault (before ++ name ∷ []) picks
 ]
 
 -- ---- What may leave
@@ -108,31 +113,35 @@ abbrev pub best_joined : Places → Joined → Decided
 best_joined leaving joined = done joined.dropped joined.set (λ p. leaving p && joined.set p)
 
 -- the decision, once it is known which leave
-abbrev pub best_leaving : Scene → Places → List Dropped → List (List ℕ) → Decided
+abbrev pub best_leaving : Scene → Places → List Dropped → List Pick → Decided
 best_leaving scene leaving dropped on =
     best_joined leaving
     (joining scene leaving (dropped ++ faulty (on_fault scene leaving) [] on)
     (loaded_all scene (faultless (on_fault scene leaving) [] on)))
 
 -- the decision, once it is known which of those to deactivate have no fault of the list
-abbrev pub best_asked : Scene → List Member → List Dropped → List (List ℕ) → Decided
+abbrev pub best_asked : Scene → List Member → List Dropped → List Pick → Decided
 best_asked scene ms dropped on =
     best_leaving scene (reduced scene (places_of ms))
     (dropped ++ filter_map (kept_drop scene (stays scene (places_of ms))) ms) on
 
--- What has a fault on the list to deactivate is dropped with it; of the others the greatest subset leaves. What has a
--- fault on the list to activate is dropped with it; the others join, by height and then as they stand. Those that leave
--- and join restart.
-abbrev pub best : Scene → List (List ℕ) → List (List ℕ) → Decided
+-- Of two flat lists: what has a fault on the list to deactivate is dropped with it, and of the others the greatest
+-- subset leaves. What has a fault on the list to activate is dropped with it; the others join, by height and then as
+-- they stand. Those that leave and join restart.
+abbrev pub best : Scene → List Pick → List Pick → Decided
 best scene off on =
     best_asked scene (loaded_all scene (faultless (off_fault scene) [] off)) (faulty (off_fault scene) [] off) on
 
 -- ---- Both
 
--- what becomes of a request
+-- what becomes of a switch of two flat lists, which is to be done whole or as far as it can be
+abbrev pub flat_decided : Scene → Bool → List Pick → List Pick → Decided
+flat_decided scene whole off on = if whole then strict scene off on else best scene off on
+
+-- what becomes of a request: it is decided on its lists, made flat
 abbrev pub decided : Scene → SwitchRequest → Decided
 decided scene request =
-    if request.strict then strict scene request.off request.on else best scene request.off request.on
+    flat_decided scene request.strict (flat scene.description request.off) (flat scene.description request.on)
 
 -- the plan of a request
 abbrev pub plan_of : Scene → SwitchRequest → Planned

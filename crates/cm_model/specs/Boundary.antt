@@ -5,6 +5,7 @@ use Rattle.std.specs.Prelude.{◌++◌, length, map, drop, find, position, slice
 use Rattle.std.specs.Prelude.{Some, None, option_map}
 use Rattle.std.specs.Option.{option_or}
 use Rattle.iface_names.specs.Names.{same_name}
+use Rattle.cm_document.specs.declared.call.Pick.TheVariants.{One}
 use Rattle.cm_document.specs.declared.description.Description.{Description}
 use Rattle.cm_document.specs.declared.life.Life.{Life}
 use Rattle.cm_document.specs.declared.life.Life.TheVariants.{Unconfigured}
@@ -127,7 +128,7 @@ all_concluded s (asked ∷ later) = all_concluded (with_outcome (concluded s ask
 
 -- what is asked for those that are to stand in: that as many of them become active as can
 abbrev pub standing_in : List (List ℕ) → Request
-standing_in names = request.Switch (record { on = names; off = []; strict = false })
+standing_in names = request.Switch (record { on = map One names; off = []; strict = false })
 
 -- what becomes of them, in a state in which nobody is to stand in any more
 abbrev pub stood_in : State → List (List ℕ) → Concluded

@@ -1,6 +1,6 @@
 -- When the cause is true that a refusal names. A cause is said of the name of a controller, or of a component.
 use Rattle.std.specs.Prelude.{◌≡◌, ◌≢◌, ◌⊎◌, ℕ, ◌<◌, ◌==◌, Bool, true, false, not, ◌&&◌, List, [], length}
-use Rattle.std.specs.Prelude.{slice_index_or, Some, is_some, Contains}
+use Rattle.std.specs.Prelude.{slice_index_or, Some, None, is_some, Contains}
 use Rattle.std.specs.List.{list_any}
 use Rattle.std.specs.Option.{option_map_or}
 use Rattle.iface_names.specs.Names.{same_name}
@@ -8,6 +8,9 @@ use Rattle.iface_names.specs.declared.interface.IfaceName.{IfaceName}
 use Rattle.iface_names.specs.declared.interface.IfaceName.TheVariants.{Joint}
 use Rattle.iface_names.specs.declared.kind.Kind.{Kind}
 use Rattle.cm_document.specs.Links.{exporter}
+use Rattle.cm_document.specs.Picks.{group_of, picked_names}
+use Rattle.cm_document.specs.declared.call.Pick.{Pick}
+use Rattle.cm_document.specs.declared.call.Pick.TheVariants.{One, Group}
 use Rattle.cm_document.specs.declared.life.Life.{Life}
 use Rattle.cm_document.specs.declared.life.Life.TheVariants.{Unconfigured}
 use Rattle.cm_model.specs.Boundary.{component_place, life_at}
@@ -55,46 +58,59 @@ IsDown scene interface =
     (place : ℕ) × (component_with scene.description.components interface ≡ Some place)
     × (is_available (slice_index_or scene.components place Unconfigured) ≡ false)
 
--- A cause is true of a name, where a strict switch leads to a set:
-abbrev pub IsTrueOf : Scene → List (List ℕ) → List (List ℕ) → List ℕ → Cause → Type 0
+-- A cause is true of a controller's name, where a strict switch of these controllers leads to a set:
+abbrev pub IsTrueOfController : Scene → List (List ℕ) → List (List ℕ) → List ℕ → Cause → Type 0
 -- no controller of this name is loaded;
-IsTrueOf scene off on name cause.Unknown = (seen : Seen) → ¬ IsCalled scene name seen
+IsTrueOfController scene off on name cause.Unknown = (seen : Seen) → ¬ IsCalled scene name seen
 -- it stands twice in one list;
-IsTrueOf scene off on name cause.Twice = StandsTwice off name ⊎ StandsTwice on name
+IsTrueOfController scene off on name cause.Twice = StandsTwice off name ⊎ StandsTwice on name
 -- it is on the list to deactivate, and not active;
-IsTrueOf scene off on name cause.NotActive =
+IsTrueOfController scene off on name cause.NotActive =
     Contains off name × OfLoaded scene name (λ seen. is_running seen.life ≡ false)
 -- it is on the list to activate, and unconfigured;
-IsTrueOf scene off on name cause.NotConfigured =
+IsTrueOfController scene off on name cause.NotConfigured =
     Contains on name × OfLoaded scene name (λ seen. is_configured seen.life ≡ false)
 -- it is on the list to activate and not on the other, and is active;
-IsTrueOf scene off on name cause.AlreadyActive =
+IsTrueOfController scene off on name cause.AlreadyActive =
     Contains on name × (¬ Contains off name) × OfLoaded scene name (λ seen. is_running seen.life ≡ true)
 -- it is a member that claims the reference, and the exporter is none;
-IsTrueOf scene off on name (cause.MissingFollower interface) =
+IsTrueOfController scene off on name (cause.MissingFollower interface) =
     OfLoaded scene name (λ seen. IsClaimant scene (strict_set scene off on) interface seen.place
     × ((q : ℕ) × (exporter (controllers_in scene) interface ≡ Some q) × (strict_set scene off on q ≡ false)))
 -- it is on the list to activate, and claims or reads the interface, which is not available;
-IsTrueOf scene off on name (cause.Unavailable interface) = Contains on name
+IsTrueOfController scene off on name (cause.Unavailable interface) = Contains on name
     × OfLoaded scene name
     (λ seen.
     (Contains (described scene seen.place).claims interface ⊎ Contains (described scene seen.place).reads interface)
     × IsDown scene interface)
 -- it and the owner are two members that claim the interface;
-IsTrueOf scene off on name (cause.Conflict interface owner) =
+IsTrueOfController scene off on name (cause.Conflict interface owner) =
     OfLoaded scene name (λ seen. OfLoaded scene owner (λ rival. (seen.place ≢ rival.place)
     × IsClaimant scene (strict_set scene off on) interface seen.place
     × IsClaimant scene (strict_set scene off on) interface rival.place))
 -- it is a member that claims an interface of the joint, and a member claims another one of it;
-IsTrueOf scene off on name (cause.ModeRefused joint) =
+IsTrueOfController scene off on name (cause.ModeRefused joint) =
     OfLoaded scene name (λ seen. (rival : Seen) × (kind : Kind) × (other : Kind) × (kind ≢ other)
     × IsClaimant scene (strict_set scene off on) (Joint joint kind) seen.place
     × IsClaimant scene (strict_set scene off on) (Joint joint other) rival.place)
 -- it is on the list to activate, and not ready.
-IsTrueOf scene off on name cause.NotReady = Contains on name × OfLoaded scene name (λ seen. seen.ready ≡ false)
--- The other causes are of requests to components.
-IsTrueOf scene off on name cause.NoSuchMove = ⊥
-IsTrueOf scene off on name (cause.InUse owner) = ⊥
+IsTrueOfController scene off on name cause.NotReady = Contains on name × OfLoaded scene name (λ seen. seen.ready ≡ false)
+-- The other causes are of groups, and of requests to components.
+IsTrueOfController scene off on name cause.NoGroup = ⊥
+IsTrueOfController scene off on name cause.NoSuchMove = ⊥
+IsTrueOfController scene off on name (cause.InUse owner) = ⊥
+
+-- A list has the name as a group, and no such group is described.
+pub record NamesNoGroup (scene : Scene) (off on : List Pick) (name : List ℕ) : Type 0 where
+  pub listed : Contains off (Group name) ⊎ Contains on (Group name)
+  pub none : group_of scene.description name ≡ None
+
+-- A cause is true of a name that a strict switch of two flat lists has: that there is no such group, or what is true of
+-- a controller.
+abbrev pub IsTrueOf : Scene → List Pick → List Pick → List ℕ → Cause → Type 0
+IsTrueOf scene off on name reason =
+    ((reason ≡ cause.NoGroup) × NamesNoGroup scene off on name)
+    ⊎ IsTrueOfController scene (picked_names off) (picked_names on) name reason
 
 -- ---- Of a hardware request
 

@@ -10,6 +10,7 @@ use Rattle.cm_model.specs.declared.cause.Outcome.TheVariants as outcome
 
 -- a cause: its word, and the interface, joint or controller that belongs to it
 abbrev pub cause_text : Cause → List ℕ
+cause_text cause.NoGroup = codes "no_group"
 cause_text cause.Unknown = codes "unknown"
 cause_text cause.Twice = codes "twice"
 cause_text cause.NotActive = codes "not_active"

@@ -2,7 +2,9 @@
 use Rattle.std.specs.Prelude.{◌≡◌, ◌≢◌, ℕ, ◌==◌, Bool, true, false, not, ◌&&◌, ◌||◌, List, [], ◌∷◌, ◌++◌, length, map}
 use Rattle.std.specs.Prelude.{Some, None, option_map}
 use Rattle.fixed_num.specs.declared.value.Value.TheVariants.{Unset}
+use Rattle.cm_document.specs.Picks.{flat, picked_names}
 use Rattle.cm_document.specs.Places.{Whose, of_joint, of_controller, Interface}
+use Rattle.cm_document.specs.declared.call.Pick.{Pick}
 use Rattle.cm_document.specs.declared.call.SwitchRequest.{SwitchRequest}
 use Rattle.cm_document.specs.declared.description.CtlDesc.{CtlDesc}
 use Rattle.cm_document.specs.declared.life.Life.{Life}
@@ -114,14 +116,17 @@ pub record HasSwitched (before : State) (set again : Places) (after : State) : T
 
 -- ---- Switches
 
+-- the loaded controllers that a list of a switch names, by themselves or by a group
+abbrev pub named_by : State → List Pick → Places
+named_by before picks = named (scene_of before) (picked_names (flat before.description picks))
+
 -- what a switch asks for: those that were active without those to deactivate, and with those to activate
 abbrev pub asked_set : State → SwitchRequest → Places
-asked_set before switch p =
-    (active before p && not (named (scene_of before) switch.off p)) || named (scene_of before) switch.on p
+asked_set before switch p = (active before p && not (named_by before switch.off p)) || named_by before switch.on p
 
 -- those that it names on both lists
 abbrev pub on_both : State → SwitchRequest → Places
-on_both before switch p = named (scene_of before) switch.off p && named (scene_of before) switch.on p
+on_both before switch p = named_by before switch.off p && named_by before switch.on p
 
 -- A strict switch was done whole: the active controllers are those from before without those to deactivate, and with
 -- those to activate, and those on both lists restarted. Or it was refused: then nothing changes, and the cause is true
@@ -130,7 +135,8 @@ abbrev pub WholeOrNothing : State → SwitchRequest → State → Outcome → Ty
 WholeOrNothing before switch after (outcome.Done dropped) =
     (dropped ≡ []) × HasSwitched before (asked_set before switch) (on_both before switch) after
 WholeOrNothing before switch after (outcome.Refused name reason) =
-    NothingChanges before after × IsTrueOf (scene_of before) switch.off switch.on name reason
+    NothingChanges before after
+    × IsTrueOf (scene_of before) (flat before.description switch.off) (flat before.description switch.on) name reason
 WholeOrNothing before switch after outcome.LoopEnded = ⊥
 
 -- Of a switch of best effort:
@@ -143,9 +149,9 @@ pub record IsDoneInPart (before : State) (switch : SwitchRequest) (after : State
   -- that can run together;
   pub together : CanRunTogether before.description before.lives (active after)
   -- who came was to be activated;
-  pub came : (p : ℕ) → active before p ≡ false → active after p ≡ true → named (scene_of before) switch.on p ≡ true
+  pub came : (p : ℕ) → active before p ≡ false → active after p ≡ true → named_by before switch.on p ≡ true
   -- and who left was to be deactivated.
-  pub left : (p : ℕ) → active before p ≡ true → active after p ≡ false → named (scene_of before) switch.off p ≡ true
+  pub left : (p : ℕ) → active before p ≡ true → active after p ≡ false → named_by before switch.off p ≡ true
 
 -- It is never refused, and the loop's end decides none.
 abbrev pub AsMuchAsCanBe : State → SwitchRequest → State → Outcome → Type 0

@@ -8,6 +8,7 @@ use Rattle.std.specs.Option.{option_map_or}
 use Rattle.fixed_num.specs.declared.value.BodyState.{BodyState}
 use Rattle.cm_document.specs.declared.call.Call.{Call}
 use Rattle.cm_document.specs.declared.call.Call.TheVariants as call
+use Rattle.cm_document.specs.declared.call.Pick.TheVariants.{One}
 use Rattle.cm_document.specs.declared.description.Description.{Description}
 use Rattle.cm_document.specs.declared.life.Life.{Life}
 use Rattle.cm_model.specs.Boundary.{waiting, decisions_from}
@@ -187,7 +188,8 @@ TicketsFrom so_far (moment ∷ moments) =
 -- by a switch of best effort that deactivates none; what no request changes is as it was, and nobody waits to stand in
 -- any more.
 pub record HaveStoodIn (before : State) (names : List (List ℕ)) (after : State) : Type 0 where
-  pub switched : IsDoneInPart (record before { fallbacks = [] }) (record { on = names; off = []; strict = false }) after
+  pub switched : IsDoneInPart (record before { fallbacks = [] })
+      (record { on = map One names; off = []; strict = false }) after
   pub same : lasting after ≡ lasting (record before { fallbacks = [] })
   pub outcomes : after.outcomes ≡ before.outcomes
 

@@ -4,6 +4,9 @@ use Rattle.std.specs.Prelude.{filter, Option, Some, None, option_map}
 use Rattle.std.specs.List.{list_any}
 use Rattle.std.specs.Option.{option_map_or, option_or}
 use Rattle.iface_names.specs.Names.{same_name}
+use Rattle.cm_document.specs.Picks.{picked_names}
+use Rattle.cm_document.specs.declared.call.Pick.{Pick}
+use Rattle.cm_document.specs.declared.call.Pick.TheVariants.{One, Group}
 use Rattle.cm_model.specs.Order.{Places}
 use Rattle.cm_model.specs.Scene.{Scene, is_running, is_configured, controllers_in, described, active, loaded_of, named}
 use Rattle.cm_model.specs.Scene.{is_chained_in, order}
@@ -30,8 +33,7 @@ abbrev pub off_cause : Bool → Seen → Option Cause
 off_cause true seen = Some cause.Twice
 off_cause false seen = if is_running seen.life then None else Some cause.NotActive
 
--- What speaks against a name on the list to deactivate, behind those that stand before it: that no such controller is
--- loaded, that it stands there twice, that it is not active.
+-- What speaks against a controller on the list to deactivate, behind those before it: that none of its name is loaded, that it stands there twice, that it is not active.
 abbrev pub off_fault : Scene → List (List ℕ) → List ℕ → Option Cause
 off_fault scene before name =
     option_map_or (off_cause (list_any (same_name name) before)) (loaded_of scene name) (Some cause.Unknown)
@@ -44,17 +46,19 @@ on_cause leaving false seen =
     then (if is_running seen.life && not (leaving seen.place) then Some cause.AlreadyActive else None)
     else Some cause.NotConfigured
 
--- What speaks against a name on the list to activate: that no such controller is loaded, that it stands there twice,
--- that it is unconfigured, that it is active and does not leave.
+-- What speaks against a controller on the list to activate: that none of its name is loaded, that it stands there
+-- twice, that it is unconfigured, that it is active and does not leave.
 abbrev pub on_fault : Scene → Places → List (List ℕ) → List ℕ → Option Cause
 on_fault scene leaving before name =
     option_map_or (on_cause leaving (list_any (same_name name) before)) (loaded_of scene name) (Some cause.Unknown)
 
--- the first name of a list that something speaks against, behind those before it
-abbrev pub first_fault : (List (List ℕ) → List ℕ → Option Cause) → List (List ℕ) → List (List ℕ) → Option Dropped
+-- The first name of a flat list that something speaks against, behind the controllers before it. A group stands in a
+-- flat list only if no such group is described.
+abbrev pub first_fault : (List (List ℕ) → List ℕ → Option Cause) → List (List ℕ) → List Pick → Option Dropped
 first_fault fault before [] = None
-first_fault fault before (name ∷ names) =
-    option_or (option_map (with_name name) (fault before name)) (first_fault fault (before ++ name ∷ []) names)
+first_fault fault before (Group name ∷ picks) = Some (with_name name cause.NoGroup)
+first_fault fault before (One name ∷ picks) =
+    option_or (option_map (with_name name) (fault before name)) (first_fault fault (before ++ name ∷ []) picks)
 
 -- ---- Whole or not at all
 
@@ -98,13 +102,13 @@ strict_between scene leaving coming =
     unless_because (first_member_fault scene (switched scene leaving coming) coming)
     (done [] (switched scene leaving coming) (λ p. leaving p && coming p))
 
--- A strict switch is refused because of the first name to deactivate that something speaks against, else the first to
--- activate, else the first member of the set that it leads to; and else it is done whole.
-abbrev pub strict : Scene → List (List ℕ) → List (List ℕ) → Decided
+-- A strict switch of two flat lists is refused because of the first name to deactivate that something speaks against,
+-- else the first to activate, else the first member of the set that it leads to; and else it is done whole.
+abbrev pub strict : Scene → List Pick → List Pick → Decided
 strict scene off on =
     unless_because (first_fault (off_fault scene) [] off)
-    (unless_because (first_fault (on_fault scene (named scene off)) [] on)
-    (strict_between scene (named scene off) (named scene on)))
+    (unless_because (first_fault (on_fault scene (named scene (picked_names off))) [] on)
+    (strict_between scene (named scene (picked_names off)) (named scene (picked_names on))))
 
 -- ---- What changes
 

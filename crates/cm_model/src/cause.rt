@@ -7,6 +7,8 @@ use sequence::{Boxed, Shared, SharedList};
 /// interface stands on the heap, so that each reason is small.
 #[derive(Clone, Debug, PartialEq, Eq, Drop)]
 pub enum Cause {
+    /// It is a group, and no such group is described.
+    NoGroup,
     /// No such controller is loaded, or no such component described.
     Unknown,
     /// It stands earlier in the same list.

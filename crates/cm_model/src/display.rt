@@ -54,6 +54,7 @@ impl Display for Cause {
 
     fn fmt<W: Write>(&self, f: &mut Formatter<W>) -> fmt::Result {
         match self {
+            Cause::NoGroup => f.write_str("no_group"),
             Cause::Unknown => f.write_str("unknown"),
             Cause::Twice => f.write_str("twice"),
             Cause::NotActive => f.write_str("not_active"),

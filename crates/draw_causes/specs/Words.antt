@@ -77,6 +77,7 @@ missing_mend name interface =
 
 -- what speaks against a name
 abbrev pub cause_words : List ℕ → Cause → List ℕ
+cause_words name cause.NoGroup = codes "no group " ++ name ++ codes " is described"
 cause_words name cause.Unknown = name ++ codes " is not there"
 cause_words name cause.Twice = name ++ codes " is named twice in one list"
 cause_words name cause.NotActive = name ++ codes " is not active"
@@ -94,6 +95,7 @@ cause_words name (cause.InUse controller) = name ++ codes " is in use by " ++ co
 
 -- what would mend it
 abbrev pub cause_mend : List ℕ → Cause → List ℕ
+cause_mend name cause.NoGroup = codes "describe the group " ++ name ++ codes ", or name a controller without an @"
 cause_mend name cause.Unknown = codes "name a controller that is loaded, or a component that the document describes"
 cause_mend name cause.Twice = codes "name " ++ name ++ codes " once in each list"
 cause_mend name cause.NotActive = codes "leave " ++ name ++ codes " off the list to deactivate"

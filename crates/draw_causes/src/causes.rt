@@ -38,6 +38,7 @@ pub fn push_cause(text: &mut String, name: &Name, cause: &Cause) -> Result<(), M
     ensures { OnOk result (string_bytes text.new ≡ string_bytes text.old ++ cause_words name.now cause.now) }
 {
     match cause {
+        Cause::NoGroup => write!(text, "no group {name} is described")?,
         Cause::Unknown => write!(text, "{name} is not there")?,
         Cause::Twice => write!(text, "{name} is named twice in one list")?,
         Cause::NotActive => write!(text, "{name} is not active")?,
@@ -80,6 +81,7 @@ pub fn push_cause_mend(text: &mut String, name: &Name, cause: &Cause) -> Result<
     ensures { OnOk result (string_bytes text.new ≡ string_bytes text.old ++ cause_mend name.now cause.now) }
 {
     match cause {
+        Cause::NoGroup => write!(text, "describe the group {name}, or name a controller without an @")?,
         Cause::Unknown => text.push_str(UNKNOWN_MEND)?,
         Cause::Twice => write!(text, "name {name} once in each list")?,
         Cause::NotActive => write!(text, "leave {name} off the list to deactivate")?,

@@ -7,7 +7,7 @@ use crate::incidents::{Incident, push_incidents};
 use crate::links::{Linked, component_place, controller_place};
 use crate::present::{Asked, Present};
 use crate::rows::{ColumnState, Event, Row, blank_rows, mark_row};
-use cm_document::{Call, CtlDesc, Script, SwitchRequest};
+use cm_document::{Call, CtlDesc, Description, Pick, Script, SwitchRequest, group_of};
 use cm_model::{Cause, Decision, Dropped, Entry, Outcome, Reply, Why};
 use cm_storage::{CycleRecord, Done, FailedPart, RanRef};
 use draw_causes::is_own;
@@ -295,19 +295,42 @@ impl<'a> Replay<'a> {
 
     /// Those that leave are inactive, and those that come are active. What a controller gave that leaves or restarts is gone.
     fn switch(&mut self, request: &SwitchRequest, dropped: &[Dropped]) {
-        for name in request.off.as_slice() {
-            if !stays(name, dropped) {
-                self.stop(name);
+        let description = self.present.description;
+        for pick in request.off.as_slice() {
+            match pick {
+                Pick::One(name) => self.stop_unless_dropped(name, dropped),
+                Pick::Group(name) => self.stop_all(members_of(description, name), dropped),
             }
         }
-        self.start_all(request.on.as_slice(), dropped);
+        for pick in request.on.as_slice() {
+            match pick {
+                Pick::One(name) => self.start_unless_dropped(name, dropped),
+                Pick::Group(name) => self.start_all(members_of(description, name), dropped),
+            }
+        }
     }
 
     fn start_all(&mut self, names: &[Name], dropped: &[Dropped]) {
         for name in names {
-            if !is_left_out(name, dropped) {
-                self.present.start(name);
-            }
+            self.start_unless_dropped(name, dropped);
+        }
+    }
+
+    fn start_unless_dropped(&mut self, name: &Name, dropped: &[Dropped]) {
+        if !is_left_out(name, dropped) {
+            self.present.start(name);
+        }
+    }
+
+    fn stop_all(&mut self, names: &[Name], dropped: &[Dropped]) {
+        for name in names {
+            self.stop_unless_dropped(name, dropped);
+        }
+    }
+
+    fn stop_unless_dropped(&mut self, name: &Name, dropped: &[Dropped]) {
+        if !stays(name, dropped) {
+            self.stop(name);
         }
     }
 
@@ -423,6 +446,14 @@ fn show_controllers(rows: &mut Vec<Row>, present: &Present<'_>, column: usize) {
 fn show_components(rows: &mut Vec<Row>, present: &Present<'_>, column: usize) {
     for (row, life) in rows.iter_mut().zip(&present.components) {
         row.show(column, ColumnState::of(*life, false));
+    }
+}
+
+/// The members of a group; none where no such group is described.
+fn members_of<'a>(description: &'a Description, name: &Name) -> &'a [Name] {
+    match group_of(description, name) {
+        Some(group) => group.members.as_slice(),
+        None => &[],
     }
 }
 

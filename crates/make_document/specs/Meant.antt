@@ -1,5 +1,5 @@
 -- The document that a made text is: its description and its script.
-use Rattle.std.specs.Prelude.{ℕ, ◌+◌, ◌*◌, ℤ, pos, true, List, [], ◌∷◌, ◌++◌, codes}
+use Rattle.std.specs.Prelude.{ℕ, ◌+◌, ◌*◌, ℤ, pos, true, List, [], ◌∷◌, ◌++◌, map, codes}
 use Rattle.fixed_num.specs.declared.TheConstants.{MICRO}
 use Rattle.iface_names.specs.declared.interface.IfaceName.TheVariants.{Joint}
 use Rattle.iface_names.specs.declared.kind.Kind.TheVariants.{Position}
@@ -7,6 +7,7 @@ use Rattle.cm_document.specs.Described.{a_controller, a_component, a_description
 use Rattle.cm_document.specs.declared.call.Call.{Call}
 use Rattle.cm_document.specs.declared.call.Call.TheVariants as call
 use Rattle.cm_document.specs.declared.call.Mail.TheVariants.{Values}
+use Rattle.cm_document.specs.declared.call.Pick.TheVariants.{One}
 use Rattle.cm_document.specs.declared.call.SwitchRequest.{SwitchRequest}
 use Rattle.cm_document.specs.declared.description.CompDesc.{CompDesc}
 use Rattle.cm_document.specs.declared.description.CompKind.TheVariants.{System}
@@ -41,9 +42,9 @@ robot_meant cycles = a_description 1 100 cycles (component_meant ∷ []) (all_be
 
 -- ---- The script
 
--- a strict switch
+-- a strict switch of these controllers
 abbrev pub strictly : List (List ℕ) → List (List ℕ) → SwitchRequest
-strictly off on = record { on = on; off = off; strict = true }
+strictly off on = record { on = map One on; off = map One off; strict = true }
 
 -- all controllers are loaded, configured and started
 unfoldable pub opening_calls : List Call

@@ -1,6 +1,6 @@
 //! Calls of a session, of words as a script has them.
 
-use cm_document::{Call, Life, Mail, SwitchRequest};
+use cm_document::{Call, Life, Mail, Pick, SwitchRequest};
 use fixed_num::Fx;
 use iface_names::Name;
 use pages_cases::pages::halves;
@@ -77,7 +77,7 @@ fn life_of(word: &str) -> Life {
     }
 }
 
-/// `strict` or `best`, and names behind `-` to deactivate and behind `+` to activate.
+/// `strict` or `best`, and what is to be deactivated behind `-` and activated behind `+`: a name, or `@` and a group's.
 fn switch_of(alloc: Global, words: &str) -> Result<SwitchRequest, Fail> {
     let mut request = SwitchRequest {
         on: Seq::new(alloc),
@@ -92,9 +92,16 @@ fn switch_of(alloc: Global, words: &str) -> Result<SwitchRequest, Fail> {
 
 fn add_word(alloc: Global, request: &mut SwitchRequest, word: &str) -> Result<(), Fail> {
     if let Some(name) = word.strip_prefix('-') {
-        request.off.push(name_of(alloc, name)?)?;
+        request.off.push(pick_of(alloc, name)?)?;
     } else if let Some(name) = word.strip_prefix('+') {
-        request.on.push(name_of(alloc, name)?)?;
+        request.on.push(pick_of(alloc, name)?)?;
     }
     Ok(())
+}
+
+fn pick_of(alloc: Global, word: &str) -> Result<Pick, Fail> {
+    match word.strip_prefix('@') {
+        Some(name) => Ok(Pick::Group(name_of(alloc, name)?)),
+        None => Ok(Pick::One(name_of(alloc, word)?)),
+    }
 }

@@ -5,12 +5,14 @@ use Rattle.std.specs.List.{All, IsDistinct}
 use Rattle.std.proofs.lemmas.List.{length-set}
 use Rattle.std.proofs.lemmas.List.Elements.{All-map}
 use Rattle.cm_document.proofs.DistinctLemmas.{all_so}
+use Rattle.cm_document.specs.Picks.{flat}
+use Rattle.cm_document.specs.declared.call.Pick.{Pick}
 use Rattle.cm_document.specs.declared.call.SwitchRequest.{SwitchRequest}
 use Rattle.cm_document.specs.declared.description.Description.{Description}
 use Rattle.cm_document.specs.declared.life.Life.{Life}
 use Rattle.cm_document.specs.declared.life.Life.TheVariants.{Unconfigured, Inactive, Active}
 use Rattle.cm_model.proofs.CommitLemmas.{scene_active}
-use Rattle.cm_model.specs.BestEffort.{best, decided, plan_of}
+use Rattle.cm_model.specs.BestEffort.{best, flat_decided, decided, plan_of}
 use Rattle.std.specs.Option.{option_or}
 use Rattle.sequence.proofs.ListLemmas.{filter_map_swapped, map_twice}
 use Rattle.cm_model.specs.Components.{has_move}
@@ -141,7 +143,7 @@ abbrev set_in : Decided → Places
 set_in (refused d) = λ p. false
 set_in (done dropped set again) = set
 
-strict_fit : (s : State) → IsSteady s → (off on : List (List ℕ)) (dropped : List Dropped) (set again : Places)
+strict_fit : (s : State) → IsSteady s → (off on : List Pick) (dropped : List Dropped) (set again : Places)
     → strict (scene_of s) off on ≡ done dropped set again → IsFit s set
 strict_fit s steady off on dropped set again is =
     elim (strict_either (scene_of s) off on) [
@@ -165,11 +167,17 @@ strict_fit s steady off on dropped set again is =
 pub done_fit : (s : State) → IsSteady s → (r : SwitchRequest) (dropped : List Dropped) (set again : Places) → decided (scene_of s) r ≡ done dropped set again → IsFit s set
 done_fit s steady r dropped set again = either r.strict
   where
-    either : (b : Bool) → (if b then strict (scene_of s) r.off r.on else best (scene_of s) r.off r.on) ≡ done dropped set again → IsFit s set
-    either true is = strict_fit s steady r.off r.on dropped set again is
+    off : List Pick
+    off = flat s.description r.off
+
+    on : List Pick
+    on = flat s.description r.on
+
+    either : (whole : Bool) → flat_decided (scene_of s) whole off on ≡ done dropped set again → IsFit s set
+    either true is = strict_fit s steady off on dropped set again is
     either false is = record {
-      params = best_params s steady r.off r.on dropped set again is;
-      together = best_together s steady r.off r.on dropped set again is;
+      params = best_params s steady off on dropped set again is;
+      together = best_together s steady off on dropped set again is;
     }
 
 module _ (s : State) (d : Description) (situation : Situation) (is : IsSeenOf s d situation) (r : SwitchRequest) (plan : Planned) (planned_so : plan ≡ plan_of (scene_with d situation.loaded.items situation.lives.items) r) where

@@ -1,6 +1,7 @@
 //! The plan for those that are to stand in, and for all requests that wait.
 
 ghost use Rattle.std.specs.Prelude.{◌≡◌, ◌+◌, ◌<◌, ◌^◌, ◌++◌, length, map, IfOk};
+ghost use Rattle.cm_document.specs.declared.call.Pick.TheVariants.{One};
 ghost use Rattle.cm_model.specs.Boundary.{waiting, decisions_from};
 ghost use Rattle.cm_model.specs.State.{State};
 ghost use Rattle.request_plan.specs.Calls.Conclude.{CanDecide, Concludes};
@@ -11,7 +12,7 @@ use crate::acts::Conclusion;
 use crate::components::conclude_move;
 use crate::situation::{Situation, order};
 use crate::switches::conclude_switch;
-use cm_document::{Checked, SwitchRequest};
+use cm_document::{Checked, Pick, SwitchRequest};
 use cm_model::{Decision, Member, Outcome, Request};
 use fixed_num::Memory;
 use iface_names::Name;
@@ -77,14 +78,26 @@ fn stand_in(
     if names.as_slice().is_empty() {
         return Ok(None);
     }
+    let picks = each_by_itself(alloc, names.as_slice())?;
     let request = SwitchRequest {
-        on: names,
+        on: picks,
         off: Seq::new(alloc),
         strict: false,
     };
     let conclusion = conclude_switch(alloc, checked, relations, situation, &request)?;
     situation.follow(&conclusion.act);
     Ok(Some(conclusion))
+}
+
+/// The controllers of these names, each named by itself.
+fn each_by_itself(alloc: Global, names: &[Name]) -> Result<Seq<Pick>, Memory>
+    ensures { IfOk result (λ picks. picks ≡ map One names.now) }
+{
+    let mut picks = Seq::new(alloc);
+    for name in names {
+        picks.push(Pick::One(name.clone()?))?;
+    }
+    Ok(picks)
 }
 
 /// What is concluded of these requests, one after the other. The situation is that after all of them.

@@ -8,7 +8,7 @@ use crate::efforts::EFFORTS;
 use crate::largest::{RISING_REQUESTS, SINKING_REQUESTS};
 use crate::requests::ONE_JOINT;
 use crate::restarts::RESTARTS;
-use cm_document::{Checked, Life, SwitchRequest};
+use cm_document::{Checked, Life, Pick, SwitchRequest};
 use cm_model::{Planned, Seen};
 use iface_names::Name;
 use pages_calls::described::{described, place_of};
@@ -202,7 +202,7 @@ pub(crate) fn are_below(loaded: &[Seen], count: usize) -> bool
     loaded.iter().all(|seen| (seen.place as usize) < count)
 }
 
-/// `strict` or `best`, and names behind `-` to deactivate and behind `+` to activate.
+/// `strict` or `best`, and what is to be deactivated behind `-` and activated behind `+`: a name, or `@` and a group's.
 pub(crate) fn request_of(alloc: Global, words: &str) -> Result<SwitchRequest, Fail> {
     let mut request = SwitchRequest {
         on: Seq::new(alloc),
@@ -217,11 +217,18 @@ pub(crate) fn request_of(alloc: Global, words: &str) -> Result<SwitchRequest, Fa
 
 fn add_word(alloc: Global, request: &mut SwitchRequest, word: &str) -> Result<(), Fail> {
     if let Some(name) = word.strip_prefix('-') {
-        request.off.push(Name::read(alloc, name.as_bytes())?)?;
+        request.off.push(pick_of(alloc, name)?)?;
     } else if let Some(name) = word.strip_prefix('+') {
-        request.on.push(Name::read(alloc, name.as_bytes())?)?;
+        request.on.push(pick_of(alloc, name)?)?;
     } else {
         request.strict = word == "strict";
     }
     Ok(())
+}
+
+fn pick_of(alloc: Global, word: &str) -> Result<Pick, Fail> {
+    match word.strip_prefix('@') {
+        Some(name) => Ok(Pick::Group(Name::read(alloc, name.as_bytes())?)),
+        None => Ok(Pick::One(Name::read(alloc, word.as_bytes())?)),
+    }
 }

@@ -124,7 +124,7 @@ strictness_short false = omega arith
 switch_says : (r : SwitchRequest) → CanBeAsked r → SaysCall (call.Switch r) (codes "switch") (strictness_word r.strict ∷ asked_words r)
 switch_says r asked =
     let few = asked_few r asked in
-    let long = spaced_long 65 (asked_words r) (asked_short r asked) in
+    let long = spaced_long 66 (asked_words r) (asked_short r asked) in
     let longer = length-append (strictness_word r.strict) (spaced (asked_words r)) in
     let short = strictness_short r.strict in
     record {

@@ -3,23 +3,27 @@ use Rattle.std.proofs.Common.{◌≡◌, ℕ, ◌*◌, ◌<◌, ◌≤◌, Bool,
 use Rattle.std.specs.Prelude.{nat_lt, ◌==◌, flat_map, filter_map, codes}
 use Rattle.std.specs.List.{AllByRecursion, list_all}
 use Rattle.std.specs.Fmt.{decimal}
+use Rattle.std.proofs.lemmas.Bool.{and_parts}
 use Rattle.std.proofs.lemmas.Bool.Decides.{nat_tests}
 use Rattle.std.proofs.lemmas.List.{length-map, append-nil}
 use Rattle.std.proofs.lemmas.List.Folds.{flat_map-map}
 use Rattle.std.proofs.lemmas.Grind.{flat_map-append}
 use Rattle.fixed_num.specs.Micro.{IsInRange}
 use Rattle.fixed_num.specs.Text.{spelled}
+use Rattle.iface_names.specs.Names.{is_letter, is_name_byte}
 use Rattle.cm_document.specs.Vocabulary.{listed, strictnesses, strictness_word}
-use Rattle.cm_document.specs.CallText.{values_text, point_text, mail_text, signed_text}
-use Rattle.cm_document.specs.LineGrammar.{whole_word, value_word, in_front, all_words, values_in, untimed, timed, points_after, mail_in, behind, is_signed, switch_in}
-use Rattle.cm_document.specs.ScriptLaws.{IsName, AreValues, ArePointsAfter, CanBeSent, CanBeAsked}
+use Rattle.cm_document.specs.CallText.{values_text, point_text, mail_text, pick_text, signed_text}
+use Rattle.cm_document.specs.LineGrammar.{whole_word, value_word, in_front, all_words, values_in, untimed, timed, points_after, mail_in, pick_word, behind, is_signed, switch_in}
+use Rattle.cm_document.specs.ScriptLaws.{IsName, IsPick, AreValues, ArePointsAfter, CanBeSent, CanBeAsked}
 use Rattle.cm_document.specs.declared.call.Mail.{Mail}
 use Rattle.cm_document.specs.declared.call.Mail.TheVariants.{Values, Points}
+use Rattle.cm_document.specs.declared.call.Pick.{Pick}
+use Rattle.cm_document.specs.declared.call.Pick.TheVariants.{One, Group}
 use Rattle.cm_document.specs.declared.call.Point2.{Point2}
 use Rattle.cm_document.specs.declared.call.SwitchRequest.{SwitchRequest}
 use Rattle.sequence.proofs.ListLemmas.{all_append}
 use Rattle.script_text.proofs.PrintWordLemmas.{IsWord, spaced}
-use Rattle.script_text.proofs.PrintValueLemmas.{name_IsWord, name_short, whole_IsWord, whole_short, whole_reads, value_IsWord, value_short, value_reads, value_untimed}
+use Rattle.script_text.proofs.PrintValueLemmas.{IsShown, name_IsWord, name_short, whole_IsWord, whole_short, whole_reads, value_IsWord, value_short, value_reads, value_untimed}
 
 -- ---- Values
 
@@ -141,77 +145,97 @@ mail_reads (Points (p ∷ ps)) sent = rw (points_read 0 (p ∷ ps) sent.rising) 
 
 -- ---- Switches
 
--- names, each behind a sign
-abbrev pub signed_words : ℕ → List (List ℕ) → List (List ℕ)
-signed_words sign names = map (λ name. sign ∷ name) names
+-- a name is no group behind an `@`
+no_at : (b : ℕ) (bs : List ℕ) → IsName (b ∷ bs) → (b == 64) ≡ false
+no_at b bs h =
+    let front = and_parts _ (list_all is_name_byte (b ∷ bs)) h in
+    let letter = (and_parts (is_letter b) _ front.0).0 in
+    grind (arith, nat_tests, letter)
+
+pick_reads : (pick : Pick) → IsPick pick → pick_word (pick_text pick) ≡ Some pick
+pick_reads (One []) h = cc
+pick_reads (One (b ∷ bs)) h = rw (no_at b bs h, h) refl
+pick_reads (Group name) h = rw h refl
+
+pick_IsShown : (pick : Pick) → IsPick pick → IsShown (pick_text pick)
+pick_IsShown (One name) h = (name_IsWord name h).shown
+pick_IsShown (Group name) h = (omega arith, (name_IsWord name h).shown)
+
+pick_short : (pick : Pick) → IsPick pick → length (pick_text pick) ≤ 65
+pick_short (One name) h = let short = name_short name h in omega arith
+pick_short (Group name) h = let short = name_short name h in omega arith
+
+-- picks, each behind a sign
+abbrev pub signed_words : ℕ → List Pick → List (List ℕ)
+signed_words sign picks = map (λ pick. sign ∷ pick_text pick) picks
 
 -- those to deactivate before those to activate
 abbrev pub asked_words : SwitchRequest → List (List ℕ)
 asked_words r = signed_words 45 r.off ++ signed_words 43 r.on
 
-signed_spaced : (sign : ℕ) (names : List (List ℕ)) → signed_text (sign ∷ []) names ≡ spaced (signed_words sign names)
-signed_spaced sign names = sym (flat_map-map (λ w. 32 ∷ w) (λ name. sign ∷ name) names)
+signed_spaced : (sign : ℕ) (picks : List Pick) → signed_text (sign ∷ []) picks ≡ spaced (signed_words sign picks)
+signed_spaced sign picks = sym (flat_map-map (λ w. 32 ∷ w) (λ pick. sign ∷ pick_text pick) picks)
 
 pub asked_spaced : (r : SwitchRequest) → signed_text (codes "-") r.off ++ signed_text (codes "+") r.on ≡ spaced (asked_words r)
 asked_spaced r =
     ap (λ t. t ++ signed_text (codes "+") r.on) (signed_spaced 45 r.off) ∙ ap (λ t. spaced (signed_words 45 r.off) ++ t) (signed_spaced 43 r.on)
     ∙ sym (flat_map-append (λ w. 32 ∷ w) (signed_words 45 r.off) (signed_words 43 r.on))
 
-signed_are_words : (sign : ℕ) (names : List (List ℕ)) → 32 < sign → AllByRecursion IsName names → AllByRecursion IsWord (signed_words sign names)
+signed_are_words : (sign : ℕ) (picks : List Pick) → 32 < sign → AllByRecursion IsPick picks → AllByRecursion IsWord (signed_words sign picks)
 signed_are_words sign [] shown all = tt
-signed_are_words sign (name ∷ names) shown all =
-    let word = name_IsWord name all.0 in
-    (record { some = omega arith; shown = (shown, word.shown) }, signed_are_words sign names shown all.1)
+signed_are_words sign (pick ∷ picks) shown all =
+    (record { some = omega arith; shown = (shown, pick_IsShown pick all.0) }, signed_are_words sign picks shown all.1)
 
-signed_short : (sign : ℕ) (names : List (List ℕ)) → AllByRecursion IsName names → AllByRecursion (λ w. length w ≤ 65) (signed_words sign names)
+signed_short : (sign : ℕ) (picks : List Pick) → AllByRecursion IsPick picks → AllByRecursion (λ w. length w ≤ 66) (signed_words sign picks)
 signed_short sign [] all = tt
-signed_short sign (name ∷ names) all = let short = name_short name all.0 in (omega arith, signed_short sign names all.1)
+signed_short sign (pick ∷ picks) all = let short = pick_short pick all.0 in (omega arith, signed_short sign picks all.1)
 
 pub asked_are_words : (r : SwitchRequest) → CanBeAsked r → AllByRecursion IsWord (asked_words r)
 asked_are_words r asked = all_append IsWord (signed_words 45 r.off) (signed_words 43 r.on) (signed_are_words 45 r.off (omega arith) asked.off) (signed_are_words 43 r.on (omega arith) asked.on)
 
-pub asked_short : (r : SwitchRequest) → CanBeAsked r → AllByRecursion (λ w. length w ≤ 65) (asked_words r)
-asked_short r asked = all_append (λ w. length w ≤ 65) (signed_words 45 r.off) (signed_words 43 r.on) (signed_short 45 r.off asked.off) (signed_short 43 r.on asked.on)
+pub asked_short : (r : SwitchRequest) → CanBeAsked r → AllByRecursion (λ w. length w ≤ 66) (asked_words r)
+asked_short r asked = all_append (λ w. length w ≤ 66) (signed_words 45 r.off) (signed_words 43 r.on) (signed_short 45 r.off asked.off) (signed_short 43 r.on asked.on)
 
 pub asked_few : (r : SwitchRequest) → CanBeAsked r → length (asked_words r) ≤ 128
 asked_few r asked =
     let few = asked.few in
     let together = length-append (signed_words 45 r.off) (signed_words 43 r.on) in
-    let off = length-map r.off (λ name. 45 ∷ name) in
-    let on = length-map r.on (λ name. 43 ∷ name) in
+    let off = length-map r.off (λ pick. 45 ∷ pick_text pick) in
+    let on = length-map r.on (λ pick. 43 ∷ pick_text pick) in
     omega arith
 
--- names behind the sign that is looked for, before other words
-names_behind : (sign : ℕ) (names : List (List ℕ)) (ws : List (List ℕ)) → (sign == sign) ≡ true → AllByRecursion IsName names
-    → filter_map (behind sign) (signed_words sign names ++ ws) ≡ names ++ filter_map (behind sign) ws
-names_behind sign [] ws same all = refl
-names_behind sign (name ∷ names) ws same all = rw (same, all.0) (ap (λ ns. name ∷ ns) (names_behind sign names ws same all.1))
+-- picks behind the sign that is looked for, before other words
+picks_behind : (sign : ℕ) (picks : List Pick) (ws : List (List ℕ)) → (sign == sign) ≡ true → AllByRecursion IsPick picks
+    → filter_map (behind sign) (signed_words sign picks ++ ws) ≡ picks ++ filter_map (behind sign) ws
+picks_behind sign [] ws same all = refl
+picks_behind sign (pick ∷ picks) ws same all = rw (same, pick_reads pick all.0) (ap (λ more. pick ∷ more) (picks_behind sign picks ws same all.1))
 
 -- and behind another
-none_behind : (sign other : ℕ) (names : List (List ℕ)) (ws : List (List ℕ)) → (other == sign) ≡ false
-    → filter_map (behind sign) (signed_words other names ++ ws) ≡ filter_map (behind sign) ws
+none_behind : (sign other : ℕ) (picks : List Pick) (ws : List (List ℕ)) → (other == sign) ≡ false
+    → filter_map (behind sign) (signed_words other picks ++ ws) ≡ filter_map (behind sign) ws
 none_behind sign other [] ws apart = refl
-none_behind sign other (name ∷ names) ws apart = rw apart (none_behind sign other names ws apart)
+none_behind sign other (pick ∷ picks) ws apart = rw apart (none_behind sign other picks ws apart)
 
-all_signed : (names : List (List ℕ)) (ws : List (List ℕ)) → AllByRecursion IsName names → list_all is_signed ws ≡ true
-    → (list_all is_signed (signed_words 43 names ++ ws) ≡ true) × (list_all is_signed (signed_words 45 names ++ ws) ≡ true)
+all_signed : (picks : List Pick) (ws : List (List ℕ)) → AllByRecursion IsPick picks → list_all is_signed ws ≡ true
+    → (list_all is_signed (signed_words 43 picks ++ ws) ≡ true) × (list_all is_signed (signed_words 45 picks ++ ws) ≡ true)
 all_signed [] ws all more = (more, more)
-all_signed (name ∷ names) ws all more = let rest = all_signed names ws all.1 more in (rw (all.0) rest.0, rw (all.0) rest.1)
+all_signed (pick ∷ picks) ws all more =
+    let rest = all_signed picks ws all.1 more in (rw (pick_reads pick all.0) rest.0, rw (pick_reads pick all.0) rest.1)
 
 -- a list alone is one before nothing
 alone : {A : Type 0} (read : List (List ℕ) → A) (ws : List (List ℕ)) → read ws ≡ read (ws ++ [])
 alone read ws = ap read (sym (append-nil ws))
 
-asked_in : (strict : Bool) (on off : List (List ℕ)) → AllByRecursion IsName on → AllByRecursion IsName off
+asked_in : (strict : Bool) (on off : List Pick) → AllByRecursion IsPick on → AllByRecursion IsPick off
     → switch_in (Some strict) (signed_words 45 off ++ signed_words 43 on) ≡ Some (record { on = on; off = off; strict = strict })
 asked_in strict on off named_on named_off =
     let all : list_all is_signed (signed_words 45 off ++ signed_words 43 on) ≡ true
     = (all_signed off (signed_words 43 on) named_off (alone (list_all is_signed) (signed_words 43 on) ∙ (all_signed on [] named_on refl).0)).1 in
     let plus : filter_map (behind 43) (signed_words 45 off ++ signed_words 43 on) ≡ on
-    = none_behind 43 45 off (signed_words 43 on) refl ∙ alone (filter_map (behind 43)) (signed_words 43 on) ∙ names_behind 43 on [] refl named_on ∙ append-nil on in
+    = none_behind 43 45 off (signed_words 43 on) refl ∙ alone (filter_map (behind 43)) (signed_words 43 on) ∙ picks_behind 43 on [] refl named_on ∙ append-nil on in
     let minus : filter_map (behind 45) (signed_words 45 off ++ signed_words 43 on) ≡ off
-    = names_behind 45 off (signed_words 43 on) refl named_off
-    ∙ ap (λ ns. off ++ ns) (alone (filter_map (behind 45)) (signed_words 43 on) ∙ none_behind 45 43 on [] refl) ∙ append-nil off in
+    = picks_behind 45 off (signed_words 43 on) refl named_off
+    ∙ ap (λ more. off ++ more) (alone (filter_map (behind 45)) (signed_words 43 on) ∙ none_behind 45 43 on [] refl) ∙ append-nil off in
     rw (all, plus, minus) refl
 
 strictness_read : (strict : Bool) → listed strictnesses (strictness_word strict) ≡ Some strict

@@ -18,13 +18,14 @@ use Rattle.fixed_num.proofs.DigitLemmas.{own}
 use Rattle.fixed_num.proofs.ReadBackLemmas.{number_of_small}
 use Rattle.iface_names.specs.Names.{is_name, same_name}
 use Rattle.cm_document.specs.Vocabulary.{listed, lives, strictnesses, verbs}
-use Rattle.cm_document.specs.LineGrammar.{name_word, whole_word, at_most, value_word, in_front, all_words, values_in, is_time, untimed, timed, time_word, point_at, later, points_after, mail_in, behind, is_signed, switch_in, where_accepted, a_call, on_name, rate_in, send_in, hardware_in, lists, list_in, said, line_of}
+use Rattle.cm_document.specs.LineGrammar.{name_word, whole_word, at_most, value_word, in_front, all_words, values_in, is_time, untimed, timed, time_word, point_at, later, points_after, mail_in, pick_word, behind, is_signed, switch_in, where_accepted, a_call, on_name, rate_in, send_in, hardware_in, lists, list_in, said, line_of}
 use Rattle.cm_document.specs.ScriptRules.{mail_fits, call_fits}
-use Rattle.cm_document.specs.ScriptLaws.{IsName, AreValues, ArePointsAfter, CanBeSent, CanBeAsked, CanBeWritten, allows}
+use Rattle.cm_document.specs.ScriptLaws.{IsName, IsPick, AreValues, ArePointsAfter, CanBeSent, CanBeAsked, CanBeWritten, allows}
 use Rattle.cm_document.specs.declared.call.Call.{Call}
 use Rattle.cm_document.specs.declared.call.Call.TheVariants as call
 use Rattle.cm_document.specs.declared.call.Mail.{Mail}
 use Rattle.cm_document.specs.declared.call.Mail.TheVariants.{Values, Points}
+use Rattle.cm_document.specs.declared.call.Pick.TheVariants.{One, Group}
 use Rattle.cm_document.specs.declared.call.Point2.{Point2}
 use Rattle.cm_document.specs.declared.script.Grammar.{Grammar}
 use Rattle.cm_document.specs.declared.script.ScriptLine.{ScriptLine}
@@ -184,9 +185,16 @@ mail_sent (w ∷ words) =
 
 -- ---- Switches
 
-behind_names : (sign : ℕ) (word : List ℕ) → IfSome (behind sign word) IsName
-behind_names sign [] = tt
-behind_names sign (b ∷ bs) = cond_both (b == sign) (name_word bs) None (λ o. IfSome o IsName) (λ _. name_word_names bs) (λ _. tt)
+pick_word_picks : (word : List ℕ) → IfSome (pick_word word) IsPick
+pick_word_picks [] = tt
+pick_word_picks (b ∷ bs) =
+    cond_both (b == 64) (option_map Group (name_word bs)) (option_map One (name_word (b ∷ bs))) (λ o. IfSome o IsPick)
+    (λ _. mapped IsName IsPick Group (name_word bs) (name_word_names bs) (λ n named. named))
+    (λ _. mapped IsName IsPick One (name_word (b ∷ bs)) (name_word_names (b ∷ bs)) (λ n named. named))
+
+behind_picks : (sign : ℕ) (word : List ℕ) → IfSome (behind sign word) IsPick
+behind_picks sign [] = tt
+behind_picks sign (b ∷ bs) = cond_both (b == sign) (pick_word bs) None (λ o. IfSome o IsPick) (λ _. pick_word_picks bs) (λ _. tt)
 
 cons_all : {A : Type 0} (P : A → Type 0) (o : Option A) (xs : List A) → IfSome o P → AllByRecursion P xs → AllByRecursion P (cons_option o xs)
 cons_all P None xs p q = q
@@ -201,7 +209,7 @@ switch_asked : (strictness : Option Bool) (words : List (List ℕ)) → IfSome (
 switch_asked None words = tt
 switch_asked (Some strict) words =
     kept (λ r. call_fits (call.Switch r) ≡ true → CanBeAsked r) (list_all is_signed words) (record { on = filter_map (behind 43) words; off = filter_map (behind 45) words; strict = strict })
-    (λ _ few. record { few = grind (arith, nat_tests); on = filter_map_all IsName (behind 43) words (behind_names 43); off = filter_map_all IsName (behind 45) words (behind_names 45) })
+    (λ _ few. record { few = grind (arith, nat_tests); on = filter_map_all IsPick (behind 43) words (behind_picks 43); off = filter_map_all IsPick (behind 45) words (behind_picks 45) })
 
 -- ---- Lines
 

@@ -1,13 +1,14 @@
--- The names of a switch, read one by one from the front.
+-- The words of a switch, read one by one from the front.
 use Rattle.std.proofs.Common.{◌≡◌, ℕ, Bool, true, false, List, [], ◌∷◌, ◌++◌, Some, None, refl, sym, ◌∙◌, append_assoc, append-nil, inl, inr, arith}
 use Rattle.std.specs.Prelude.{filter_map, ◌==◌, if◌then◌else◌}
 use Rattle.std.specs.List.{list_all}
 use Rattle.std.proofs.lemmas.Bool.{cases_Bool}
 use Rattle.std.proofs.lemmas.Bool.Decides.{nat_tests}
-use Rattle.cm_document.specs.LineGrammar.{behind, is_signed, name_word, switch_in}
+use Rattle.cm_document.specs.LineGrammar.{behind, is_signed, pick_word, switch_in}
+use Rattle.cm_document.specs.declared.call.Pick.{Pick}
 
--- These names were read from the front of a text's words, and these words are left.
-pub record Switched (on off left text : List (List ℕ)) : Type 0 where
+-- These picks were read from the front of a text's words, and these words are left.
+pub record Switched (on off : List Pick) (left text : List (List ℕ)) : Type 0 where
   pub signed : list_all is_signed left ≡ list_all is_signed text
   pub activated : on ++ filter_map (behind 43) left ≡ filter_map (behind 43) text
   pub deactivated : off ++ filter_map (behind 45) left ≡ filter_map (behind 45) text
@@ -20,16 +21,16 @@ Switched_none text = record { signed = refl; activated = refl; deactivated = ref
 one_sign : (b : ℕ) → (b == 43) ≡ true → (b == 45) ≡ false
 one_sign b h = grind (arith, nat_tests)
 
--- a word with a name behind `+` has none behind `-`
-not_behind_both : (w n : List ℕ) → behind 43 w ≡ Some n → behind 45 w ≡ None
+-- a word with a pick behind `+` has none behind `-`
+not_behind_both : (w : List ℕ) (n : Pick) → behind 43 w ≡ Some n → behind 45 w ≡ None
 not_behind_both [] n h = cc
 not_behind_both (b ∷ bs) n h = elim (cases_Bool (b == 43)) [
   | inl e ↦ rw (one_sign b e) refl
-  | inr e ↦ let no : (if b == 43 then name_word bs else None) ≡ None = rw e refl in cc
+  | inr e ↦ let none : (if b == 43 then pick_word bs else None) ≡ None = rw e refl in cc
 ]
 
--- a name to activate was read
-pub Switched_on : (on off left text : List (List ℕ)) (w : List ℕ) (ws : List (List ℕ)) (n : List ℕ) → Switched on off left text → left ≡ w ∷ ws → behind 43 w ≡ Some n
+-- a pick to activate was read
+pub Switched_on : (on off : List Pick) (left text : List (List ℕ)) (w : List ℕ) (ws : List (List ℕ)) (n : Pick) → Switched on off left text → left ≡ w ∷ ws → behind 43 w ≡ Some n
     → Switched (on ++ n ∷ []) off ws text
 Switched_on on off left text w ws n so_far cut is =
     let other : behind 45 w ≡ None = not_behind_both w n is in
@@ -39,8 +40,8 @@ Switched_on on off left text w ws n so_far cut is =
       deactivated = rw (cut, other) at so_far.deactivated;
     }
 
--- a name to deactivate was read
-pub Switched_off : (on off left text : List (List ℕ)) (w : List ℕ) (ws : List (List ℕ)) (n : List ℕ) → Switched on off left text → left ≡ w ∷ ws → behind 43 w ≡ None → behind 45 w ≡ Some n
+-- a pick to deactivate was read
+pub Switched_off : (on off : List Pick) (left text : List (List ℕ)) (w : List ℕ) (ws : List (List ℕ)) (n : Pick) → Switched on off left text → left ≡ w ∷ ws → behind 43 w ≡ None → behind 45 w ≡ Some n
     → Switched on (off ++ n ∷ []) ws text
 Switched_off on off left text w ws n so_far cut other is = record {
   signed = (rw (cut, other, is) refl) ∙ so_far.signed;
@@ -49,7 +50,7 @@ Switched_off on off left text w ws n so_far cut other is = record {
 }
 
 -- all words were read
-pub Switched_end : (strict : Bool) (on off left text : List (List ℕ)) → Switched on off left text → left ≡ [] → switch_in (Some strict) text ≡ Some (record { on = on; off = off; strict = strict })
+pub Switched_end : (strict : Bool) (on off : List Pick) (left text : List (List ℕ)) → Switched on off left text → left ≡ [] → switch_in (Some strict) text ≡ Some (record { on = on; off = off; strict = strict })
 Switched_end strict on off left text so_far cut =
     let all : list_all is_signed text ≡ true = sym so_far.signed ∙ rw cut refl in
     let first : filter_map (behind 43) text ≡ on = sym so_far.activated ∙ rw cut (append-nil on) in
@@ -57,7 +58,7 @@ Switched_end strict on off left text so_far cut =
     rw (all, first, second) refl
 
 -- a word without a sign was read
-pub Switched_bad : (strict : Bool) (on off left text : List (List ℕ)) (w : List ℕ) (ws : List (List ℕ)) → Switched on off left text → left ≡ w ∷ ws → behind 43 w ≡ None → behind 45 w ≡ None
+pub Switched_bad : (strict : Bool) (on off : List Pick) (left text : List (List ℕ)) (w : List ℕ) (ws : List (List ℕ)) → Switched on off left text → left ≡ w ∷ ws → behind 43 w ≡ None → behind 45 w ≡ None
     → switch_in (Some strict) text ≡ None
 Switched_bad strict on off left text w ws so_far cut first second =
     let none : list_all is_signed text ≡ false = sym so_far.signed ∙ rw (cut, first, second) refl in

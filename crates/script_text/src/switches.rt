@@ -1,17 +1,18 @@
-//! Switches: which names are to become active, and which inactive.
+//! Switches: what is to be activated, and what deactivated.
 
-ghost use Rattle.std.specs.Prelude.{◌≡◌, Some, Ok};
+ghost use Rattle.std.specs.Prelude.{◌≡◌, Some, Ok, option_map};
 ghost use Rattle.sequence.specs.Answers.{Answers};
 ghost use Rattle.cm_document.specs.Lines.{words};
-ghost use Rattle.cm_document.specs.LineGrammar.{name_word, behind, switch_in};
+ghost use Rattle.cm_document.specs.LineGrammar.{name_word, pick_word, behind, switch_in};
+ghost use Rattle.cm_document.specs.declared.call.Pick.TheVariants.{One, Group};
 
 use crate::words::next_word;
-use cm_document::{ScriptFault, SwitchRequest};
+use cm_document::{Pick, ScriptFault, SwitchRequest};
 use iface_names::{Name, NameFault};
 use sequence::Seq;
 use std::alloc::Global;
 
-/// A switch of a text's words, each a signed name; each list keeps its order.
+/// A switch of a text's words, each a signed name of a controller or a group; each list keeps its order.
 #[tactic(auto, using(crate::proofs::SwitchLemmas::signed_so_far))]
 pub fn switch(
     alloc: Global,
@@ -25,26 +26,51 @@ pub fn switch(
     let mut left = text;
     while let Some((word, more)) = next_word(left) {
         left = more;
-        if let Some(name) = behind(alloc, b'+', word)? {
-            on.push(name)?;
+        if let Some(pick) = behind(alloc, b'+', word)? {
+            on.push(pick)?;
             continue;
         }
-        let Some(name) = behind(alloc, b'-', word)? else {
+        let Some(pick) = behind(alloc, b'-', word)? else {
             return Ok(None);
         };
-        off.push(name)?;
+        off.push(pick)?;
     }
     Ok(Some(SwitchRequest { on, off, strict }))
 }
 
-/// The name behind this sign, where the word begins with it.
-fn behind(alloc: Global, sign: u8, word: &[u8]) -> Result<Option<Name>, ScriptFault>
+/// What stands behind this sign, where the word begins with it.
+fn behind(alloc: Global, sign: u8, word: &[u8]) -> Result<Option<Pick>, ScriptFault>
     ensures { Answers ScriptFault.Memory (Ok (behind sign word.now)) result }
 {
     match word.split_first() {
-        Some((first, text)) if *first == sign => name(alloc, text),
+        Some((first, text)) if *first == sign => pick(alloc, text),
         _ => Ok(None),
     }
+}
+
+/// The controller that a word names, or, behind an `@`, the group.
+fn pick(alloc: Global, word: &[u8]) -> Result<Option<Pick>, ScriptFault>
+    ensures { Answers ScriptFault.Memory (Ok (pick_word word.now)) result }
+{
+    match word.split_first() {
+        Some((b'@', text)) => group(alloc, text),
+        Some(_) => one(alloc, word),
+        None => Ok(None),
+    }
+}
+
+/// The group of this name.
+fn group(alloc: Global, text: &[u8]) -> Result<Option<Pick>, ScriptFault>
+    ensures { Answers ScriptFault.Memory (Ok (option_map Group (name_word text.now))) result }
+{
+    Ok(name(alloc, text)?.map(Pick::Group))
+}
+
+/// The controller of this name.
+fn one(alloc: Global, text: &[u8]) -> Result<Option<Pick>, ScriptFault>
+    ensures { Answers ScriptFault.Memory (Ok (option_map One (name_word text.now))) result }
+{
+    Ok(name(alloc, text)?.map(Pick::One))
 }
 
 /// The name that a word is, where it follows the naming rule.

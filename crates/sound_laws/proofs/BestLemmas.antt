@@ -10,6 +10,9 @@ use Rattle.std.proofs.lemmas.List.Quantifiers.{position-Some}
 use Rattle.iface_names.specs.declared.interface.IfaceName.{IfaceName}
 use Rattle.cm_document.specs.Links.{is_among, refs_of, exporter}
 use Rattle.cm_document.specs.declared.description.CtlDesc.{CtlDesc}
+use Rattle.cm_document.specs.Picks.{picked_names}
+use Rattle.cm_document.specs.declared.call.Pick.{Pick}
+use Rattle.cm_document.specs.declared.call.Pick.TheVariants.{One, Group}
 use Rattle.cm_model.proofs.CommitLemmas.{scene_active}
 use Rattle.cm_model.proofs.LoadedLemmas.{and_false}
 use Rattle.cm_model.specs.BestEffort.{Joined, joined_with, join, join_all, by_height, faultless, reduced, best, joining}
@@ -159,13 +162,14 @@ module _ (s : State) (leaving : Places) where
         | inr more ↦ inr more
       ]
 
-  tried_params : (before names : List (List ℕ)) (p : ℕ) → places_of (loaded_all (scene_of s) (faultless (on_fault (scene_of s) leaving) before names)) p ≡ true
-      → has_loaded has_params s.loaded p ≡ true
+  tried_params : (before : List (List ℕ)) (picks : List Pick) (p : ℕ)
+      → places_of (loaded_all (scene_of s) (faultless (on_fault (scene_of s) leaving) before picks)) p ≡ true → has_loaded has_params s.loaded p ≡ true
   tried_params before [] p any = absurd (true≢false (sym any))
-  tried_params before (name ∷ names) p any =
-      elim (tried_one before name (faultless (on_fault (scene_of s) leaving) (before ++ name ∷ []) names) p (on_fault (scene_of s) leaving before name) refl any) [
+  tried_params before (Group name ∷ picks) p any = tried_params before picks p any
+  tried_params before (One name ∷ picks) p any =
+      elim (tried_one before name (faultless (on_fault (scene_of s) leaving) (before ++ name ∷ []) picks) p (on_fault (scene_of s) leaving before name) refl any) [
         | inl params ↦ params
-        | inr more ↦ tried_params (before ++ name ∷ []) names p more
+        | inr more ↦ tried_params (before ++ name ∷ []) picks p more
       ]
 
 -- each of these is at its place
@@ -175,7 +179,7 @@ own_places ms P holds k d below =
 
 -- ---- Who is named
 
--- of the names without a fault each is one of the names
+-- of the controllers without a fault each is one of the list
 module _ (scene : Scene) (fault : List (List ℕ) → List ℕ → Option Cause) where
   first_named : (o : Option Seen) (few many : List Member) (p : ℕ) → (places_of few p ≡ true → places_of many p ≡ true)
       → places_of (cons_option (option_map member o) few) p ≡ true → places_of (cons_option (option_map member o) many) p ≡ true
@@ -186,16 +190,18 @@ module _ (scene : Scene) (fault : List (List ℕ) → List ℕ → Option Cause)
         | inr later ↦ or_right (l.place == p) (places_of many p) (rest later)
       ]
 
-  faultless_named : (before names : List (List ℕ)) (p : ℕ) → places_of (loaded_all scene (faultless fault before names)) p ≡ true → named scene names p ≡ true
+  faultless_named : (before : List (List ℕ)) (picks : List Pick) (p : ℕ) → places_of (loaded_all scene (faultless fault before picks)) p ≡ true
+      → named scene (picked_names picks) p ≡ true
   faultless_named before [] p any = any
-  faultless_named before (name ∷ names) p any = by_fault (fault before name) (faultless_named (before ++ name ∷ []) names p) any
+  faultless_named before (Group name ∷ picks) p any = faultless_named before picks p any
+  faultless_named before (One name ∷ picks) p any = by_fault (fault before name) (faultless_named (before ++ name ∷ []) picks p) any
     where
-      by_fault : (o : Option Cause) → (places_of (loaded_all scene (faultless fault (before ++ name ∷ []) names)) p ≡ true → named scene names p ≡ true)
-          → places_of (loaded_all scene (elim o [ Some c ↦ faultless fault (before ++ name ∷ []) names | None ↦ name ∷ faultless fault (before ++ name ∷ []) names ])) p ≡ true
-          → named scene (name ∷ names) p ≡ true
-      by_fault (Some c) rest any = named_more scene (loaded_of scene name) (loaded_all scene names) p (rest any)
+      by_fault : (o : Option Cause) → (places_of (loaded_all scene (faultless fault (before ++ name ∷ []) picks)) p ≡ true → named scene (picked_names picks) p ≡ true)
+          → places_of (loaded_all scene (elim o [ Some c ↦ faultless fault (before ++ name ∷ []) picks | None ↦ name ∷ faultless fault (before ++ name ∷ []) picks ])) p ≡ true
+          → named scene (name ∷ picked_names picks) p ≡ true
+      by_fault (Some c) rest any = named_more scene (loaded_of scene name) (loaded_all scene (picked_names picks)) p (rest any)
       by_fault None rest any =
-          first_named (loaded_of scene name) (loaded_all scene (faultless fault (before ++ name ∷ []) names)) (loaded_all scene names) p rest any
+          first_named (loaded_of scene name) (loaded_all scene (faultless fault (before ++ name ∷ []) picks)) (loaded_all scene (picked_names picks)) p rest any
 
 -- each that has joined was there before, or is one of those that were tried
 module _ (scene : Scene) (on : Places) where
@@ -230,7 +236,7 @@ abbrev set_in : Decided → Places → Places
 set_in (refused d) other = other
 set_in (done dropped set again) other = set
 
-module _ (s : State) (steady : IsSteady s) (off on : List (List ℕ)) where
+module _ (s : State) (steady : IsSteady s) (off on : List Pick) where
   abbrev pub leaving : Places
   leaving = reduced (scene_of s) (asked_off (scene_of s) off)
 
@@ -302,7 +308,7 @@ module _ (s : State) (steady : IsSteady s) (off on : List (List ℕ)) where
   effort_params dropped = (effort_fit dropped).params
 
   -- who is of the set and did not stay was to be activated,
-  pub best_came : (dropped : List Dropped) (p : ℕ) → effort dropped p ≡ true → staying p ≡ false → named (scene_of s) on p ≡ true
+  pub best_came : (dropped : List Dropped) (p : ℕ) → effort dropped p ≡ true → staying p ≡ false → named (scene_of s) (picked_names on) p ≡ true
   best_came dropped p inside out =
       elim (all_joined_from (scene_of s) (places_of tried) (record { set = staying; dropped = dropped }) (by_height (scene_of s) tried) p inside) [
         | inl old ↦ absurd (true≢false (sym old ∙ out))
@@ -310,7 +316,7 @@ module _ (s : State) (steady : IsSteady s) (off on : List (List ℕ)) where
       ]
 
   -- who leaves was to be deactivated,
-  pub best_asked_off : (p : ℕ) → leaving p ≡ true → named (scene_of s) off p ≡ true
+  pub best_asked_off : (p : ℕ) → leaving p ≡ true → named (scene_of s) (picked_names off) p ≡ true
   best_asked_off p leaves = faultless_named (scene_of s) (off_fault (scene_of s)) [] off p (can_leave.within p leaves)
 
   -- and who was active and is not of the set leaves.

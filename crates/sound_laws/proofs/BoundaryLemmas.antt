@@ -1,14 +1,13 @@
 -- What is decided between two cycles keeps a state steady, and so does the begin of a cycle.
 use Rattle.std.proofs.Common.{ℕ, Bool, true, false, List, [], ◌∷◌}
-use Rattle.std.specs.Prelude.{if◌then◌else◌}
+use Rattle.cm_document.specs.Picks.{flat}
 use Rattle.cm_document.specs.declared.call.SwitchRequest.{SwitchRequest}
 use Rattle.cm_model.proofs.SteadyLemmas.{begun_steady}
-use Rattle.cm_model.specs.BestEffort.{best}
+use Rattle.cm_model.specs.BestEffort.{flat_decided}
 use Rattle.cm_model.specs.Boundary.{waiting, standing_in, after_standing_in, after_fallbacks, component_place, with_switch, Concluded, concluded, with_outcome, all_concluded, boundary, begin_effect}
 use Rattle.cm_model.specs.Commit.{scene_of}
 use Rattle.cm_model.specs.State.{State}
 use Rattle.cm_model.specs.Steady.{IsSteady}
-use Rattle.cm_model.specs.Switches.{strict}
 use Rattle.cm_model.specs.declared.request.Request.{Request}
 use Rattle.cm_model.specs.declared.request.Request.TheVariants as request
 use Rattle.sound_laws.proofs.BestLemmas.{best_steady}
@@ -18,9 +17,9 @@ use Rattle.sound_laws.proofs.StrictLemmas.{strict_steady}
 pub switch_steady : (s : State) (r : SwitchRequest) → IsSteady s → IsSteady (concluded s (request.Switch r)).state
 switch_steady s r steady = either r.strict
   where
-    either : (b : Bool) → IsSteady (with_switch s (if b then strict (scene_of s) r.off r.on else best (scene_of s) r.off r.on)).state
-    either true = strict_steady s steady r.off r.on
-    either false = best_steady s steady r.off r.on
+    either : (whole : Bool) → IsSteady (with_switch s (flat_decided (scene_of s) whole (flat s.description r.off) (flat s.description r.on))).state
+    either true = strict_steady s steady (flat s.description r.off) (flat s.description r.on)
+    either false = best_steady s steady (flat s.description r.off) (flat s.description r.on)
 
 pub concluded_steady : (s : State) (r : Request) → IsSteady s → IsSteady (concluded s r).state
 concluded_steady s (request.Switch r) steady = switch_steady s r steady

@@ -1,5 +1,5 @@
 -- A request is decided rightly: done whole, or refused with a cause that is true and no change.
-use Rattle.std.proofs.Common.{◌≡◌, ℕ, ◌<◌, Bool, true, false, List, [], ◌∷◌, ◌++◌, length, Option, Some, None, inl, inr, refl, sym, ◌∙◌, subst, ap, arith}
+use Rattle.std.proofs.Common.{◌≡◌, ℕ, ◌<◌, Bool, true, false, List, [], ◌∷◌, ◌++◌, length, map, Option, Some, None, inl, inr, refl, sym, ◌∙◌, subst, ap, arith}
 use Rattle.std.specs.Prelude.{◌==◌, ◌&&◌, ◌||◌, not, if◌then◌else◌, find, position, is_some, option_map, slice_set}
 use Rattle.std.specs.Option.{option_map_or}
 use Rattle.std.proofs.Math.Path.{fun_ext}
@@ -10,12 +10,15 @@ use Rattle.std.proofs.lemmas.Option.{same_Some}
 use Rattle.iface_names.specs.Names.{same_name}
 use Rattle.cm_document.specs.declared.call.Call.{Call}
 use Rattle.cm_document.specs.declared.call.Call.TheVariants.{Begin}
+use Rattle.cm_document.specs.Picks.{flat, picked_names}
+use Rattle.cm_document.specs.declared.call.Pick.{Pick}
+use Rattle.cm_document.specs.declared.call.Pick.TheVariants.{One}
 use Rattle.cm_document.specs.declared.call.SwitchRequest.{SwitchRequest}
 use Rattle.cm_document.specs.declared.description.CompDesc.{CompDesc}
 use Rattle.cm_document.specs.declared.life.Life.{Life}
 use Rattle.cm_model.proofs.CommitLemmas.{scene_active}
 use Rattle.cm_model.proofs.StayLemmas.{IsStep}
-use Rattle.cm_model.specs.BestEffort.{best, decided}
+use Rattle.cm_model.specs.BestEffort.{best, flat_decided, decided}
 use Rattle.cm_model.specs.Boundary.{waiting, standing_in, after_standing_in, after_fallbacks, with_switch, component_place, user_of, life_at, move_fault, with_move_unless, with_move, Concluded, concluded, with_outcome, all_concluded, begin_effect, begin_reply}
 use Rattle.cm_model.specs.CauseIsTrue.{is_used_by, is_true_of_move, strict_set}
 use Rattle.cm_model.specs.Claims.{uses}
@@ -63,43 +66,50 @@ told_switched : (s : State) (set again : Places) (c : Concluded) → HasSwitched
 told_switched s set again c switched = record { set_is = switched.set_is; controllers = switched.controllers; values = switched.values; lives = switched.lives }
 
 module _ (s : State) (steady : IsSteady s) (r : SwitchRequest) where
+  -- its lists, made flat
+  abbrev off : List Pick
+  off = flat s.description r.off
+
+  abbrev on : List Pick
+  on = flat s.description r.on
+
   -- a set of which each has parameters comes to be active
   set_switched : (set again : Places) → HaveParams s.loaded set → HasSwitched s set again (commit s set again)
   set_switched set again have =
       commit_switched s set again steady.in_order (params_loaded s.loaded set have) (params_configured s set steady.in_order have)
 
   -- the set of the scene is the one that is asked for
-  asked_is : strict_set (scene_of s) r.off r.on ≡ asked_set s r
-  asked_is = ap (λ (f : Places). λ (p : ℕ). (f p && not (named (scene_of s) r.off p)) || named (scene_of s) r.on p) (scene_active s steady.in_order.own)
+  asked_is : strict_set (scene_of s) (picked_names off) (picked_names on) ≡ asked_set s r
+  asked_is = ap (λ (f : Places). λ (p : ℕ). (f p && not (named (scene_of s) (picked_names off) p)) || named (scene_of s) (picked_names on) p) (scene_active s steady.in_order.own)
 
   -- that the decision is whole or nothing
   abbrev IsRight : Decided → Type 0
   IsRight d = WholeOrNothing s r (with_outcome (with_switch s d)) (with_switch s d).outcome
 
-  strict_right : IsRight (strict (scene_of s) r.off r.on)
+  strict_right : IsRight (strict (scene_of s) off on)
   strict_right =
-      elim (strict_either (scene_of s) r.off r.on) [
+      elim (strict_either (scene_of s) off on) [
         | inl whole ↦
-            let can = (strict_done (scene_of s) r.off r.on).0 whole in
-            let set = strict_set (scene_of s) r.off r.on in
-            let again : Places = λ p. named (scene_of s) r.off p && named (scene_of s) r.on p in
+            let can = (strict_done (scene_of s) off on).0 whole in
+            let set = strict_set (scene_of s) (picked_names off) (picked_names on) in
+            let again : Places = λ p. named (scene_of s) (picked_names off) p && named (scene_of s) (picked_names on) p in
             subst IsRight (sym whole) (
               refl,
               subst (λ f. HasSwitched s f again (with_outcome (with_switch s (done [] set again)))) asked_is
-                  (told_switched s set again (with_switch s (done [] set again)) (set_switched set again (params s steady r.off r.on can))),
+                  (told_switched s set again (with_switch s (done [] set again)) (set_switched set again (params s steady off on can))),
             )
         | inr (d, refuses) ↦
             subst IsRight (sym refuses)
-            (unchanged s (outcome.Refused d.name d.cause), counts_true (scene_of s) r.off r.on d (strict_refused (scene_of s) r.off r.on d refuses))
+            (unchanged s (outcome.Refused d.name d.cause), counts_true (scene_of s) r.off r.on d (strict_refused (scene_of s) off on d refuses))
       ]
 
   -- of a best effort, which leads to this set, once these were dropped of its lists
   module _ (before dropped : List Dropped) where
     abbrev set : Places
-    set = effort s steady r.off r.on before
+    set = effort s steady off on before
 
     abbrev again : Places
-    again p = leaving s steady r.off r.on p && set p
+    again p = leaving s steady off on p && set p
 
     -- whichever state it reaches
     in_part_at : (reached : State) → HasSwitched s set again reached → IsDoneInPart s r reached
@@ -108,17 +118,17 @@ module _ (s : State) (steady : IsSteady s) (r : SwitchRequest) where
         record {
           again = again;
           named_again = λ p both.
-              let parts = and_parts (leaving s steady r.off r.on p) (set p) both in
-              and_from (named (scene_of s) r.off p) (named (scene_of s) r.on p) (best_asked_off s steady r.off r.on p parts.0)
-              (best_came s steady r.off r.on before p parts.1 (not_staying s steady r.off r.on p parts.0));
+              let parts = and_parts (leaving s steady off on p) (set p) both in
+              and_from (named (scene_of s) (picked_names off) p) (named (scene_of s) (picked_names on) p) (best_asked_off s steady off on p parts.0)
+              (best_came s steady off on before p parts.1 (not_staying s steady off on p parts.0));
           switched = subst (λ f. HasSwitched s f again reached) (sym active_is) switched;
-          together = subst (CanRunTogether s.description s.lives) (sym active_is) (effort_together s steady r.off r.on before);
-          came = λ p idle runs. best_came s steady r.off r.on before p (sym (switched.set_is p) ∙ runs) (idle_not_staying s steady r.off r.on p idle);
-          left = λ p ran gone. best_asked_off s steady r.off r.on p (best_left s steady r.off r.on before p ran (sym (switched.set_is p) ∙ gone));
+          together = subst (CanRunTogether s.description s.lives) (sym active_is) (effort_together s steady off on before);
+          came = λ p idle runs. best_came s steady off on before p (sym (switched.set_is p) ∙ runs) (idle_not_staying s steady off on p idle);
+          left = λ p ran gone. best_asked_off s steady off on p (best_left s steady off on before p ran (sym (switched.set_is p) ∙ gone));
         }
 
     effort_switched : HasSwitched s set again (with_switch s (done dropped set again)).state
-    effort_switched = set_switched set again (effort_params s steady r.off r.on before)
+    effort_switched = set_switched set again (effort_params s steady off on before)
 
     in_part : IsDoneInPart s r (with_outcome (with_switch s (done dropped set again)))
     in_part = in_part_at _ (told_switched s set again (with_switch s (done dropped set again)) effort_switched)
@@ -126,18 +136,18 @@ module _ (s : State) (steady : IsSteady s) (r : SwitchRequest) where
     untold_in_part : IsDoneInPart s r (with_switch s (done dropped set again)).state
     untold_in_part = in_part_at _ effort_switched
 
-  best_right : AsMuchAsCanBe s r (with_outcome (with_switch s (best (scene_of s) r.off r.on))) (with_switch s (best (scene_of s) r.off r.on)).outcome
+  best_right : AsMuchAsCanBe s r (with_outcome (with_switch s (best (scene_of s) off on))) (with_switch s (best (scene_of s) off on)).outcome
   best_right = in_part _ _
 
   -- and so it is of a best effort that no request asked for
-  pub best_untold : IsDoneInPart s r (with_switch s (best (scene_of s) r.off r.on)).state
+  pub best_untold : IsDoneInPart s r (with_switch s (best (scene_of s) off on)).state
   best_untold = untold_in_part _ []
 
   switch_right : IsSwitchDecided r.strict s r (with_outcome (with_switch s (decided (scene_of s) r))) (with_switch s (decided (scene_of s) r)).outcome
   switch_right = either r.strict
     where
-      either : (b : Bool) → IsSwitchDecided b s r (with_outcome (with_switch s (if b then strict (scene_of s) r.off r.on else best (scene_of s) r.off r.on)))
-          (with_switch s (if b then strict (scene_of s) r.off r.on else best (scene_of s) r.off r.on)).outcome
+      either : (b : Bool) → IsSwitchDecided b s r (with_outcome (with_switch s (flat_decided (scene_of s) b off on)))
+          (with_switch s (flat_decided (scene_of s) b off on)).outcome
       either true = strict_right
       either false = best_right
 
@@ -260,7 +270,7 @@ stand_in_right s (name ∷ names) steady =
     let emptied = record s { fallbacks = [] } in
     let asked = standing_in (name ∷ names) in
     record {
-      switched = best_untold emptied (emptied_steady s steady) (record { on = name ∷ names; off = []; strict = false });
+      switched = best_untold emptied (emptied_steady s steady) (record { on = map One (name ∷ names); off = []; strict = false });
       same = concluded_lasts emptied asked;
       outcomes = concluded_keeps emptied asked;
     }

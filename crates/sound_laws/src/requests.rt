@@ -1,6 +1,8 @@
 //! What requests keep that are decided between two cycles: done or refused, each leaves a steady state.
 
 ghost use Rattle.std.specs.Prelude.{◌≡◌, ℕ, List};
+ghost use Rattle.cm_document.specs.Picks.{picked_names};
+ghost use Rattle.cm_document.specs.declared.call.Pick.{Pick};
 ghost use Rattle.cm_document.specs.declared.call.SwitchRequest.{SwitchRequest};
 ghost use Rattle.cm_document.specs.declared.life.Life.{Life};
 ghost use Rattle.cm_model.specs.BestEffort.{best};
@@ -23,9 +25,10 @@ pub fn hardware_requests_keep_a_state_steady()
 
 /// In a steady state the set that a switch leads to can run together, be it a strict one that can be done or a best effort.
 pub fn switches_lead_to_controllers_that_can_run_together()
-    ensures strict { (s : State) (off on : List (List ℕ)) → IsSteady s → CanBeDone (scene_of s) off on
-        → CanRunTogether s.description s.lives (strict_set (scene_of s) off on) }
-    ensures best { (s : State) (off on : List (List ℕ)) (dropped : List Dropped) (set again : Places) → IsSteady s
+    ensures strict { (s : State) (off on : List Pick) → IsSteady s → CanBeDone (scene_of s) off on
+        → CanRunTogether s.description s.lives
+        (strict_set (scene_of s) (picked_names off) (picked_names on)) }
+    ensures best { (s : State) (off on : List Pick) (dropped : List Dropped) (set again : Places) → IsSteady s
         → best (scene_of s) off on ≡ done dropped set again → CanRunTogether s.description s.lives set }
 {}
 

@@ -16,6 +16,8 @@ use Rattle.iface_names.specs.declared.interface.IfaceName.{IfaceName}
 use Rattle.iface_names.specs.declared.interface.IfaceName.TheVariants.{Joint, Reference}
 use Rattle.iface_names.specs.declared.kind.Kind.{Kind}
 use Rattle.cm_document.specs.Links.{exporter}
+use Rattle.cm_document.specs.Picks.{flat, picked_names}
+use Rattle.cm_document.specs.declared.call.Pick.{Pick}
 use Rattle.cm_document.specs.declared.life.Life.TheVariants.{Unconfigured}
 use Rattle.cm_model.specs.Order.{Places}
 use Rattle.cm_model.specs.Components.{is_available}
@@ -29,8 +31,9 @@ use Rattle.cm_model.specs.declared.fault_kind.FaultKind.{FaultKind}
 use Rattle.cm_model.specs.declared.fault_kind.FaultKind.TheVariants as fault_kind
 use Rattle.cm_model.specs.declared.member.Member.{Member}
 use Rattle.cm_model.specs.declared.seen.Seen.{Seen}
+use Rattle.cm_document.proofs.PickLemmas.{flat-not_described}
 use Rattle.chain_order.proofs.OrderLemmas.{in_order-once}
-use Rattle.switch_plan.specs.Laws.{IsFaulty, CountsOfMember, CountsAgainst, IsCalled, StandsTwice, IsTrueOf, strict_set}
+use Rattle.switch_plan.specs.Laws.{SpeaksAgainst, CountsOfMember, CountsAgainst, IsCalled, StandsTwice, IsTrueOfController, IsTrueOf, strict_set}
 use Rattle.switch_plan.proofs.ElementLemmas.{map_some, here, later, none_inside, first_or_later, some_of, each_fails, found, not_found, filter_back, filter_from, Contains-map, Contains-map_back, first_of-some}
 
 -- ---- Names and interfaces
@@ -183,21 +186,21 @@ twice_from names name j below is any =
     (i, j, before, below, sym (get_or-take j names i [] before) ∙ at, is)
 
 module _ (scene : Scene) (off on : List (List ℕ)) where
-  off_true : (d : Dropped) → IsFaulty (off_fault scene) off d → IsTrueOf scene off on d.name d.cause
+  off_true : (d : Dropped) → SpeaksAgainst (off_fault scene) off d → IsTrueOfController scene off on d.name d.cause
   off_true d (i, below, is, e) =
       let inside : Contains off d.name = subst (Contains off) is (Contains-get_or off i [] below) in
-      loaded_given (IsTrueOf scene off on d.name) (off_cause (list_any (same_name d.name) (take i off))) (loaded_of scene d.name) d.cause
+      loaded_given (IsTrueOfController scene off on d.name) (off_cause (list_any (same_name d.name) (take i off))) (loaded_of scene d.name) d.cause
       (λ none. not_called scene d.name none)
-      (λ l found e. off_given (IsTrueOf scene off on d.name) (list_any (same_name d.name) (take i off)) l d.cause
+      (λ l found e. off_given (IsTrueOfController scene off on d.name) (list_any (same_name d.name) (take i off)) l d.cause
       (λ any. inl (twice_from off d.name i below is any))
       (λ idle. (inside, (l, loaded_called scene d.name l found, idle))) e) e
 
-  on_true : (d : Dropped) → IsFaulty (on_fault scene (named scene off)) on d → IsTrueOf scene off on d.name d.cause
+  on_true : (d : Dropped) → SpeaksAgainst (on_fault scene (named scene off)) on d → IsTrueOfController scene off on d.name d.cause
   on_true d (i, below, is, e) =
       let inside : Contains on d.name = subst (Contains on) is (Contains-get_or on i [] below) in
-      loaded_given (IsTrueOf scene off on d.name) (on_cause (named scene off) (list_any (same_name d.name) (take i on))) (loaded_of scene d.name) d.cause
+      loaded_given (IsTrueOfController scene off on d.name) (on_cause (named scene off) (list_any (same_name d.name) (take i on))) (loaded_of scene d.name) d.cause
       (λ none. not_called scene d.name none)
-      (λ l found e. on_given (IsTrueOf scene off on d.name) (named scene off) (list_any (same_name d.name) (take i on)) l d.cause
+      (λ l found e. on_given (IsTrueOfController scene off on d.name) (named scene off) (list_any (same_name d.name) (take i on)) l d.cause
       (λ any. inr (twice_from on d.name i below is any))
       (λ bare. (inside, (l, loaded_called scene d.name l found, bare)))
       (λ both. let parts = and_parts (is_running l.life) (not (named scene off l.place)) both in
@@ -210,7 +213,7 @@ module _ (scene : Scene) (off on : List (List ℕ)) where
 
   module _ (name : List ℕ) (l : Seen) (called : IsCalled scene name l) (inside : set l.place ≡ true) where
     abbrev True : Cause → Type 0
-    True c = IsTrueOf scene off on name c
+    True c = IsTrueOfController scene off on name c
 
     follower_true : (c : Cause) → fault_of_kind scene set (named scene on) fault_kind.Follower l.place ≡ Some c → True c
     follower_true c e =
@@ -295,7 +298,7 @@ module _ (scene : Scene) (off on : List (List ℕ)) where
     kind_true fault_kind.Mode c counts listed e = mode_true c e
     kind_true fault_kind.Readiness c counts listed e = readiness_true c (listed counts) e
 
-  member_true : (d : Dropped) → CountsOfMember scene off on d → IsTrueOf scene off on d.name d.cause
+  member_true : (d : Dropped) → CountsOfMember scene off on d → IsTrueOfController scene off on d.name d.cause
   member_true d (kind, m, inside, named_so, e) =
       let l = order_back scene set m inside in
       let at : l.0.place ≡ m.place = ap (λ (n : Member). n.place) l.2 in
@@ -305,7 +308,17 @@ module _ (scene : Scene) (off on : List (List ℕ)) where
       (λ on_list. subst (Contains on) called.name_is (named_back scene on l.0.place on_list))
       (ap (fault_of_kind scene set (named scene on) kind) at ∙ parts.1)
 
-  pub counts_true : (d : Dropped) → CountsAgainst scene off on d → IsTrueOf scene off on d.name d.cause
-  counts_true d (inl leaving) = off_true d leaving
-  counts_true d (inr (inl coming)) = on_true d coming
-  counts_true d (inr (inr of_member)) = member_true d of_member
+-- what counts against a switch of two lists, made flat, is true of the name
+module _ (scene : Scene) (off on : List Pick) where
+  abbrev flat_off : List Pick
+  flat_off = flat scene.description off
+
+  abbrev flat_on : List Pick
+  flat_on = flat scene.description on
+
+  pub counts_true : (d : Dropped) → CountsAgainst scene flat_off flat_on d → IsTrueOf scene flat_off flat_on d.name d.cause
+  counts_true d (inl (inl (is, listed))) = inl (is, record { listed = inl listed; none = flat-not_described scene.description off d.name listed })
+  counts_true d (inl (inr leaving)) = inr (off_true scene (picked_names flat_off) (picked_names flat_on) d leaving)
+  counts_true d (inr (inl (inl (is, listed)))) = inl (is, record { listed = inr listed; none = flat-not_described scene.description on d.name listed })
+  counts_true d (inr (inl (inr coming))) = inr (on_true scene (picked_names flat_off) (picked_names flat_on) d coming)
+  counts_true d (inr (inr of_member)) = inr (member_true scene (picked_names flat_off) (picked_names flat_on) d of_member)

@@ -1,16 +1,21 @@
 -- When a strict switch is done, and what is named where it is refused.
-use Rattle.std.proofs.Common.{◌≡◌, ◌⊎◌, ℕ, zero, suc, ◌<◌, true, List, [], ◌∷◌, ◌++◌, length, get_or, take, append-nil, Option, Some, None, inl, inr, refl, sym, ◌∙◌, ap, arith}
-use Rattle.std.specs.Prelude.{◌&&◌, ◌↔◌, if◌then◌else◌, option_map}
+use Rattle.std.proofs.Common.{◌≡◌, ◌⊎◌, ℕ, zero, suc, ◌<◌, true, List, [], ◌∷◌, ◌++◌, length, get_or, take, append-nil, Option, Some, None, inl, inr, refl, sym, ◌∙◌, ap, subst, arith}
+use Rattle.std.specs.Prelude.{◌&&◌, ◌↔◌, option_map}
 use Rattle.std.specs.List.{Contains}
 use Rattle.std.specs.Option.{option_or}
 use Rattle.std.proofs.lemmas.List.{append_assoc}
+use Rattle.std.proofs.lemmas.Option.{same_Some}
+use Rattle.cm_document.specs.Picks.{flat, picked_names}
+use Rattle.cm_document.specs.declared.call.Pick.{Pick}
+use Rattle.cm_document.specs.declared.call.Pick.TheVariants.{One, Group}
 use Rattle.cm_document.specs.declared.call.SwitchRequest.{SwitchRequest}
 use Rattle.cm_model.specs.Order.{Places}
 use Rattle.cm_model.specs.Scene.{Scene, described, named, order}
 use Rattle.cm_model.specs.Faults.{first_of}
 use Rattle.cm_model.specs.Switches.{with_name, off_fault, on_fault, first_fault, counted, counted_of, first_member_fault, Decided, refused, done, unless_because, strict, planned}
-use Rattle.cm_model.specs.BestEffort.{best, plan_of}
+use Rattle.cm_model.specs.BestEffort.{flat_decided, plan_of}
 use Rattle.cm_model.specs.declared.cause.Cause.{Cause}
+use Rattle.cm_model.specs.declared.cause.Cause.TheVariants as cause
 use Rattle.cm_model.specs.declared.cause.Dropped.{Dropped}
 use Rattle.cm_model.specs.declared.cause.Outcome.{Outcome}
 use Rattle.cm_model.specs.declared.cause.Outcome.TheVariants as outcome
@@ -19,43 +24,86 @@ use Rattle.cm_model.specs.declared.fault_kind.FaultKind.TheVariants as fault_kin
 use Rattle.cm_model.specs.declared.fault_kind.TheConstants.{FAULT_KINDS}
 use Rattle.cm_model.specs.declared.member.Member.{Member}
 use Rattle.cm_model.specs.declared.planned.Planned.{Planned}
-use Rattle.switch_plan.specs.Laws.{CanBeDone, CountsAgainst, strict_set}
-use Rattle.switch_plan.proofs.ElementLemmas.{or_none, or_some, map_none, map_some, here, later, first_of-none, first_of-all, first_of-some}
+use Rattle.switch_plan.specs.Laws.{IsFaultless, CanBeDone, CountsAgainst, strict_set}
+use Rattle.switch_plan.proofs.ElementLemmas.{or_none, or_some, map_none, map_some, here, later, none_inside, first_or_later, first_of-none, first_of-all, first_of-some}
 
--- ---- First fault of a list of names
+-- ---- First fault of a flat list
+
+no_group_one : (name : List ℕ) (picks : List Pick) → ((n : List ℕ) → ¬ Contains picks (Group n)) → (n : List ℕ) → ¬ Contains (One name ∷ picks) (Group n)
+no_group_one name picks none n inside =
+    elim (first_or_later (One name) picks (Group n) inside) [
+      | inl same ↦ (let never : One name ≡ Group n = same in cc)
+      | inr after ↦ none n after
+    ]
 
 module _ (fault : List (List ℕ) → List ℕ → Option Cause) where
   -- the names before one, with those before all
   behind : (before : List (List ℕ)) (name : List ℕ) (names : List (List ℕ)) (n : List ℕ) → fault ((before ++ name ∷ []) ++ names) n ≡ fault (before ++ (name ∷ names)) n
   behind before name names n = ap (λ b. fault b n) (append_assoc before (name ∷ []) names)
 
-  first_fault-none : (before names : List (List ℕ)) → first_fault fault before names ≡ None → (i : ℕ) → i < length names → fault (before ++ take i names) (get_or names i []) ≡ None
-  first_fault-none before [] e i below = absurd (omega (arith, below))
-  first_fault-none before (name ∷ names) e zero below =
-      ap (λ b. fault b name) (append-nil before) ∙ map_none (with_name name) (fault before name) (or_none (option_map (with_name name) (fault before name)) (first_fault fault (before ++ name ∷ []) names) e).0
-  first_fault-none before (name ∷ names) e (suc i) below =
-      sym (behind before name (take i names) (get_or names i []))
-      ∙ first_fault-none (before ++ name ∷ []) names (or_none (option_map (with_name name) (fault before name)) (first_fault fault (before ++ name ∷ []) names) e).1 i (omega (arith, below))
+  -- nothing speaks against a list, behind these controllers
+  record Passes (before : List (List ℕ)) (picks : List Pick) : Type 0 where
+    groupless : (name : List ℕ) → ¬ Contains picks (Group name)
+    controllers : (i : ℕ) → i < length (picked_names picks) → fault (before ++ take i (picked_names picks)) (get_or (picked_names picks) i []) ≡ None
 
-  first_fault-all : (before names : List (List ℕ)) → ((i : ℕ) → i < length names → fault (before ++ take i names) (get_or names i []) ≡ None) → first_fault fault before names ≡ None
-  first_fault-all before [] none = refl
-  first_fault-all before (name ∷ names) none =
-      ap (λ o. option_or (option_map (with_name name) o) (first_fault fault (before ++ name ∷ []) names)) (ap (λ b. fault b name) (sym (append-nil before)) ∙ none 0 (omega arith))
-      ∙ first_fault-all (before ++ name ∷ []) names (λ i below. behind before name (take i names) (get_or names i []) ∙ none (suc i) (omega (arith, below)))
+  controllers-one : (before : List (List ℕ)) (name : List ℕ) (picks : List Pick) → fault before name ≡ None
+      → ((i : ℕ) → i < length (picked_names picks) → fault ((before ++ name ∷ []) ++ take i (picked_names picks)) (get_or (picked_names picks) i []) ≡ None)
+      → (i : ℕ) → i < length (picked_names (One name ∷ picks)) → fault (before ++ take i (picked_names (One name ∷ picks))) (get_or (picked_names (One name ∷ picks)) i []) ≡ None
+  controllers-one before name picks first rest zero below = ap (λ b. fault b name) (append-nil before) ∙ first
+  controllers-one before name picks first rest (suc i) below =
+      sym (behind before name (take i (picked_names picks)) (get_or (picked_names picks) i [])) ∙ rest i (omega (arith, below))
 
-  first_fault-some : (before names : List (List ℕ)) (d : Dropped) → first_fault fault before names ≡ Some d
-      → (i : ℕ) × (i < length names) × (get_or names i [] ≡ d.name) × (fault (before ++ take i names) d.name ≡ Some d.cause)
+  first_fault-none : (before : List (List ℕ)) (picks : List Pick) → first_fault fault before picks ≡ None → Passes before picks
+  first_fault-none before [] e = record {
+    groupless = λ name inside. none_inside (Group name) inside;
+    controllers = λ i below. absurd (omega (arith, below));
+  }
+  first_fault-none before (Group name ∷ picks) e = cc
+  first_fault-none before (One name ∷ picks) e =
+      let parts = or_none (option_map (with_name name) (fault before name)) (first_fault fault (before ++ name ∷ []) picks) e in
+      let rest = first_fault-none (before ++ name ∷ []) picks parts.1 in
+      record {
+        groupless = no_group_one name picks rest.groupless;
+        controllers = controllers-one before name picks (map_none (with_name name) (fault before name) parts.0) rest.controllers;
+      }
+
+  first_fault-all : (before : List (List ℕ)) (picks : List Pick) → Passes before picks → first_fault fault before picks ≡ None
+  first_fault-all before [] passes = refl
+  first_fault-all before (Group name ∷ picks) passes = absurd (passes.groupless name (here (Group name) picks))
+  first_fault-all before (One name ∷ picks) passes =
+      ap (λ o. option_or (option_map (with_name name) o) (first_fault fault (before ++ name ∷ []) picks)) (ap (λ b. fault b name) (sym (append-nil before)) ∙ passes.controllers 0 (omega arith))
+      ∙ first_fault-all (before ++ name ∷ []) picks (record {
+        groupless = λ n inside. passes.groupless n (later (One name) picks (Group n) inside);
+        controllers = λ i below. behind before name (take i (picked_names picks)) (get_or (picked_names picks) i []) ∙ passes.controllers (suc i) (omega (arith, below));
+      })
+
+  -- what speaks first against a list, behind these controllers
+  abbrev Speaks : List (List ℕ) → List Pick → Dropped → Type 0
+  Speaks before picks d =
+      ((d.cause ≡ cause.NoGroup) × Contains picks (Group d.name))
+      ⊎ ((i : ℕ) × (i < length (picked_names picks)) × (get_or (picked_names picks) i [] ≡ d.name) × (fault (before ++ take i (picked_names picks)) d.name ≡ Some d.cause))
+
+  speaks_later : (before : List (List ℕ)) (name : List ℕ) (picks : List Pick) (d : Dropped) → Speaks (before ++ name ∷ []) picks d → Speaks before (One name ∷ picks) d
+  speaks_later before name picks d (inl (is, inside)) = inl (is, later (One name) picks (Group d.name) inside)
+  speaks_later before name picks d (inr (i, below, at, e)) =
+      inr (suc i, omega (arith, below), at, sym (behind before name (take i (picked_names picks)) d.name) ∙ e)
+
+  first_fault-some : (before : List (List ℕ)) (picks : List Pick) (d : Dropped) → first_fault fault before picks ≡ Some d → Speaks before picks d
   first_fault-some before [] d e = cc
-  first_fault-some before (name ∷ names) d e =
-      elim (or_some (option_map (with_name name) (fault before name)) (first_fault fault (before ++ name ∷ []) names) d e) [
+  first_fault-some before (Group name ∷ picks) d e =
+      let is : with_name name cause.NoGroup ≡ d = same_Some (with_name name cause.NoGroup) d e in
+      inl (
+        ap (λ (x : Dropped). x.cause) (sym is),
+        subst (λ n. Contains (Group name ∷ picks) (Group n)) (ap (λ (x : Dropped). x.name) is) (here (Group name) picks),
+      )
+  first_fault-some before (One name ∷ picks) d e =
+      elim (or_some (option_map (with_name name) (fault before name)) (first_fault fault (before ++ name ∷ []) picks) d e) [
         | inl this ↦
             let r = map_some (with_name name) (fault before name) d this in
             let called : name ≡ d.name = ap (λ (x : Dropped). x.name) r.2 in
             let caused : r.0 ≡ d.cause = ap (λ (x : Dropped). x.cause) r.2 in
-            (0, omega arith, called, ap (λ n. fault (before ++ []) n) (sym called) ∙ ap (λ b. fault b name) (append-nil before) ∙ r.1 ∙ ap Some caused)
-        | inr rest ↦
-            let r = first_fault-some (before ++ name ∷ []) names d rest in
-            (suc r.0, omega (arith, r.1), r.2, sym (behind before name (take r.0 names) d.name) ∙ r.3)
+            inr (0, omega arith, called, ap (λ n. fault (before ++ []) n) (sym called) ∙ ap (λ b. fault b name) (append-nil before) ∙ r.1 ∙ ap Some caused)
+        | inr rest ↦ speaks_later before name picks d (first_fault-some (before ++ name ∷ []) picks d rest)
       ]
 
 -- ---- Decisions
@@ -112,42 +160,49 @@ module _ (scene : Scene) (set on : Places) where
       let c = map_some (with_name (described scene m.0.place).name) (counted scene set on k.0 m.0.place) d m.2 in
       (k.0, m.0, m.1, ap (λ (x : Dropped). x.name) c.2, c.1 ∙ ap (λ (x : Dropped). Some x.cause) c.2)
 
-module _ (scene : Scene) (off on : List (List ℕ)) where
+-- nothing speaks against a list, behind no controller
+passed : (fault : List (List ℕ) → List ℕ → Option Cause) (picks : List Pick) → Passes fault [] picks → IsFaultless fault picks
+passed fault picks passes = record { groupless = passes.groupless; controllers = passes.controllers }
+
+passing : (fault : List (List ℕ) → List ℕ → Option Cause) (picks : List Pick) → IsFaultless fault picks → Passes fault [] picks
+passing fault picks is = record { groupless = is.groupless; controllers = is.controllers }
+
+module _ (scene : Scene) (off on : List Pick) where
   -- those on both lists
   abbrev again : Places
-  again p = named scene off p && named scene on p
+  again p = named scene (picked_names off) p && named scene (picked_names on) p
 
   -- the three parts of the decision
   abbrev of_off : Option Dropped
   of_off = first_fault (off_fault scene) [] off
 
   abbrev of_on : Option Dropped
-  of_on = first_fault (on_fault scene (named scene off)) [] on
+  of_on = first_fault (on_fault scene (named scene (picked_names off))) [] on
 
   abbrev of_members : Option Dropped
-  of_members = first_member_fault scene (strict_set scene off on) (named scene on)
+  of_members = first_member_fault scene (strict_set scene (picked_names off) (picked_names on)) (named scene (picked_names on))
 
   abbrev whole : Decided
-  whole = done [] (strict_set scene off on) again
+  whole = done [] (strict_set scene (picked_names off) (picked_names on)) again
 
   done_can : strict scene off on ≡ whole → CanBeDone scene off on
   done_can e =
-      let offs = unless_done of_off (unless_because of_on (unless_because of_members whole)) [] (strict_set scene off on) again e in
-      let ons = unless_done of_on (unless_because of_members whole) [] (strict_set scene off on) again offs.1 in
-      let members = unless_done of_members whole [] (strict_set scene off on) again ons.1 in
+      let offs = unless_done of_off (unless_because of_on (unless_because of_members whole)) [] (strict_set scene (picked_names off) (picked_names on)) again e in
+      let ons = unless_done of_on (unless_because of_members whole) [] (strict_set scene (picked_names off) (picked_names on)) again offs.1 in
+      let members = unless_done of_members whole [] (strict_set scene (picked_names off) (picked_names on)) again ons.1 in
       record {
-        leaving = first_fault-none (off_fault scene) [] off offs.0;
-        coming = first_fault-none (on_fault scene (named scene off)) [] on ons.0;
-        members = members-none scene (strict_set scene off on) (named scene on) members.0;
+        leaving = passed (off_fault scene) off (first_fault-none (off_fault scene) [] off offs.0);
+        coming = passed (on_fault scene (named scene (picked_names off))) on (first_fault-none (on_fault scene (named scene (picked_names off))) [] on ons.0);
+        members = members-none scene (strict_set scene (picked_names off) (picked_names on)) (named scene (picked_names on)) members.0;
       }
 
   can_done : CanBeDone scene off on → strict scene off on ≡ whole
   can_done can =
-      ap (λ o. unless_because o (unless_because of_on (unless_because of_members whole))) (first_fault-all (off_fault scene) [] off can.leaving)
-      ∙ ap (λ o. unless_because o (unless_because of_members whole)) (first_fault-all (on_fault scene (named scene off)) [] on can.coming)
-      ∙ ap (λ o. unless_because o whole) (members-all scene (strict_set scene off on) (named scene on) can.members)
+      ap (λ o. unless_because o (unless_because of_on (unless_because of_members whole))) (first_fault-all (off_fault scene) [] off (passing (off_fault scene) off can.leaving))
+      ∙ ap (λ o. unless_because o (unless_because of_members whole)) (first_fault-all (on_fault scene (named scene (picked_names off))) [] on (passing (on_fault scene (named scene (picked_names off))) on can.coming))
+      ∙ ap (λ o. unless_because o whole) (members-all scene (strict_set scene (picked_names off) (picked_names on)) (named scene (picked_names on)) can.members)
 
-  pub strict_done : (strict scene off on ≡ done [] (strict_set scene off on) (λ p. named scene off p && named scene on p)) ↔ CanBeDone scene off on
+  pub strict_done : (strict scene off on ≡ done [] (strict_set scene (picked_names off) (picked_names on)) (λ p. named scene (picked_names off) p && named scene (picked_names on) p)) ↔ CanBeDone scene off on
   strict_done = (done_can, can_done)
 
   pub strict_refused : (d : Dropped) → strict scene off on ≡ refused d → CountsAgainst scene off on d
@@ -156,10 +211,10 @@ module _ (scene : Scene) (off on : List (List ℕ)) where
         | inl this ↦ inl (first_fault-some (off_fault scene) [] off d this)
         | inr rest ↦
             elim (unless_refused of_on (unless_because of_members whole) d rest) [
-              | inl this ↦ inr (inl (first_fault-some (on_fault scene (named scene off)) [] on d this))
+              | inl this ↦ inr (inl (first_fault-some (on_fault scene (named scene (picked_names off))) [] on d this))
               | inr more ↦
                   elim (unless_refused of_members whole d more) [
-                    | inl this ↦ inr (inr (members-some scene (strict_set scene off on) (named scene on) d this))
+                    | inl this ↦ inr (inr (members-some scene (strict_set scene (picked_names off) (picked_names on)) (named scene (picked_names on)) d this))
                     | inr never ↦ cc
                   ]
             ]
@@ -174,23 +229,29 @@ module _ (scene : Scene) (off on : List (List ℕ)) where
 -- ---- Plans
 
 module _ (scene : Scene) (r : SwitchRequest) (is : r.strict ≡ true) where
-  plan_is : plan_of scene r ≡ planned scene (strict scene r.off r.on)
-  plan_is = ap (λ b. planned scene (if b then strict scene r.off r.on else best scene r.off r.on)) is
+  abbrev off : List Pick
+  off = flat scene.description r.off
 
-  plan_done : (plan_of scene r).outcome ≡ outcome.Done [] → CanBeDone scene r.off r.on
+  abbrev on : List Pick
+  on = flat scene.description r.on
+
+  plan_is : plan_of scene r ≡ planned scene (strict scene off on)
+  plan_is = ap (λ b. planned scene (flat_decided scene b off on)) is
+
+  plan_done : (plan_of scene r).outcome ≡ outcome.Done [] → CanBeDone scene off on
   plan_done e =
-      elim (strict_either scene r.off r.on) [
-        | inl is_done ↦ done_can scene r.off r.on is_done
+      elim (strict_either scene off on) [
+        | inl is_done ↦ done_can scene off on is_done
         | inr (d, is_refused) ↦
             (let no : outcome.Refused d.name d.cause ≡ outcome.Done [] = sym (ap (λ (p : Planned). p.outcome) (plan_is ∙ ap (planned scene) is_refused)) ∙ e in cc)
       ]
 
-  pub plan_done_where : ((plan_of scene r).outcome ≡ outcome.Done []) ↔ CanBeDone scene r.off r.on
-  plan_done_where = (plan_done, λ (can : CanBeDone scene r.off r.on). ap (λ (p : Planned). p.outcome) (plan_is ∙ ap (planned scene) (can_done scene r.off r.on can)))
+  pub plan_done_where : ((plan_of scene r).outcome ≡ outcome.Done []) ↔ CanBeDone scene off on
+  plan_done_where = (plan_done, λ (can : CanBeDone scene off on). ap (λ (p : Planned). p.outcome) (plan_is ∙ ap (planned scene) (can_done scene off on can)))
 
-  pub plan_refused : (name : List ℕ) (c : Cause) → (plan_of scene r).outcome ≡ outcome.Refused name c → strict scene r.off r.on ≡ refused (record { name = name; cause = c })
+  pub plan_refused : (name : List ℕ) (c : Cause) → (plan_of scene r).outcome ≡ outcome.Refused name c → strict scene off on ≡ refused (record { name = name; cause = c })
   plan_refused name c e =
-      elim (strict_either scene r.off r.on) [
+      elim (strict_either scene off on) [
         | inl is_done ↦
             (let no : outcome.Done [] ≡ outcome.Refused name c = sym (ap (λ (p : Planned). p.outcome) (plan_is ∙ ap (planned scene) is_done)) ∙ e in cc)
         | inr (d, is_refused) ↦

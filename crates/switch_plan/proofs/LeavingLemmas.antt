@@ -5,6 +5,8 @@ use Rattle.std.specs.List.{Contains, list_any}
 use Rattle.std.specs.Option.{option_map_or}
 use Rattle.std.proofs.lemmas.Bool.{not-true, cases_Bool, eq-eqb, and_parts, and_from, and_right, or_cases, or_from, or_left, or_right, true≢false}
 use Rattle.iface_names.specs.Names.{same_name}
+use Rattle.cm_document.specs.declared.call.Pick.{Pick}
+use Rattle.cm_document.specs.declared.call.Pick.TheVariants.{One, Group}
 use Rattle.cm_model.specs.Order.{Places, places_of, some_below, precedes_at}
 use Rattle.cm_model.specs.Scene.{Scene, is_running, controllers_in, active, loaded_of, loaded_all, is_chained_in}
 use Rattle.cm_model.specs.Switches.{off_cause, off_fault}
@@ -211,16 +213,17 @@ module _ (scene : Scene) where
         | inr more ↦ inr more
       ]
 
-  faultless_active : (before names : List (List ℕ)) (p : ℕ) → places_of (loaded_all scene (faultless (off_fault scene) before names)) p ≡ true → active scene p ≡ true
+  faultless_active : (before : List (List ℕ)) (picks : List Pick) (p : ℕ) → places_of (loaded_all scene (faultless (off_fault scene) before picks)) p ≡ true → active scene p ≡ true
   faultless_active before [] p any = absurd (true≢false (sym any))
-  faultless_active before (name ∷ names) p any =
-      elim (kept_or_later (off_fault scene before name) name (faultless (off_fault scene) (before ++ name ∷ []) names) p any) [
+  faultless_active before (Group name ∷ picks) p any = faultless_active before picks p any
+  faultless_active before (One name ∷ picks) p any =
+      elim (kept_or_later (off_fault scene before name) name (faultless (off_fault scene) (before ++ name ∷ []) picks) p any) [
         | inl (none, (l, is, same)) ↦
             let runs : is_running l.life ≡ true =
             off_none (list_any (same_name name) before) l (ap (λ o. option_map_or (off_cause (list_any (same_name name) before)) o (Some cause.Unknown)) (sym is) ∙ none) in
             subst (λ q. active scene q ≡ true) same (active_from l (loaded_called scene name l is).loaded runs)
-        | inr more ↦ faultless_active (before ++ name ∷ []) names p more
+        | inr more ↦ faultless_active (before ++ name ∷ []) picks p more
       ]
 
-  pub asked_active : (off : List (List ℕ)) (p : ℕ) → asked_off scene off p ≡ true → active scene p ≡ true
+  pub asked_active : (off : List Pick) (p : ℕ) → asked_off scene off p ≡ true → active scene p ≡ true
   asked_active off p any = faultless_active [] off p any

@@ -10,6 +10,7 @@ use Rattle.std.proofs.lemmas.List.Sorted.{Contains-permutation}
 use Rattle.iface_names.specs.declared.interface.IfaceName.{IfaceName}
 use Rattle.cm_document.specs.Links.{is_among, refs_of, exporter, first_in_loop}
 use Rattle.cm_document.specs.declared.description.CtlDesc.{CtlDesc}
+use Rattle.cm_document.specs.declared.call.Pick.{Pick}
 use Rattle.cm_model.specs.Order.{Places, nobody, controller_at, precedes_at, with_one, places_of, height}
 use Rattle.cm_model.specs.Scene.{Scene, controllers_in, described, active, claims_at, loaded_all, order}
 use Rattle.cm_model.specs.Faults.{cause_if, is_missing, rival, conflict_over, is_beside, is_mode_taken, joint_name, fault_of_kind, fault}
@@ -236,7 +237,7 @@ abbrev set_in : Decided → Places → Places
 set_in (refused d) other = other
 set_in (done dropped set again) other = set
 
-module _ (scene : Scene) (off on : List (List ℕ)) where
+module _ (scene : Scene) (off on : List Pick) where
   abbrev tried : List Member
   tried = tried_on scene off on
 

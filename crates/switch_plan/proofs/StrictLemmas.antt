@@ -2,6 +2,8 @@
 use Rattle.std.proofs.Common.{◌≡◌, ℕ, List, [], Some, None, sym, ◌∙◌, ap, ap₂}
 use Rattle.std.specs.Prelude.{◌&&◌, ◌||◌, not}
 use mathlib.Core.Path.{fun_ext}
+use Rattle.cm_document.specs.Picks.{picked_names}
+use Rattle.cm_document.specs.declared.call.Pick.{Pick}
 use Rattle.cm_model.specs.Order.{Places}
 use Rattle.cm_model.specs.Scene.{Scene, active, named}
 use Rattle.cm_model.specs.Switches.{off_fault, on_fault, first_fault, switched, first_member_fault, refused, done, unless_because, strict_between, strict, planned}
@@ -26,23 +28,23 @@ module _ (scene : Scene) (leaving coming set : Places) (is : set ≡ switched sc
       ap (λ o. planned scene (unless_because o (done [] (switched scene leaving coming) (λ p. leaving p && coming p)))) (ap (λ s. first_member_fault scene s coming) (sym is) ∙ none)
       ∙ ap₂ (λ s r. planned scene (done [] s r)) (sym is) (sym both)
 
-module _ (scene : Scene) (off on : List (List ℕ)) where
+module _ (scene : Scene) (off on : List Pick) where
   -- refused because of a name to deactivate
   pub strict-off : (d : Dropped) → first_fault (off_fault scene) [] off ≡ Some d → planned scene (strict scene off on) ≡ planned scene (refused d)
   strict-off d found =
-      ap (λ o. planned scene (unless_because o (unless_because (first_fault (on_fault scene (named scene off)) [] on) (strict_between scene (named scene off) (named scene on))))) found
+      ap (λ o. planned scene (unless_because o (unless_because (first_fault (on_fault scene (named scene (picked_names off))) [] on) (strict_between scene (named scene (picked_names off)) (named scene (picked_names on)))))) found
 
   -- refused because of a name to activate
-  pub strict-on : (leaving : Places) (d : Dropped) → leaving ≡ named scene off → first_fault (off_fault scene) [] off ≡ None → first_fault (on_fault scene leaving) [] on ≡ Some d
+  pub strict-on : (leaving : Places) (d : Dropped) → leaving ≡ named scene (picked_names off) → first_fault (off_fault scene) [] off ≡ None → first_fault (on_fault scene leaving) [] on ≡ Some d
       → planned scene (strict scene off on) ≡ planned scene (refused d)
   strict-on leaving d is none found =
-      ap (λ o. planned scene (unless_because o (unless_because (first_fault (on_fault scene (named scene off)) [] on) (strict_between scene (named scene off) (named scene on))))) none
-      ∙ ap (λ o. planned scene (unless_because o (strict_between scene (named scene off) (named scene on)))) (ap (λ l. first_fault (on_fault scene l) [] on) (sym is) ∙ found)
+      ap (λ o. planned scene (unless_because o (unless_because (first_fault (on_fault scene (named scene (picked_names off))) [] on) (strict_between scene (named scene (picked_names off)) (named scene (picked_names on)))))) none
+      ∙ ap (λ o. planned scene (unless_because o (strict_between scene (named scene (picked_names off)) (named scene (picked_names on))))) (ap (λ l. first_fault (on_fault scene l) [] on) (sym is) ∙ found)
 
   -- decided by the sets
-  pub strict-sets : (leaving coming : Places) → leaving ≡ named scene off → coming ≡ named scene on → first_fault (off_fault scene) [] off ≡ None
+  pub strict-sets : (leaving coming : Places) → leaving ≡ named scene (picked_names off) → coming ≡ named scene (picked_names on) → first_fault (off_fault scene) [] off ≡ None
       → first_fault (on_fault scene leaving) [] on ≡ None → planned scene (strict scene off on) ≡ planned scene (strict_between scene leaving coming)
   strict-sets leaving coming is are none neither =
-      ap (λ o. planned scene (unless_because o (unless_because (first_fault (on_fault scene (named scene off)) [] on) (strict_between scene (named scene off) (named scene on))))) none
-      ∙ ap (λ o. planned scene (unless_because o (strict_between scene (named scene off) (named scene on)))) (ap (λ l. first_fault (on_fault scene l) [] on) (sym is) ∙ neither)
+      ap (λ o. planned scene (unless_because o (unless_because (first_fault (on_fault scene (named scene (picked_names off))) [] on) (strict_between scene (named scene (picked_names off)) (named scene (picked_names on)))))) none
+      ∙ ap (λ o. planned scene (unless_because o (strict_between scene (named scene (picked_names off)) (named scene (picked_names on))))) (ap (λ l. first_fault (on_fault scene l) [] on) (sym is) ∙ neither)
       ∙ ap₂ (λ l c. planned scene (strict_between scene l c)) (sym is) (sym are)

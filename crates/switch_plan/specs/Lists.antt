@@ -1,5 +1,7 @@
--- The lists of a switch.
+-- The flat lists of a switch.
 use Rattle.std.specs.Prelude.{◌≡◌, ℕ, Bool, List, [], Option, Some, None}
+use Rattle.cm_document.specs.Picks.{picked_names}
+use Rattle.cm_document.specs.declared.call.Pick.{Pick}
 use Rattle.cm_model.specs.Order.{Places, set_of}
 use Rattle.cm_model.specs.Scene.{Scene, loaded_all}
 use Rattle.cm_model.specs.Switches.{off_cause, on_cause, off_fault, on_fault, first_fault}
@@ -21,9 +23,10 @@ fault_met leaving met None = Some cause.Unknown
 fault_met None met (Some seen) = off_cause (met seen.place) seen
 fault_met (Some leaving) met (Some seen) = on_cause (set_of leaving) (met seen.place) seen
 
--- a list was looked through: nothing speaks against its names, and these are its controllers; or this comes first of
--- what does
-abbrev pub IsListed : Scene → (List (List ℕ) → List ℕ → Option Cause) → List (List ℕ) → Listed → Type 0
-IsListed scene fault names (Faultless members) =
-    (first_fault fault [] names ≡ None) × (members.items ≡ loaded_all scene names) × HavePlaces scene members.items
-IsListed scene fault names (Faulty because) = first_fault fault [] names ≡ Some because
+-- a flat list was looked through: nothing speaks against it, and these are its controllers; or this comes first of what
+-- does
+abbrev pub IsListed : Scene → (List (List ℕ) → List ℕ → Option Cause) → List Pick → Listed → Type 0
+IsListed scene fault picks (Faultless members) =
+    (first_fault fault [] picks ≡ None) × (members.items ≡ loaded_all scene (picked_names picks))
+    × HavePlaces scene members.items
+IsListed scene fault picks (Faulty because) = first_fault fault [] picks ≡ Some because

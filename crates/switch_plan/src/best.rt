@@ -18,15 +18,15 @@ use crate::lists::sifted;
 use crate::setting::{Setting, order};
 use crate::view::{View, controllers, described};
 use chain_order::{PlaceSet, by_rank, heights, is_chained};
-use cm_document::CtlDesc;
+use cm_document::{CtlDesc, Pick};
 use cm_model::{Cause, Dropped, Member, Planned};
 use fixed_num::Memory;
-use iface_names::{IfaceName, Name};
+use iface_names::IfaceName;
 use sequence::Boxed;
 use std::alloc::Global;
 
-/// The plan of a switch of best effort.
-pub fn best(alloc: Global, setting: &Setting, off: &[Name], on: &[Name]) -> Result<Planned, Memory>
+/// The plan of a switch of best effort of two flat lists.
+pub fn best(alloc: Global, setting: &Setting, off: &[Pick], on: &[Pick]) -> Result<Planned, Memory>
     requires { IsSetting setting.now }
     ensures { IfOk result (λ plan. plan
         ≡ planned (set_scene setting.now) (best (set_scene setting.now) off.now on.now)) }
@@ -43,7 +43,7 @@ fn best_asked(
     setting: &Setting,
     asked: &[Member],
     dropped: Vec<Dropped>,
-    on: &[Name],
+    on: &[Pick],
 ) -> Result<Planned, Memory>
     requires setting { IsSetting setting.now }
     requires within { HavePlaces (set_scene setting.now) asked.now }
@@ -65,7 +65,7 @@ fn best_leaving(
     setting: &Setting,
     leaving: &PlaceSet,
     dropped: Vec<Dropped>,
-    on: &[Name],
+    on: &[Pick],
 ) -> Result<Planned, Memory>
     requires setting { IsSetting setting.now }
     requires leaving { HasFlags (set_scene setting.now) leaving.now }

@@ -1,8 +1,10 @@
-//! What speaks against the names of a list.
+//! What speaks against the names of a flat list.
 
 ghost use Rattle.std.specs.Prelude.{◌≡◌, ◌++◌, [], ◌∷◌, ◌<◌, length, Option, option_map, IfOk, OnOk, All};
+ghost use Rattle.cm_document.specs.Picks.{picked_names};
 ghost use Rattle.cm_model.specs.Scene.{controllers_in, loaded_of, loaded_all};
-ghost use Rattle.cm_model.specs.Switches.{off_cause, on_cause};
+ghost use Rattle.cm_model.specs.Switches.{with_name, off_cause, on_cause};
+ghost use Rattle.cm_model.specs.declared.cause.Cause.TheVariants as reasons;
 ghost use Rattle.cm_model.specs.BestEffort.{faulty, faultless};
 ghost use Rattle.cm_model.specs.Order.{set_of};
 ghost use Rattle.switch_plan.specs.Calls.Members.{IsLoadedAs, HaveMet};
@@ -12,12 +14,13 @@ ghost use Rattle.switch_plan.specs.Lists.{list_fault, fault_met, IsListed};
 use crate::members::{is_configured, is_running, loaded_of, push_seen};
 use crate::view::{View, controllers};
 use chain_order::PlaceSet;
+use cm_document::Pick;
 use cm_model::{Cause, Dropped, Member, Seen};
 use fixed_num::Memory;
 use iface_names::Name;
 use std::alloc::Global;
 
-/// A list of names that was looked through.
+/// A flat list that was looked through.
 #[derive(Drop)]
 pub enum Listed {
     /// Nothing speaks against a name: these are its controllers.
@@ -26,21 +29,21 @@ pub enum Listed {
     Faulty(Dropped),
 }
 
-/// What speaks against a name of the list to deactivate, or, if it is told which controllers leave, of the list to
-/// activate. The controller of this name was looked up, and those of the names before it were met. Whether the name stands
-/// among these is asked of the set of places; the names before it serve the contract alone.
+/// What speaks against a controller of the list to deactivate, or, if it is told which controllers leave, of the list to
+/// activate. It was looked up by this name, and those before it were met. Whether the name stands among these is asked of
+/// the set of places; the list before it serves the contract alone.
 fn list_fault(
     view: &View,
     leaving: Option<&PlaceSet>,
-    before: &[Name],
+    before: &[Pick],
     met: &PlaceSet,
     name: &Name,
     seen: Option<Seen>,
 ) -> Option<Cause>
     requires seen { seen ≡ loaded_of (scene_of view.now) name.now }
-    requires met { HaveMet (scene_of view.now) before.now met.now }
-    ensures { result
-        ≡ list_fault (scene_of view.now) (option_map (λ set. set.now) leaving.entry) before.now name.now }
+    requires met { HaveMet (scene_of view.now) (picked_names before.now) met.now }
+    ensures { result ≡ list_fault (scene_of view.now) (option_map (λ set. set.now) leaving.entry)
+        (picked_names before.now) name.now }
 {
     fault_met(leaving, met, seen)
 }
@@ -59,11 +62,11 @@ fn fault_met(leaving: Option<&PlaceSet>, met: &PlaceSet, seen: Option<Seen>) -> 
     }
 }
 
-/// The controller of this name was met, if it is loaded, as those of the names before it.
-fn meet(view: &View, before: &[Name], name: &Name, seen: Option<Seen>, met: &mut PlaceSet)
-    requires before { HaveMet (scene_of view.now) before.now met.old }
+/// The controller of this name was met, if it is loaded, as those before it were.
+fn meet(view: &View, before: &[Pick], name: &Name, seen: Option<Seen>, met: &mut PlaceSet)
+    requires before { HaveMet (scene_of view.now) (picked_names before.now) met.old }
     requires seen { IsLoadedAs (scene_of view.now) name.now seen }
-    ensures { HaveMet (scene_of view.now) (before.now ++ name.now ∷ []) met.new }
+    ensures { HaveMet (scene_of view.now) (picked_names before.now ++ name.now ∷ []) met.new }
 {
     if let Some(seen) = seen {
         met.insert(seen.place);
@@ -98,21 +101,36 @@ fn on_cause(leaving: &PlaceSet, twice: bool, seen: &Seen) -> Option<Cause>
     }
 }
 
-/// The controllers of a list, or the first of its names that something speaks against. Each name is looked up once.
+/// The name of a group that is not described, as it is told.
+fn no_group(name: &Name) -> Result<Dropped, Memory>
+    ensures { IfOk result (λ dropped. dropped ≡ with_name name.now reasons.NoGroup) }
+{
+    Ok(Dropped {
+        name: name.clone()?,
+        cause: Cause::NoGroup,
+    })
+}
+
+/// The controllers of a flat list, or the first of its names that something speaks against. Each controller is looked up
+/// once.
 pub fn look_through(
     alloc: Global,
     view: &View,
     leaving: Option<&PlaceSet>,
-    names: &[Name],
+    picks: &[Pick],
 ) -> Result<Listed, Memory>
     requires { IsView view.now }
     ensures { IfOk result (IsListed (scene_of view.now)
-        (list_fault (scene_of view.now) (option_map (λ set. set.now) leaving.entry)) names.now) }
+        (list_fault (scene_of view.now) (option_map (λ set. set.now) leaving.entry)) picks.now) }
 {
     let mut members = Vec::new(alloc);
     let mut met = PlaceSet::none(alloc, controllers(view).len())?;
-    for (index, name) in names.iter().enumerate() {
-        let before = &names[..index];
+    for (index, pick) in picks.iter().enumerate() {
+        let name = match pick {
+            Pick::One(name) => name,
+            Pick::Group(name) => return Ok(Listed::Faulty(no_group(name)?)),
+        };
+        let before = &picks[..index];
         let seen = loaded_of(view, name);
         if let Some(cause) = list_fault(view, leaving, before, &met, name, seen) {
             let name = name.clone()?;
@@ -124,25 +142,32 @@ pub fn look_through(
     Ok(Listed::Faultless(members))
 }
 
-/// The controllers of a list without its faults, which are dropped.
+/// The controllers of a flat list without its faults, which are dropped.
 pub fn sifted(
     alloc: Global,
     view: &View,
     leaving: Option<&PlaceSet>,
-    names: &[Name],
+    picks: &[Pick],
     dropped: &mut Vec<Dropped>,
 ) -> Result<Vec<Member>, Memory>
     requires { IsView view.now }
     ensures within { IfOk result (λ list. HavePlaces (scene_of view.now) list.items) }
     ensures members { IfOk result (λ list. list.items ≡ loaded_all (scene_of view.now)
-        (faultless (list_fault (scene_of view.now) (option_map (λ set. set.now) leaving.entry)) [] names.now)) }
+        (faultless (list_fault (scene_of view.now) (option_map (λ set. set.now) leaving.entry)) [] picks.now)) }
     ensures dropped { OnOk result (dropped.new.items ≡ dropped.old.items
-        ++ faulty (list_fault (scene_of view.now) (option_map (λ set. set.now) leaving.entry)) [] names.now) }
+        ++ faulty (list_fault (scene_of view.now) (option_map (λ set. set.now) leaving.entry)) [] picks.now) }
 {
     let mut list = Vec::new(alloc);
     let mut met = PlaceSet::none(alloc, controllers(view).len())?;
-    for (index, name) in names.iter().enumerate() {
-        let before = &names[..index];
+    for (index, pick) in picks.iter().enumerate() {
+        let name = match pick {
+            Pick::One(name) => name,
+            Pick::Group(name) => {
+                dropped.push(no_group(name)?)?;
+                continue;
+            }
+        };
+        let before = &picks[..index];
         let seen = loaded_of(view, name);
         match list_fault(view, leaving, before, &met, name, seen) {
             Some(cause) => {

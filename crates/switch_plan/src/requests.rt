@@ -2,7 +2,9 @@
 
 ghost use Rattle.std.specs.Prelude.{◌≡◌, IfOk, IfSome};
 ghost use Rattle.chain_order.specs.Links.{leaders_of};
-ghost use Rattle.cm_model.specs.BestEffort.{plan_of};
+ghost use Rattle.cm_document.specs.Picks.{flat};
+ghost use Rattle.cm_model.specs.Switches.{planned};
+ghost use Rattle.cm_model.specs.BestEffort.{flat_decided, plan_of};
 ghost use Rattle.switch_plan.specs.View.{scene_of, IsView};
 ghost use Rattle.switch_plan.specs.Settings.{set_scene, IsSetting};
 ghost use Rattle.switch_plan.specs.Relations.{relations_of};
@@ -13,7 +15,7 @@ use crate::setting::{Setting, active};
 use crate::strict::strict;
 use crate::view::View;
 use chain_order::Links;
-use cm_document::SwitchRequest;
+use cm_document::{Pick, SwitchRequest, flat, has_group};
 use cm_model::Planned;
 use fixed_num::Memory;
 use std::alloc::Global;
@@ -66,13 +68,52 @@ fn plan_over(
     decided(alloc, &setting, request)
 }
 
-/// What becomes of a switch request, once it is known what the decision rests on.
+/// What becomes of a switch request, once it is known what the decision rests on. Lists without a group are flat as they
+/// stand.
 fn decided(alloc: Global, setting: &Setting, request: &SwitchRequest) -> Result<Planned, Memory>
     requires { IsSetting setting.now }
     ensures { IfOk result (λ plan. plan ≡ plan_of (set_scene setting.now) request.now) }
 {
     let (off, on) = (request.off.as_slice(), request.on.as_slice());
-    if request.strict {
+    if has_group(off) || has_group(on) {
+        return decided_as_flat(alloc, setting, request.strict, off, on);
+    }
+    flat_decided(alloc, setting, request.strict, off, on)
+}
+
+/// What becomes of a switch of lists that have groups.
+fn decided_as_flat(
+    alloc: Global,
+    setting: &Setting,
+    whole: bool,
+    off: &[Pick],
+    on: &[Pick],
+) -> Result<Planned, Memory>
+    requires { IsSetting setting.now }
+    ensures { IfOk result (λ plan. plan ≡ planned (set_scene setting.now)
+        (flat_decided (set_scene setting.now) whole
+        (flat (set_scene setting.now).description off.now) (flat (set_scene setting.now).description on.now))) }
+{
+    let description = setting.view.checked.description();
+    let off = flat(alloc, description, off)?;
+    let on = flat(alloc, description, on)?;
+    let plan = flat_decided(alloc, setting, whole, &off, &on)?;
+    Ok(plan)
+}
+
+/// What becomes of a switch of two flat lists.
+fn flat_decided(
+    alloc: Global,
+    setting: &Setting,
+    whole: bool,
+    off: &[Pick],
+    on: &[Pick],
+) -> Result<Planned, Memory>
+    requires { IsSetting setting.now }
+    ensures { IfOk result (λ plan. plan ≡ planned (set_scene setting.now)
+        (flat_decided (set_scene setting.now) whole off.now on.now)) }
+{
+    if whole {
         let plan = strict(alloc, setting, off, on)?;
         Ok(plan)
     } else {

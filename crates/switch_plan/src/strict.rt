@@ -16,17 +16,17 @@ use crate::lists::{Listed, look_through};
 use crate::setting::{Setting, order};
 use crate::view::{View, controllers, described};
 use chain_order::PlaceSet;
+use cm_document::Pick;
 use cm_model::{Dropped, FAULT_KINDS, FaultKind, Member, Planned};
 use fixed_num::Memory;
-use iface_names::Name;
 use std::alloc::Global;
 
-/// The plan of a strict switch.
+/// The plan of a strict switch of two flat lists.
 pub fn strict(
     alloc: Global,
     setting: &Setting,
-    off: &[Name],
-    on: &[Name],
+    off: &[Pick],
+    on: &[Pick],
 ) -> Result<Planned, Memory>
     requires { IsSetting setting.now }
     ensures { IfOk result (λ plan. plan

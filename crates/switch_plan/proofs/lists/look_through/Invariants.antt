@@ -1,5 +1,6 @@
 use Rattle.std.proofs.Common.{◌≡◌, ◌<◌, ◌++◌, [], length, drop, take}
 use Rattle.std.specs.Prelude.{All, option_map}
+use Rattle.cm_document.specs.Picks.{picked_names}
 use Rattle.cm_model.specs.Scene.{controllers_in, loaded_all}
 use Rattle.cm_model.specs.Switches.{first_fault}
 use Rattle.switch_plan.specs.Calls.Members.{HaveMet}
@@ -7,12 +8,12 @@ use Rattle.switch_plan.specs.Lists.{list_fault}
 use Rattle.switch_plan.specs.View.{scene_of}
 use Rattle.switch_plan.proofs.lists.look_through.Given as goal
 
--- nothing speaks against the names so far, and their controllers and those of the others are all
+-- nothing speaks against the list so far, and its controllers and those of the rest are all
 abbrev pub invariant-loop-index : goal.invariant-loop-index
 invariant-loop-index l = record {
-  met : HaveMet (scene_of l.view) (take l.index l.names) l.met;
+  met : HaveMet (scene_of l.view) (picked_names (take l.index l.picks)) l.met;
   within : All (λ m. m.place < length (controllers_in (scene_of l.view))) l.members.items;
-  faultless : first_fault (list_fault (scene_of l.view) (option_map (λ set. set.now) l.leaving)) (take l.index l.names) (drop l.index l.names)
-      ≡ first_fault (list_fault (scene_of l.view) (option_map (λ set. set.now) l.leaving)) [] l.names;
-  members : l.members.items ++ loaded_all (scene_of l.view) (drop l.index l.names) ≡ loaded_all (scene_of l.view) l.names;
+  faultless : first_fault (list_fault (scene_of l.view) (option_map (λ set. set.now) l.leaving)) (picked_names (take l.index l.picks)) (drop l.index l.picks)
+      ≡ first_fault (list_fault (scene_of l.view) (option_map (λ set. set.now) l.leaving)) [] l.picks;
+  members : l.members.items ++ loaded_all (scene_of l.view) (picked_names (drop l.index l.picks)) ≡ loaded_all (scene_of l.view) (picked_names l.picks);
 }

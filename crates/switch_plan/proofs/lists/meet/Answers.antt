@@ -1,4 +1,5 @@
 use Rattle.std.proofs.Common.{◌∙◌, ap, sym, Some, None}
+use Rattle.cm_document.specs.Picks.{picked_names}
 use Rattle.cm_model.specs.Order.{with_one}
 use Rattle.switch_plan.specs.View.{scene_of}
 use Rattle.switch_plan.proofs.MetLemmas.{met_push}
@@ -13,7 +14,7 @@ returns-in-Some c =
       set =
           c.insert.ensures.set
           ∙ ap (with_one c.in-Some.seen.place) c.requires.before.set
-          ∙ met_push scene c.args.name.now (Some c.in-Some.seen) c.args.before.now found;
+          ∙ met_push scene c.args.name.now (Some c.in-Some.seen) (picked_names c.args.before.now) found;
     }
 
 pub returns-in_default : goal.returns-in_default
@@ -21,5 +22,5 @@ returns-in_default c =
     let found = sym c.in_default.is ∙ c.requires.seen.found in
     record {
       length = c.requires.before.length;
-      set = c.requires.before.set ∙ met_push (scene_of c.args.view.now) c.args.name.now None c.args.before.now found;
+      set = c.requires.before.set ∙ met_push (scene_of c.args.view.now) c.args.name.now None (picked_names c.args.before.now) found;
     }
