@@ -8,6 +8,8 @@ mod console;
 #[cfg(test)]
 mod fallbacks;
 #[cfg(test)]
+mod groups;
+#[cfg(test)]
 mod hardware;
 #[cfg(test)]
 mod kinds;

@@ -7,6 +7,8 @@ mod causes;
 #[cfg(test)]
 mod efforts;
 #[cfg(test)]
+mod groups;
+#[cfg(test)]
 mod largest;
 #[cfg(test)]
 mod planned;

@@ -93,12 +93,14 @@ send mk @1.5 1 => bad_line 2
 send mk @1 x => bad_line 2
 send mk @1 1 @2 x => bad_line 2";
 
-/// Names to activate and to deactivate.
+/// What is to be activated and what deactivated.
 pub const SWITCHES: &str = r"switch strict +c -d +e => switch strict -d +c +e
 switch best +c -f -d => switch best -f -d +c
 switch best => switch best
 switch strict => switch strict
 switch strict +c -c => switch strict -c +c
+switch strict +@c -d -@e +f => switch strict -d -@e +@c +f
+switch best -@c +@c => switch best -@c +@c
 switch strict +c +c => switch strict +c +c
 switch => bad_line 2
 switch Strict +c => bad_line 2
@@ -108,6 +110,12 @@ switch strict + => bad_line 2
 switch strict - => bad_line 2
 switch strict +1 => bad_line 2
 switch strict ++c => bad_line 2
+switch strict +@ => bad_line 2
+switch strict -@1 => bad_line 2
+switch strict +@@c => bad_line 2
+switch strict @c => bad_line 2
+switch strict @+c => bad_line 2
+switch strict + @c => bad_line 2
 switch strict + c => bad_line 2
 switch best +c d => bad_line 2";
 

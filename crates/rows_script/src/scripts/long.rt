@@ -70,7 +70,7 @@ schedule
 >session s7
 => bad_line 9";
 
-/// At most 128 names of a switch, 32 values, 64 points and 64 bytes of a name.
+/// At most 128 words of a switch, 32 values, 64 points and 64 bytes of a name.
 pub const SIZES_OF_CALLS: &str = r"session a
 switch strict<0..128 * \s+c>
 => 1 and 1
@@ -78,6 +78,14 @@ switch strict<0..128 * \s+c>
 session a
 switch strict<0..127 * \s+c>\s-d
 => 1 and 1
+
+session a
+switch strict<0..127 * \s+@c>\s-d
+=> 1 and 1
+
+session a
+switch strict<0..127 * \s+c>\s-@d\s-d
+=> too_many 2
 
 session a
 switch strict<0..128 * \s+c>\s-d

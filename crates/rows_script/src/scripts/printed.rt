@@ -40,7 +40,7 @@ configure c
 cleanup c
 unload c
 rate c 10000
-switch strict +c -d +e
+switch strict +c -d +@e
 switch best
 hw arm inactive
 await 007
@@ -62,7 +62,7 @@ configure c
 cleanup c
 unload c
 rate c 10000
-switch strict -d +c +e
+switch strict -d +c +@e
 switch best
 hw arm inactive
 await 7
