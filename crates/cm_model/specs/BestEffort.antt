@@ -1,6 +1,6 @@
 -- How a switch is decided of which is done what can be done.
-use Rattle.std.specs.Prelude.{ℕ, zero, suc, Bool, not, ◌&&◌, ◌||◌, if◌then◌else◌, List, [], ◌∷◌, ◌++◌, length, filter_map}
-use Rattle.std.specs.Prelude.{find, Option, Some, None, option_map}
+use Rattle.std.specs.Prelude.{ℕ, zero, suc, Bool, not, ◌&&◌, ◌||◌, if◌then◌else◌, List, [], ◌∷◌, ◌++◌, length}
+use Rattle.std.specs.Prelude.{filter_map, find, Option, Some, None, option_map}
 use Rattle.iface_names.specs.declared.interface.IfaceName.{IfaceName}
 use Rattle.cm_document.specs.Links.{refs_of}
 use Rattle.cm_document.specs.Picks.{flat}

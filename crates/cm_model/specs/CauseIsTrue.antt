@@ -94,7 +94,8 @@ IsTrueOfController scene off on name (cause.ModeRefused joint) =
     × IsClaimant scene (strict_set scene off on) (Joint joint kind) seen.place
     × IsClaimant scene (strict_set scene off on) (Joint joint other) rival.place)
 -- it is on the list to activate, and not ready.
-IsTrueOfController scene off on name cause.NotReady = Contains on name × OfLoaded scene name (λ seen. seen.ready ≡ false)
+IsTrueOfController scene off on name cause.NotReady =
+    Contains on name × OfLoaded scene name (λ seen. seen.ready ≡ false)
 -- The other causes are of groups, and of requests to components.
 IsTrueOfController scene off on name cause.NoGroup = ⊥
 IsTrueOfController scene off on name cause.NoSuchMove = ⊥

@@ -33,7 +33,8 @@ abbrev pub off_cause : Bool → Seen → Option Cause
 off_cause true seen = Some cause.Twice
 off_cause false seen = if is_running seen.life then None else Some cause.NotActive
 
--- What speaks against a controller on the list to deactivate, behind those before it: that none of its name is loaded, that it stands there twice, that it is not active.
+-- What speaks against a controller on the list to deactivate, behind those before it: that none of its name is loaded,
+-- that it stands there twice, that it is not active.
 abbrev pub off_fault : Scene → List (List ℕ) → List ℕ → Option Cause
 off_fault scene before name =
     option_map_or (off_cause (list_any (same_name name) before)) (loaded_of scene name) (Some cause.Unknown)

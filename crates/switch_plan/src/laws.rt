@@ -15,7 +15,7 @@ ghost use Rattle.cm_model.specs.declared.cause.Outcome.TheVariants as outcome;
 ghost use Rattle.cm_model.specs.declared.member.Member.{Member};
 ghost use Rattle.switch_plan.specs.Laws.{CanBeDone, CountsAgainst, IsTrueOf, strict_set, CanLeave, asked_off, tried_on, joined_of, CannotJoin};
 
-/// A strict switch is done exactly where nothing counts against it, and so is its plan, by its lists made flat.
+/// A strict switch is done exactly where nothing counts against it, and so is its plan.
 pub fn a_strict_switch_is_done_where_nothing_counts()
     ensures plan { (scene : Scene) (r : SwitchRequest) → r.strict ≡ true
         → ((plan_of scene r).outcome ≡ outcome.Done [])
@@ -25,7 +25,7 @@ pub fn a_strict_switch_is_done_where_nothing_counts()
         (λ p. named scene (picked_names off) p && named scene (picked_names on) p)) ↔ CanBeDone scene off on }
 {}
 
-/// A strict switch that is refused names what counts against it, and the cause is true of the name, by its lists made flat.
+/// A strict switch that is refused names what counts against it, and the cause is true of the name.
 pub fn a_refusal_names_a_true_cause()
     ensures counts { (scene : Scene) (off on : List Pick) (d : Dropped) → strict scene off on ≡ refused d
         → CountsAgainst scene off on d }
