@@ -1,7 +1,8 @@
-//! A description's text, read: the description that it is, or its first fault with its place.
+//! A description's text, read: the description that it is, or its first fault with its place; and a description, printed.
 //! Each kind of table is one file, with the keys that it may have and how each is read.
 #![tactic(auto)]
 
+pub use print::print_description;
 pub use read::read_description;
 
 mod component;
@@ -13,6 +14,7 @@ mod group;
 mod joint;
 mod keys;
 mod paths;
+mod print;
 mod read;
 mod states;
 mod values;

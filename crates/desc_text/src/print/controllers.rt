@@ -1,0 +1,85 @@
+//! The table of a controller.
+
+ghost use Rattle.std.specs.Prelude.{◌≡◌, IfOk, OnOk};
+ghost use Rattle.toml.specs.View.{table_view};
+ghost use Rattle.desc_text.specs.Printed.{controller_tree, head_rows, params_rows, reads_row, with_row, with_rows};
+ghost use Rattle.desc_text.specs.Printed.{HaveCycles};
+
+use crate::print::rows::{
+    interface_texts, put, put_cycles, put_flag, put_interfaces, put_names, put_quantity, put_text,
+    put_whole,
+};
+use cm_document::{CtlDesc, Params};
+use fixed_num::Memory;
+use std::alloc::Global;
+use toml::{Table, Value};
+
+/// The table of a controller.
+pub fn controller_table(alloc: Global, controller: &CtlDesc) -> Result<Table, Memory>
+    requires { HaveCycles controller.now.params }
+    ensures { IfOk result (λ made. table_view made ≡ controller_tree controller.now) }
+{
+    let mut made = Table::new(alloc);
+    put_head(alloc, &mut made, controller)?;
+    put_reads(alloc, &mut made, controller)?;
+    put_params(alloc, &mut made, &controller.params)?;
+    Ok(made)
+}
+
+/// Puts in what a controller of every type has.
+fn put_head(alloc: Global, made: &mut Table, controller: &CtlDesc) -> Result<(), Memory>
+    ensures { OnOk result (table_view made.new ≡ with_rows (head_rows controller.now) (table_view made.old)) }
+{
+    put_text(alloc, made, "name", controller.name.as_str())?;
+    put_text(alloc, made, "type", controller.params.kind().word())?;
+    put_whole(alloc, made, "update_rate", u64::from(controller.rate))?;
+    put_names(alloc, made, "fallback", controller.fallback.as_slice())?;
+    put_interfaces(alloc, made, "claims", controller.claims.as_slice())
+}
+
+/// Puts in what it reads: of a broadcaster also where that is nothing.
+fn put_reads(alloc: Global, made: &mut Table, controller: &CtlDesc) -> Result<(), Memory>
+    ensures { OnOk result (table_view made.new
+        ≡ with_row (reads_row controller.now controller.now.params) (table_view made.old)) }
+{
+    match &controller.params {
+        Params::Broadcaster { .. } => {
+            let texts = interface_texts(alloc, controller.reads())?;
+            put(alloc, made, "reads", Value::Array(texts))
+        }
+        _ => put_interfaces(alloc, made, "reads", controller.reads()),
+    }
+}
+
+/// Puts in its parameters.
+fn put_params(alloc: Global, made: &mut Table, params: &Params) -> Result<(), Memory>
+    requires { HaveCycles params.now }
+    ensures { OnOk result (table_view made.new ≡ with_rows (params_rows params.now) (table_view made.old)) }
+{
+    match params {
+        Params::Pid {
+            kp,
+            ki,
+            kd,
+            imax,
+            omax,
+        } => {
+            put_quantity(alloc, made, "kp", *kp)?;
+            put_quantity(alloc, made, "ki", *ki)?;
+            put_quantity(alloc, made, "kd", *kd)?;
+            put_quantity(alloc, made, "imax", *imax)?;
+            put_quantity(alloc, made, "omax", *omax)
+        }
+        Params::Mock {
+            refuse_config,
+            not_ready,
+            fail_update,
+            ..
+        } => {
+            put_flag(alloc, made, "refuse_config", *refuse_config)?;
+            put_cycles(alloc, made, "not_ready", not_ready.as_slice())?;
+            put_cycles(alloc, made, "fail_update", fail_update.as_slice())
+        }
+        _ => Ok(()),
+    }
+}
