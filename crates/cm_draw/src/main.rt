@@ -55,6 +55,7 @@ struct Asked {
     form: Form,
     // No live run is drawn.
     ghost alone: { kind ≢ job_kind.Live },
+    ghost runs: { kind ≢ job_kind.Upgrade },
 }
 
 /// What is written of a run.
@@ -141,6 +142,7 @@ fn asked_by(alloc: Global, words: &[String]) -> Result<Asked, Status> {
 /// What a job and these words behind it ask for.
 fn asked_named(alloc: Global, kind: JobKind, words: &[String]) -> Result<Asked, Status>
     requires alone { kind ≢ JobKind.Live }
+    requires runs { kind ≢ JobKind.Upgrade }
 {
     let form = match words {
         [] => Form::Page(String::new(alloc)),

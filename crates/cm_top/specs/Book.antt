@@ -31,7 +31,7 @@ book_facts meaning book = record { history = book.history.items; boxes = map mea
 abbrev pub book_of : History → BookFacts
 book_of h = record { history = h.made; boxes = map (λ l. l.ctl) (now_of h).loaded }
 
--- The history that a job makes of each document. A live run leaves it to its threads.
+-- The history that a job makes of each document. A live run leaves it to its threads, and an upgrade makes none.
 abbrev pub Histories : Type 0
 Histories = Option (Document → List Entry)
 
@@ -41,6 +41,7 @@ abbrev pub made_by : JobKind → Blanks → Histories
 made_by kind.Run blanks = Some (λ d. scheduled d blanks)
 made_by kind.Steps blanks = Some (λ d. scheduled_in_steps d blanks)
 made_by kind.Live blanks = None
+made_by kind.Upgrade blanks = None
 
 -- the text that is written of a document's history: its trace, and of a made document its summary
 abbrev pub text_by : Option ℕ → Document → List Entry → List ℕ

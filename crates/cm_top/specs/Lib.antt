@@ -2,5 +2,6 @@ pub mod Ports
 pub mod Jobs
 pub mod Book
 pub mod Status
+pub mod Answering
 pub mod Live
 pub mod Calls

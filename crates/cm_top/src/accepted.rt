@@ -24,7 +24,7 @@ use std::alloc::Global;
 use summary_text::write_summary;
 use trace_text::{OutFault, write_trace};
 
-/// Runs an accepted document by a job that is not live, writes its trace or its summary, and hands out its book.
+/// Runs an accepted document by the job `run` or `steps`, writes its trace or its summary, and hands out its book.
 pub fn run_document<K: Sink, C: Controller>(
     alloc: Global,
     asked: cm_words::Job,
@@ -33,6 +33,7 @@ pub fn run_document<K: Sink, C: Controller>(
     stock: Stock<C>,
 ) -> (Status, Option<Book<C>>)
     requires alone { asked.kind ≢ JobKind.Live }
+    requires runs { asked.kind ≢ JobKind.Upgrade }
     requires rules { MeetsRules document.script }
     ensures ran { RanDocument (task_of asked stock) document stock
         (record { old = K.taken sink.old; new = K.taken sink.new; flushed = K.flushed sink.new })
@@ -59,6 +60,7 @@ fn made<C: Controller>(
     stock: Stock<C>,
 ) -> Result<Desk<C>, Memory>
     requires alone { kind ≢ JobKind.Live }
+    requires runs { kind ≢ JobKind.Upgrade }
     requires rules { MeetsRules script.now }
     ensures { IfOk result
         (IsDone (made_by kind stock) stock (record { description = checked; script = script.now })) }
@@ -66,7 +68,7 @@ fn made<C: Controller>(
     match kind {
         JobKind::Run => Ok(run_job(alloc, checked, script, stock)?.into_desk()),
         JobKind::Steps => Ok(run_in_steps(alloc, checked, script, stock)?.into_desk()),
-        JobKind::Live => unreachable!(),
+        JobKind::Live | JobKind::Upgrade => unreachable!(),
     }
 }
 
@@ -135,7 +137,7 @@ fn write_text<K: Sink, C: Controller>(
 }
 
 /// Flushes the sink: the run went well, or the sink failed.
-fn flush<K: Sink>(sink: &mut K) -> Status
+pub fn flush<K: Sink>(sink: &mut K) -> Status
     ensures kept { Keeps (K.taken sink.old) (K.taken sink.new) }
     ensures flushed { (result ≡ Status.Ok) × AllFlushed (K.taken sink.new) (K.flushed sink.new)
         ⊎ (result ≡ Status.WriteFault) × (K.flushed sink.new ≡ K.flushed sink.old) }

@@ -17,3 +17,4 @@ mod port;
 mod reading;
 mod status;
 mod top;
+mod upgrade;

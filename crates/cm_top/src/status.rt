@@ -10,7 +10,7 @@ pub enum Status {
     #[error("ok")]
     Ok,
     /// The words are not accepted.
-    #[error("usage: cm run|steps|live [--make N]")]
+    #[error("usage: cm run|steps|live|upgrade [--make N]")]
     BadWords,
     /// The description is not accepted; its first fault.
     #[error("description: {0}")]

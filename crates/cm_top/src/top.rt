@@ -12,6 +12,7 @@ use crate::accepted::run_document;
 use crate::live::run_document_live;
 use crate::reading::read_job;
 use crate::status::Status;
+use crate::upgrade::upgrade_document;
 use cm_desk::Book;
 use cm_words::{Job, JobKind, WordsFault, asked};
 use ctl_rack::Stock;
@@ -25,7 +26,8 @@ use std::thread::Threads;
 ///
 /// Reads the source to its end, checks description and script, runs the job over the stock, writes the trace and flushes it, and hands
 /// out the book. With a number of rounds the document is made, nothing is read, and the summary is written. Nothing is written before
-/// the job has run. A live run calls the pace behind each cycle and the gate at its points; other jobs call neither.
+/// the job has run. A live run calls the pace behind each cycle and the gate at its points; other jobs call neither. An upgrade runs
+/// nothing: it writes the description as one of the second version, and hands out no book.
 #[tactic(auto, using(crate::proofs::ReadLemmas::untouched_minds_faults))]
 pub fn run<R, S, K, P, G, C>(
     rt: &R,
@@ -59,7 +61,9 @@ where
     match asked(alloc, words) {
         Ok(job) => match job.kind {
             JobKind::Live => run_live(rt, alloc, job.make, source, sink, stock, pace, gate),
-            JobKind::Run | JobKind::Steps => run_alone(alloc, &job, source, sink, stock),
+            JobKind::Run | JobKind::Steps | JobKind::Upgrade => {
+                run_alone(alloc, &job, source, sink, stock)
+            }
         },
         Err(WordsFault::Usage) => (Status::BadWords, None),
         Err(WordsFault::Memory) => (Status::Memory, None),
@@ -85,7 +89,12 @@ pub fn run_alone<S: Source, K: Sink, C: Controller>(
     ensures spared { SparesAlone job.now result.0 source.old source.new sink.old sink.new }
 {
     match read_job(alloc, job.make, source) {
-        Ok(document) => run_document(alloc, *job, document, sink, stock),
+        Ok(document) => match job.kind {
+            JobKind::Upgrade => (upgrade_document(alloc, document, sink), None),
+            JobKind::Run | JobKind::Steps | JobKind::Live => {
+                run_document(alloc, *job, document, sink, stock)
+            }
+        },
         Err(status) => (status, None),
     }
 }

@@ -7,7 +7,7 @@ use Rattle.cm_words.specs.Accepted.{IsAround, IsListed, word_for}
 use Rattle.cm_words.specs.Words.{asked, given}
 use Rattle.cm_words.specs.declared.job.Job.{Job}
 use Rattle.cm_words.specs.declared.job.JobKind.{JobKind}
-use Rattle.cm_words.specs.declared.job.JobKind.TheVariants.{Run, Steps, Live}
+use Rattle.cm_words.specs.declared.job.JobKind.TheVariants.{Run, Steps, Live, Upgrade}
 use Rattle.cm_words.specs.declared.job.WordsFault.TheVariants.{Usage}
 
 -- ---- Accepted
@@ -23,6 +23,10 @@ steps = refl
 live : asked (codes "live" ∷ []) ≡ Ok (record { kind = Live; make = None })
 unfolding given clap_on_literals
 live = refl
+
+upgrade : asked (codes "upgrade" ∷ []) ≡ Ok (record { kind = Upgrade; make = None })
+unfolding given clap_on_literals
+upgrade = refl
 
 -- two hyphens end the options
 run_and_hyphens : asked (codes "run" ∷ codes "--" ∷ []) ≡ Ok (record { kind = Run; make = None })
@@ -49,6 +53,14 @@ hyphens_and_live : asked (codes "--" ∷ codes "live" ∷ []) ≡ Ok (record { k
 unfolding given clap_on_literals
 hyphens_and_live = refl
 
+upgrade_and_hyphens : asked (codes "upgrade" ∷ codes "--" ∷ []) ≡ Ok (record { kind = Upgrade; make = None })
+unfolding given clap_on_literals
+upgrade_and_hyphens = refl
+
+hyphens_and_upgrade : asked (codes "--" ∷ codes "upgrade" ∷ []) ≡ Ok (record { kind = Upgrade; make = None })
+unfolding given clap_on_literals
+hyphens_and_upgrade = refl
+
 -- so the words of each job ask for it
 around_accepted : (kind : JobKind) (words : List Text) → IsAround (word_for kind) words → asked words ≡ Ok (record { kind = kind; make = None })
 around_accepted Run words (inl e) = subst (λ (t : List Text). asked t ≡ Ok (record { kind = Run; make = None })) (sym e) run
@@ -60,6 +72,9 @@ around_accepted Steps words (inr (inr e)) = subst (λ (t : List Text). asked t �
 around_accepted Live words (inl e) = subst (λ (t : List Text). asked t ≡ Ok (record { kind = Live; make = None })) (sym e) live
 around_accepted Live words (inr (inl e)) = subst (λ (t : List Text). asked t ≡ Ok (record { kind = Live; make = None })) (sym e) hyphens_and_live
 around_accepted Live words (inr (inr e)) = subst (λ (t : List Text). asked t ≡ Ok (record { kind = Live; make = None })) (sym e) live_and_hyphens
+around_accepted Upgrade words (inl e) = subst (λ (t : List Text). asked t ≡ Ok (record { kind = Upgrade; make = None })) (sym e) upgrade
+around_accepted Upgrade words (inr (inl e)) = subst (λ (t : List Text). asked t ≡ Ok (record { kind = Upgrade; make = None })) (sym e) hyphens_and_upgrade
+around_accepted Upgrade words (inr (inr e)) = subst (λ (t : List Text). asked t ≡ Ok (record { kind = Upgrade; make = None })) (sym e) upgrade_and_hyphens
 
 pub listed_accepted : (words : List Text) (job : Job) → IsListed words job → asked words ≡ Ok job
 listed_accepted words job listed =
@@ -101,6 +116,11 @@ unfolding given clap_on_literals
 making_with_a_zero = refl
 
 -- ---- Refused
+
+-- an upgrade makes no document
+making_an_upgrade : asked (codes "upgrade" ∷ codes "--make" ∷ codes "5" ∷ []) ≡ Err Usage
+unfolding given clap_on_literals
+making_an_upgrade = refl
 
 no_words : asked [] ≡ Err Usage
 unfolding given clap_on_literals

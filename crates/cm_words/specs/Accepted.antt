@@ -7,13 +7,14 @@ use Rattle.clap.specs.Lexer.{long_of}
 use Rattle.clap.specs.Words.{Text}
 use Rattle.cm_words.specs.declared.job.Job.{Job}
 use Rattle.cm_words.specs.declared.job.JobKind.{JobKind}
-use Rattle.cm_words.specs.declared.job.JobKind.TheVariants.{Run, Steps, Live}
+use Rattle.cm_words.specs.declared.job.JobKind.TheVariants.{Run, Steps, Live, Upgrade}
 
 -- the word of a job
 abbrev pub word_for : JobKind → Text
 word_for Run = codes "run"
 word_for Steps = codes "steps"
 word_for Live = codes "live"
+word_for Upgrade = codes "upgrade"
 
 -- this word alone, or with two hyphens before it or behind it
 abbrev pub IsAround : Text → List Text → Type 0

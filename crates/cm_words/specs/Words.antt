@@ -1,5 +1,5 @@
 -- The words after the program's name: which are accepted, and the job that they ask for.
-use Rattle.std.specs.Prelude.{ℕ, ◌&&◌, nat_le, true, if◌then◌else◌, List, [], ◌∷◌, codes, length, Option, Some, None}
+use Rattle.std.specs.Prelude.{ℕ, ◌&&◌, nat_le, Bool, true, false, if◌then◌else◌, List, [], ◌∷◌, codes, length, Option, Some, None}
 use Rattle.std.specs.Prelude.{option_and_then, Result, Ok, Err}
 use Rattle.std.specs.List.{list_all}
 use Rattle.std.specs.Char.{is_ascii_digit}
@@ -9,7 +9,7 @@ use Rattle.clap.specs.Words.{App, Kinds, Rule, Text, fault_of, first_of, matches
 use Rattle.cm_words.specs.declared.job.TheConstants.{MOST_DIGITS_OF_ROUNDS, MOST_ROUNDS}
 use Rattle.cm_words.specs.declared.job.Job.{Job}
 use Rattle.cm_words.specs.declared.job.JobKind.{JobKind}
-use Rattle.cm_words.specs.declared.job.JobKind.TheVariants.{Run, Steps, Live}
+use Rattle.cm_words.specs.declared.job.JobKind.TheVariants.{Run, Steps, Live, Upgrade}
 use Rattle.cm_words.specs.declared.job.WordsFault.{WordsFault}
 use Rattle.cm_words.specs.declared.job.WordsFault.TheVariants.{Usage}
 
@@ -56,7 +56,8 @@ abbrev pub kind_named : Text → Option JobKind
 kind_named word =
     if bytes_eq word (codes "run")
     then Some Run
-    else if bytes_eq word (codes "steps") then Some Steps else if bytes_eq word (codes "live") then Some Live else None
+    else if bytes_eq word (codes "steps") then Some Steps else if bytes_eq word (codes "live") then Some Live
+    else if bytes_eq word (codes "upgrade") then Some Upgrade else None
 
 -- a number of rounds that can be asked for
 abbrev pub rounds_within : ℕ → Option ℕ
@@ -74,10 +75,15 @@ abbrev pub making : JobKind → Option ℕ → Result Job WordsFault
 making kind None = Err Usage
 making kind (Some rounds) = Ok (record { kind = kind; make = Some rounds })
 
+-- a job of this kind can make its document: it runs it
+abbrev pub can_make : JobKind → Bool
+can_make Upgrade = false
+can_make _ = true
+
 -- a job of this kind: it reads its document, or with `--make` it makes it
 abbrev pub job_with : JobKind → Option Text → Result Job WordsFault
 job_with kind None = Ok (record { kind = kind; make = None })
-job_with kind (Some text) = making kind (rounds_in text)
+job_with kind (Some text) = if can_make kind then making kind (rounds_in text) else Err Usage
 
 abbrev pub job_of : Option JobKind → Option Text → Result Job WordsFault
 job_of None make = Err Usage

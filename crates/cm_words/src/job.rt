@@ -9,7 +9,7 @@ pub const MOST_ROUNDS: u32 = 1_000;
 /// The most digits of a number of rounds; zeros may lead it.
 pub const MOST_DIGITS_OF_ROUNDS: usize = 4;
 
-/// How a document is run.
+/// What is done with a document.
 #[derive(Clone, Copy, Debug, PartialEq, Eq)]
 pub enum JobKind {
     /// Before each cycle all sessions settle, in order.
@@ -18,13 +18,16 @@ pub enum JobKind {
     Steps,
     /// The sessions and the loop run beside one another, each in a thread of its own.
     Live,
+    /// Nothing runs: the description is written as one of the second version.
+    Upgrade,
 }
 
 /// What words ask for.
 #[derive(Clone, Copy, Debug, PartialEq, Eq)]
 pub struct Job {
     pub kind: JobKind,
-    /// Of how many rounds the document is made that is run, from 1 to `MOST_ROUNDS`. Without it the document is read.
+    /// Of how many rounds the document is made that is run, from 1 to `MOST_ROUNDS`. Without it the document is read. An upgrade has
+    /// none.
     pub make: Option<u32>,
 }
 
@@ -32,7 +35,7 @@ pub struct Job {
 #[derive(Clone, Copy, Debug, PartialEq, Eq, Error)]
 pub enum WordsFault {
     /// They are not accepted.
-    #[error("usage: cm run|steps|live [--make N]")]
+    #[error("usage: cm run|steps|live|upgrade [--make N]")]
     Usage,
     /// Memory ran out.
     #[error("out of memory")]

@@ -6,7 +6,7 @@ ghost use Rattle.std.specs.Char.{is_ascii_digit};
 ghost use Rattle.clap.specs.Words.{first_value, found_of, kind_of, Text};
 ghost use Rattle.sequence.specs.Answers.{Answers};
 ghost use Rattle.cm_words.specs.declared.job.TheConstants.{MOST_ROUNDS};
-ghost use Rattle.cm_words.specs.Words.{asked, given, job_of, job_with, job_word, kind_named, make_text, rounds_in};
+ghost use Rattle.cm_words.specs.Words.{asked, given, can_make, job_of, job_with, job_word, kind_named, make_text, rounds_in};
 
 use crate::job::{MOST_DIGITS_OF_ROUNDS, MOST_ROUNDS};
 use crate::{Job, JobKind, WordsFault};
@@ -19,6 +19,7 @@ use std::alloc::Global;
 pub fn asked(alloc: Global, words: &[String]) -> Result<Job, WordsFault>
     ensures answer { Answers WordsFault.Memory (asked (map string_bytes words.now)) result }
     ensures rounds { IfOk result (λ job. IfSome job.make (λ rounds. (1 ≤ rounds) × (rounds ≤ MOST_ROUNDS))) }
+    ensures unmade { IfOk result (λ job. job.kind ≡ JobKind.Upgrade → job.make ≡ None) }
 {
     let line = line(alloc, words)?;
     let found = read_line(alloc, line.as_slice())?;
@@ -95,6 +96,7 @@ fn kind_named(word: &str) -> Option<JobKind>
         "run" => Some(JobKind::Run),
         "steps" => Some(JobKind::Steps),
         "live" => Some(JobKind::Live),
+        "upgrade" => Some(JobKind::Upgrade),
         _ => None,
     }
 }
@@ -103,6 +105,7 @@ fn kind_named(word: &str) -> Option<JobKind>
 fn job_of(kind: Option<JobKind>, make: Option<&str>) -> Result<Job, WordsFault>
     ensures job { result ≡ job_of kind (option_map (λ t. t.now) make.entry) }
     ensures rounds { IfOk result (λ job. IfSome job.make (λ rounds. (1 ≤ rounds) × (rounds ≤ MOST_ROUNDS))) }
+    ensures unmade { IfOk result (λ job. job.kind ≡ JobKind.Upgrade → job.make ≡ None) }
 {
     match kind {
         Some(kind) => job_with(kind, make),
@@ -110,14 +113,28 @@ fn job_of(kind: Option<JobKind>, make: Option<&str>) -> Result<Job, WordsFault>
     }
 }
 
+/// Whether a job of this kind can make its document.
+fn can_make(kind: JobKind) -> bool
+    ensures { result ≡ can_make kind }
+{
+    match kind {
+        JobKind::Run | JobKind::Steps | JobKind::Live => true,
+        JobKind::Upgrade => false,
+    }
+}
+
 /// The job of this kind: it reads its document, or makes it.
 fn job_with(kind: JobKind, make: Option<&str>) -> Result<Job, WordsFault>
     ensures job { result ≡ job_with kind (option_map (λ t. t.now) make.entry) }
     ensures rounds { IfOk result (λ job. IfSome job.make (λ rounds. (1 ≤ rounds) × (rounds ≤ MOST_ROUNDS))) }
+    ensures unmade { IfOk result (λ job. job.kind ≡ JobKind.Upgrade → job.make ≡ None) }
 {
     let Some(text) = make else {
         return Ok(Job { kind, make: None });
     };
+    if !can_make(kind) {
+        return Err(WordsFault::Usage);
+    }
     match rounds_in(text) {
         Some(rounds) => Ok(Job {
             kind,

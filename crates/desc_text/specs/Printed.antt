@@ -1,6 +1,5 @@
 -- The table that a description is printed as: every key with its value, but no list that is empty.
-use Rattle.std.specs.Prelude.{ℕ, ◌<◌, ◌^◌, ℤ, pos, List, [], ◌∷◌, map, codes, Option, Some, None}
-use Rattle.std.specs.List.{AllByRecursion}
+use Rattle.std.specs.Prelude.{ℕ, ℤ, pos, List, [], ◌∷◌, map, codes, Option, Some, None}
 use Rattle.std.specs.Ordering.{nat_cmp, match_ordering}
 use Rattle.std.specs.Cmp.Lexicographic.{slice_cmp}
 use Rattle.toml.specs.Data.{Data, string, integer, boolean, array, table, Items, no_items, item}
@@ -75,10 +74,6 @@ kinds list = listed (λ kind. string (kind_word kind)) list
 abbrev pub interfaces : List IfaceName → Option Data
 interfaces list = listed (λ interface. string (interface_text interface)) list
 
--- they are as small as wholes are
-abbrev pub AreWholes : List ℕ → Type 0
-AreWholes list = AllByRecursion (λ n. n < 2 ^ 32) list
-
 abbrev pub cycles : List ℕ → Option Data
 cycles list = listed (λ n. integer (pos n)) list
 
@@ -98,11 +93,6 @@ joint_rows j =
 
 abbrev pub joint_tree : JointDesc → Members
 joint_tree j = table_of (joint_rows j)
-
--- the cycles of its failures can be printed
-pub record HasCycles (c : CompDesc) : Type 0 where
-  pub read : AreWholes c.fail_read
-  pub write : AreWholes c.fail_write
 
 -- the rows of a component
 abbrev pub component_rows : CompDesc → List Row
@@ -135,11 +125,6 @@ reads_row c (params.Broadcaster ins) =
     (codes "reads", Some (array (items_of (map (λ interface. string (interface_text interface)) c.reads))))
 reads_row c _ = (codes "reads", interfaces c.reads)
 
--- the cycles of a mock can be printed
-abbrev pub HaveCycles : Params → Type 0
-HaveCycles (params.Mock outs refuse_config not_ready fail_update) = AreWholes not_ready × AreWholes fail_update
-HaveCycles _ = Unit {0}
-
 -- the rows of its parameters
 abbrev pub params_rows : Params → List Row
 params_rows (params.Pid kp ki kd imax omax) =
@@ -165,12 +150,6 @@ group_rows g = (codes "name", text g.name) ∷ (codes "members", names g.members
 
 abbrev pub group_tree : GroupDesc → Members
 group_tree g = table_of (group_rows g)
-
--- All cycles in it can be printed, and so can the number of its own.
-pub record CanBePrinted (d : Description) : Type 0 where
-  pub cycles : d.cycles < 2 ^ 32
-  pub components : AllByRecursion HasCycles d.components
-  pub controllers : AllByRecursion (λ c. HaveCycles c.params) d.controllers
 
 -- the rows of the top
 abbrev pub description_rows : Description → List Row

@@ -9,9 +9,10 @@ ghost use Rattle.std.specs.List.{AllByRecursion};
 ghost use Rattle.toml.specs.Data.{table};
 ghost use Rattle.toml.specs.View.{array_view, items_of, table_view};
 ghost use Rattle.cm_document.specs.Described.{tree_of, description_in};
-ghost use Rattle.cm_document.specs.Valid.{IsValid};
-ghost use Rattle.desc_text.specs.Printed.{component_tree, controller_tree, group_tree, description_rows, description_tree};
-ghost use Rattle.desc_text.specs.Printed.{with_rows, HasCycles, HaveCycles, CanBePrinted};
+ghost use Rattle.desc_text.specs.Printed.{component_tree, controller_tree, group_tree};
+ghost use Rattle.desc_text.specs.Printed.{description_rows, description_tree};
+ghost use Rattle.desc_text.specs.Printed.{with_rows};
+ghost use Rattle.desc_text.specs.Readable.{ComponentIsReadable, ControllerIsReadable, IsReadable};
 
 use cm_document::{CompDesc, CtlDesc, Description, GroupDesc};
 use controllers::controller_table;
@@ -21,10 +22,10 @@ use rows::{put_list, put_whole};
 use std::alloc::Global;
 use toml::{Array, Table, Value};
 
-/// The text of a description: the walk reads it as this description. A list that is empty is left out, but for the reads of a
-/// broadcaster, and each quantity is a text. The layout is that of `toml`.
+/// The text of a description of the second version: the walk reads it as this description. A list that is empty is left out,
+/// but for the reads of a broadcaster, and each quantity is a text. The layout is that of `toml`.
 pub fn print_description(alloc: Global, description: &Description) -> Result<Vec<u8>, Memory>
-    requires { IsValid description.now }
+    requires { IsReadable description.now }
     ensures { IfOk result (λ text. description_in (tree_of text.items) ≡ Ok description.now) }
 {
     let tree = description_table(alloc, description)?;
@@ -36,7 +37,7 @@ pub fn print_description(alloc: Global, description: &Description) -> Result<Vec
 
 /// The table that a description is printed as.
 fn description_table(alloc: Global, description: &Description) -> Result<Table, Memory>
-    requires { CanBePrinted description.now }
+    requires { IsReadable description.now }
     ensures { IfOk result (λ made. table_view made ≡ description_tree description.now) }
 {
     let mut made = Table::new(alloc);
@@ -49,7 +50,7 @@ fn description_table(alloc: Global, description: &Description) -> Result<Table, 
 
 /// Puts in what is described: components, controllers and groups.
 fn put_tables(alloc: Global, made: &mut Table, description: &Description) -> Result<(), Memory>
-    requires { CanBePrinted description.now }
+    requires { IsReadable description.now }
     ensures { OnOk result (table_view made.new
         ≡ with_rows (drop 3 (description_rows description.now)) (table_view made.old)) }
 {
@@ -63,7 +64,7 @@ fn put_tables(alloc: Global, made: &mut Table, description: &Description) -> Res
 
 /// The tables of these components.
 fn components(alloc: Global, components: &[CompDesc]) -> Result<Array, Memory>
-    requires { AllByRecursion HasCycles components.now }
+    requires { AllByRecursion ComponentIsReadable components.now }
     ensures { IfOk result (λ list. array_view list
         ≡ items_of (map (λ c. table (component_tree c)) components.now)) }
 {
@@ -76,7 +77,7 @@ fn components(alloc: Global, components: &[CompDesc]) -> Result<Array, Memory>
 
 /// The tables of these controllers.
 fn controllers(alloc: Global, controllers: &[CtlDesc]) -> Result<Array, Memory>
-    requires { AllByRecursion (λ c. HaveCycles c.params) controllers.now }
+    requires { AllByRecursion ControllerIsReadable controllers.now }
     ensures { IfOk result (λ list. array_view list
         ≡ items_of (map (λ c. table (controller_tree c)) controllers.now)) }
 {

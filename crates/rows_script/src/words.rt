@@ -44,6 +44,7 @@ fn name_of(kind: JobKind) -> &'static str {
         JobKind::Run => "run",
         JobKind::Steps => "steps",
         JobKind::Live => "live",
+        JobKind::Upgrade => "upgrade",
     }
 }
 
@@ -59,7 +60,7 @@ fn words(alloc: Global, row: &str) -> Result<Vec<String>, Fail> {
     Ok(words)
 }
 
-/// The three jobs, with hyphens that end the options and with a number of rounds; and what is refused.
+/// The four jobs, with hyphens that end the options and with a number of rounds; and what is refused.
 const WORDS: &str = r"run => run
 steps => steps
 live => live
@@ -69,6 +70,9 @@ steps|-- => steps
 --|steps => steps
 live|-- => live
 --|live => live
+upgrade => upgrade
+upgrade|-- => upgrade
+--|upgrade => upgrade
 run|--make|1 => run, 1 made
 run|--make|1000 => run, 1000 made
 run|--make=5 => run, 5 made
@@ -80,44 +84,51 @@ run|--make|05 => run, 5 made
 steps|--make|0012 => steps, 12 made
 live|--make|5 => live, 5 made
 --make=1000|live => live, 1000 made
- => usage: cm run|steps|live [--make N]
-walk => usage: cm run|steps|live [--make N]
-Run => usage: cm run|steps|live [--make N]
-run\s => usage: cm run|steps|live [--make N]
-runs => usage: cm run|steps|live [--make N]
-| => usage: cm run|steps|live [--make N]
-run|run => usage: cm run|steps|live [--make N]
-run|steps => usage: cm run|steps|live [--make N]
--- => usage: cm run|steps|live [--make N]
---|-- => usage: cm run|steps|live [--make N]
---|run|-- => usage: cm run|steps|live [--make N]
-- => usage: cm run|steps|live [--make N]
---help => usage: cm run|steps|live [--make N]
-run|--help => usage: cm run|steps|live [--make N]
--h => usage: cm run|steps|live [--make N]
---version => usage: cm run|steps|live [--make N]
-help => usage: cm run|steps|live [--make N]
-Live => usage: cm run|steps|live [--make N]
-lives => usage: cm run|steps|live [--make N]
-run|live => usage: cm run|steps|live [--make N]
-live|--make => usage: cm run|steps|live [--make N]
-live|--make|0 => usage: cm run|steps|live [--make N]
-live|--make|1001 => usage: cm run|steps|live [--make N]
---make|5 => usage: cm run|steps|live [--make N]
-run|--make => usage: cm run|steps|live [--make N]
-run|--make= => usage: cm run|steps|live [--make N]
-run|--mak|5 => usage: cm run|steps|live [--make N]
-run|--make|0 => usage: cm run|steps|live [--make N]
-run|--make|0000 => usage: cm run|steps|live [--make N]
-run|--make|1001 => usage: cm run|steps|live [--make N]
-run|--make|00001 => usage: cm run|steps|live [--make N]
-run|--make|+5 => usage: cm run|steps|live [--make N]
-run|--make|-5 => usage: cm run|steps|live [--make N]
-run|--make|5x => usage: cm run|steps|live [--make N]
-run|--make|\s5 => usage: cm run|steps|live [--make N]
-run|--make|five => usage: cm run|steps|live [--make N]
---make|run => usage: cm run|steps|live [--make N]
---make|run|5 => usage: cm run|steps|live [--make N]
-run|--make|1|--make|2 => usage: cm run|steps|live [--make N]
-run|--make|1|--make|1 => usage: cm run|steps|live [--make N]
-run|--|--make|5 => usage: cm run|steps|live [--make N]";
+ => usage: cm run|steps|live|upgrade [--make N]
+walk => usage: cm run|steps|live|upgrade [--make N]
+Run => usage: cm run|steps|live|upgrade [--make N]
+run\s => usage: cm run|steps|live|upgrade [--make N]
+runs => usage: cm run|steps|live|upgrade [--make N]
+| => usage: cm run|steps|live|upgrade [--make N]
+run|run => usage: cm run|steps|live|upgrade [--make N]
+run|steps => usage: cm run|steps|live|upgrade [--make N]
+-- => usage: cm run|steps|live|upgrade [--make N]
+--|-- => usage: cm run|steps|live|upgrade [--make N]
+--|run|-- => usage: cm run|steps|live|upgrade [--make N]
+- => usage: cm run|steps|live|upgrade [--make N]
+--help => usage: cm run|steps|live|upgrade [--make N]
+run|--help => usage: cm run|steps|live|upgrade [--make N]
+-h => usage: cm run|steps|live|upgrade [--make N]
+--version => usage: cm run|steps|live|upgrade [--make N]
+help => usage: cm run|steps|live|upgrade [--make N]
+Live => usage: cm run|steps|live|upgrade [--make N]
+lives => usage: cm run|steps|live|upgrade [--make N]
+run|live => usage: cm run|steps|live|upgrade [--make N]
+Upgrade => usage: cm run|steps|live|upgrade [--make N]
+upgrades => usage: cm run|steps|live|upgrade [--make N]
+upgrade|run => usage: cm run|steps|live|upgrade [--make N]
+upgrade|--make|5 => usage: cm run|steps|live|upgrade [--make N]
+--make=5|upgrade => usage: cm run|steps|live|upgrade [--make N]
+upgrade|--make|1001 => usage: cm run|steps|live|upgrade [--make N]
+upgrade|--make => usage: cm run|steps|live|upgrade [--make N]
+live|--make => usage: cm run|steps|live|upgrade [--make N]
+live|--make|0 => usage: cm run|steps|live|upgrade [--make N]
+live|--make|1001 => usage: cm run|steps|live|upgrade [--make N]
+--make|5 => usage: cm run|steps|live|upgrade [--make N]
+run|--make => usage: cm run|steps|live|upgrade [--make N]
+run|--make= => usage: cm run|steps|live|upgrade [--make N]
+run|--mak|5 => usage: cm run|steps|live|upgrade [--make N]
+run|--make|0 => usage: cm run|steps|live|upgrade [--make N]
+run|--make|0000 => usage: cm run|steps|live|upgrade [--make N]
+run|--make|1001 => usage: cm run|steps|live|upgrade [--make N]
+run|--make|00001 => usage: cm run|steps|live|upgrade [--make N]
+run|--make|+5 => usage: cm run|steps|live|upgrade [--make N]
+run|--make|-5 => usage: cm run|steps|live|upgrade [--make N]
+run|--make|5x => usage: cm run|steps|live|upgrade [--make N]
+run|--make|\s5 => usage: cm run|steps|live|upgrade [--make N]
+run|--make|five => usage: cm run|steps|live|upgrade [--make N]
+--make|run => usage: cm run|steps|live|upgrade [--make N]
+--make|run|5 => usage: cm run|steps|live|upgrade [--make N]
+run|--make|1|--make|2 => usage: cm run|steps|live|upgrade [--make N]
+run|--make|1|--make|1 => usage: cm run|steps|live|upgrade [--make N]
+run|--|--make|5 => usage: cm run|steps|live|upgrade [--make N]";

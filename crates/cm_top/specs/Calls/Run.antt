@@ -13,6 +13,7 @@ use Rattle.cm_words.specs.declared.job.WordsFault.{WordsFault}
 use Rattle.cm_words.specs.declared.job.WordsFault.TheVariants.{Usage}
 use Rattle.make_document.specs.Made.{made}
 use Rattle.cm_words.specs.declared.job.Job.{Job}
+use Rattle.cm_top.specs.Answering.{Answering, AnsweredWith, Answers, answering_of}
 use Rattle.cm_top.specs.Book.{BookFacts, Task, task_of}
 use Rattle.cm_top.specs.Status.{Written, EndedWith, HandsOut, IsPlain, ComesOfBytes, ComesBeforeWriting, status_of}
 use Rattle.cm_top.specs.declared.status.Status.{Status}
@@ -50,10 +51,12 @@ pub record RefusesWords {S K B : Type 0} (words : List (List ℕ)) (source sourc
   pub nothing_written : asked words ≡ Err Usage → sink' ≡ sink
   pub no_book : asked words ≡ Err Usage → book ≡ None
 
--- A job that one thread can run: it is not live, and its document, if it is made, has as many rounds as one can have.
+-- A job that one thread can do: it is not live, and its document, if it is made, has as many rounds as one can have. An
+-- upgrade reads its document.
 pub record CanRunAlone (job : Job) : Type 0 where
   pub alone : job.kind ≢ kind.Live
   pub rounds : IfSome job.make (λ rounds. (1 ≤ rounds) × (rounds ≤ MOST_ROUNDS))
+  pub unmade : job.kind ≡ kind.Upgrade → job.make ≡ None
 
 -- What a run of a job leaves as it was.
 pub record SparesAlone {S K : Type 0} (job : Job) (ended : Status) (source source' : S) (sink sink' : K) : Type 0 where
@@ -135,7 +138,35 @@ RunsFrom None task blanks source source' sink sink' ended book = Runs task blank
 RunsFrom (Some rounds) task blanks source source' sink sink' ended book =
     RunsMade task blanks rounds sink sink' ended book
 
+-- A job that answers without a book, from this source, before and after, into this sink, before and after, with its
+-- status.
+pub record AnswersFrom (job : Answering) (source source' : SourceFacts) (sink sink' : SinkFacts) (ended : Status)
+    (book : Option BookFacts) : Type 0 where
+  -- it has no book
+  pub no_book : book ≡ None
+  -- by the bytes of the source, where they are known
+  pub ran : IfSome source.left (λ bytes. AnsweredWith job bytes (written sink sink') ended)
+  -- whatever the source tells
+  pub answers : Answers job (written sink sink') ended
+  -- the words are none of its business
+  pub never_words : ended ≡ status.BadWords → ⊥
+  -- one that went well has read its source to the end
+  pub read_whole : ended ≡ status.Ok → IsSome source.left → IsAtEnd source'.left
+  -- no refusal carries a want of memory
+  pub plain : IsPlain ended
+  -- Where neither source nor sink had a fault, the bytes alone decide the status, unless memory runs out.
+  pub exact : IfSome source.left (λ bytes. ¬ (Rose source.faults source'.faults) → ¬ (Rose sink.faults sink'.faults)
+      → (ended ≡ status_of bytes) ⊎ (ended ≡ status.Memory))
+
+-- A job, by whether it answers without a book, or else runs.
+abbrev pub DoesJob : Option Answering → Job → Blanks → SourceFacts → SourceFacts → SinkFacts → SinkFacts → Status
+    → Option BookFacts → Type 0
+DoesJob None job blanks source source' sink sink' ended book =
+    RunsFrom job.make (task_of job blanks) blanks source source' sink sink' ended book
+DoesJob (Some answering) job blanks source source' sink sink' ended book =
+    AnswersFrom answering source source' sink sink' ended book
+
 abbrev pub RunsJob : Job → Blanks → SourceFacts → SourceFacts → SinkFacts → SinkFacts → Status → Option BookFacts
     → Type 0
 RunsJob job blanks source source' sink sink' ended book =
-    RunsFrom job.make (task_of job blanks) blanks source source' sink sink' ended book
+    DoesJob (answering_of job.kind) job blanks source source' sink sink' ended book

@@ -1,9 +1,10 @@
 //! The table of a controller.
 
-ghost use Rattle.std.specs.Prelude.{◌≡◌, IfOk, OnOk};
+ghost use Rattle.std.specs.Prelude.{◌≡◌, List, IfOk, OnOk};
 ghost use Rattle.toml.specs.View.{table_view};
 ghost use Rattle.desc_text.specs.Printed.{controller_tree, head_rows, params_rows, reads_row, with_row, with_rows};
-ghost use Rattle.desc_text.specs.Printed.{HaveCycles};
+ghost use Rattle.iface_names.specs.declared.interface.IfaceName.{IfaceName};
+ghost use Rattle.desc_text.specs.Readable.{ControllerIsReadable, Fits};
 
 use crate::print::rows::{
     interface_texts, put, put_cycles, put_flag, put_interfaces, put_names, put_quantity, put_text,
@@ -16,7 +17,7 @@ use toml::{Table, Value};
 
 /// The table of a controller.
 pub fn controller_table(alloc: Global, controller: &CtlDesc) -> Result<Table, Memory>
-    requires { HaveCycles controller.now.params }
+    requires { ControllerIsReadable controller.now }
     ensures { IfOk result (λ made. table_view made ≡ controller_tree controller.now) }
 {
     let mut made = Table::new(alloc);
@@ -53,7 +54,7 @@ fn put_reads(alloc: Global, made: &mut Table, controller: &CtlDesc) -> Result<()
 
 /// Puts in its parameters.
 fn put_params(alloc: Global, made: &mut Table, params: &Params) -> Result<(), Memory>
-    requires { HaveCycles params.now }
+    requires { (claims reads : List IfaceName) × Fits params.now claims reads }
     ensures { OnOk result (table_view made.new ≡ with_rows (params_rows params.now) (table_view made.old)) }
 {
     match params {

@@ -4,7 +4,8 @@ ghost use Rattle.std.specs.Prelude.{◌≡◌, IfOk, OnOk, drop, map, take};
 ghost use Rattle.toml.specs.Data.{table};
 ghost use Rattle.toml.specs.View.{array_view, items_of, table_view};
 ghost use Rattle.desc_text.specs.Printed.{joint_rows, joint_tree, component_rows, component_tree, group_tree, kinds};
-ghost use Rattle.desc_text.specs.Printed.{with_row, with_rows, HasCycles};
+ghost use Rattle.desc_text.specs.Printed.{with_row, with_rows};
+ghost use Rattle.desc_text.specs.Readable.{ComponentIsReadable};
 
 use crate::print::rows::{put_cycles, put_list, put_names, put_quantity, put_text};
 use cm_document::{CompDesc, GroupDesc, JointDesc};
@@ -15,7 +16,7 @@ use toml::{Array, Table, Value};
 
 /// The table of a component.
 pub fn component_table(alloc: Global, component: &CompDesc) -> Result<Table, Memory>
-    requires { HasCycles component.now }
+    requires { ComponentIsReadable component.now }
     ensures { IfOk result (λ made. table_view made ≡ component_tree component.now) }
 {
     let mut made = Table::new(alloc);
@@ -74,11 +75,11 @@ fn put_body(alloc: Global, made: &mut Table, joint: &JointDesc) -> Result<(), Me
 }
 
 /// Puts kinds of interfaces in, if there are any.
-fn put_kinds(alloc: Global, made: &mut Table, key: &str, of: &[Kind]) -> Result<(), Memory>
-    ensures { OnOk result (table_view made.new ≡ with_row (key.now, kinds of.now) (table_view made.old)) }
+fn put_kinds(alloc: Global, made: &mut Table, key: &str, said: &[Kind]) -> Result<(), Memory>
+    ensures { OnOk result (table_view made.new ≡ with_row (key.now, kinds said.now) (table_view made.old)) }
 {
     let mut list = Array::new(alloc);
-    for kind in of {
+    for kind in said {
         list.push(Value::string(alloc, kind.word())?)?;
     }
     put_list(alloc, made, key, list)

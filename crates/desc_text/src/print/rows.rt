@@ -1,11 +1,12 @@
 //! The rows of a table that is made: a key, and what stands there.
 
-ghost use Rattle.std.specs.Prelude.{◌≡◌, ◌<◌, ◌^◌, pos, map, Some, OnOk, IfOk};
+ghost use Rattle.std.specs.Prelude.{◌≡◌, pos, map, Some, OnOk, IfOk};
 ghost use Rattle.toml.specs.Data.{string, integer, boolean};
 ghost use Rattle.toml.specs.View.{view, array_view, items_of, table_view};
 ghost use Rattle.iface_names.specs.Interfaces.{interface_text};
-ghost use Rattle.desc_text.specs.Printed.{with_member, with_row, if_items, text, whole, quantity, names, interfaces, cycles};
-ghost use Rattle.desc_text.specs.Printed.{AreWholes};
+ghost use Rattle.desc_text.specs.Printed.{with_member, with_row, if_items, text, whole, quantity, names};
+ghost use Rattle.desc_text.specs.Printed.{interfaces, cycles};
+ghost use Rattle.desc_text.specs.Readable.{IsWhole, AreWholes};
 
 use fixed_num::{Fx, Memory};
 use iface_names::{IfaceName, Name};
@@ -22,16 +23,16 @@ pub fn put(alloc: Global, made: &mut Table, key: &str, value: Value) -> Result<(
 }
 
 /// Puts a text in.
-pub fn put_text(alloc: Global, made: &mut Table, key: &str, of: &str) -> Result<(), Memory>
-    ensures { OnOk result (table_view made.new ≡ with_row (key.now, text of.now) (table_view made.old)) }
+pub fn put_text(alloc: Global, made: &mut Table, key: &str, said: &str) -> Result<(), Memory>
+    ensures { OnOk result (table_view made.new ≡ with_row (key.now, text said.now) (table_view made.old)) }
 {
-    let value = Value::string(alloc, of)?;
+    let value = Value::string(alloc, said)?;
     put(alloc, made, key, value)
 }
 
 /// Puts a whole in.
 pub fn put_whole(alloc: Global, made: &mut Table, key: &str, number: u64) -> Result<(), Memory>
-    requires { number < 2 ^ 32 }
+    requires { IsWhole number }
     ensures { OnOk result (table_view made.new ≡ with_row (key.now, whole number) (table_view made.old)) }
 {
     put(alloc, made, key, Value::Integer(number as i64))
