@@ -245,7 +245,7 @@ hw arm unconfigured
 switch strict +ghost
 hw ghost active
 switch best -fwd +pt +lead
-switch best -pt +raw
+switch best -pt +raw +@ghost
 switch strict -pt
 => cycle 0, a: switch strict +fwd +fwd: refused, fwd is named twice in one list
     mend: name fwd once in each list
@@ -273,10 +273,12 @@ cycle 12, a: switch strict +ghost: refused, ghost is not there
     mend: name a controller that is loaded, or a component that the document describes
 cycle 13, a: hw ghost active: refused, ghost is not there
     mend: name a controller that is loaded, or a component that the document describes
-cycle 15, a: switch best -pt +raw: left out, pt is needed, because pt/j1/position is claimed
+cycle 15, a: switch best -pt +raw +@ghost: left out, pt is needed, because pt/j1/position is claimed
     mend: deactivate the controller that claims pt/j1/position, too
-cycle 15, a: switch best -pt +raw: left out, raw is not configured
+cycle 15, a: switch best -pt +raw +@ghost: left out, raw is not configured
     mend: configure raw first
+cycle 15, a: switch best -pt +raw +@ghost: left out, no group ghost is described
+    mend: describe the group ghost, or name a controller without an @
 cycle 16, a: switch strict -pt: refused, lead claims pt/j1/position, whose controller would not be active
     mend: have the controller of pt/j1/position active whenever lead is"#;
 

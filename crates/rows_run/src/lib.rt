@@ -25,3 +25,5 @@ mod runs;
 mod switches;
 #[cfg(test)]
 mod turns;
+#[cfg(test)]
+mod upgrades;

@@ -1,0 +1,50 @@
+//! Documents whose description is upgraded and run again with their script: the same is printed.
+
+use crate::fallbacks::{ROBOT as MOCK_AND_FORWARD, STAND_INS};
+use crate::groups::{FIRST_VERSION, ROBOT as GROUPED, SWITCHES as OF_GROUPS, WITHOUT_GROUPS};
+use crate::pages::DESCRIPTIONS;
+use crate::switches::SWITCHES;
+use cm_top::Status;
+use cm_words::JobKind;
+use pages_cases::pages::{Teller, halves, hold, joined};
+use pages_runs::runs::{IN_STOCK, OF_PROGRAM, Runs, ample_sink};
+use std::alloc::Global;
+use std::str;
+use std::test::Fail;
+
+#[test]
+fn an_upgraded_document_prints_the_same(rt: HostRuntime) -> Result<(), Fail> {
+    let alloc = rt.alloc();
+    hold(alloc, &Upgraded, "", SWITCHES)?;
+    hold(alloc, &Upgraded, MOCK_AND_FORWARD, STAND_INS)?;
+    hold(alloc, &Upgraded, GROUPED, OF_GROUPS)?;
+    hold(alloc, &Upgraded, FIRST_VERSION, WITHOUT_GROUPS)?;
+    hold(alloc, &Upgraded, "", DESCRIPTIONS)
+}
+
+/// The job `upgrade` with the program's stock.
+const UPGRADE: Runs = Runs {
+    kind: JobKind::Upgrade,
+    step: 1000,
+    in_stock: IN_STOCK,
+};
+
+/// The line between description and script.
+const SEPARATOR: &str = "--- script ---\n";
+
+/// Tells what the run of an upgraded document prints; of one that is refused, how its upgrade ends.
+struct Upgraded;
+
+impl Teller for Upgraded {
+    fn told(&self, alloc: Global, text: &str) -> Result<String, Fail> {
+        let mut sink = ample_sink(alloc)?;
+        let status = UPGRADE.run_into(alloc, text, &mut sink)?;
+        if status != Status::Ok {
+            return UPGRADE.told(alloc, text);
+        }
+        let (_, script) = halves(text, SEPARATOR)?;
+        let described = joined(alloc, str::from_utf8(sink.bytes())?, SEPARATOR)?;
+        let again = joined(alloc, described.as_str(), script)?;
+        OF_PROGRAM.told(alloc, again.as_str())
+    }
+}
