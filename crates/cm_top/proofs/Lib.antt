@@ -6,4 +6,5 @@ pub mod JobLemmas
 pub mod PlainLemmas
 pub mod TopLemmas
 pub mod ReadLemmas
+pub mod AnswerLemmas
 pub mod LiveLemmas

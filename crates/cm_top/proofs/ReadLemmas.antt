@@ -30,7 +30,7 @@ pub told-Rose : (fault ended : Status) (before now : ℕ) → IsToldAs fault end
 told-Rose fault ended before now told is = let counted = told.counted is in rw counted (omega arith)
 
 -- a document that is short has the status that its reading gives
-short-status : (bytes : List ℕ) → length bytes ≤ LONGEST_DOCUMENT → status_of bytes ≡ status_of_document (document whole_grammar bytes)
+pub short-status : (bytes : List ℕ) → length bytes ≤ LONGEST_DOCUMENT → status_of bytes ≡ status_of_document (document whole_grammar bytes)
 short-status bytes short = let no : nat_lt LONGEST_DOCUMENT (length bytes) ≡ false = grind (arith, nat_tests) in rw no refl
 
 -- where neither source nor sink had a fault, the bytes decide the status, unless memory runs out
@@ -128,12 +128,12 @@ unread-HandsOut task blanks taken flushed status.Memory unread = Keeps-refl take
 unread-HandsOut task blanks taken flushed status.WriteFault unread = absurd unread
 
 -- what is so where the bytes are known, of whatever bytes
-some_known : (known : Option (List ℕ)) (P Q : List ℕ → Type 0) → ((bytes : List ℕ) → P bytes → Q bytes) → IfSome known P → IfSome known Q
+pub some_known : (known : Option (List ℕ)) (P Q : List ℕ → Type 0) → ((bytes : List ℕ) → P bytes → Q bytes) → IfSome known P → IfSome known Q
 some_known None P Q all given = tt
 some_known (Some bytes) P Q all given = all bytes given
 
 -- a fault of reading that is told was counted
-read-Rose : (source source' : SourceFacts) (ended : Status) → MindsSource source source' (Err ended) → ended ≡ status.ReadFault → Rose source.faults source'.faults
+pub read-Rose : (source source' : SourceFacts) (ended : Status) → MindsSource source source' (Err ended) → ended ≡ status.ReadFault → Rose source.faults source'.faults
 read-Rose source source' ended minds failed =
     let counted = minds.read_fault.counted (ap (λ (e : Status). Err e) failed) in rw counted (omega arith)
 
@@ -260,7 +260,7 @@ ran-MindsFaults task blanks source source' d sink sink' ended book minds ran of_
       of_sink = of_sink;
     }
 
-Wrote-late : (text : List ℕ) (w : Written) (ended : Status) → Wrote text w ended → ComesBeforeWriting ended → ⊥
+pub Wrote-late : (text : List ℕ) (w : Written) (ended : Status) → Wrote text w ended → ComesBeforeWriting ended → ⊥
 Wrote-late text w status.Ok wrote before = before
 Wrote-late text w status.Memory wrote before = before
 Wrote-late text w status.WriteFault wrote before = before

@@ -10,8 +10,9 @@ use Rattle.cm_document.specs.declared.faults.DocumentFault.TheVariants as fault
 use Rattle.cm_document.specs.declared.limits.TheConstants.{LONGEST_DOCUMENT, SECOND_VERSION}
 use Rattle.cm_words.specs.declared.job.JobKind.{JobKind}
 use Rattle.cm_words.specs.declared.job.JobKind.TheVariants as kind
-use Rattle.cm_top.specs.Book.{IsShort}
-use Rattle.cm_top.specs.Status.{Written}
+use Rattle.cm_model.specs.declared.blanks.Blanks.{Blanks}
+use Rattle.cm_top.specs.Book.{BookFacts, Task, IsShort}
+use Rattle.cm_top.specs.Status.{Written, Wrote, RanDocument}
 use Rattle.cm_top.specs.declared.status.Status.{Status}
 use Rattle.cm_top.specs.declared.status.Status.TheVariants as status
 
@@ -68,3 +69,15 @@ Answers job w status.Ok = (bytes : List ℕ) × Answered job bytes w
 Answers job w status.WriteFault = (bytes : List ℕ) × IsCutShort job bytes w
 Answers job w status.Memory = Keeps w.old w.new ⊎ ((bytes : List ℕ) × IsCutShort job bytes w)
 Answers job w _ = Unit {0}
+
+-- ---- Over an accepted document
+
+-- Memory ran out and nothing was written, or writing an answer came to this.
+abbrev pub WroteAnswer : Answering → Document → Written → Status → Type 0
+WroteAnswer job d w ended =
+    ((ended ≡ status.Memory) × Keeps w.old w.new) ⊎ ((text : List ℕ) × job.IsAnswer d text × Wrote text w ended)
+
+-- What a job came to: a run to its book, or an answer without one.
+abbrev pub DidJob : Option Answering → Task → Document → Blanks → Written → Status → Option BookFacts → Type 0
+DidJob None task d blanks w ended book = RanDocument task d blanks w ended book
+DidJob (Some job) task d blanks w ended book = (book ≡ None) × WroteAnswer job d w ended

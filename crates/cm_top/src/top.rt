@@ -1,12 +1,14 @@
 //! The top call: words and a document in, the run's trace or summary and its book out.
 
-ghost use Rattle.std.specs.Prelude.{◌≡◌, ◌≤◌, map, option_map, string_bytes, IfOk, IfSome};
+ghost use Rattle.std.specs.Prelude.{◌≡◌, ◌≢◌, ◌≤◌, map, option_map, string_bytes, IfOk, IfSome};
 ghost use Rattle.cm_words.specs.declared.job.Job.{Job};
 ghost use Rattle.cm_words.specs.declared.job.TheConstants.{MOST_ROUNDS};
 ghost use Rattle.cm_words.specs.Words.{asked};
-ghost use Rattle.cm_top.specs.Book.{book_facts};
+ghost use Rattle.cm_document.specs.ScriptLaws.{MeetsRules};
+ghost use Rattle.cm_top.specs.Answering.{DidJob, answering_of};
+ghost use Rattle.cm_top.specs.Book.{book_facts, task_of};
 ghost use Rattle.cm_top.specs.Calls.Run.{source_facts, sink_facts, CanRunAlone, RunsJob};
-ghost use Rattle.cm_top.specs.Calls.Run.{MindsFaults, RefusesWords, Spares, SparesAlone};
+ghost use Rattle.cm_top.specs.Calls.Run.{MindsFaults, MindsSink, RefusesWords, Spares, SparesAlone};
 
 use crate::accepted::run_document;
 use crate::live::run_document_live;
@@ -14,6 +16,7 @@ use crate::reading::read_job;
 use crate::status::Status;
 use crate::upgrade::upgrade_document;
 use cm_desk::Book;
+use cm_document::Document;
 use cm_words::{Job, JobKind, WordsFault, asked};
 use ctl_rack::Stock;
 use ctl_trait::Controller;
@@ -89,13 +92,32 @@ pub fn run_alone<S: Source, K: Sink, C: Controller>(
     ensures spared { SparesAlone job.now result.0 source.old source.new sink.old sink.new }
 {
     match read_job(alloc, job.make, source) {
-        Ok(document) => match job.kind {
-            JobKind::Upgrade => (upgrade_document(alloc, document, sink), None),
-            JobKind::Run | JobKind::Steps | JobKind::Live => {
-                run_document(alloc, *job, document, sink, stock)
-            }
-        },
+        Ok(document) => do_job(alloc, job, document, sink, stock),
         Err(status) => (status, None),
+    }
+}
+
+/// Does a job that is not live, over an accepted document.
+fn do_job<K: Sink, C: Controller>(
+    alloc: Global,
+    job: &Job,
+    document: Document,
+    sink: &mut K,
+    stock: Stock<C>,
+) -> (Status, Option<Book<C>>)
+    requires alone { job.now.kind ≢ JobKind.Live }
+    requires rules { MeetsRules document.script }
+    ensures did { DidJob (answering_of job.now.kind) (task_of job.now stock) document stock
+        (record { old = K.taken sink.old; new = K.taken sink.new; flushed = K.flushed sink.new })
+        result.0 (option_map (book_facts C.meaning) result.1) }
+    ensures outside { MindsSink (sink_facts K.taken K.flushed K.faults sink.old)
+        (sink_facts K.taken K.flushed K.faults sink.new) result.0 }
+{
+    match job.kind {
+        JobKind::Upgrade => (upgrade_document(alloc, document, sink), None),
+        JobKind::Run | JobKind::Steps | JobKind::Live => {
+            run_document(alloc, *job, document, sink, stock)
+        }
     }
 }
 

@@ -1,9 +1,6 @@
 //! The job `upgrade`: the description of an accepted document, written as one of the second version.
 
-ghost use Rattle.std.specs.Prelude.{◌≡◌, ◌⊎◌, ◌≢◌, List, ℕ};
-ghost use Rattle.std.specs.Io.KnownBytes.{Keeps};
-ghost use Rattle.cm_document.specs.declared.document.Document.{Document};
-ghost use Rattle.cm_top.specs.Answering.{upgrading};
+ghost use Rattle.cm_top.specs.Answering.{upgrading, WroteAnswer};
 ghost use Rattle.cm_top.specs.Calls.Run.{sink_facts, MindsSink};
 ghost use Rattle.cm_top.specs.Status.{Wrote};
 
@@ -17,9 +14,8 @@ use std::alloc::Global;
 
 /// Writes the description of a document as one of the second version, and flushes it. The script is not written.
 pub fn upgrade_document<K: Sink>(alloc: Global, document: Document, sink: &mut K) -> Status
-    ensures wrote { ((result ≡ Status.Memory) × Keeps (K.taken sink.old) (K.taken sink.new))
-        ⊎ ((text : List ℕ) × upgrading.IsAnswer document text × Wrote text
-        (record { old = K.taken sink.old; new = K.taken sink.new; flushed = K.flushed sink.new }) result) }
+    ensures wrote { WroteAnswer upgrading document
+        (record { old = K.taken sink.old; new = K.taken sink.new; flushed = K.flushed sink.new }) result }
     ensures outside { MindsSink (sink_facts K.taken K.flushed K.faults sink.old)
         (sink_facts K.taken K.flushed K.faults sink.new) result }
 {
