@@ -2,13 +2,13 @@
 //! wrong in it in words.
 #![tactic(auto)]
 
-ghost use Rattle.std.specs.Prelude.{◌≡◌, ◌≢◌, ◌≤◌, length};
+ghost use Rattle.std.specs.Prelude.{◌≡◌, ◌≤◌, length};
 ghost use Rattle.cm_document.specs.declared.limits.TheConstants.{LONGEST_DOCUMENT};
 ghost use Rattle.cm_document.specs.ScriptLaws.{MeetsRules};
 ghost use Rattle.cm_model.specs.Blanks.{blanks_of_each};
 ghost use Rattle.ctl_rack.specs.Stocks.{AreBlanks};
 ghost use Rattle.cm_program.specs.declared.stock.TheConstants.{BLANKS};
-ghost use Rattle.cm_words.specs.declared.job.JobKind.TheVariants as job_kind;
+ghost use Rattle.cm_top.specs.Book.{RunsAlone};
 
 use crate::unkept::Unkept;
 use cm_document::{CtlKind, Description, Document, DocumentFault, LONGEST_DOCUMENT, Script};
@@ -54,8 +54,7 @@ struct Asked {
     /// What is written of the run.
     form: Form,
     // No live run is drawn.
-    ghost alone: { kind ≢ job_kind.Live },
-    ghost runs: { kind ≢ job_kind.Upgrade },
+    ghost runs: { RunsAlone kind },
 }
 
 /// What is written of a run.
@@ -141,8 +140,7 @@ fn asked_by(alloc: Global, words: &[String]) -> Result<Asked, Status> {
 
 /// What a job and these words behind it ask for.
 fn asked_named(alloc: Global, kind: JobKind, words: &[String]) -> Result<Asked, Status>
-    requires alone { kind ≢ JobKind.Live }
-    requires runs { kind ≢ JobKind.Upgrade }
+    requires runs { RunsAlone kind }
 {
     let form = match words {
         [] => Form::Page(String::new(alloc)),

@@ -43,6 +43,12 @@ made_by kind.Steps blanks = Some (λ d. scheduled_in_steps d blanks)
 made_by kind.Live blanks = None
 made_by kind.Upgrade blanks = None
 
+-- one thread runs the job: no other makes its history there
+abbrev pub RunsAlone : JobKind → Type 0
+RunsAlone kind.Run = Unit {0}
+RunsAlone kind.Steps = Unit {0}
+RunsAlone _ = ⊥
+
 -- the text that is written of a document's history: its trace, and of a made document its summary
 abbrev pub text_by : Option ℕ → Document → List Entry → List ℕ
 text_by None d history = output d history

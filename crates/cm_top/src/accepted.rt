@@ -7,7 +7,7 @@ ghost use Rattle.outside_io.specs.Faults.{IsToldAs};
 ghost use Rattle.cm_desk.specs.Desk.{now_of};
 ghost use Rattle.cm_document.specs.ScriptLaws.{MeetsRules};
 ghost use Rattle.cm_document.specs.declared.document.Document.{Document};
-ghost use Rattle.cm_top.specs.Book.{IsDone, book_facts, book_of, made_by, task_of, text_by};
+ghost use Rattle.cm_top.specs.Book.{RunsAlone, IsDone, book_facts, book_of, made_by, task_of, text_by};
 ghost use Rattle.cm_top.specs.Calls.Run.{sink_facts, MindsSink};
 ghost use Rattle.cm_top.specs.Status.{RanDocument, Wrote};
 
@@ -32,8 +32,7 @@ pub fn run_document<K: Sink, C: Controller>(
     sink: &mut K,
     stock: Stock<C>,
 ) -> (Status, Option<Book<C>>)
-    requires alone { asked.kind ≢ JobKind.Live }
-    requires runs { asked.kind ≢ JobKind.Upgrade }
+    requires runs { RunsAlone asked.kind }
     requires rules { MeetsRules document.script }
     ensures ran { RanDocument (task_of asked stock) document stock
         (record { old = K.taken sink.old; new = K.taken sink.new; flushed = K.flushed sink.new })
@@ -59,8 +58,7 @@ fn made<C: Controller>(
     script: &Script,
     stock: Stock<C>,
 ) -> Result<Desk<C>, Memory>
-    requires alone { kind ≢ JobKind.Live }
-    requires runs { kind ≢ JobKind.Upgrade }
+    requires runs { RunsAlone kind }
     requires rules { MeetsRules script.now }
     ensures { IfOk result
         (IsDone (made_by kind stock) stock (record { description = checked; script = script.now })) }

@@ -64,9 +64,8 @@ where
     match asked(alloc, words) {
         Ok(job) => match job.kind {
             JobKind::Live => run_live(rt, alloc, job.make, source, sink, stock, pace, gate),
-            JobKind::Run | JobKind::Steps | JobKind::Upgrade => {
-                run_alone(alloc, &job, source, sink, stock)
-            }
+            JobKind::Run | JobKind::Steps => run_alone(alloc, &job, source, sink, stock),
+            JobKind::Upgrade => run_alone(alloc, &job, source, sink, stock),
         },
         Err(WordsFault::Usage) => (Status::BadWords, None),
         Err(WordsFault::Memory) => (Status::Memory, None),
@@ -115,9 +114,8 @@ fn do_job<K: Sink, C: Controller>(
 {
     match job.kind {
         JobKind::Upgrade => (upgrade_document(alloc, document, sink), None),
-        JobKind::Run | JobKind::Steps | JobKind::Live => {
-            run_document(alloc, *job, document, sink, stock)
-        }
+        JobKind::Run | JobKind::Steps => run_document(alloc, *job, document, sink, stock),
+        JobKind::Live => unreachable!(),
     }
 }
 

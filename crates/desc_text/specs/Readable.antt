@@ -1,4 +1,4 @@
--- Which descriptions are read back from their table: those of which a text could speak. Each that was read and checked is one.
+-- Which descriptions are read back from their table. Each that was read and checked is one.
 use Rattle.std.specs.Prelude.{◌≡◌, ◌⊎◌, ℕ, ◌<◌, ◌≤◌, ◌^◌, ℤ, IsTrue, List, [], length}
 use Rattle.std.specs.List.{AllByRecursion, IsDistinct}
 use Rattle.fixed_num.specs.Micro.{IsInRange}

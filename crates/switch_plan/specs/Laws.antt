@@ -41,8 +41,8 @@ pub record CanBeDone (scene : Scene) (off on : List Pick) : Type 0 where
   pub coming : IsFaultless (on_fault scene (named scene (picked_names off))) on
   pub members : (kind : FaultKind) (m : Member)
       → Contains (order scene (strict_set scene (picked_names off) (picked_names on))) m
-      → counted scene (strict_set scene (picked_names off) (picked_names on)) (named scene (picked_names on)) kind m.place
-      ≡ None
+      → counted scene (strict_set scene (picked_names off) (picked_names on)) (named scene (picked_names on)) kind
+      m.place ≡ None
 
 -- This counts against a member of the set that a strict switch of these controllers leads to.
 abbrev pub CountsOfMember : Scene → List (List ℕ) → List (List ℕ) → Dropped → Type 0
