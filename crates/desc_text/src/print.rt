@@ -42,7 +42,12 @@ fn description_table(alloc: Global, description: &Description) -> Result<Table, 
 {
     let mut made = Table::new(alloc);
     put_whole(alloc, &mut made, "version", u64::from(description.version))?;
-    put_whole(alloc, &mut made, "update_rate", u64::from(description.update_rate))?;
+    put_whole(
+        alloc,
+        &mut made,
+        "update_rate",
+        u64::from(description.update_rate),
+    )?;
     put_whole(alloc, &mut made, "cycles", description.cycles)?;
     put_tables(alloc, &mut made, description)?;
     Ok(made)

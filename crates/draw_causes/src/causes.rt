@@ -81,7 +81,10 @@ pub fn push_cause_mend(text: &mut String, name: &Name, cause: &Cause) -> Result<
     ensures { OnOk result (string_bytes text.new ≡ string_bytes text.old ++ cause_mend name.now cause.now) }
 {
     match cause {
-        Cause::NoGroup => write!(text, "describe the group {name}, or name a controller without an @")?,
+        Cause::NoGroup => write!(
+            text,
+            "describe the group {name}, or name a controller without an @"
+        )?,
         Cause::Unknown => text.push_str(UNKNOWN_MEND)?,
         Cause::Twice => write!(text, "name {name} once in each list")?,
         Cause::NotActive => write!(text, "leave {name} off the list to deactivate")?,

@@ -21,8 +21,18 @@ pub fn component_table(alloc: Global, component: &CompDesc) -> Result<Table, Mem
 {
     let mut made = Table::new(alloc);
     put_states(alloc, &mut made, component)?;
-    put_cycles(alloc, &mut made, "fail_read", component.fail_read.as_slice())?;
-    put_cycles(alloc, &mut made, "fail_write", component.fail_write.as_slice())?;
+    put_cycles(
+        alloc,
+        &mut made,
+        "fail_read",
+        component.fail_read.as_slice(),
+    )?;
+    put_cycles(
+        alloc,
+        &mut made,
+        "fail_write",
+        component.fail_write.as_slice(),
+    )?;
     let joints = joints(alloc, component.joints.as_slice())?;
     put_list(alloc, &mut made, "joint", joints)?;
     Ok(made)
