@@ -20,7 +20,7 @@ use fixed_num::Memory;
 use parts::{component_table, group_table};
 use rows::{put_list, put_whole};
 use std::alloc::Global;
-use toml::{Array, Table, Value};
+use toml::{Table, Value};
 
 /// The text of a description of the second version: the walk reads it as this description. A list that is empty is left out,
 /// but for the reads of a broadcaster, and each quantity is a text. The layout is that of `toml`.
@@ -59,21 +59,21 @@ fn put_tables(alloc: Global, made: &mut Table, description: &Description) -> Res
     ensures { OnOk result (table_view made.new
         ≡ with_rows (drop 3 (description_rows description.now)) (table_view made.old)) }
 {
-    let components = components(alloc, description.components.as_slice())?;
+    let components = component_tables(alloc, description.components.as_slice())?;
     put_list(alloc, made, "component", components)?;
-    let controllers = controllers(alloc, description.controllers.as_slice())?;
+    let controllers = controller_tables(alloc, description.controllers.as_slice())?;
     put_list(alloc, made, "controller", controllers)?;
-    let groups = groups(alloc, description.groups.as_slice())?;
+    let groups = group_tables(alloc, description.groups.as_slice())?;
     put_list(alloc, made, "group", groups)
 }
 
 /// The tables of these components.
-fn components(alloc: Global, components: &[CompDesc]) -> Result<Array, Memory>
+fn component_tables(alloc: Global, components: &[CompDesc]) -> Result<Vec<Value>, Memory>
     requires { AllByRecursion ComponentIsReadable components.now }
     ensures { IfOk result (λ list. array_view list
         ≡ items_of (map (λ c. table (component_tree c)) components.now)) }
 {
-    let mut list = Array::new(alloc);
+    let mut list = Vec::new(alloc);
     for component in components {
         list.push(Value::Table(component_table(alloc, component)?))?;
     }
@@ -81,12 +81,12 @@ fn components(alloc: Global, components: &[CompDesc]) -> Result<Array, Memory>
 }
 
 /// The tables of these controllers.
-fn controllers(alloc: Global, controllers: &[CtlDesc]) -> Result<Array, Memory>
+fn controller_tables(alloc: Global, controllers: &[CtlDesc]) -> Result<Vec<Value>, Memory>
     requires { AllByRecursion ControllerIsReadable controllers.now }
     ensures { IfOk result (λ list. array_view list
         ≡ items_of (map (λ c. table (controller_tree c)) controllers.now)) }
 {
-    let mut list = Array::new(alloc);
+    let mut list = Vec::new(alloc);
     for controller in controllers {
         list.push(Value::Table(controller_table(alloc, controller)?))?;
     }
@@ -94,10 +94,10 @@ fn controllers(alloc: Global, controllers: &[CtlDesc]) -> Result<Array, Memory>
 }
 
 /// The tables of these groups.
-fn groups(alloc: Global, groups: &[GroupDesc]) -> Result<Array, Memory>
+fn group_tables(alloc: Global, groups: &[GroupDesc]) -> Result<Vec<Value>, Memory>
     ensures { IfOk result (λ list. array_view list ≡ items_of (map (λ g. table (group_tree g)) groups.now)) }
 {
-    let mut list = Array::new(alloc);
+    let mut list = Vec::new(alloc);
     for group in groups {
         list.push(Value::Table(group_table(alloc, group)?))?;
     }

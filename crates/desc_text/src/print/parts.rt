@@ -12,7 +12,7 @@ use cm_document::{CompDesc, GroupDesc, JointDesc};
 use fixed_num::Memory;
 use iface_names::Kind;
 use std::alloc::Global;
-use toml::{Array, Table, Value};
+use toml::{Table, Value};
 
 /// The table of a component.
 pub fn component_table(alloc: Global, component: &CompDesc) -> Result<Table, Memory>
@@ -33,7 +33,7 @@ pub fn component_table(alloc: Global, component: &CompDesc) -> Result<Table, Mem
         "fail_write",
         component.fail_write.as_slice(),
     )?;
-    let joints = joints(alloc, component.joints.as_slice())?;
+    let joints = joint_tables(alloc, component.joints.as_slice())?;
     put_list(alloc, &mut made, "joint", joints)?;
     Ok(made)
 }
@@ -50,10 +50,10 @@ fn put_states(alloc: Global, made: &mut Table, component: &CompDesc) -> Result<(
 }
 
 /// The tables of these joints.
-fn joints(alloc: Global, joints: &[JointDesc]) -> Result<Array, Memory>
+fn joint_tables(alloc: Global, joints: &[JointDesc]) -> Result<Vec<Value>, Memory>
     ensures { IfOk result (λ list. array_view list ≡ items_of (map (λ j. table (joint_tree j)) joints.now)) }
 {
-    let mut list = Array::new(alloc);
+    let mut list = Vec::new(alloc);
     for joint in joints {
         list.push(Value::Table(joint_table(alloc, joint)?))?;
     }
@@ -88,7 +88,7 @@ fn put_body(alloc: Global, made: &mut Table, joint: &JointDesc) -> Result<(), Me
 fn put_kinds(alloc: Global, made: &mut Table, key: &str, said: &[Kind]) -> Result<(), Memory>
     ensures { OnOk result (table_view made.new ≡ with_row (key.now, kinds said.now) (table_view made.old)) }
 {
-    let mut list = Array::new(alloc);
+    let mut list = Vec::new(alloc);
     for kind in said {
         list.push(Value::string(alloc, kind.word())?)?;
     }

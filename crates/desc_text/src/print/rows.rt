@@ -11,7 +11,7 @@ ghost use Rattle.desc_text.specs.Readable.{IsWhole, AreWholes};
 use fixed_num::{Fx, Memory};
 use iface_names::{IfaceName, Name};
 use std::alloc::Global;
-use toml::{Array, Table, Value};
+use toml::{Table, Value};
 
 /// Puts a value in at a key.
 pub fn put(alloc: Global, made: &mut Table, key: &str, value: Value) -> Result<(), Memory>
@@ -55,7 +55,7 @@ pub fn put_flag(alloc: Global, made: &mut Table, key: &str, flag: bool) -> Resul
 }
 
 /// Puts a list in, if it is not empty.
-pub fn put_list(alloc: Global, made: &mut Table, key: &str, list: Array) -> Result<(), Memory>
+pub fn put_list(alloc: Global, made: &mut Table, key: &str, list: Vec<Value>) -> Result<(), Memory>
     ensures { OnOk result
         (table_view made.new ≡ with_row (key.now, if_items (array_view list)) (table_view made.old)) }
 {
@@ -73,10 +73,10 @@ pub fn put_names(alloc: Global, made: &mut Table, key: &str, list: &[Name]) -> R
     put_list(alloc, made, key, texts)
 }
 
-fn name_texts(alloc: Global, names: &[Name]) -> Result<Array, Memory>
+fn name_texts(alloc: Global, names: &[Name]) -> Result<Vec<Value>, Memory>
     ensures { IfOk result (λ list. array_view list ≡ items_of (map string names.now)) }
 {
-    let mut list = Array::new(alloc);
+    let mut list = Vec::new(alloc);
     for name in names {
         list.push(Value::string(alloc, name.as_str())?)?;
     }
@@ -98,11 +98,11 @@ pub fn put_interfaces(
 }
 
 /// The texts of these interfaces.
-pub fn interface_texts(alloc: Global, interfaces: &[IfaceName]) -> Result<Array, Memory>
+pub fn interface_texts(alloc: Global, interfaces: &[IfaceName]) -> Result<Vec<Value>, Memory>
     ensures { IfOk result
         (λ list. array_view list ≡ items_of (map (λ it. string (interface_text it)) interfaces.now)) }
 {
-    let mut list = Array::new(alloc);
+    let mut list = Vec::new(alloc);
     for interface in interfaces {
         let mut text = String::new(alloc);
         write!(text, "{interface}")?;
@@ -120,11 +120,11 @@ pub fn put_cycles(alloc: Global, made: &mut Table, key: &str, list: &[u64]) -> R
     put_list(alloc, made, key, numbers)
 }
 
-fn numbers(alloc: Global, cycles: &[u64]) -> Result<Array, Memory>
+fn numbers(alloc: Global, cycles: &[u64]) -> Result<Vec<Value>, Memory>
     requires { AreWholes cycles.now }
     ensures { IfOk result (λ list. array_view list ≡ items_of (map (λ n. integer (pos n)) cycles.now)) }
 {
-    let mut list = Array::new(alloc);
+    let mut list = Vec::new(alloc);
     for cycle in cycles {
         list.push(Value::Integer(*cycle as i64))?;
     }
