@@ -3,7 +3,7 @@ use Rattle.std.proofs.Common.{◌≡◌, refl, List, ℕ, [], ◌∷◌, Ok, Err
 use Rattle.std.specs.Prelude.{codes}
 use Rattle.std.specs.Fmt.{digits}
 use Rattle.iface_names.specs.declared.interface.IfaceName.TheVariants as interface
-use Rattle.iface_names.specs.declared.kind.Kind.TheVariants.{Position, Effort}
+use Rattle.iface_names.specs.declared.kind.Kind.TheVariants.{Position, Effort, Velocity}
 use Rattle.cm_document.specs.Described.{a_controller, a_headed, a_description, a_grouped, a_group, a_joint, a_component}
 use Rattle.cm_document.specs.Valid.{valid}
 use Rattle.cm_document.specs.declared.description.CompDesc.{CompDesc}
@@ -11,7 +11,7 @@ use Rattle.cm_document.specs.declared.description.CompKind.{CompKind}
 use Rattle.cm_document.specs.declared.description.CompKind.TheVariants.{Sensor, Actuator}
 use Rattle.cm_document.specs.declared.description.CtlDesc.{CtlDesc}
 use Rattle.cm_document.specs.declared.description.Description.{Description}
-use Rattle.cm_document.specs.declared.description.Params.TheVariants.{Forward, Passthrough, Mock}
+use Rattle.cm_document.specs.declared.description.Params.TheVariants.{Forward, Passthrough, Mock, Transmission, Differential, Limiter}
 use Rattle.cm_document.specs.declared.faults.CheckFault.TheVariants.{TooMany, NameTwice, BadRange, NoInterface, NoFallback, NoMember, ChainLoop}
 use Rattle.cm_document.specs.declared.faults.What.TheVariants.{Groups}
 use Rattle.cm_document.specs.declared.life.Life.TheVariants.{Unconfigured, Active}
@@ -129,3 +129,31 @@ named_twice = refl
 claimed_twice : valid (controllers_alone (a_controller (codes "f") 0 (interface.Joint (codes "j1") Effort ∷ interface.Joint (codes "j1") Effort ∷ []) [] (Forward 2) ∷ [])) ≡ Err (NameTwice (codes "j1/effort"))
 unfolding valid digits
 claimed_twice = refl
+
+-- a reduction that is not above 0
+no_reduction : valid (controllers_alone (a_controller (codes "t") 0 (interface.Joint (codes "j1") Position ∷ []) [] (Transmission Position (pos 0) (pos 0)) ∷ []))
+    ≡ Err (BadRange (codes "controller[0].reduction"))
+unfolding valid digits
+no_reduction = refl
+
+-- a differential of two kinds, and of efforts
+differential_of_two_kinds : valid (controllers_alone (a_controller (codes "d") 0 (interface.Joint (codes "j1") Position ∷ interface.Joint (codes "j2") Velocity ∷ []) [] (Differential Position (pos 1) (pos 1) (pos 0) (pos 0)) ∷ []))
+    ≡ Err (BadRange (codes "controller[0].claims"))
+unfolding valid digits
+differential_of_two_kinds = refl
+
+differential_of_efforts : valid (controllers_alone (a_controller (codes "d") 0 (interface.Joint (codes "j1") Effort ∷ interface.Joint (codes "j2") Effort ∷ []) [] (Differential Effort (pos 0) (pos 1) (pos 0) (pos 0)) ∷ []))
+    ≡ Err (BadRange (codes "controller[0].claims"))
+unfolding valid digits
+differential_of_efforts = refl
+
+-- a limiter that reads a velocity, and one whose ends are the wrong way round
+limiter_that_reads_a_velocity : valid (controllers_alone (a_controller (codes "l") 0 (interface.Joint (codes "j1") Position ∷ []) (interface.Joint (codes "j1") Velocity ∷ []) (Limiter (pos 1) (pos 0) (pos 0) (pos 0)) ∷ []))
+    ≡ Err (BadRange (codes "controller[0].reads"))
+unfolding valid digits
+limiter_that_reads_a_velocity = refl
+
+limiter_upside_down : valid (controllers_alone (a_controller (codes "l") 0 (interface.Joint (codes "j1") Position ∷ []) (interface.Joint (codes "j1") Position ∷ []) (Limiter (pos 1) (pos 0) (pos 0) (pos 0)) ∷ []))
+    ≡ Err (BadRange (codes "controller[0].max"))
+unfolding valid digits
+limiter_upside_down = refl

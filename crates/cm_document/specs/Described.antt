@@ -10,6 +10,7 @@ use Rattle.fixed_num.specs.declared.TheConstants.{MICRO}
 use Rattle.iface_names.specs.declared.interface.IfaceName.{IfaceName}
 use Rattle.iface_names.specs.declared.interface.IfaceName.TheVariants.{Joint}
 use Rattle.iface_names.specs.declared.kind.Kind.{Kind}
+use Rattle.cm_document.specs.Params.{first_kind}
 use Rattle.cm_document.specs.Reading.{◌>>=◌}
 use Rattle.cm_document.specs.Vocabulary.{component_kinds, lives, lives_on_error, controller_kinds}
 use Rattle.cm_document.specs.Forms.{Form, one, list_of, list_after, tables_of, all_or_list, whole_in, quantity_in}
@@ -20,7 +21,8 @@ use Rattle.cm_document.specs.declared.description.CompKind.{CompKind}
 use Rattle.cm_document.specs.declared.description.CtlDesc.{CtlDesc}
 use Rattle.cm_document.specs.declared.description.CtlKind.{CtlKind}
 use Rattle.cm_document.specs.declared.description.CtlKind.TheVariants.{Forward, Passthrough, Pid, Trajectory}
-use Rattle.cm_document.specs.declared.description.CtlKind.TheVariants.{Broadcaster, Mock}
+use Rattle.cm_document.specs.declared.description.CtlKind.TheVariants.{Broadcaster, Mock, Transmission, Differential}
+use Rattle.cm_document.specs.declared.description.CtlKind.TheVariants.{Limiter}
 use Rattle.cm_document.specs.declared.description.Description.{Description}
 use Rattle.cm_document.specs.declared.description.GroupDesc.{GroupDesc}
 use Rattle.cm_document.specs.declared.description.JointDesc.{JointDesc}
@@ -175,6 +177,42 @@ mock_table = common (λ head claims reads refuse_config not_ready fail_update.
     & defaulted (codes "not_ready") (list_of whole_in) []
     & defaulted (codes "fail_update") (list_of whole_in) []
 
+-- the keys of a transmission, which carries the kind of its claim
+abbrev pub transmission_table : Table CtlDesc
+transmission_table =
+    common
+    (λ head claims reduction offset.
+    a_headed head claims [] (params.Transmission (first_kind claims) reduction offset))
+    & required (codes "claims") (list_of interface_in)
+    & required (codes "reduction") (one quantity_in)
+    & defaulted (codes "offset") (one quantity_in) (pos 0)
+
+-- the keys of a differential, which carries the kind of its first claim
+abbrev pub differential_table : Table CtlDesc
+differential_table =
+    common
+    (λ head claims reduction1 reduction2 offset1 offset2.
+    a_headed head claims []
+    (params.Differential (first_kind claims) reduction1 reduction2 offset1 offset2))
+    & required (codes "claims") (list_of interface_in)
+    & required (codes "reduction1") (one quantity_in)
+    & required (codes "reduction2") (one quantity_in)
+    & defaulted (codes "offset1") (one quantity_in) (pos 0)
+    & defaulted (codes "offset2") (one quantity_in) (pos 0)
+
+-- the keys of a limiter
+abbrev pub limiter_table : Table CtlDesc
+limiter_table =
+    common
+    (λ head claims reads lowest highest vmax amax.
+    a_headed head claims reads (params.Limiter lowest highest vmax amax))
+    & required (codes "claims") (list_of interface_in)
+    & required (codes "reads") (list_of state_in)
+    & required (codes "min") (one quantity_in)
+    & required (codes "max") (one quantity_in)
+    & required (codes "vmax") (one quantity_in)
+    & required (codes "amax") (one quantity_in)
+
 -- the keys of a controller by its type
 unfoldable pub controller_table : List IfaceName → CtlKind → Table CtlDesc
 controller_table states Forward = claiming_table params.Forward
@@ -183,6 +221,9 @@ controller_table states Pid = pid_table
 controller_table states Trajectory = trajectory_table
 controller_table states Broadcaster = broadcaster_table states
 controller_table states Mock = mock_table
+controller_table states Transmission = transmission_table
+controller_table states Differential = differential_table
+controller_table states Limiter = limiter_table
 
 -- the type of a controller, at its key
 abbrev pub type_of : List ℕ → Members → Result CtlKind DescFault

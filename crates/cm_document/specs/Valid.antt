@@ -3,18 +3,19 @@
 use Rattle.std.specs.Prelude.{◌≡◌, ℕ, ◌+◌, ℤ, pos, int_le, Bool, true, not, ◌&&◌, nat_lt, nat_le, ◌==◌, if◌then◌else◌}
 use Rattle.std.specs.Prelude.{List, [], ◌∷◌, ◌++◌, length, sum_by, map, codes, slice_get, Option, Some, None, Result}
 use Rattle.std.specs.Prelude.{Ok, Err}
-use Rattle.std.specs.List.{list_any, find}
+use Rattle.std.specs.List.{list_any, list_all, find}
 use Rattle.std.specs.Option.{option_map_or}
 use Rattle.toml.specs.Data.{Members}
 use Rattle.iface_names.specs.Names.{same_name}
-use Rattle.iface_names.specs.Interfaces.{same_interface, interface_text}
+use Rattle.iface_names.specs.Interfaces.{same_interface, same_kind, interface_text}
 use Rattle.iface_names.specs.declared.interface.IfaceName.{IfaceName}
 use Rattle.cm_document.specs.declared.limits.TheConstants.{HIGHEST_RATE, MOST_CYCLES, MOST_FALLBACKS, MOST_MEMBERS}
+use Rattle.iface_names.specs.declared.kind.Kind.{Kind}
 use Rattle.cm_document.specs.Reading.{◌>>=◌}
 use Rattle.cm_document.specs.Forms.{item_path, inside}
 use Rattle.cm_document.specs.Described.{states_of, description_form}
 use Rattle.cm_document.specs.Limits.{is_version, limits_of}
-use Rattle.cm_document.specs.Params.{fewest_claims, most_claims, reads_beside, limits_at}
+use Rattle.cm_document.specs.Params.{fewest_claims, most_claims, reads_beside, limits_at, Bounded, kind_at, claimed_kind, read_kind, may_carry}
 use Rattle.cm_document.specs.Links.{joints_of, commands_of, references_of, is_among, first_in_loop}
 use Rattle.cm_document.specs.declared.description.CompDesc.{CompDesc}
 use Rattle.cm_document.specs.declared.description.CompKind.{CompKind}
@@ -143,23 +144,43 @@ claims_fit params count = nat_le (fewest_claims params) count && nat_le count (m
 abbrev pub reads_fit : Params → ℕ → ℕ → Bool
 reads_fit params claims count = option_map_or (λ reads. count == reads) (reads_beside params claims) true
 
--- none of these numbers is negative: else the first that is negative is told, at its key
-abbrev pub none_negative : List ℕ → List (List ℕ × ℤ) → Result (Unit {0}) CheckFault
-none_negative prefix [] = Ok tt
-none_negative prefix (each ∷ others) =
-    ranged (not_negative each.1) (prefix ++ each.0) >>= λ _. none_negative prefix others
+-- each of these interfaces is of this kind, if one is asked
+abbrev pub are_all_of : Option Kind → List IfaceName → Bool
+are_all_of asked interfaces =
+    option_map_or (λ kind. list_all (λ interface. same_kind (kind_at interface) kind) interfaces) asked true
 
--- the limits are not negative
+-- the claims carry what a controller with these parameters may claim
+abbrev pub claims_carried : Params → List IfaceName → Bool
+claims_carried params claims = may_carry params && are_all_of (claimed_kind params) claims
+
+-- no number is below its least
+abbrev pub is_bounded : Bounded → Bool
+is_bounded each = int_le each.least each.number
+
+-- none of these numbers is below its least: else the first that is below is told, at its key
+abbrev pub all_bounded : List ℕ → List Bounded → Result (Unit {0}) CheckFault
+all_bounded prefix [] = Ok tt
+all_bounded prefix (each ∷ others) =
+    ranged (is_bounded each) (prefix ++ each.key) >>= λ _. all_bounded prefix others
+
+-- no limit is below its least
 abbrev pub limits_ranged : List ℕ → Params → Result (Unit {0}) CheckFault
-limits_ranged prefix params = none_negative prefix (limits_at params)
+limits_ranged prefix params = all_bounded prefix (limits_at params)
 
--- the rate, then the numbers of fallbacks, claims and reads, then the limits
+-- as many claims as its kind may have, of what it may claim; then the same of reads
+abbrev pub links_ranged : List ℕ → CtlDesc → Result (Unit {0}) CheckFault
+links_ranged prefix c =
+    ranged (claims_fit c.params (length c.claims)) (prefix ++ codes "claims") >>= λ _.
+    ranged (claims_carried c.params c.claims) (prefix ++ codes "claims") >>= λ _.
+    ranged (reads_fit c.params (length c.claims) (length c.reads)) (prefix ++ codes "reads") >>= λ _.
+    ranged (are_all_of (read_kind c.params) c.reads) (prefix ++ codes "reads")
+
+-- the rate, the number of fallbacks, then what it claims and what it reads, and the limits
 abbrev pub controller_ranged : List ℕ → CtlDesc → Result (Unit {0}) CheckFault
 controller_ranged prefix c =
     ranged (nat_le c.rate HIGHEST_RATE) (prefix ++ codes "update_rate") >>= λ _.
     ranged (nat_le (length c.fallback) MOST_FALLBACKS) (prefix ++ codes "fallback") >>= λ _.
-    ranged (claims_fit c.params (length c.claims)) (prefix ++ codes "claims") >>= λ _.
-    ranged (reads_fit c.params (length c.claims) (length c.reads)) (prefix ++ codes "reads") >>= λ _.
+    links_ranged prefix c >>= λ _.
     limits_ranged prefix c.params
 
 -- a group has from one to as many members as it may have

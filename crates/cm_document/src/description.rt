@@ -3,8 +3,10 @@
 ghost use Rattle.std.specs.Prelude.{◌≡◌, take, IfOk};
 ghost use Rattle.cm_document.specs.Links.{exported_for, reference_for};
 ghost use Rattle.cm_document.specs.Params.{kind_of, exports_of, fewest_claims, most_claims, reads_beside};
+ghost use Rattle.cm_document.specs.Params.{claimed_kind, read_kind, may_carry};
 ghost use Rattle.cm_document.specs.Places.{kinds_of};
 
+use crate::carried::is_motion;
 use crate::cycles::Cycles;
 use crate::life::Life;
 use crate::limits::MOST_CLAIMS_OF_ONE;
@@ -118,6 +120,12 @@ pub enum CtlKind {
     Broadcaster,
     /// Stands in for a controller in tests of the manager.
     Mock,
+    /// Tells the actuator of a joint, through a gear, what the joint is to do.
+    Transmission,
+    /// Tells two actuators, which move two joints together, what the joints are to do.
+    Differential,
+    /// Leads a position to where it is wanted, within a speed and an acceleration.
+    Limiter,
 }
 
 /// Which references a controller exports.
@@ -235,6 +243,39 @@ pub enum Params {
         /// The cycles in which its update gives an error.
         fail_update: Cycles,
     },
+    /// A transmission.
+    Transmission {
+        /// The kind of what it claims.
+        kind: Kind,
+        /// How often the actuator turns for one turn of the joint, above 0.
+        reduction: Fx,
+        /// The position of the joint where the actuator's is 0.
+        offset: Fx,
+    },
+    /// A differential.
+    Differential {
+        /// The kind of what it claims first.
+        kind: Kind,
+        /// The reduction of the first actuator, above 0.
+        reduction1: Fx,
+        /// The reduction of the second actuator, above 0.
+        reduction2: Fx,
+        /// The offset of the first joint.
+        offset1: Fx,
+        /// The offset of the second joint.
+        offset2: Fx,
+    },
+    /// A limiter.
+    Limiter {
+        /// The lowest position.
+        min: Fx,
+        /// The highest position, which is not below the lowest.
+        max: Fx,
+        /// The highest speed, which is not negative.
+        vmax: Fx,
+        /// The highest acceleration, which is not negative.
+        amax: Fx,
+    },
 }
 
 impl Params {
@@ -249,6 +290,9 @@ impl Params {
             Params::Trajectory { .. } => CtlKind::Trajectory,
             Params::Broadcaster { .. } => CtlKind::Broadcaster,
             Params::Mock { .. } => CtlKind::Mock,
+            Params::Transmission { .. } => CtlKind::Transmission,
+            Params::Differential { .. } => CtlKind::Differential,
+            Params::Limiter { .. } => CtlKind::Limiter,
         }
     }
 
@@ -257,7 +301,10 @@ impl Params {
         ensures { result ≡ exports_of self.now }
     {
         match self {
-            Params::Passthrough { .. } => Exports::EachClaim,
+            Params::Passthrough { .. }
+            | Params::Transmission { .. }
+            | Params::Differential { .. }
+            | Params::Limiter { .. } => Exports::EachClaim,
             Params::Pid { .. } => Exports::FirstRead,
             _ => Exports::Nothing,
         }
@@ -269,6 +316,7 @@ impl Params {
     {
         match self {
             Params::Broadcaster { .. } | Params::Mock { .. } => 0,
+            Params::Differential { .. } => 2,
             _ => 1,
         }
     }
@@ -278,7 +326,8 @@ impl Params {
         ensures { result ≡ most_claims self.now }
     {
         match self {
-            Params::Pid { .. } => 1,
+            Params::Pid { .. } | Params::Transmission { .. } | Params::Limiter { .. } => 1,
+            Params::Differential { .. } => 2,
             Params::Broadcaster { .. } => 0,
             _ => MOST_CLAIMS_OF_ONE,
         }
@@ -289,9 +338,40 @@ impl Params {
         ensures { result ≡ reads_beside self.now claims }
     {
         match self {
-            Params::Pid { .. } => Some(1),
+            Params::Pid { .. } | Params::Limiter { .. } => Some(1),
             Params::Trajectory { .. } => Some(claims),
             _ => None,
+        }
+    }
+
+    /// The kind that each of its claims has; None if they may be of any.
+    pub fn claimed_kind(&self) -> Option<Kind>
+        ensures { result ≡ claimed_kind self.now }
+    {
+        match self {
+            Params::Transmission { kind, .. } | Params::Differential { kind, .. } => Some(*kind),
+            Params::Limiter { .. } => Some(Kind::Position),
+            _ => None,
+        }
+    }
+
+    /// The kind that each of its reads has; None if they may be of any.
+    pub fn read_kind(&self) -> Option<Kind>
+        ensures { result ≡ read_kind self.now }
+    {
+        match self {
+            Params::Limiter { .. } => Some(Kind::Position),
+            _ => None,
+        }
+    }
+
+    /// Whether it carries what a controller of its kind may carry: a differential carries no effort.
+    pub fn may_carry(&self) -> bool
+        ensures { result ≡ may_carry self.now }
+    {
+        match self {
+            Params::Differential { kind, .. } => is_motion(*kind),
+            _ => true,
         }
     }
 }

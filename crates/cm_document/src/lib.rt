@@ -3,6 +3,7 @@
 #![tactic(auto)]
 
 pub use call::{Call, Mail, Pick, Point2, SwitchRequest};
+pub use carried::{first_kind, is_motion, kind_at};
 pub use checked::Checked;
 pub use cycles::Cycles;
 pub use description::{
@@ -26,6 +27,7 @@ pub use vocabulary::{
 };
 
 mod call;
+mod carried;
 mod checked;
 mod cycles;
 mod description;

@@ -31,13 +31,16 @@ pub const LIVES_ON_ERROR: [(&str, Life); 2] = [
 ];
 
 /// What a controller computes.
-pub const CONTROLLER_KINDS: [(&str, CtlKind); 6] = [
+pub const CONTROLLER_KINDS: [(&str, CtlKind); 9] = [
     ("forward", CtlKind::Forward),
     ("passthrough", CtlKind::Passthrough),
     ("pid", CtlKind::Pid),
     ("trajectory", CtlKind::Trajectory),
     ("broadcaster", CtlKind::Broadcaster),
     ("mock", CtlKind::Mock),
+    ("transmission", CtlKind::Transmission),
+    ("differential", CtlKind::Differential),
+    ("limiter", CtlKind::Limiter),
 ];
 
 /// The words that a line of a script can begin with.

@@ -8,9 +8,10 @@ use Rattle.cm_document.specs.declared.call.Mail.{Mail}
 use Rattle.cm_document.specs.declared.call.Mail.TheVariants.{Values, Points}
 use Rattle.cm_document.specs.declared.call.Point2.{Point2}
 use Rattle.cm_document.specs.declared.description.Params.{Params}
-use Rattle.cm_model.specs.Kinds.{publishes, follows_points, tuning_of, is_over_values, fails_in}
+use Rattle.cm_model.specs.Kinds.{publishes, follows_points, tuning_of, bounds_of, is_over_values, fails_in}
+use Rattle.cm_model.specs.Limiters.{Bounds}
 use Rattle.cm_model.specs.Pids.{Tuning}
-use Rattle.cm_model.specs.Controllers.{Updated, gives, runs_chained, tells_last, with_mail, wanted, pid_update, loop_update, set_update, trajectory_update, publishes_states, only_if, updated, update_step, mailed, step_with, ctl_step}
+use Rattle.cm_model.specs.Controllers.{Updated, gives, runs_chained, tells_last, with_mail, wanted, pid_update, loop_update, limiter_update, bounded_update, set_update, trajectory_update, publishes_states, only_if, updated, update_step, mailed, step_with, ctl_step}
 use Rattle.cm_model.specs.declared.data.CtlData.{CtlData}
 use Rattle.cm_model.specs.declared.data.RunData.{RunData}
 use Rattle.cm_model.specs.declared.data.RunData.TheVariants as run
@@ -22,6 +23,9 @@ mail_keeps_chained (run.Set chained set) (Points points) = refl
 mail_keeps_chained (run.Pid chained set integral last) (Values []) = refl
 mail_keeps_chained (run.Pid chained set integral last) (Values (value ∷ values)) = refl
 mail_keeps_chained (run.Pid chained set integral last) (Points points) = refl
+mail_keeps_chained (run.Limiter chained set at step) (Values []) = refl
+mail_keeps_chained (run.Limiter chained set at step) (Values (value ∷ values)) = refl
+mail_keeps_chained (run.Limiter chained set at step) (Points points) = refl
 mail_keeps_chained (run.Trajectory hold fresh start_us from points) (Values values) = refl
 mail_keeps_chained (run.Trajectory hold fresh start_us from points) (Points newer) = refl
 mail_keeps_chained (run.Broadcaster last) (Values values) = refl
@@ -33,6 +37,9 @@ mail_keeps_tells (run.Set chained set) (Points points) = refl
 mail_keeps_tells (run.Pid chained set integral last) (Values []) = refl
 mail_keeps_tells (run.Pid chained set integral last) (Values (value ∷ values)) = refl
 mail_keeps_tells (run.Pid chained set integral last) (Points points) = refl
+mail_keeps_tells (run.Limiter chained set at step) (Values []) = refl
+mail_keeps_tells (run.Limiter chained set at step) (Values (value ∷ values)) = refl
+mail_keeps_tells (run.Limiter chained set at step) (Points points) = refl
 mail_keeps_tells (run.Trajectory hold fresh start_us from points) (Values values) = refl
 mail_keeps_tells (run.Trajectory hold fresh start_us from points) (Points newer) = refl
 mail_keeps_tells (run.Broadcaster last) (Values values) = refl
@@ -64,6 +71,12 @@ loop_keeps_chained : (own : Option Tuning) (chained : Bool) (set : Value) (integ
 loop_keeps_chained None chained set integral last dt_us targets states = refl
 loop_keeps_chained (Some tuning) chained set integral last dt_us targets states = pid_keeps_chained tuning chained set integral last dt_us targets states
 
+limiter_keeps_chained : (own : Option Bounds) (chained : Bool) (set : Value) (at step : ℤ) (dt_us : ℕ) (targets : List Value)
+    → runs_chained (bounded_update own chained set at step dt_us targets).run ≡ chained
+limiter_keeps_chained None chained set at step dt_us targets = refl
+limiter_keeps_chained (Some bounds) chained set at step dt_us [] = refl
+limiter_keeps_chained (Some bounds) chained set at step dt_us (target ∷ targets) = refl
+
 pub update_keeps_chained : (params : Params) (part : RunData) (tick : Tick) (states : List ℤ) (refs : List Value)
     → runs_chained (updated params part tick states refs).run ≡ runs_chained part
 update_keeps_chained params (run.Set chained set) tick states refs =
@@ -76,6 +89,8 @@ update_keeps_chained params (run.Trajectory hold fresh start_us from points) tic
     (trajectory_keeps_chained tick.time_us states hold fresh start_us from points) refl
 update_keeps_chained params (run.Broadcaster last) tick states refs =
     only_so (λ given. runs_chained given.run ≡ false) (publishes (kind_of params)) (run.Broadcaster last) (publishes_states states) refl refl
+update_keeps_chained params (run.Limiter chained set at step) tick states refs =
+    limiter_keeps_chained (bounds_of params) chained set at step tick.dt_us (wanted chained refs (set ∷ []))
 
 -- ---- What was published last
 
@@ -100,6 +115,12 @@ set_keeps_tells : (failing : Bool) (chained : Bool) (set outs : List Value) → 
 set_keeps_tells true chained set outs = refl
 set_keeps_tells false chained set outs = refl
 
+limiter_keeps_tells : (own : Option Bounds) (chained : Bool) (set : Value) (at step : ℤ) (dt_us : ℕ) (targets : List Value)
+    → tells_last (bounded_update own chained set at step dt_us targets).run ≡ false
+limiter_keeps_tells None chained set at step dt_us targets = refl
+limiter_keeps_tells (Some bounds) chained set at step dt_us [] = refl
+limiter_keeps_tells (Some bounds) chained set at step dt_us (target ∷ targets) = refl
+
 -- an update leaves what runs of the sort that it was
 pub update_keeps_tells : (params : Params) (part : RunData) (tick : Tick) (states : List ℤ) (refs : List Value)
     → tells_last (updated params part tick states refs).run ≡ tells_last part
@@ -113,6 +134,8 @@ update_keeps_tells params (run.Trajectory hold fresh start_us from points) tick 
     (trajectory_keeps_tells tick.time_us states hold fresh start_us from points) refl
 update_keeps_tells params (run.Broadcaster last) tick states refs =
     only_so (λ given. tells_last given.run ≡ true) (publishes (kind_of params)) (run.Broadcaster last) (publishes_states states) refl refl
+update_keeps_tells params (run.Limiter chained set at step) tick states refs =
+    limiter_keeps_tells (bounds_of params) chained set at step tick.dt_us (wanted chained refs (set ∷ []))
 
 -- ---- A step
 

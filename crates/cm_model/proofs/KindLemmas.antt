@@ -2,7 +2,7 @@
 use Rattle.std.proofs.Common.{◌≡◌, ℤ, Bool, ◌&&◌, List, refl}
 use Rattle.cm_document.specs.Params.{kind_of}
 use Rattle.cm_document.specs.declared.description.Params.{Params}
-use Rattle.cm_document.specs.declared.description.Params.TheVariants.{Pid}
+use Rattle.cm_document.specs.declared.description.Params.TheVariants.{Pid, Limiter}
 use Rattle.cm_model.specs.Controllers.{started, runs_chained, tells_last}
 use Rattle.cm_model.specs.Kinds.{has_references, publishes}
 
@@ -13,4 +13,5 @@ pub record StartsAs (params : Params) (states : List ℤ) (chained : Bool) : Typ
 
 pub starts_as : (params : Params) (states : List ℤ) (chained : Bool) → StartsAs params states chained
 starts_as (Pid kp ki kd imax omax) states chained = record { marked = refl; tells = refl }
+starts_as (Limiter lowest highest vmax amax) states chained = record { marked = refl; tells = refl }
 starts_as _ states chained = record { marked = refl; tells = refl }

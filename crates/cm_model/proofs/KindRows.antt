@@ -1,5 +1,5 @@
 -- Worked rows of the table of controllers, computed from the definitions alone.
-use Rattle.std.proofs.Common.{◌≡◌, ℕ, ℤ, pos, negsuc, Bool, true, false, List, [], ◌∷◌, Option, Some, None, refl}
+use Rattle.std.proofs.Common.{◌≡◌, ℕ, zero, suc, ℤ, pos, negsuc, Bool, true, false, List, [], ◌∷◌, Option, Some, None, refl}
 use Rattle.fixed_num.specs.Micro.{clamped}
 use Rattle.fixed_num.specs.Arithmetic.{floor_div, within}
 use Rattle.fixed_num.specs.declared.value.Value.{Value}
@@ -9,9 +9,11 @@ use Rattle.cm_document.specs.declared.call.Point2.{Point2}
 use Rattle.cm_document.specs.declared.description.CtlKind.{CtlKind}
 use Rattle.cm_document.specs.declared.description.CtlKind.TheVariants as kind
 use Rattle.cm_document.specs.declared.description.Params.{Params}
-use Rattle.cm_document.specs.declared.description.Params.TheVariants.{Forward, Passthrough, Pid, Trajectory, Broadcaster, Mock}
+use Rattle.cm_document.specs.declared.description.Params.TheVariants.{Forward, Passthrough, Pid, Trajectory, Broadcaster, Mock, Transmission, Differential, Limiter}
+use Rattle.iface_names.specs.declared.kind.Kind.TheVariants.{Position, Velocity, Effort}
 use Rattle.cm_model.specs.State.{fresh}
 use Rattle.cm_model.specs.Kinds.{are_ranged, is_ready_in, takes, takes_none}
+use Rattle.cm_model.specs.Limiters.{nearest_from, new_step}
 use Rattle.cm_model.specs.Controllers.{Stepped, started, configured, activated, deactivated, cleaned_up, ctl_step, put_out}
 use Rattle.cm_model.specs.declared.data.CtlData.{CtlData}
 use Rattle.cm_model.specs.declared.data.RunData.{RunData}
@@ -173,6 +175,99 @@ a_mock_is_not_ready = refl
 a_mock_is_ready : is_ready_in mock 5 ≡ true
 a_mock_is_ready = refl
 
+-- ---- Transmission: three turns of the actuator for one of the joint, which stands at 0.1 where the actuator stands at 0
+
+abbrev geared : Params
+geared = Transmission Position (pos 3000000) (pos 100000)
+
+-- unchained it goes by what it was sent
+a_transmission : ctl_step (activated (configured (fresh kind.Transmission) geared) [] false) (tick 0 0 10000) [] (Num (pos 7) ∷ []) (Some (Values (pos 500000 ∷ [])))
+    ≡ well kind.Transmission geared (run.Set false (Num (pos 500000) ∷ [])) (Num (pos 1200000) ∷ []) []
+unfolding clamped floor_div
+a_transmission = refl
+
+-- chained it goes by its reference, and tells nothing where that is unset
+a_chained_transmission : ctl_step (active kind.Transmission geared (run.Set true (Unset ∷ []))) (tick 0 0 10000) [] (Num (negsuc 899999) ∷ []) None
+    ≡ well kind.Transmission geared (run.Set true (Unset ∷ [])) (Num (negsuc 2999999) ∷ []) []
+unfolding clamped floor_div
+a_chained_transmission = refl
+
+a_transmission_without_a_reference : ctl_step (active kind.Transmission geared (run.Set true (Num (pos 5) ∷ []))) (tick 0 0 10000) [] (Unset ∷ []) None
+    ≡ well kind.Transmission geared (run.Set true (Num (pos 5) ∷ [])) (Unset ∷ []) []
+a_transmission_without_a_reference = refl
+
+-- the reduction divides an effort
+a_transmission_of_efforts : ctl_step (active kind.Transmission (Transmission Effort (pos 3000000) (pos 100000)) (run.Set true (Unset ∷ []))) (tick 0 0 10000) [] (Num (pos 500000) ∷ []) None
+    ≡ well kind.Transmission (Transmission Effort (pos 3000000) (pos 100000)) (run.Set true (Unset ∷ [])) (Num (pos 166666) ∷ []) []
+unfolding clamped floor_div
+a_transmission_of_efforts = refl
+
+-- ---- Differential: twice the sum, and twice the difference
+
+abbrev wrist : Params
+wrist = Differential Position (pos 2000000) (pos 2000000) (pos 0) (pos 0)
+
+a_differential : ctl_step (activated (configured (fresh kind.Differential) wrist) [] true) (tick 0 0 10000) [] (Num (pos 300000) ∷ Num (pos 100000) ∷ []) None
+    ≡ well kind.Differential wrist (run.Set true (Unset ∷ Unset ∷ [])) (Num (pos 800000) ∷ Num (pos 400000) ∷ []) []
+unfolding clamped floor_div
+a_differential = refl
+
+-- where one of the two is unset, so are both outputs
+a_differential_of_one : ctl_step (active kind.Differential wrist (run.Set true (Unset ∷ Unset ∷ []))) (tick 0 0 10000) [] (Num (pos 300000) ∷ Unset ∷ []) None
+    ≡ well kind.Differential wrist (run.Set true (Unset ∷ Unset ∷ [])) (Unset ∷ Unset ∷ []) []
+a_differential_of_one = refl
+
+-- ---- Limiter: a hundred times a second a step of ten micro-units at most, and from step to step one more or less
+
+abbrev led : Params
+led = Limiter (negsuc 999) (pos 1000) (pos 1000) (pos 10000)
+
+-- the running part at a place, after a step
+abbrev led_run : Value → ℤ → ℤ → RunData
+led_run set at step = run.Limiter false set at step
+
+-- what so many updates give, one after the other
+abbrev outs_of : ℕ → CtlData → List (List Value)
+outs_of zero ctl = []
+outs_of (suc n) ctl = let step = ctl_step ctl (tick 0 0 10000) (pos 0 ∷ []) (Unset ∷ []) None in step.outs ∷ outs_of n step.after
+
+-- it begins where its state is, brought between its ends, without a step
+a_limiter_begins : started led (pos 4 ∷ []) true ≡ run.Limiter true Unset (pos 4) (pos 0)
+a_limiter_begins = refl
+
+a_limiter_begins_at_its_end : started led (pos 5000 ∷ []) false ≡ led_run Unset (pos 1000) (pos 0)
+a_limiter_begins_at_its_end = refl
+
+-- its first step
+a_limiter_sets_out : ctl_step (activated (configured (fresh kind.Limiter) led) (pos 0 ∷ []) false) (tick 0 0 10000) (pos 0 ∷ []) (Unset ∷ []) (Some (Values (pos 6 ∷ [])))
+    ≡ well kind.Limiter led (led_run (Num (pos 6)) (pos 1) (pos 1)) (Num (pos 1) ∷ []) []
+unfolding new_step nearest_from floor_div
+a_limiter_sets_out = refl
+
+-- it passes what is wanted, and comes back
+a_limiter_passes_what_is_wanted : outs_of 7 (active kind.Limiter led (led_run (Num (pos 6)) (pos 0) (pos 0)))
+    ≡ (Num (pos 1) ∷ []) ∷ (Num (pos 3) ∷ []) ∷ (Num (pos 6) ∷ []) ∷ (Num (pos 8) ∷ []) ∷ (Num (pos 9) ∷ []) ∷ (Num (pos 9) ∷ []) ∷ (Num (pos 8) ∷ []) ∷ []
+unfolding new_step nearest_from floor_div
+a_limiter_passes_what_is_wanted = refl
+
+-- it stops at its end
+a_limiter_stops_at_its_end : outs_of 5 (active kind.Limiter (Limiter (negsuc 999) (pos 6) (pos 1000) (pos 10000)) (led_run (Num (pos 1000)) (pos 0) (pos 0)))
+    ≡ (Num (pos 1) ∷ []) ∷ (Num (pos 3) ∷ []) ∷ (Num (pos 5) ∷ []) ∷ (Num (pos 6) ∷ []) ∷ (Num (pos 6) ∷ []) ∷ []
+unfolding new_step nearest_from floor_div
+a_limiter_stops_at_its_end = refl
+
+-- where nothing is wanted it slows down and stands
+a_limiter_slows_down : outs_of 4 (active kind.Limiter led (led_run Unset (pos 6) (pos 3)))
+    ≡ (Num (pos 8) ∷ []) ∷ (Num (pos 9) ∷ []) ∷ (Num (pos 9) ∷ []) ∷ (Num (pos 9) ∷ []) ∷ []
+unfolding new_step nearest_from floor_div
+a_limiter_slows_down = refl
+
+-- an acceleration that comes to nothing in the time of an update lets it stand
+a_limiter_that_stands : outs_of 2 (active kind.Limiter (Limiter (negsuc 999) (pos 1000) (pos 1000) (pos 9999)) (led_run (Num (pos 6)) (pos 0) (pos 0)))
+    ≡ (Num (pos 0) ∷ []) ∷ (Num (pos 0) ∷ []) ∷ []
+unfolding new_step nearest_from floor_div
+a_limiter_that_stands = refl
+
 -- ---- Mail
 
 a_list_of_the_right_length : takes (Forward 2) (Values (pos 1 ∷ pos 2 ∷ [])) ≡ true
@@ -192,6 +287,12 @@ points_of_the_right_length = refl
 
 points_that_are_too_short : takes (Trajectory 2) (Points one_point) ≡ false
 points_that_are_too_short = refl
+
+one_value_for_a_differential : takes wrist (Values (pos 1 ∷ [])) ≡ false
+one_value_for_a_differential = refl
+
+points_for_a_limiter : takes led (Points one_point) ≡ false
+points_for_a_limiter = refl
 
 a_broadcaster_takes_none : takes_none (Broadcaster 2) ≡ true
 a_broadcaster_takes_none = refl
@@ -215,6 +316,18 @@ a_limit_below_zero = refl
 
 a_forward_of_33_claims : are_ranged (Forward 33) ≡ false
 a_forward_of_33_claims = refl
+
+a_reduction_of_nothing : are_ranged (Transmission Velocity (pos 0) (pos 0)) ≡ false
+a_reduction_of_nothing = refl
+
+a_differential_of_efforts : are_ranged (Differential Effort (pos 1) (pos 1) (pos 0) (pos 0)) ≡ false
+a_differential_of_efforts = refl
+
+a_differential_of_velocities : are_ranged (Differential Velocity (pos 1) (pos 1) (pos 0) (pos 0)) ≡ true
+a_differential_of_velocities = refl
+
+a_limiter_upside_down : are_ranged (Limiter (pos 1) (pos 0) (pos 0) (pos 0)) ≡ false
+a_limiter_upside_down = refl
 
 a_mock_without_claims : are_ranged (Mock 0 true [] []) ≡ true
 a_mock_without_claims = refl

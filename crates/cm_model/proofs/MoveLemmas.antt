@@ -7,6 +7,7 @@ use Rattle.fixed_num.specs.declared.value.Value.{Value}
 use Rattle.fixed_num.specs.declared.value.Value.TheVariants.{Unset, Num}
 use Rattle.iface_names.specs.declared.kind.Kind.{Kind}
 use Rattle.cm_document.proofs.DistinctLemmas.{all_so, all_map}
+use Rattle.cm_document.specs.Params.{kind_at}
 use Rattle.cm_document.specs.Places.{Whose, of_joint, of_controller}
 use Rattle.cm_document.specs.declared.description.CtlDesc.{CtlDesc}
 use Rattle.cm_document.specs.declared.life.Life.{Life}
@@ -18,7 +19,7 @@ use Rattle.cm_model.specs.Loans.{is_number, CanRunTogether, IsEmptyUnless, IsUns
 use Rattle.cm_model.specs.Order.{Places}
 use Rattle.cm_model.specs.State.{State, active, available_in}
 use Rattle.cm_model.specs.Steady.{HoldsNumber, HasBody, IsInOrder, IsSteady}
-use Rattle.cm_model.specs.Values.{InterfaceValue, unset, running, belongs_to, is_state_of, kind_in, shown, read_of, cleared_of, cleared}
+use Rattle.cm_model.specs.Values.{InterfaceValue, unset, running, belongs_to, is_state_of, shown, read_of, cleared_of, cleared}
 
 -- ---- One interface
 
@@ -87,8 +88,8 @@ moved_holds before after bodies v false (of_joint component joint) is_command is
       is_command,
       is_whose,
     )
-    (there_number (after component) (before component) v.value (measured_at bodies (record { joint = joint; kind = kind_in v.interface.called.name })) there held
-    (measured_number (slice_get bodies joint) (kind_in v.interface.called.name) (some_at bodies joint body)))
+    (there_number (after component) (before component) v.value (measured_at bodies (record { joint = joint; kind = kind_at v.interface.called.name })) there held
+    (measured_number (slice_get bodies joint) (kind_at v.interface.called.name) (some_at bodies joint body)))
 
 -- it holds nothing where it is cleared and not read, or held nothing
 moved_unset : (new gone : Bool) (old seen : Value) → new ≡ false → (gone ≡ false → old ≡ Unset) → (if new then seen else (if gone then Unset else old)) ≡ Unset

@@ -7,9 +7,9 @@ use Rattle.std.proofs.lemmas.Option.{same_Some}
 use Rattle.sequence.proofs.ListLemmas.{all_at}
 use Rattle.iface_names.specs.declared.interface.IfaceName.{IfaceName}
 use Rattle.cm_document.specs.Forms.{item_path, inside, tables_of}
-use Rattle.cm_document.specs.Described.{count, a_description, a_grouped, claiming_table, pid_table, trajectory_table, broadcaster_table, mock_table, controller_table, controller_form, type_of, top_table, described_states, is_second, description_form}
-use Rattle.cm_document.specs.Params.{fewest_claims, most_claims, limits_at}
-use Rattle.cm_document.specs.Valid.{not_negative, ranged, each_ranged, controller_ranged, claims_fit, reads_fit, none_negative, limits_ranged, IsDescribed, IsValid}
+use Rattle.cm_document.specs.Described.{count, a_description, a_grouped, claiming_table, pid_table, trajectory_table, broadcaster_table, mock_table, controller_table, controller_form, type_of, top_table, described_states, is_second, description_form, transmission_table, differential_table, limiter_table}
+use Rattle.cm_document.specs.Params.{fewest_claims, most_claims, limits_at, Bounded, first_kind, claimed_kind, read_kind, may_carry}
+use Rattle.cm_document.specs.Valid.{ranged, each_ranged, controller_ranged, claims_fit, reads_fit, limits_ranged, IsDescribed, IsValid, is_bounded, are_all_of, claims_carried, all_bounded, links_ranged}
 use Rattle.cm_document.specs.declared.description.CompDesc.{CompDesc}
 use Rattle.cm_document.specs.declared.description.CtlDesc.{CtlDesc}
 use Rattle.cm_document.specs.declared.description.CtlKind.{CtlKind}
@@ -17,7 +17,7 @@ use Rattle.cm_document.specs.declared.description.CtlKind.TheVariants as kind
 use Rattle.cm_document.specs.declared.description.Description.{Description}
 use Rattle.cm_document.specs.declared.description.GroupDesc.{GroupDesc}
 use Rattle.cm_document.specs.declared.description.Params.{Params}
-use Rattle.cm_document.specs.declared.description.Params.TheVariants.{Forward, Passthrough, Pid, Trajectory, Broadcaster, Mock}
+use Rattle.cm_document.specs.declared.description.Params.TheVariants.{Forward, Passthrough, Pid, Trajectory, Broadcaster, Mock, Transmission, Differential, Limiter}
 use Rattle.cm_document.specs.declared.limits.TheConstants.{HIGHEST_RATE, MOST_FALLBACKS}
 use Rattle.cm_document.proofs.GivenLemmas.{Gives, filled_gives, next_key, any_key, defaulted_gives, walk_gives, tables_give, anything}
 use Rattle.cm_document.proofs.ReadingLemmas.{bind_keeps, bind_Ok}
@@ -34,6 +34,9 @@ IsShapeOf (Pid kp ki kd imax omax) claims reads = Unit {0}
 IsShapeOf (Trajectory outs) claims reads = outs ≡ count claims
 IsShapeOf (Broadcaster ins) claims reads = (ins ≡ count reads) × (claims ≡ [])
 IsShapeOf (Mock outs refuse_config not_ready fail_update) claims reads = outs ≡ count claims
+IsShapeOf (Transmission carried reduction offset) claims reads = (carried ≡ first_kind claims) × (reads ≡ [])
+IsShapeOf (Differential carried reduction1 reduction2 offset1 offset2) claims reads = (carried ≡ first_kind claims) × (reads ≡ [])
+IsShapeOf (Limiter lowest highest vmax amax) claims reads = Unit {0}
 
 -- so are those of a described controller
 abbrev pub IsShaped : CtlDesc → Type 0
@@ -70,6 +73,25 @@ mock_gives =
     (any_key {A = List (List ℕ)} _ _ _ (any_key {A = ℕ} _ _ _ (any_key {A = CtlKind} _ _ _ (any_key {A = List ℕ} _ _ _ (filled_gives _ _
     (λ name type rate fallback claims reads refuse_config not_ready fail_update. refl))))))))))
 
+transmission_gives : Gives transmission_table.form.read IsShaped
+transmission_gives =
+    any_key {A = ℤ} _ _ _ (any_key {A = ℤ} _ _ _ (any_key {A = List IfaceName} _ _ _
+    (any_key {A = List (List ℕ)} _ _ _ (any_key {A = ℕ} _ _ _ (any_key {A = CtlKind} _ _ _ (any_key {A = List ℕ} _ _ _ (filled_gives _ _
+    (λ name type rate fallback claims reduction offset. (refl, refl)))))))))
+
+differential_gives : Gives differential_table.form.read IsShaped
+differential_gives =
+    any_key {A = ℤ} _ _ _ (any_key {A = ℤ} _ _ _ (any_key {A = ℤ} _ _ _ (any_key {A = ℤ} _ _ _ (any_key {A = List IfaceName} _ _ _
+    (any_key {A = List (List ℕ)} _ _ _ (any_key {A = ℕ} _ _ _ (any_key {A = CtlKind} _ _ _ (any_key {A = List ℕ} _ _ _ (filled_gives _ _
+    (λ name type rate fallback claims reduction1 reduction2 offset1 offset2. (refl, refl)))))))))))
+
+limiter_gives : Gives limiter_table.form.read IsShaped
+limiter_gives =
+    any_key {A = ℤ} _ _ _ (any_key {A = ℤ} _ _ _ (any_key {A = ℤ} _ _ _ (any_key {A = ℤ} _ _ _
+    (any_key {A = List IfaceName} _ _ _ (any_key {A = List IfaceName} _ _ _
+    (any_key {A = List (List ℕ)} _ _ _ (any_key {A = ℕ} _ _ _ (any_key {A = CtlKind} _ _ _ (any_key {A = List ℕ} _ _ _ (filled_gives _ _
+    (λ name type rate fallback claims reads lowest highest vmax amax. tt)))))))))))
+
 -- a controller of each type is read so
 table_gives : (states : List IfaceName) (kind : CtlKind) → Gives (controller_table states kind).form.read IsShaped
 unfolding controller_table
@@ -79,6 +101,9 @@ table_gives states kind.Pid = pid_gives
 table_gives states kind.Trajectory = trajectory_gives
 table_gives states kind.Broadcaster = broadcaster_gives states
 table_gives states kind.Mock = mock_gives
+table_gives states kind.Transmission = transmission_gives
+table_gives states kind.Differential = differential_gives
+table_gives states kind.Limiter = limiter_gives
 
 controller_gives : (states : List IfaceName) → Gives (controller_form states).read IsShaped
 controller_gives states = record {
@@ -140,6 +165,9 @@ both_true first b one other = rw (one, other) refl
 pub at_most : (params : Params) → most_claims params ≤ 32
 at_most (Pid kp ki kd imax omax) = omega arith
 at_most (Broadcaster ins) = omega arith
+at_most (Transmission carried reduction offset) = omega arith
+at_most (Differential carried reduction1 reduction2 offset1 offset2) = omega arith
+at_most (Limiter lowest highest vmax amax) = omega arith
 at_most _ = omega arith
 
 -- as many as may be are counted
@@ -160,27 +188,60 @@ claims_so (Passthrough outs) claims reads shape fits = counted_fit (Passthrough 
 claims_so (Pid kp ki kd imax omax) claims reads shape fits = refl
 claims_so (Trajectory outs) claims reads shape fits = counted_fit (Trajectory outs) outs (length claims) shape fits
 claims_so (Broadcaster ins) claims reads shape fits = refl
+claims_so (Transmission carried reduction offset) claims reads shape fits = refl
+claims_so (Differential carried reduction1 reduction2 offset1 offset2) claims reads shape fits = refl
+claims_so (Limiter lowest highest vmax amax) claims reads shape fits = refl
 claims_so (Mock outs refuse_config not_ready fail_update) claims reads shape fits = counted_fit (Mock outs refuse_config not_ready fail_update) outs (length claims) shape fits
 
--- limits that were found so are not negative
-limits_so : (path : List ℕ) (limits : List (List ℕ × ℤ)) → none_negative path limits ≡ Ok tt → list_all (λ (limit : List ℕ × ℤ). not_negative limit.1) limits ≡ true
+-- limits that were found so are not below their least
+limits_so : (path : List ℕ) (limits : List Bounded) → all_bounded path limits ≡ Ok tt → list_all is_bounded limits ≡ true
 limits_so path [] passes = refl
 limits_so path (limit ∷ limits) passes =
-    let first = bind_Ok (ranged (not_negative limit.1) _) _ tt passes in
-    both_true (not_negative limit.1) (list_all (λ (each : List ℕ × ℤ). not_negative each.1) limits) (in_range_passes _ _ first.1) (limits_so path limits first.2)
+    let first = bind_Ok (ranged (is_bounded limit) _) _ tt passes in
+    both_true (is_bounded limit) (list_all is_bounded limits) (in_range_passes _ _ first.1) (limits_so path limits first.2)
 
 params_so : (path : List ℕ) (params : Params) (claims reads : List IfaceName) → IsShapeOf params claims reads → claims_fit params (length claims) ≡ true
-    → limits_ranged path params ≡ Ok tt → are_ranged params ≡ true
-params_so path params claims reads shape fits limits =
-    both_true (claims_fit params (shape_of params).claims) (limits_fit params) (claims_so params claims reads shape fits) (limits_so path (limits_at params) limits)
+    → claims_carried params claims ≡ true → limits_ranged path params ≡ Ok tt → are_ranged params ≡ true
+params_so path params claims reads shape fits carried limits =
+    let carries = and_parts (may_carry params) (are_all_of (claimed_kind params) claims) carried in
+    both_true (claims_fit params (shape_of params).claims) (may_carry params && limits_fit params) (claims_so params claims reads shape fits)
+    (both_true (may_carry params) (limits_fit params) carries.0 (limits_so path (limits_at params) limits))
+
+-- What was found of the links of a controller that was found within its ranges.
+pub record HasLinksRanged (c : CtlDesc) : Type 0 where
+  pub claims : claims_fit c.params (length c.claims) ≡ true
+  pub carried : claims_carried c.params c.claims ≡ true
+  pub reads : reads_fit c.params (length c.claims) (length c.reads) ≡ true
+  pub read : are_all_of (read_kind c.params) c.reads ≡ true
+
+links_so : (path : List ℕ) (c : CtlDesc) → links_ranged path c ≡ Ok tt → HasLinksRanged c
+links_so path c passes =
+    let claims = bind_Ok (ranged (claims_fit c.params (length c.claims)) _) _ tt passes in
+    let carried = bind_Ok (ranged (claims_carried c.params c.claims) _) _ tt claims.2 in
+    let reads = bind_Ok (ranged (reads_fit c.params (length c.claims) (length c.reads)) _) _ tt carried.2 in
+    record {
+      claims = in_range_passes _ _ claims.1;
+      carried = in_range_passes _ _ carried.1;
+      reads = in_range_passes _ _ reads.1;
+      read = in_range_passes _ _ reads.2;
+    }
+
+-- What was found of a controller within its ranges: its links, and its limits.
+pub record HasPartsRanged (path : List ℕ) (c : CtlDesc) : Type 0 where
+  pub links : HasLinksRanged c
+  pub limits : limits_ranged path c.params ≡ Ok tt
+
+pub ranged_parts : (path : List ℕ) (c : CtlDesc) → controller_ranged path c ≡ Ok tt → HasPartsRanged path c
+ranged_parts path c passes =
+    let rate = bind_Ok (ranged (nat_le c.rate HIGHEST_RATE) _) _ tt passes in
+    let fallbacks = bind_Ok (ranged (nat_le (length c.fallback) MOST_FALLBACKS) _) _ tt rate.2 in
+    let links = bind_Ok (links_ranged path c) _ tt fallbacks.2 in
+    record { links = links_so path c links.1; limits = links.2 }
 
 controller_so : (path : List ℕ) (c : CtlDesc) → IsShaped c → controller_ranged path c ≡ Ok tt → are_ranged c.params ≡ true
 controller_so path c shaped passes =
-    let rate = bind_Ok (ranged (nat_le c.rate HIGHEST_RATE) _) _ tt passes in
-    let fallbacks = bind_Ok (ranged (nat_le (length c.fallback) MOST_FALLBACKS) _) _ tt rate.2 in
-    let claims = bind_Ok (ranged (claims_fit c.params (length c.claims)) _) _ tt fallbacks.2 in
-    let reads = bind_Ok (ranged (reads_fit c.params (length c.claims) (length c.reads)) _) _ tt claims.2 in
-    params_so _ c.params c.claims c.reads shaped (in_range_passes _ _ claims.1) reads.2
+    let parts = ranged_parts path c passes in
+    params_so path c.params c.claims c.reads shaped parts.links.claims parts.links.carried parts.limits
 
 -- The parameters of each controller of a valid description are in their ranges.
 pub described_params_are_ranged : (d : Description) → IsValid d → (place : ℕ) (c : CtlDesc) → slice_get d.controllers place ≡ Some c → are_ranged c.params ≡ true

@@ -4,7 +4,8 @@ use Rattle.std.specs.Prelude.{ℕ, ◌+◌, ◌-◌, if◌then◌else◌}
 use Rattle.cm_document.specs.Params.{same_controller_kind}
 use Rattle.cm_document.specs.declared.description.CtlKind.{CtlKind}
 use Rattle.cm_document.specs.declared.description.CtlKind.TheVariants.{Forward, Passthrough, Pid, Trajectory}
-use Rattle.cm_document.specs.declared.description.CtlKind.TheVariants.{Broadcaster, Mock}
+use Rattle.cm_document.specs.declared.description.CtlKind.TheVariants.{Broadcaster, Mock, Transmission, Differential}
+use Rattle.cm_document.specs.declared.description.CtlKind.TheVariants.{Limiter}
 use Rattle.cm_model.specs.declared.blanks.Blanks.{Blanks}
 
 -- ---- A field for each kind
@@ -17,6 +18,9 @@ blanks_of blanks Pid = blanks.pid
 blanks_of blanks Trajectory = blanks.trajectory
 blanks_of blanks Broadcaster = blanks.broadcaster
 blanks_of blanks Mock = blanks.mock
+blanks_of blanks Transmission = blanks.transmission
+blanks_of blanks Differential = blanks.differential
+blanks_of blanks Limiter = blanks.limiter
 
 -- as many of each kind as this says
 abbrev pub counted_by : (CtlKind → ℕ) → Blanks
@@ -27,11 +31,16 @@ counted_by count = record {
   trajectory = count Trajectory;
   broadcaster = count Broadcaster;
   mock = count Mock;
+  transmission = count Transmission;
+  differential = count Differential;
+  limiter = count Limiter;
 }
 
 -- how many blanks there are of all kinds together
 abbrev pub total : Blanks → ℕ
-total b = ((((b.forward + b.passthrough) + b.pid) + b.trajectory) + b.broadcaster) + b.mock
+total b =
+    (((((b.forward + b.passthrough) + b.pid) + b.trajectory) + b.broadcaster) + b.mock)
+    + ((b.transmission + b.differential) + b.limiter)
 
 -- ---- What is read off
 

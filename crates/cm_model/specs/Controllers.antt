@@ -1,6 +1,6 @@
 -- The table of controllers: what each kind begins with when it is activated, what mail makes of it, and what an update
 -- gives.
-use Rattle.std.specs.Prelude.{◌≡◌, ℕ, ◌-◌, ◌≤◌, ℤ, pos, Bool, true, false, ◌&&◌, if◌then◌else◌, List, [], ◌∷◌}
+use Rattle.std.specs.Prelude.{◌≡◌, ℕ, ◌-◌, ◌≤◌, ℤ, pos, ◌+ℤ◌, Bool, true, false, ◌&&◌, if◌then◌else◌, List, [], ◌∷◌}
 use Rattle.std.specs.Prelude.{map, replicate, Option, Some, None, option_map, IsSomeAnd}
 use Rattle.fixed_num.specs.declared.value.Value.{Value}
 use Rattle.fixed_num.specs.declared.value.Value.TheVariants.{Unset, Num}
@@ -10,10 +10,14 @@ use Rattle.cm_document.specs.declared.call.Mail.TheVariants.{Values, Points}
 use Rattle.cm_document.specs.declared.call.Point2.{Point2}
 use Rattle.cm_document.specs.declared.description.Params.{Params}
 use Rattle.cm_document.specs.declared.description.Params.TheVariants.{Pid, Trajectory, Broadcaster}
+use Rattle.cm_document.specs.declared.description.Params.TheVariants.{Transmission, Differential, Limiter}
 use Rattle.cm_model.specs.State.{fresh}
-use Rattle.cm_model.specs.Kinds.{shape_of, has_references, publishes, follows_points, tuning_of, is_over_values}
+use Rattle.cm_model.specs.Kinds.{shape_of, has_references, publishes, follows_points, tuning_of, bounds_of}
+use Rattle.cm_model.specs.Kinds.{is_over_values}
 use Rattle.cm_model.specs.Kinds.{AreItsReads, are_ranged, is_ready_in, fails_in, takes}
+use Rattle.cm_model.specs.Limiters.{Bounds, reach_of, between, wanted_step, new_step}
 use Rattle.cm_model.specs.Pids.{Tuning, error_of, integrated, derivative_of, corrected}
+use Rattle.cm_model.specs.Transmissions.{Gear, Pair, to_actuator, to_actuators}
 use Rattle.cm_model.specs.Ways.{led}
 use Rattle.cm_model.specs.declared.data.CtlData.{CtlData}
 use Rattle.cm_model.specs.declared.data.RunData.{RunData}
@@ -25,12 +29,20 @@ use Rattle.cm_model.specs.declared.tick.Tick.{Tick}
 
 -- ---- The running part
 
+-- the first of the states that are read
+abbrev pub first_state : List ℤ → ℤ
+first_state [] = pos 0
+first_state (state ∷ states) = state
+
 -- The running part at activation, with the states of that moment: no value set, nothing integrated, the states to hold
--- or to publish. A controller that exports references keeps whether it is chained; the others have none to take.
+-- or to publish, the position brought between its ends and no step. A controller that exports references keeps whether
+-- it is chained; the others have none to take.
 abbrev pub started : Params → List ℤ → Bool → RunData
 started (Pid kp ki kd imax omax) states chained = run.Pid chained Unset (pos 0) None
 started (Trajectory outs) states chained = run.Trajectory states false 0 states []
 started (Broadcaster ins) states chained = run.Broadcaster states
+started (Limiter lowest highest vmax amax) states chained =
+    run.Limiter chained Unset (between lowest highest (first_state states)) (pos 0)
 started params states chained =
     run.Set (has_references params && chained) (replicate (shape_of params).claims Unset)
 
@@ -38,6 +50,7 @@ started params states chained =
 abbrev pub runs_chained : RunData → Bool
 runs_chained (run.Set chained set) = chained
 runs_chained (run.Pid chained set integral last) = chained
+runs_chained (run.Limiter chained set at step) = chained
 runs_chained _ = false
 
 -- what runs is what was published last
@@ -49,6 +62,7 @@ tells_last _ = false
 abbrev pub with_mail : RunData → Mail → RunData
 with_mail (run.Set chained set) (Values values) = run.Set chained (map Num values)
 with_mail (run.Pid chained set integral last) (Values (value ∷ values)) = run.Pid chained (Num value) integral last
+with_mail (run.Limiter chained set at step) (Values (value ∷ values)) = run.Limiter chained (Num value) at step
 with_mail (run.Trajectory hold fresh start_us from points) (Points newer) = run.Trajectory hold true start_us from newer
 with_mail part mail = part
 
@@ -92,9 +106,25 @@ trajectory_update time_us states hold true start_us from points =
 trajectory_update time_us states hold false start_us from points =
     gives (run.Trajectory hold false start_us from points) (map Num (led (time_us - start_us) hold from points))
 
--- The outputs that a controller over set values makes of what is wanted of it, one for each claim: a forward, a
--- passthrough and a mock give just that.
+-- what an actuator is told through a gear; nothing where nothing is wanted
+abbrev pub through : Gear → Value → Value
+through gear Unset = Unset
+through gear (Num r) = Num (to_actuator gear r)
+
+-- What two actuators are told if two joints are to have these values. Where one of them is unset, so are both.
+abbrev pub through_both : Pair → List Value → List Value
+through_both pair (Num first ∷ Num second ∷ values) =
+    let told = to_actuators pair (first, second) in Num told.0 ∷ Num told.1 ∷ []
+through_both pair values = Unset ∷ Unset ∷ []
+
+-- The outputs that a controller over set values makes of what is wanted of it, one for each claim: a transmission and a
+-- differential tell their actuators, and a forward, a passthrough and a mock give just what is wanted.
 abbrev pub shaped : Params → List Value → List Value
+shaped (Transmission carried reduction offset) values =
+    map (through (record { kind = carried; reduction = reduction; offset = offset })) values
+shaped (Differential carried reduction1 reduction2 offset1 offset2) values =
+    through_both
+    (record { kind = carried; reductions = (reduction1, reduction2); offsets = (offset1, offset2) }) values
 shaped params values = values
 
 -- in a cycle in which it fails it gives nothing, else these
@@ -106,6 +136,19 @@ abbrev pub loop_update : Option Tuning → Bool → Value → ℤ → Option ℤ
 loop_update (Some tuning) chained set integral last dt_us targets states =
     pid_update tuning chained set integral last dt_us targets states
 loop_update None chained set integral last dt_us targets states = gives (run.Pid chained set integral last) []
+
+-- A limiter goes one new step on, from where it is towards what is wanted.
+abbrev pub limiter_update : Bounds → Bool → Value → ℤ → ℤ → ℕ → List Value → Updated
+limiter_update bounds chained set at step dt_us (target ∷ targets) =
+    let next = new_step (reach_of bounds dt_us) at step (wanted_step (reach_of bounds dt_us) at target) in
+    gives (run.Limiter chained set (at +ℤ next) next) (Num (at +ℤ next) ∷ [])
+limiter_update bounds chained set at step dt_us [] = gives (run.Limiter chained set at step) (Unset ∷ [])
+
+-- a position is led within its bounds
+abbrev pub bounded_update : Option Bounds → Bool → Value → ℤ → ℤ → ℕ → List Value → Updated
+bounded_update (Some bounds) chained set at step dt_us targets =
+    limiter_update bounds chained set at step dt_us targets
+bounded_update None chained set at step dt_us targets = gives (run.Limiter chained set at step) []
 
 -- the states that are read become what was published last
 abbrev pub publishes_states : List ℤ → Updated
@@ -128,6 +171,8 @@ updated_from (run.Trajectory hold fresh start_us from points) params tick states
     (trajectory_update tick.time_us states hold fresh start_us from points)
 updated_from (run.Broadcaster last) params tick states refs =
     only_if (publishes (kind_of params)) (run.Broadcaster last) (publishes_states states)
+updated_from (run.Limiter chained set at step) params tick states refs =
+    bounded_update (bounds_of params) chained set at step tick.dt_us (wanted chained refs (set ∷ []))
 
 -- The table: an update by the parameters, what runs, the tick, the states read and the references as they stand.
 abbrev pub updated : Params → RunData → Tick → List ℤ → List Value → Updated

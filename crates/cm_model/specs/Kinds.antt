@@ -3,16 +3,18 @@
 use Rattle.std.specs.Prelude.{◌≡◌, ℕ, ℤ, Bool, true, false, not, ◌&&◌, ◌==◌, List, length, Option, Some, None, is_none}
 use Rattle.std.specs.List.{list_all}
 use Rattle.cm_document.specs.Links.{exports_any}
-use Rattle.cm_document.specs.Params.{kind_of, exports_of, limits_at}
-use Rattle.cm_document.specs.Valid.{not_negative, claims_fit}
+use Rattle.cm_document.specs.Params.{kind_of, exports_of, limits_at, may_carry}
+use Rattle.cm_document.specs.Valid.{is_bounded, claims_fit}
 use Rattle.cm_document.specs.declared.call.Mail.{Mail}
 use Rattle.cm_document.specs.declared.call.Mail.TheVariants.{Values, Points}
 use Rattle.cm_document.specs.declared.description.CtlKind.{CtlKind}
 use Rattle.cm_document.specs.declared.description.CtlKind.TheVariants as kind
 use Rattle.cm_document.specs.declared.description.Params.{Params}
 use Rattle.cm_document.specs.declared.description.Params.TheVariants.{Forward, Passthrough, Pid, Trajectory}
-use Rattle.cm_document.specs.declared.description.Params.TheVariants.{Broadcaster, Mock}
+use Rattle.cm_document.specs.declared.description.Params.TheVariants.{Broadcaster, Mock, Transmission, Differential}
+use Rattle.cm_document.specs.declared.description.Params.TheVariants.{Limiter}
 use Rattle.cm_model.specs.Components.{is_listed}
+use Rattle.cm_model.specs.Limiters.{Bounds}
 use Rattle.cm_model.specs.Pids.{Tuning}
 use Rattle.cm_model.specs.declared.shape.Shape.{Shape}
 
@@ -20,7 +22,8 @@ use Rattle.cm_model.specs.declared.shape.Shape.{Shape}
 
 -- How many interfaces it claims, reads and exports. A pid closes a loop from one state to one claim, and has a
 -- reference for it. A passthrough has a reference for each claim, a trajectory a state for each. A broadcaster claims
--- nothing. A mock reads what it likes.
+-- nothing. A mock reads what it likes. A transmission has one claim and a differential two, each with a reference. A
+-- limiter has one claim, the state of its position, and a reference.
 abbrev pub shape_of : Params → Shape
 shape_of (Forward outs) = record { claims = outs; reads = Some 0; references = 0 }
 shape_of (Passthrough outs) = record { claims = outs; reads = Some 0; references = outs }
@@ -28,6 +31,13 @@ shape_of (Pid kp ki kd imax omax) = record { claims = 1; reads = Some 1; referen
 shape_of (Trajectory outs) = record { claims = outs; reads = Some outs; references = 0 }
 shape_of (Broadcaster ins) = record { claims = 0; reads = Some ins; references = 0 }
 shape_of (Mock outs refuse_config not_ready fail_update) = record { claims = outs; reads = None; references = 0 }
+shape_of (Transmission carried reduction offset) = record { claims = 1; reads = Some 0; references = 1 }
+shape_of (Differential carried reduction1 reduction2 offset1 offset2) = record {
+  claims = 2;
+  reads = Some 0;
+  references = 2;
+}
+shape_of (Limiter lowest highest vmax amax) = record { claims = 1; reads = Some 1; references = 1 }
 
 -- it exports references, and so can be chained: another controller may set them
 abbrev pub has_references : Params → Bool
@@ -48,10 +58,19 @@ abbrev pub tuning_of : Params → Option Tuning
 tuning_of (Pid kp ki kd imax omax) = Some (record { kp = kp; ki = ki; kd = kd; imax = imax; omax = omax })
 tuning_of _ = None
 
+-- the bounds of a controller that leads a position
+abbrev pub bounds_of : Params → Option Bounds
+bounds_of (Limiter lowest highest vmax amax) =
+    Some (record { lowest = lowest; highest = highest; speed = vmax; acceleration = amax })
+bounds_of _ = None
+
 -- every other kind gives what it makes of values that are set
 abbrev pub is_over_values : Params → Bool
 is_over_values params =
-    is_none (tuning_of params) && not (follows_points (kind_of params)) && not (publishes (kind_of params))
+    is_none (tuning_of params)
+    && is_none (bounds_of params)
+    && not (follows_points (kind_of params))
+    && not (publishes (kind_of params))
 
 -- so many states are as many as it reads
 abbrev pub AreItsReads : Option ℕ → ℕ → Type 0
@@ -60,14 +79,14 @@ AreItsReads (Some reads) count = count ≡ reads
 
 -- ---- What it may be configured with
 
--- its limits are not negative
+-- none of its limits is below its least
 abbrev pub limits_fit : Params → Bool
-limits_fit params = list_all (λ limit. not_negative limit.1) (limits_at params)
+limits_fit params = list_all is_bounded (limits_at params)
 
--- The parameters are in the ranges that a description keeps: as many claims as a controller of the kind may have, and
--- the limits.
+-- The parameters are in the ranges that a description keeps: as many claims as a controller of the kind may have, what
+-- it may carry, and the limits.
 abbrev pub are_ranged : Params → Bool
-are_ranged params = claims_fit params (shape_of params).claims && limits_fit params
+are_ranged params = claims_fit params (shape_of params).claims && (may_carry params && limits_fit params)
 
 -- A mock refuses to be configured where its parameters say so. No other kind refuses.
 abbrev pub is_refused : Params → Bool

@@ -4,6 +4,8 @@ pub mod Values
 pub mod Blanks
 pub mod State
 pub mod Pids
+pub mod Transmissions
+pub mod Limiters
 pub mod Kinds
 pub mod Ways
 pub mod Controllers

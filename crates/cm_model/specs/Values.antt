@@ -6,8 +6,7 @@ use Rattle.fixed_num.specs.declared.value.BodyState.{BodyState}
 use Rattle.fixed_num.specs.declared.value.Value.{Value}
 use Rattle.fixed_num.specs.declared.value.Value.TheVariants.{Unset}
 use Rattle.iface_names.specs.declared.interface.IfaceName.{IfaceName}
-use Rattle.iface_names.specs.declared.interface.IfaceName.TheVariants.{Joint, Reference}
-use Rattle.iface_names.specs.declared.kind.Kind.{Kind}
+use Rattle.cm_document.specs.Params.{kind_at}
 use Rattle.cm_document.specs.Places.{Whose, of_joint, of_controller, Interface}
 use Rattle.cm_document.specs.declared.life.Life.{Life}
 use Rattle.cm_model.specs.Components.{is_available, measured_at}
@@ -38,14 +37,9 @@ is_state_of components interface = not interface.called.is_command && belongs_to
 
 -- ---- Reads
 
--- the kind of an interface
-abbrev pub kind_in : IfaceName → Kind
-kind_in (Joint joint kind) = kind
-kind_in (Reference controller joint kind) = kind
-
 -- what an interface of this name measures of the bodies of all joints; a reference measures none
 abbrev pub shown : List BodyState → IfaceName → Whose → Value
-shown bodies name (of_joint component joint) = measured_at bodies (record { joint = joint; kind = kind_in name })
+shown bodies name (of_joint component joint) = measured_at bodies (record { joint = joint; kind = kind_at name })
 shown bodies name (of_controller place) = Unset
 
 -- one interface after a read of these components

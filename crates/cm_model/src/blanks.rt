@@ -20,6 +20,12 @@ pub struct Blanks {
     pub broadcaster: u32,
     /// Blanks of the kind mock.
     pub mock: u32,
+    /// Blanks of the kind transmission.
+    pub transmission: u32,
+    /// Blanks of the kind differential.
+    pub differential: u32,
+    /// Blanks of the kind limiter.
+    pub limiter: u32,
 }
 
 impl Blanks {
@@ -34,6 +40,9 @@ impl Blanks {
             trajectory: count,
             broadcaster: count,
             mock: count,
+            transmission: count,
+            differential: count,
+            limiter: count,
         }
     }
 
@@ -48,6 +57,9 @@ impl Blanks {
             CtlKind::Trajectory => self.trajectory,
             CtlKind::Broadcaster => self.broadcaster,
             CtlKind::Mock => self.mock,
+            CtlKind::Transmission => self.transmission,
+            CtlKind::Differential => self.differential,
+            CtlKind::Limiter => self.limiter,
         }
     }
 
@@ -63,6 +75,9 @@ impl Blanks {
             CtlKind::Trajectory => changed.trajectory = count,
             CtlKind::Broadcaster => changed.broadcaster = count,
             CtlKind::Mock => changed.mock = count,
+            CtlKind::Transmission => changed.transmission = count,
+            CtlKind::Differential => changed.differential = count,
+            CtlKind::Limiter => changed.limiter = count,
         }
         changed
     }

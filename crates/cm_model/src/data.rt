@@ -18,7 +18,7 @@ pub struct CtlData {
 /// The running part of an active controller, by its kind.
 #[derive(Clone, Debug, PartialEq, Eq, Drop)]
 pub enum RunData {
-    /// Of a forward, a passthrough or a mock.
+    /// Of a forward, a passthrough, a mock, a transmission or a differential.
     Set {
         /// Whether an active controller claims one of its references.
         chained: bool,
@@ -53,5 +53,16 @@ pub enum RunData {
     Broadcaster {
         /// The numbers that were published last.
         last: Seq<Fx>,
+    },
+    /// Of a limiter.
+    Limiter {
+        /// Whether an active controller claims its reference.
+        chained: bool,
+        /// The value that was set last.
+        set: StoredValue,
+        /// The position to which it has led.
+        at: Fx,
+        /// The last step that led there.
+        step: Fx,
     },
 }

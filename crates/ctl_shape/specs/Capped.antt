@@ -2,7 +2,7 @@
 use Rattle.std.specs.Prelude.{◌*◌, ◌≤◌, min}
 use Rattle.fixed_num.specs.Micro.{IsInRange}
 use Rattle.fixed_num.specs.declared.TheConstants.{LARGEST}
-use Rattle.ctl_shape.specs.Limiters.{Reach}
+use Rattle.cm_model.specs.Limiters.{Reach}
 
 -- A step between two ends is no longer than twice the largest number, and two steps differ by no more than twice that.
 -- So larger limits come to the same as these.

@@ -1,5 +1,6 @@
-pub mod Transmissions
 pub mod RoundTrips
 pub mod Limiters
 pub mod Capped
 pub mod Calls
+pub mod Controllers
+pub mod Updates

@@ -1,38 +1,22 @@
--- Limiters: how a position goes on, step by step, between two ends, with a limit on its speed and on how fast that
--- changes. A step is so many whole micro-units from one update to the next.
-use Rattle.std.specs.Prelude.{◌≡◌, ℕ, zero, suc, ◌+◌, ◌-◌, ◌*◌, ◌≤◌, List, [], ◌∷◌, ◌⊎◌}
-use Rattle.std.specs.Prelude.{ℤ, pos, negsuc, ◌+ℤ◌, ◌-ℤ◌, ◌*ℤ◌, ◌≤ℤ◌, nat_abs}
-use Rattle.std.specs.Int.{int_min, int_max}
-use Rattle.fixed_num.specs.Arithmetic.{floor_div, change_at}
-use Rattle.fixed_num.specs.declared.TheConstants.{MICRO}
+-- What is said of limiters: which steps are feasible, which is the new one, and what a run of them keeps.
+use Rattle.std.specs.Prelude.{◌≡◌, ℕ, suc, ◌≤◌, List, [], ◌∷◌, ◌⊎◌}
+use Rattle.std.specs.Prelude.{ℤ, pos, negsuc, ◌+ℤ◌, ◌-ℤ◌, ◌≤ℤ◌, nat_abs}
 use Rattle.fixed_num.specs.declared.value.Value.{Value}
-use Rattle.fixed_num.specs.declared.value.Value.TheVariants.{Unset, Num}
+use Rattle.cm_model.specs.Limiters.{Bounds, Reach, reach_of, way_after, brought, wanted_step}
 use Rattle.ctl_shape.specs.declared.limits.Limits.{Limits}
 
--- the ends, how long a step may be, and by how much it may differ from the one before
-pub record Reach : Type 0 where
-  pub lowest : ℤ
-  pub highest : ℤ
-  pub longest : ℕ
-  pub change : ℕ
-
--- what a speed and an acceleration come to in the time of one update, each rounded down
-abbrev pub reach_of : Limits → Reach
-reach_of limits = record {
+-- limits are bounds and the time of an update
+abbrev pub bounds_in : Limits → Bounds
+bounds_in limits = record {
   lowest = limits.min;
   highest = limits.max;
-  longest = nat_abs (change_at limits.vmax limits.dt_us);
-  change = nat_abs (floor_div (limits.amax *ℤ pos (limits.dt_us * limits.dt_us)) (pos (MICRO * MICRO)));
+  speed = limits.vmax;
+  acceleration = limits.amax;
 }
 
--- the lengths of the n steps that follow one of s, added up: each is a less than the one before, as long as it can be
-abbrev pub slowing : ℕ → ℕ → ℕ → ℕ
-slowing a s zero = 0
-slowing a s (suc n) = (s - a) + slowing a (s - a) n
-
--- the way that is still needed to stop after a step of s
-abbrev pub way_after : ℕ → ℕ → ℕ
-way_after a s = slowing a s s
+-- what limits come to in the time of one update
+abbrev pub reach_in : Limits → Reach
+reach_in limits = reach_of (bounds_in limits) limits.dt_us
 
 -- after a step that brought it to a place it can stop before the end to which it goes
 abbrev pub StopsInTime : Reach → ℤ → ℤ → Type 0
@@ -57,15 +41,6 @@ abbrev pub IsNewStep : Reach → ℤ → ℤ → ℤ → ℤ → Type 0
 IsNewStep reach at last wanted step =
     IsNearest reach at last wanted step
     ⊎ ((step ≡ pos 0) × ((other : ℤ) → IsFeasible reach at last other → ⊥))
-
--- a number brought between the ends
-abbrev pub brought : Reach → ℤ → ℤ
-brought reach r = int_max reach.lowest (int_min r reach.highest)
-
--- the wanted step: to the wanted position, brought between the ends, and none if nothing is wanted
-abbrev pub wanted_step : Reach → ℤ → Value → ℤ
-wanted_step reach at Unset = pos 0
-wanted_step reach at (Num r) = brought reach r -ℤ at
 
 -- The outputs of a run from a place, after a step, for these wanted values: each is one new step further.
 abbrev pub IsRun : Reach → ℤ → ℤ → List Value → List ℤ → Type 0

@@ -5,7 +5,7 @@ use Rattle.fixed_num.specs.Arithmetic.{floor_div}
 use Rattle.fixed_num.specs.declared.TheConstants.{MICRO}
 use Rattle.iface_names.specs.declared.kind.Kind.{Kind}
 use Rattle.iface_names.specs.declared.kind.Kind.TheVariants.{Position, Velocity, Effort}
-use Rattle.ctl_shape.specs.Transmissions.{Gear, Pair, quotient, to_actuator, to_joint, to_actuators, to_joints}
+use Rattle.cm_model.specs.Transmissions.{Gear, Pair, quotient, to_actuator, to_joint, to_actuators, to_joints}
 
 -- a quotient rounded up
 abbrev pub ceil_div : ℤ → ℤ → ℤ

@@ -2,7 +2,8 @@
 use Rattle.std.specs.Prelude.{◌≡◌, ℕ, ◌+◌, ◌*◌, ◌<◌, ◌≤◌, ◌⊎◌, ℤ, pos, ◌+ℤ◌, ◌-ℤ◌, ◌≤ℤ◌, neg_ℤ, nat_abs}
 use Rattle.std.specs.Int.{int_min, int_max}
 use Rattle.fixed_num.specs.declared.TheConstants.{LARGEST}
-use Rattle.ctl_shape.specs.Limiters.{Reach, StopsInTime, way_after}
+use Rattle.cm_model.specs.Limiters.{Reach, way_after}
+use Rattle.ctl_shape.specs.Limiters.{StopsInTime}
 use Rattle.ctl_shape.specs.declared.TheConstants.{LONGEST_TIME}
 use Rattle.ctl_shape.specs.declared.limits.Limits.{Limits}
 
