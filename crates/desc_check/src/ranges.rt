@@ -1,16 +1,16 @@
 //! Numbers and numbers of items within their ranges, in the order of the walk.
 
-ghost use Rattle.std.specs.Prelude.{◌≡◌, ◌++◌, codes, length, IfOk};
+ghost use Rattle.std.specs.Prelude.{◌≡◌, ◌++◌, codes, length, pos, int_le, IfOk};
 ghost use Rattle.sequence.specs.Answers.{Answers};
 ghost use Rattle.cm_document.specs.Forms.{item_path, inside};
 ghost use Rattle.cm_document.specs.Limits.{is_version};
-ghost use Rattle.cm_document.specs.Valid.{ranged, not_negative, each_ranged, may_have, joint_ranged, joint_count_fits, component_ranged, claims_fit, reads_fit, limits_ranged, controller_ranged, group_ranged, in_range};
+ghost use Rattle.cm_document.specs.Valid.{ranged, not_negative, each_ranged, may_have, joint_ranged, joint_count_fits, component_ranged, claims_fit, reads_fit, limits_ranged, controller_ranged, group_ranged, in_range, are_all_of, claims_carried, links_ranged};
 
 use cm_document::{
-    CheckFault, CompDesc, CompKind, CtlDesc, Description, FIRST_VERSION, GroupDesc, HIGHEST_RATE,
-    JointDesc, MOST_CYCLES, MOST_FALLBACKS, MOST_MEMBERS, Params, SECOND_VERSION, Text,
+    CheckFault, CompDesc, CompKind, CtlDesc, Description, FIRST_VERSION, GroupDesc, HIGHEST_RATE, JointDesc, MOST_CYCLES, MOST_FALLBACKS, MOST_MEMBERS, Params, SECOND_VERSION, Text, kind_at,
 };
 use fixed_num::Fx;
+use iface_names::{IfaceName, Kind};
 use std::alloc::{AllocError, Global};
 
 /// Every number is within its range: else BadRange of the first that is not, with its path.
@@ -121,14 +121,11 @@ fn controllers_ranged(alloc: Global, controllers: &[CtlDesc]) -> Result<(), Chec
     Ok(())
 }
 
-/// The rate, then the numbers of fallbacks, claims and reads, then the limits.
+/// The rate, the number of fallbacks, then what it claims and what it reads, and the limits.
 fn controller_ranged(alloc: Global, prefix: &str, controller: &CtlDesc) -> Result<(), CheckFault>
     ensures { Answers CheckFault.Memory (controller_ranged prefix.now controller.now) result }
 {
-    let params = &controller.params;
     let fallbacks = controller.fallback.as_slice().len();
-    let claims = controller.claims.as_slice().len();
-    let reads = controller.reads().len();
     ranged(
         alloc,
         controller.rate <= HIGHEST_RATE,
@@ -136,9 +133,50 @@ fn controller_ranged(alloc: Global, prefix: &str, controller: &CtlDesc) -> Resul
         "update_rate",
     )?;
     ranged(alloc, fallbacks <= MOST_FALLBACKS, prefix, "fallback")?;
-    ranged(alloc, claims_fit(params, claims), prefix, "claims")?;
-    ranged(alloc, reads_fit(params, claims, reads), prefix, "reads")?;
-    limits_ranged(alloc, prefix, params)
+    links_ranged(alloc, prefix, controller)?;
+    limits_ranged(alloc, prefix, &controller.params)
+}
+
+/// As many claims as its kind may have, of what it may claim; then the same of reads.
+fn links_ranged(alloc: Global, prefix: &str, controller: &CtlDesc) -> Result<(), CheckFault>
+    ensures { Answers CheckFault.Memory (links_ranged prefix.now controller.now) result }
+{
+    let params = &controller.params;
+    let claims = controller.claims.as_slice();
+    let reads = controller.reads();
+    ranged(alloc, claims_fit(params, claims.len()), prefix, "claims")?;
+    ranged(alloc, claims_carried(params, claims), prefix, "claims")?;
+    ranged(
+        alloc,
+        reads_fit(params, claims.len(), reads.len()),
+        prefix,
+        "reads",
+    )?;
+    ranged(
+        alloc,
+        are_all_of(params.read_kind(), reads),
+        prefix,
+        "reads",
+    )
+}
+
+/// Whether the claims carry what a controller with these parameters may claim.
+fn claims_carried(params: &Params, claims: &[IfaceName]) -> bool
+    ensures { result ≡ claims_carried params.now claims.now }
+{
+    params.may_carry() && are_all_of(params.claimed_kind(), claims)
+}
+
+/// Whether each of these interfaces is of this kind, if one is asked.
+fn are_all_of(asked: Option<Kind>, interfaces: &[IfaceName]) -> bool
+    ensures { result ≡ are_all_of asked interfaces.now }
+{
+    match asked {
+        Some(kind) => interfaces
+            .iter()
+            .all(|interface| kind_at(interface) == kind),
+        None => true,
+    }
 }
 
 /// Whether so many claims are as many as a controller with these parameters may have.
@@ -158,16 +196,45 @@ fn reads_fit(params: &Params, claims: usize, count: usize) -> bool
     }
 }
 
-/// The limits of a pid are not negative.
+/// No limit of a pid or a limiter is negative, the ends of a limiter are in order, and a reduction is above 0.
 fn limits_ranged(alloc: Global, prefix: &str, params: &Params) -> Result<(), CheckFault>
     ensures { Answers CheckFault.Memory (limits_ranged prefix.now params.now) result }
 {
-    let Params::Pid { imax, omax, .. } = params else {
-        return Ok(());
-    };
-    ranged(alloc, not_negative(*imax), prefix, "imax")?;
-    ranged(alloc, not_negative(*omax), prefix, "omax")?;
-    Ok(())
+    match params {
+        Params::Pid { imax, omax, .. } => {
+            ranged(alloc, not_negative(*imax), prefix, "imax")?;
+            ranged(alloc, not_negative(*omax), prefix, "omax")
+        }
+        Params::Transmission { reduction, .. } => {
+            ranged(alloc, is_positive(*reduction), prefix, "reduction")
+        }
+        Params::Differential {
+            reduction1,
+            reduction2,
+            ..
+        } => {
+            ranged(alloc, is_positive(*reduction1), prefix, "reduction1")?;
+            ranged(alloc, is_positive(*reduction2), prefix, "reduction2")
+        }
+        Params::Limiter {
+            min,
+            max,
+            vmax,
+            amax,
+        } => {
+            ranged(alloc, min.micro() <= max.micro(), prefix, "max")?;
+            ranged(alloc, not_negative(*vmax), prefix, "vmax")?;
+            ranged(alloc, not_negative(*amax), prefix, "amax")
+        }
+        _ => Ok(()),
+    }
+}
+
+/// Above 0, which is one micro-unit at least.
+fn is_positive(number: Fx) -> bool
+    ensures { result ≡ int_le (pos 1) number }
+{
+    1 <= number.micro()
 }
 
 /// The ranges of each group.

@@ -12,6 +12,7 @@ ghost use Rattle.cm_document.specs.declared.description.Params.TheVariants as pa
 use crate::cycles::cycles_at;
 use crate::forms::{ListOf, One, TableForm};
 use crate::keys::Keys;
+use crate::shaping::{differential, limiter, transmission};
 use crate::states::{AllOrList, ReadList};
 use crate::values::{Boolean, Interface, Named, Quantity, Whole};
 use crate::words::{ControllerKinds, WordOf};
@@ -79,6 +80,9 @@ impl TableForm for ControllerTable {
             CtlKind::Trajectory => trajectory(keys),
             CtlKind::Broadcaster => broadcaster(keys, &self.all),
             CtlKind::Mock => mock(keys),
+            CtlKind::Transmission => transmission(keys),
+            CtlKind::Differential => differential(keys),
+            CtlKind::Limiter => limiter(keys),
         }
     }
 }
@@ -236,7 +240,7 @@ fn mock(keys: &Keys<'_>) -> Result<CtlDesc, DescFault>
 }
 
 /// The fallbacks of a controller, none if the key is missing.
-fn fallback_at(keys: &Keys<'_>) -> Result<Seq<Name>, DescFault>
+pub(crate) fn fallback_at(keys: &Keys<'_>) -> Result<Seq<Name>, DescFault>
     ensures { Answers DescFault.Memory
         (defaulted_read (list_of name_in) [] (keys.now.prefix.now ++ codes "fallback")
         (get_member (codes "fallback") (table_view keys.now.table.now))) result }
@@ -245,7 +249,7 @@ fn fallback_at(keys: &Keys<'_>) -> Result<Seq<Name>, DescFault>
 }
 
 /// A controller that reads nothing.
-fn no_reads(alloc: Global) -> Result<Shared<Seq<IfaceName>>, AllocError>
+pub(crate) fn no_reads(alloc: Global) -> Result<Shared<Seq<IfaceName>>, AllocError>
     ensures { IfOk result (λ reads. reads ≡ []) }
 {
     Shared::new(alloc, Seq::new(alloc))

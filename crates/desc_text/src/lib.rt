@@ -16,6 +16,7 @@ mod keys;
 mod paths;
 mod print;
 mod read;
+mod shaping;
 mod states;
 mod values;
 mod words;
