@@ -5,7 +5,7 @@ use Rattle.std.proofs.Math.Nat.{mul-le-mul, lt_of_mul-lt-mul_right, div-mul-le_s
 use Rattle.std.proofs.lemmas.Nat.{le-div}
 use Rattle.std.proofs.lemmas.Int.{ints}
 use Rattle.fixed_num.specs.Arithmetic.{floor_div}
-use Rattle.ctl_shape.specs.Limiters.{way_after}
+use Rattle.cm_model.specs.Limiters.{way_after}
 use Rattle.ctl_shape.specs.Calls.Steps.{IsLongest}
 use Rattle.ctl_shape.proofs.WayLemmas.{way_is, way_more}
 

@@ -3,5 +3,8 @@ pub mod WayLemmas
 pub mod FormulaLemmas
 pub mod StepLemmas
 pub mod LimitLemmas
+pub mod SearchLemmas
+pub mod UpdateLemmas
+pub mod PacedLemmas
 mod Rows
 mod LimiterRows

@@ -4,7 +4,8 @@ use Rattle.std.specs.Prelude.{◌⊎◌}
 use Rattle.std.proofs.lemmas.Bool.{cases_lt}
 use Rattle.std.proofs.lemmas.Int.{ints, clamps, by_lt_z}
 use Rattle.fixed_num.specs.declared.value.Value.{Value}
-use Rattle.ctl_shape.specs.Limiters.{Reach, StopsInTime, IsFeasible, IsNearest, IsNewStep, IsSafe, IsRun, AllKeepLimits, brought, wanted_step}
+use Rattle.cm_model.specs.Limiters.{Reach, brought, wanted_step}
+use Rattle.ctl_shape.specs.Limiters.{StopsInTime, IsFeasible, IsNearest, IsNewStep, IsSafe, IsRun, AllKeepLimits}
 use Rattle.ctl_shape.proofs.WayLemmas.{once, way_more}
 use Rattle.ctl_shape.proofs.StepLemmas.{feasible_stays, down_stops}
 

@@ -1,7 +1,8 @@
 -- Worked rows on limiters, computed from the definitions alone.
 use Rattle.std.proofs.Common.{◌≡◌, pos, negsuc, refl}
 use Rattle.fixed_num.specs.Arithmetic.{floor_div}
-use Rattle.ctl_shape.specs.Limiters.{Reach, reach_of, way_after, wanted_step}
+use Rattle.cm_model.specs.Limiters.{Reach, way_after, wanted_step}
+use Rattle.ctl_shape.specs.Limiters.{reach_in}
 use Rattle.ctl_shape.specs.declared.limits.Limits.{Limits}
 use Rattle.fixed_num.specs.declared.value.Value.TheVariants.{Unset, Num}
 
@@ -9,7 +10,7 @@ use Rattle.fixed_num.specs.declared.value.Value.TheVariants.{Unset, Num}
 abbrev easy : Limits
 easy = record { min = negsuc 999999; max = pos 1000000; vmax = pos 1000000; amax = pos 10000000; dt_us = 10000 }
 
-a_reach : reach_of easy ≡ record { lowest = negsuc 999999; highest = pos 1000000; longest = 10000; change = 1000 }
+a_reach : reach_in easy ≡ record { lowest = negsuc 999999; highest = pos 1000000; longest = 10000; change = 1000 }
 unfolding floor_div
 a_reach = refl
 
@@ -17,11 +18,11 @@ a_reach = refl
 abbrev weak : Limits
 weak = record easy { amax = pos 9999 }
 
-a_change_of_nothing : (reach_of weak).change ≡ 0
+a_change_of_nothing : (reach_in weak).change ≡ 0
 unfolding floor_div
 a_change_of_nothing = refl
 
-a_change_of_one : (reach_of (record easy { amax = pos 10000 })).change ≡ 1
+a_change_of_one : (reach_in (record easy { amax = pos 10000 })).change ≡ 1
 unfolding floor_div
 a_change_of_one = refl
 

@@ -3,7 +3,7 @@ use Rattle.std.proofs.Common.{◌≡◌, pos, negsuc, refl}
 use Rattle.fixed_num.specs.Micro.{clamped}
 use Rattle.fixed_num.specs.Arithmetic.{floor_div}
 use Rattle.iface_names.specs.declared.kind.Kind.TheVariants.{Position, Velocity, Effort}
-use Rattle.ctl_shape.specs.Transmissions.{Gear, Pair, to_actuator, to_joint, to_actuators, to_joints}
+use Rattle.cm_model.specs.Transmissions.{Gear, Pair, to_actuator, to_joint, to_actuators, to_joints}
 use Rattle.ctl_shape.specs.RoundTrips.{grain, lost, both_lost}
 
 -- three turns of the actuator for one of the joint, which stands at 0.1 where the actuator stands at nothing

@@ -8,7 +8,8 @@ use Rattle.std.proofs.lemmas.Int.{ints, clamps, by_lt_z}
 use Rattle.fixed_num.specs.Micro.{IsInRange}
 use Rattle.fixed_num.specs.declared.TheConstants.{LARGEST}
 use Rattle.fixed_num.specs.declared.value.Value.{Value}
-use Rattle.ctl_shape.specs.Limiters.{Reach, way_after, StopsInTime, IsFeasible, IsNewStep, IsRun, IsRunFrom, brought, wanted_step}
+use Rattle.cm_model.specs.Limiters.{Reach, way_after, brought, wanted_step}
+use Rattle.ctl_shape.specs.Limiters.{StopsInTime, IsFeasible, IsNewStep, IsRun, IsRunFrom}
 use Rattle.ctl_shape.specs.Capped.{capped, IsCapped}
 use Rattle.ctl_shape.specs.Calls.Steps.{IsLongest, IsCut, least_of, most_of}
 use Rattle.ctl_shape.proofs.WayLemmas.{slow_none, way_more}

@@ -7,7 +7,7 @@ use Rattle.fixed_num.specs.declared.TheConstants.{MICRO, LARGEST}
 use Rattle.fixed_num.proofs.ArithmeticLemmas.{floor_is_greatest, floor_between, floor_within, product_within}
 use Rattle.iface_names.specs.declared.kind.Kind.{Kind}
 use Rattle.iface_names.specs.declared.kind.Kind.TheVariants.{Position, Velocity, Effort}
-use Rattle.ctl_shape.specs.Transmissions.{Gear, Pair, IsMotion, IsPair, quotient, divided, less_offset, with_offset, told, had}
+use Rattle.cm_model.specs.Transmissions.{Gear, Pair, IsMotion, IsPair, quotient, divided, less_offset, with_offset, told, had}
 use Rattle.ctl_shape.specs.RoundTrips.{NothingClamps, NothingClampsInBoth, IsFromTo, LosesLittle, grain, offset_of, product, own, lost, both_lost}
 
 -- ---- Products

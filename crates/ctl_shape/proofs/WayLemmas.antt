@@ -1,6 +1,6 @@
 -- The way that is needed to stop, and the longest step after which it has room.
 use Rattle.std.proofs.Common.{◌≡◌, ℕ, zero, suc, ◌+◌, ◌-◌, ◌*◌, ◌<◌, ◌≤◌, ap, sym, refl, arith}
-use Rattle.ctl_shape.specs.Limiters.{slowing, way_after}
+use Rattle.cm_model.specs.Limiters.{slowing, way_after}
 
 -- ---- The way to stop
 

@@ -2,7 +2,7 @@
 
 ghost use Rattle.std.specs.Prelude.{◌≡◌, ◌<ℤ◌, ◌≤◌, ◌*◌, ◌+ℤ◌, ◌-ℤ◌, pos, nat_abs};
 ghost use Rattle.fixed_num.specs.Arithmetic.{floor_div};
-ghost use Rattle.ctl_shape.specs.Transmissions.{IsMotion, less_offset, with_offset, to_actuators, to_joints};
+ghost use Rattle.cm_model.specs.Transmissions.{IsMotion, less_offset, with_offset, to_actuators, to_joints};
 
 use crate::exact::half;
 use fixed_num::{Fx, LARGEST, MICRO};
@@ -18,7 +18,7 @@ pub struct Differential {
 }
 
 impl Model for Differential {
-    ghost use Rattle.ctl_shape.specs.Transmissions.{Pair, IsPair};
+    ghost use Rattle.cm_model.specs.Transmissions.{Pair, IsPair};
 
     ghost Value = { Pair };
 

@@ -4,7 +4,7 @@
 ghost use Rattle.std.specs.Prelude.{◌≡◌, ◌<ℤ◌, ◌+ℤ◌, ◌*◌, ◌≤◌, pos, nat_abs};
 ghost use Rattle.fixed_num.specs.Micro.{clamped};
 ghost use Rattle.fixed_num.specs.Arithmetic.{floor_div};
-ghost use Rattle.ctl_shape.specs.Transmissions.{quotient};
+ghost use Rattle.cm_model.specs.Transmissions.{quotient};
 
 use fixed_num::{Fx, LARGEST, MICRO, floor, wide_floor};
 

@@ -1,12 +1,17 @@
 //! Laws of transmissions and limiters in the field's words: each is the contract of a function that does nothing.
 
-ghost use Rattle.std.specs.Prelude.{◌≡◌, ℤ, List, ◌-ℤ◌, ◌<ℤ◌, ◌≤ℤ◌, pos};
+ghost use Rattle.std.specs.Prelude.{◌≡◌, ℕ, ℤ, Bool, List, [], ◌∷◌, ◌-ℤ◌, ◌<ℤ◌, ◌≤ℤ◌, pos};
 ghost use Rattle.fixed_num.specs.declared.value.Value.{Value};
-ghost use Rattle.ctl_shape.specs.Transmissions.{Gear, Pair, IsMotion, IsPair};
+ghost use Rattle.cm_model.specs.Transmissions.{Gear, Pair, IsMotion, IsPair};
 ghost use Rattle.ctl_shape.specs.RoundTrips.{NothingClamps, NothingClampsInBoth, IsFromTo};
 ghost use Rattle.ctl_shape.specs.RoundTrips.{LosesLittle, grain, lost, both_lost};
-ghost use Rattle.ctl_shape.specs.Limiters.{Reach, IsFeasible, IsNewStep, IsSafe};
-ghost use Rattle.ctl_shape.specs.Limiters.{IsRun, IsRunFrom, AllKeepLimits, brought};
+ghost use Rattle.cm_model.specs.Controllers.{started, updated};
+ghost use Rattle.cm_model.specs.Limiters.{Bounds, Reach, reach_of, brought, new_step};
+ghost use Rattle.cm_model.specs.declared.data.RunData.TheVariants as run;
+ghost use Rattle.cm_model.specs.declared.tick.Tick.{Tick};
+ghost use Rattle.ctl_shape.specs.Controllers.{AreBounds, bounds_params};
+ghost use Rattle.ctl_shape.specs.Limiters.{IsFeasible, IsNewStep, IsSafe, IsRun, IsRunFrom, AllKeepLimits};
+ghost use Rattle.ctl_shape.specs.Updates.{RunsSafely, UpdateKeepsLimits};
 
 /// A round trip through a simple transmission takes nothing from a position or a velocity, or at most as many
 /// micro-units of the joint as one of the actuator is, rounded up. This holds for every reduction above 0, if no
@@ -36,12 +41,14 @@ pub fn there_is_always_a_step()
 {}
 
 /// The feasible steps are all from one number to another: a step between two of them is one too. So there is only one
-/// new step.
+/// new step, and the search of the table of controllers finds it.
 pub fn there_is_one_new_step()
     ensures between { (reach : Reach) (at last s m t : ℤ) → IsFeasible reach at last s → IsFeasible reach at last t
         → s ≤ℤ m → m ≤ℤ t → IsFeasible reach at last m }
     ensures one { (reach : Reach) (at last wanted s t : ℤ) → IsNewStep reach at last wanted s
         → IsNewStep reach at last wanted t → s ≡ t }
+    ensures found { (reach : Reach) (at last wanted : ℤ)
+        → IsNewStep reach at last wanted (new_step reach at last wanted) }
 {}
 
 /// Whatever is wanted, each output of a run keeps the limits: it lies between the ends, its position differs from the
@@ -53,4 +60,16 @@ pub fn every_output_keeps_the_limits()
         → AllKeepLimits reach (brought reach start) (pos 0) outs }
     ensures from_anywhere { (reach : Reach) (at last : ℤ) (wanted : List Value) (outs : List ℤ) → IsSafe reach at last
         → IsRun reach at last wanted outs → AllKeepLimits reach at last outs }
+{}
+
+/// Whatever a limiter is activated with, it stands then between its ends, without a step, from where it keeps its limits.
+/// Whatever it is updated with, its output keeps them, and it goes on safely from there. So every run of updates with one
+/// time between them keeps the limits.
+pub fn every_update_keeps_the_limits()
+    ensures begins { (bounds : Bounds) (dt_us : ℕ) (states : List ℤ) (chained : Bool) → AreBounds bounds
+        → RunsSafely (reach_of bounds dt_us) (started (bounds_params bounds) states chained) }
+    ensures stays { (bounds : Bounds) (chained : Bool) (set : Value) (at step : ℤ) (tick : Tick) (states : List ℤ)
+        (reference : Value) → IsSafe (reach_of bounds tick.dt_us) at step
+        → UpdateKeepsLimits (reach_of bounds tick.dt_us) at step
+        (updated (bounds_params bounds) (run.Limiter chained set at step) tick states (reference ∷ [])) }
 {}

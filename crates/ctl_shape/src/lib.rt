@@ -1,13 +1,15 @@
 //! Shapes between what is commanded and what a joint is told: transmissions, and limits on speed and acceleration.
-//! The plain parts of controllers that shape a command: formulas on whole micro-units that take no memory.
+//! Plain parts, which are formulas on whole micro-units and take no memory, and a controller over each.
 #![tactic(auto)]
 
+pub use controllers::{DifferentialCtl, LimiterCtl, TransmissionCtl};
 pub use differential::Differential;
 pub use limiter::Limiter;
 pub use limits::Limits;
 pub use run::limit_run;
 pub use simple::Simple;
 
+mod controllers;
 mod differential;
 mod exact;
 pub mod laws;

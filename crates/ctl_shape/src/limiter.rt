@@ -2,7 +2,8 @@
 
 ghost use Rattle.std.specs.Prelude.{◌≡◌, ◌*◌, ◌≤◌, ◌≤ℤ◌, ◌+ℤ◌, ◌-ℤ◌, pos, nat_abs};
 ghost use Rattle.fixed_num.specs.Micro.{IsInRange};
-ghost use Rattle.ctl_shape.specs.Limiters.{IsNewStep, brought, reach_of, wanted_step};
+ghost use Rattle.cm_model.specs.Limiters.{brought, wanted_step};
+ghost use Rattle.ctl_shape.specs.Limiters.{IsNewStep, reach_in};
 ghost use Rattle.ctl_shape.specs.Capped.{capped, IsCapped};
 ghost use Rattle.ctl_shape.specs.Calls.Steps.{CanStep, CanCut, AreAllowed, IsCut};
 
@@ -29,7 +30,7 @@ pub struct Limiter {
 
 impl Model for Limiter {
     ghost use Rattle.ctl_shape.specs.Capped.{IsCapped};
-    ghost use Rattle.ctl_shape.specs.Limiters.{Reach};
+    ghost use Rattle.cm_model.specs.Limiters.{Reach};
 
     ghost Value = { Reach };
 
@@ -46,7 +47,7 @@ impl Limiter {
     pub fn of(limits: &Limits) -> Limiter
         requires speed { pos 0 ≤ℤ limits.now.vmax }
         requires acceleration { pos 0 ≤ℤ limits.now.amax }
-        ensures value { result ≡ capped (reach_of limits.now) }
+        ensures value { result ≡ capped (reach_in limits.now) }
         ensures cut { IsCapped result }
     {
         ends_in_range(limits);

@@ -20,11 +20,13 @@ pub struct Limits {
     pub dt_us: u32,
 }
 
-/// The ends are numbers of the range. It does nothing: its contract says so.
+/// The ends and the speed are numbers of the range. It does nothing: its contract says so.
 pub(crate) fn ends_in_range(limits: &Limits)
     ensures lowest { IsInRange limits.now.min }
     ensures highest { IsInRange limits.now.max }
+    ensures speed { IsInRange limits.now.vmax }
 {
     let _ = limits.min.micro();
     let _ = limits.max.micro();
+    let _ = limits.vmax.micro();
 }

@@ -1,7 +1,7 @@
 //! A position that is led towards wanted values, within limits.
 
 ghost use Rattle.std.specs.Prelude.{IfOk};
-ghost use Rattle.ctl_shape.specs.Limiters.{IsRunFrom, reach_of};
+ghost use Rattle.ctl_shape.specs.Limiters.{IsRunFrom, reach_in};
 ghost use Rattle.ctl_shape.specs.Calls.Steps.{AreLimits};
 
 use crate::limiter::Limiter;
@@ -18,7 +18,7 @@ pub fn limit_run(
     wanted: &[Value],
 ) -> Result<Vec<Fx>, Memory>
     requires { AreLimits limits.now }
-    ensures { IfOk result (λ outs. IsRunFrom (reach_of limits.now) start wanted.now outs.items) }
+    ensures { IfOk result (λ outs. IsRunFrom (reach_in limits.now) start wanted.now outs.items) }
 {
     let limiter = Limiter::of(limits);
     let mut outs = Vec::with_capacity(alloc, wanted.len())?;

@@ -1,7 +1,7 @@
 //! A simple transmission: one actuator moves one joint.
 
 ghost use Rattle.std.specs.Prelude.{◌≡◌, ◌<ℤ◌, pos};
-ghost use Rattle.ctl_shape.specs.Transmissions.{to_actuator, to_joint};
+ghost use Rattle.cm_model.specs.Transmissions.{to_actuator, to_joint};
 
 use crate::exact::{quotient, shifted};
 use fixed_num::{Fx, MICRO};
@@ -18,7 +18,7 @@ pub struct Simple {
 
 impl Model for Simple {
     ghost use Rattle.std.specs.Prelude.{◌<ℤ◌, pos};
-    ghost use Rattle.ctl_shape.specs.Transmissions.{Gear};
+    ghost use Rattle.cm_model.specs.Transmissions.{Gear};
 
     ghost Value = { Gear };
 

@@ -2,7 +2,7 @@
 
 ghost use Rattle.std.specs.Prelude.{◌≡◌, ◌+◌, ◌*◌, ◌^◌, ◌<◌, ◌≤◌, ◌≤ℤ◌, ◌*ℤ◌, pos, nat_abs, min};
 ghost use Rattle.fixed_num.specs.Arithmetic.{floor_div};
-ghost use Rattle.ctl_shape.specs.Limiters.{way_after};
+ghost use Rattle.cm_model.specs.Limiters.{way_after};
 ghost use Rattle.ctl_shape.specs.Calls.Steps.{IsRoom, IsLongest};
 
 use crate::limiter::LONGEST_STEP;

@@ -19,6 +19,9 @@ pub fn shape_of(params: &Params) -> Shape
         Params::Trajectory { outs } => shape(*outs, Some(*outs), 0),
         Params::Broadcaster { ins } => shape(0, Some(*ins), 0),
         Params::Mock { outs, .. } => shape(*outs, None, 0),
+        Params::Transmission { .. } => shape(1, Some(0), 1),
+        Params::Differential { .. } => shape(2, Some(0), 2),
+        Params::Limiter { .. } => shape(1, Some(1), 1),
     }
 }
 

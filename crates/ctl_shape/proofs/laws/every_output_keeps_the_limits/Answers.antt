@@ -1,5 +1,5 @@
 use Rattle.std.proofs.Common.{pos}
-use Rattle.ctl_shape.specs.Limiters.{brought}
+use Rattle.cm_model.specs.Limiters.{brought}
 use Rattle.ctl_shape.proofs.LimitLemmas.{run_keeps, begins_safe}
 use Rattle.ctl_shape.proofs.laws.every_output_keeps_the_limits.Goals as goal
 

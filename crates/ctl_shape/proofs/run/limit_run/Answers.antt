@@ -2,7 +2,8 @@ use Rattle.std.proofs.Common.{◌≡◌, ◌+◌, ℤ, ◌-ℤ◌, to_z, of_z, w
 use Rattle.std.proofs.lemmas.Int.{ints}
 use Rattle.std.proofs.lemmas.List.{drop_more, drop_all}
 use Rattle.fixed_num.specs.declared.value.Value.{Value}
-use Rattle.ctl_shape.specs.Limiters.{IsNewStep, IsRun, IsRunFrom, reach_of, wanted_step}
+use Rattle.cm_model.specs.Limiters.{wanted_step}
+use Rattle.ctl_shape.specs.Limiters.{IsNewStep, IsRun, IsRunFrom, reach_in}
 use Rattle.ctl_shape.proofs.StepLemmas.{run_begins, run_more, run_done}
 use Rattle.ctl_shape.proofs.run.limit_run.Goals as goal
 
@@ -44,5 +45,5 @@ returns c =
     let last : ℤ = at -ℤ c.loop-value.before in
     let outs = c.loop-value.outs.items in
     let none = drop_all i wanted (omega (arith, c.loop-value-test.false)) in
-    run_done (reach_of c.args.limits.now) limiter c.args.start at last wanted outs c.of-limiter.ensures.value c.of-limiter.ensures.cut c.requires.ends
+    run_done (reach_in c.args.limits.now) limiter c.args.start at last wanted outs c.of-limiter.ensures.value c.of-limiter.ensures.cut c.requires.ends
     (λ more run. c.loop-value.invariant.so_far more (subst (λ (ws : List Value). IsRun limiter at last ws more) (sym none) run))

@@ -1,7 +1,8 @@
 use Rattle.std.proofs.Common.{◌≡◌, ℤ, ◌+ℤ◌, ◌-ℤ◌, to_z, of_z, w64, subst, ◌∙◌, arith}
 use Rattle.std.proofs.lemmas.Int.{ints}
 use Rattle.fixed_num.proofs.ArithmeticLemmas.{clamped_in_range}
-use Rattle.ctl_shape.specs.Limiters.{IsNewStep, wanted_step}
+use Rattle.cm_model.specs.Limiters.{wanted_step}
+use Rattle.ctl_shape.specs.Limiters.{IsNewStep}
 use Rattle.ctl_shape.proofs.StepLemmas.{new_stays}
 use Rattle.ctl_shape.proofs.limiter.Limiter.advance.Goals as goal
 

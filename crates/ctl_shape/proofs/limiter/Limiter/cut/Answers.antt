@@ -1,6 +1,6 @@
 use Rattle.std.proofs.Common.{◌≡◌, ℤ, pos, ◌-ℤ◌, neg_ℤ, to_z, of_z, w64, subst, arith}
 use Rattle.std.proofs.lemmas.Int.{ints}
-use Rattle.ctl_shape.specs.Limiters.{Reach}
+use Rattle.cm_model.specs.Limiters.{Reach}
 use Rattle.ctl_shape.specs.Calls.Steps.{CanCut, IsCut}
 use Rattle.ctl_shape.proofs.StepLemmas.{cut_up, cut_down}
 use Rattle.ctl_shape.proofs.limiter.Limiter.cut.Goals as goal

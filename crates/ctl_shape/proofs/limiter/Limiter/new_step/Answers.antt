@@ -1,7 +1,7 @@
 use Rattle.std.proofs.Common.{◌≡◌, ℤ, to_z, of_z, w64, inl, inr, ap, subst, arith}
 use Rattle.std.specs.Int.{int_min, int_max}
 use Rattle.std.proofs.lemmas.Int.{ints, clamps}
-use Rattle.ctl_shape.specs.Limiters.{Reach}
+use Rattle.cm_model.specs.Limiters.{Reach}
 use Rattle.ctl_shape.specs.Capped.{IsCapped}
 use Rattle.ctl_shape.proofs.StepLemmas.{allowed_is_new, not_allowed, nothing_is_new, new_lands, tried_in_bits}
 use Rattle.ctl_shape.proofs.limiter.Limiter.new_step.Goals as goal

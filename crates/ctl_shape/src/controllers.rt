@@ -1,0 +1,12 @@
+//! The controllers: each is its plain part, with what was set of it while it runs.
+
+pub use differential::DifferentialCtl;
+pub use limiter::LimiterCtl;
+pub use transmission::TransmissionCtl;
+
+mod differential;
+mod led;
+mod limiter;
+mod only;
+mod paced;
+mod transmission;
