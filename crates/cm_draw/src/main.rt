@@ -21,6 +21,7 @@ use ctl_forward::{Forward, Passthrough};
 use ctl_mock::Mock;
 use ctl_pid::PidCtl;
 use ctl_rack::{Stock, add};
+use ctl_shape::{DifferentialCtl, LimiterCtl, TransmissionCtl};
 use ctl_trait::Controller;
 use ctl_traj::TrajCtl;
 use draw_page::{page_of, whys_of};
@@ -97,6 +98,21 @@ fn draw_stocked<S: Source, K: Sink>(
             Box::new(alloc, Broadcaster::blank())?,
         )?;
         add(&mut blanks, CtlKind::Mock, Box::new(alloc, Mock::blank())?)?;
+        add(
+            &mut blanks,
+            CtlKind::Transmission,
+            Box::new(alloc, TransmissionCtl::blank())?,
+        )?;
+        add(
+            &mut blanks,
+            CtlKind::Differential,
+            Box::new(alloc, DifferentialCtl::blank())?,
+        )?;
+        add(
+            &mut blanks,
+            CtlKind::Limiter,
+            Box::new(alloc, LimiterCtl::blank())?,
+        )?;
     }
     Ok(draw_over(alloc, asked, source, sink, blanks))
 }

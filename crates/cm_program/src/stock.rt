@@ -13,6 +13,7 @@ use ctl_forward::{Forward, Passthrough};
 use ctl_mock::Mock;
 use ctl_pid::PidCtl;
 use ctl_rack::{Stock, add};
+use ctl_shape::{DifferentialCtl, LimiterCtl, TransmissionCtl};
 use ctl_trait::Controller;
 use ctl_traj::TrajCtl;
 use fixed_num::Memory;
@@ -67,6 +68,21 @@ where
             Box::new(alloc, Broadcaster::blank())?,
         )?;
         add(&mut blanks, CtlKind::Mock, Box::new(alloc, Mock::blank())?)?;
+        add(
+            &mut blanks,
+            CtlKind::Transmission,
+            Box::new(alloc, TransmissionCtl::blank())?,
+        )?;
+        add(
+            &mut blanks,
+            CtlKind::Differential,
+            Box::new(alloc, DifferentialCtl::blank())?,
+        )?;
+        add(
+            &mut blanks,
+            CtlKind::Limiter,
+            Box::new(alloc, LimiterCtl::blank())?,
+        )?;
     }
     Ok(run_over(rt, words, source, sink, blanks))
 }

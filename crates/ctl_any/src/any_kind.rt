@@ -7,6 +7,7 @@ use ctl_bcast::Broadcaster;
 use ctl_forward::{Forward, Passthrough};
 use ctl_mock::Mock;
 use ctl_pid::PidCtl;
+use ctl_shape::{DifferentialCtl, LimiterCtl, TransmissionCtl};
 use ctl_trait::{CfgFault, Controller};
 use ctl_traj::TrajCtl;
 use fixed_num::{Fx, Value};
@@ -28,6 +29,12 @@ pub enum AnyKind {
     Broadcaster(Broadcaster),
     /// A mock.
     Mock(Mock),
+    /// A transmission.
+    Transmission(TransmissionCtl),
+    /// A differential.
+    Differential(DifferentialCtl),
+    /// A limiter.
+    Limiter(LimiterCtl),
 }
 
 impl Controller for AnyKind {
@@ -40,6 +47,9 @@ impl Controller for AnyKind {
       | kind.Trajectory ctl ↦ ⟦<TrajCtl as Controller>⟧.meaning ctl
       | kind.Broadcaster ctl ↦ ⟦<Broadcaster as Controller>⟧.meaning ctl
       | kind.Mock ctl ↦ ⟦<Mock as Controller>⟧.meaning ctl
+      | kind.Transmission ctl ↦ ⟦<TransmissionCtl as Controller>⟧.meaning ctl
+      | kind.Differential ctl ↦ ⟦<DifferentialCtl as Controller>⟧.meaning ctl
+      | kind.Limiter ctl ↦ ⟦<LimiterCtl as Controller>⟧.meaning ctl
     ] };
 
     fn kind(&self) -> CtlKind {
@@ -50,6 +60,9 @@ impl Controller for AnyKind {
             AnyKind::Trajectory(ctl) => ctl.kind(),
             AnyKind::Broadcaster(ctl) => ctl.kind(),
             AnyKind::Mock(ctl) => ctl.kind(),
+            AnyKind::Transmission(ctl) => ctl.kind(),
+            AnyKind::Differential(ctl) => ctl.kind(),
+            AnyKind::Limiter(ctl) => ctl.kind(),
         }
     }
 
@@ -61,6 +74,9 @@ impl Controller for AnyKind {
             AnyKind::Trajectory(ctl) => ctl.configure(alloc, params),
             AnyKind::Broadcaster(ctl) => ctl.configure(alloc, params),
             AnyKind::Mock(ctl) => ctl.configure(alloc, params),
+            AnyKind::Transmission(ctl) => ctl.configure(alloc, params),
+            AnyKind::Differential(ctl) => ctl.configure(alloc, params),
+            AnyKind::Limiter(ctl) => ctl.configure(alloc, params),
         }
     }
 
@@ -72,6 +88,9 @@ impl Controller for AnyKind {
             AnyKind::Trajectory(ctl) => ctl.ready(cycle),
             AnyKind::Broadcaster(ctl) => ctl.ready(cycle),
             AnyKind::Mock(ctl) => ctl.ready(cycle),
+            AnyKind::Transmission(ctl) => ctl.ready(cycle),
+            AnyKind::Differential(ctl) => ctl.ready(cycle),
+            AnyKind::Limiter(ctl) => ctl.ready(cycle),
         }
     }
 
@@ -83,6 +102,9 @@ impl Controller for AnyKind {
             AnyKind::Trajectory(ctl) => ctl.activate(states, chained),
             AnyKind::Broadcaster(ctl) => ctl.activate(states, chained),
             AnyKind::Mock(ctl) => ctl.activate(states, chained),
+            AnyKind::Transmission(ctl) => ctl.activate(states, chained),
+            AnyKind::Differential(ctl) => ctl.activate(states, chained),
+            AnyKind::Limiter(ctl) => ctl.activate(states, chained),
         }
     }
 
@@ -94,6 +116,9 @@ impl Controller for AnyKind {
             AnyKind::Trajectory(ctl) => ctl.take(mail),
             AnyKind::Broadcaster(ctl) => ctl.take(mail),
             AnyKind::Mock(ctl) => ctl.take(mail),
+            AnyKind::Transmission(ctl) => ctl.take(mail),
+            AnyKind::Differential(ctl) => ctl.take(mail),
+            AnyKind::Limiter(ctl) => ctl.take(mail),
         }
     }
 
@@ -105,6 +130,9 @@ impl Controller for AnyKind {
             AnyKind::Trajectory(ctl) => ctl.update(tick, states, refs, outs),
             AnyKind::Broadcaster(ctl) => ctl.update(tick, states, refs, outs),
             AnyKind::Mock(ctl) => ctl.update(tick, states, refs, outs),
+            AnyKind::Transmission(ctl) => ctl.update(tick, states, refs, outs),
+            AnyKind::Differential(ctl) => ctl.update(tick, states, refs, outs),
+            AnyKind::Limiter(ctl) => ctl.update(tick, states, refs, outs),
         }
     }
 
@@ -116,6 +144,9 @@ impl Controller for AnyKind {
             AnyKind::Trajectory(ctl) => ctl.deactivate(),
             AnyKind::Broadcaster(ctl) => ctl.deactivate(),
             AnyKind::Mock(ctl) => ctl.deactivate(),
+            AnyKind::Transmission(ctl) => ctl.deactivate(),
+            AnyKind::Differential(ctl) => ctl.deactivate(),
+            AnyKind::Limiter(ctl) => ctl.deactivate(),
         }
     }
 
@@ -127,6 +158,9 @@ impl Controller for AnyKind {
             AnyKind::Trajectory(ctl) => ctl.cleanup(),
             AnyKind::Broadcaster(ctl) => ctl.cleanup(),
             AnyKind::Mock(ctl) => ctl.cleanup(),
+            AnyKind::Transmission(ctl) => ctl.cleanup(),
+            AnyKind::Differential(ctl) => ctl.cleanup(),
+            AnyKind::Limiter(ctl) => ctl.cleanup(),
         }
     }
 }

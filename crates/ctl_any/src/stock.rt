@@ -11,6 +11,7 @@ use ctl_forward::{Forward, Passthrough};
 use ctl_mock::Mock;
 use ctl_pid::PidCtl;
 use ctl_rack::add;
+use ctl_shape::{DifferentialCtl, LimiterCtl, TransmissionCtl};
 use ctl_trait::Controller;
 use ctl_traj::TrajCtl;
 use fixed_num::Memory;
@@ -45,6 +46,21 @@ pub fn blanks(alloc: Global, each: u32) -> Result<Vec<AnyKind>, Memory>
             AnyKind::Broadcaster(Broadcaster::blank()),
         )?;
         add(&mut blanks, CtlKind::Mock, AnyKind::Mock(Mock::blank()))?;
+        add(
+            &mut blanks,
+            CtlKind::Transmission,
+            AnyKind::Transmission(TransmissionCtl::blank()),
+        )?;
+        add(
+            &mut blanks,
+            CtlKind::Differential,
+            AnyKind::Differential(DifferentialCtl::blank()),
+        )?;
+        add(
+            &mut blanks,
+            CtlKind::Limiter,
+            AnyKind::Limiter(LimiterCtl::blank()),
+        )?;
     }
     Ok(blanks)
 }

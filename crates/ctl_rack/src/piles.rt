@@ -20,6 +20,9 @@ pub struct Piles<C: Controller> {
     trajectory: Vec<C>,
     broadcaster: Vec<C>,
     mock: Vec<C>,
+    transmission: Vec<C>,
+    differential: Vec<C>,
+    limiter: Vec<C>,
 }
 
 impl<C: Controller> Model for Piles<C> {
@@ -38,6 +41,9 @@ impl<C: Controller> Model for Piles<C> {
       trajectory = length p.trajectory.items;
       broadcaster = length p.broadcaster.items;
       mock = length p.mock.items;
+      transmission = length p.transmission.items;
+      differential = length p.differential.items;
+      limiter = length p.limiter.items;
     } };
 
     ghost invariant = { λ p.
@@ -46,11 +52,14 @@ impl<C: Controller> Model for Piles<C> {
         × All (λ c. C.meaning c ≡ fresh kind.Pid) p.pid.items
         × All (λ c. C.meaning c ≡ fresh kind.Trajectory) p.trajectory.items
         × All (λ c. C.meaning c ≡ fresh kind.Broadcaster) p.broadcaster.items
-        × All (λ c. C.meaning c ≡ fresh kind.Mock) p.mock.items };
+        × All (λ c. C.meaning c ≡ fresh kind.Mock) p.mock.items
+        × All (λ c. C.meaning c ≡ fresh kind.Transmission) p.transmission.items
+        × All (λ c. C.meaning c ≡ fresh kind.Differential) p.differential.items
+        × All (λ c. C.meaning c ≡ fresh kind.Limiter) p.limiter.items };
 }
 
 impl<C: Controller> Piles<C> {
-    /// Six empty piles.
+    /// An empty pile of each kind.
     pub(crate) fn new(alloc: Global) -> Piles<C>
         ensures { result ≡ no_blanks }
     {
@@ -61,6 +70,9 @@ impl<C: Controller> Piles<C> {
             trajectory: Vec::new(alloc),
             broadcaster: Vec::new(alloc),
             mock: Vec::new(alloc),
+            transmission: Vec::new(alloc),
+            differential: Vec::new(alloc),
+            limiter: Vec::new(alloc),
         }
     }
 
@@ -76,6 +88,9 @@ impl<C: Controller> Piles<C> {
             CtlKind::Trajectory => self.trajectory.push(ctl)?,
             CtlKind::Broadcaster => self.broadcaster.push(ctl)?,
             CtlKind::Mock => self.mock.push(ctl)?,
+            CtlKind::Transmission => self.transmission.push(ctl)?,
+            CtlKind::Differential => self.differential.push(ctl)?,
+            CtlKind::Limiter => self.limiter.push(ctl)?,
         }
         Ok(())
     }
@@ -94,6 +109,9 @@ impl<C: Controller> Piles<C> {
             CtlKind::Trajectory => self.trajectory.pop(),
             CtlKind::Broadcaster => self.broadcaster.pop(),
             CtlKind::Mock => self.mock.pop(),
+            CtlKind::Transmission => self.transmission.pop(),
+            CtlKind::Differential => self.differential.pop(),
+            CtlKind::Limiter => self.limiter.pop(),
         }
     }
 }

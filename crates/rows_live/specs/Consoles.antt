@@ -2,6 +2,7 @@
 use Rattle.std.specs.Prelude.{ℕ, zero, suc, Bool, true, false, List, [], None}
 use Rattle.cm_document.specs.Described.{a_description}
 use Rattle.cm_document.specs.declared.call.Call.TheVariants.{Begin, End, Close}
+use Rattle.cm_model.specs.Blanks.{no_blanks}
 use Rattle.cm_model.specs.Ports.{Console, LoopConsole}
 use Rattle.cm_model.specs.Scheduled.{with_entry}
 use Rattle.cm_model.specs.State.{State, boot}
@@ -13,8 +14,7 @@ use Rattle.live_run.specs.Sessions.{IsAtItsStart}
 
 -- some state in which a history begins
 abbrev pub opening : State
-opening = boot (a_description 1 100 0 [] [])
-    (record { forward = 0; passthrough = 0; pid = 0; trajectory = 0; broadcaster = 0; mock = 0 }) 1
+opening = boot (a_description 1 100 0 [] []) no_blanks 1
 
 -- that of a session: these entries, so many not-yet answers, and nothing of the history behind it
 abbrev pub console : ℕ → List Entry → ℕ → Console
