@@ -5,15 +5,12 @@ use Rattle.std.proofs.lemmas.Bool.{leb-true, eqb-true, and_parts}
 use Rattle.std.proofs.lemmas.List.{length-map}
 use Rattle.cm_document.specs.Links.{reference_for, exported_for, refs_of}
 use Rattle.cm_document.specs.Params.{fewest_claims, most_claims}
-use Rattle.cm_document.specs.Valid.{ranged, controller_ranged, claims_fit, reads_fit, IsValid}
+use Rattle.cm_document.specs.Valid.{controller_ranged, claims_fit, reads_fit, IsValid}
 use Rattle.cm_document.specs.declared.description.CtlDesc.{CtlDesc}
 use Rattle.cm_document.specs.declared.description.Description.{Description}
 use Rattle.cm_document.specs.declared.description.Params.{Params}
-use Rattle.cm_document.specs.declared.description.Params.TheVariants.{Forward, Passthrough, Pid, Trajectory, Broadcaster, Mock}
-use Rattle.cm_document.specs.declared.limits.TheConstants.{HIGHEST_RATE, MOST_FALLBACKS}
-use Rattle.cm_document.proofs.ReadingLemmas.{bind_Ok}
-use Rattle.cm_document.proofs.ValidParts.{in_range_passes}
-use Rattle.cm_model.proofs.RangedLemmas.{at_most, IsShapeOf, IsShaped, described_shapes, controller_in_range}
+use Rattle.cm_document.specs.declared.description.Params.TheVariants.{Forward, Passthrough, Pid, Trajectory, Broadcaster, Mock, Transmission, Differential, Limiter}
+use Rattle.cm_model.proofs.RangedLemmas.{at_most, IsShapeOf, IsShaped, described_shapes, controller_in_range, ranged_parts}
 use Rattle.cm_model.specs.Controllers.{AreItsCounts}
 
 -- ---- Ranges
@@ -30,7 +27,11 @@ few_by p n fits =
 up_to : (p : Params) (n : ℕ) → claims_fit p n ≡ true → n ≤ 256
 up_to p n fits = omega (arith, few_by p n fits)
 
--- a pid has one claim
+-- two claims and no more are two
+just_two : (n : ℕ) → (nat_le 2 n && nat_le n 2) ≡ true → n ≡ 2
+just_two n fits = let both = and_parts (nat_le 2 n) (nat_le n 2) fits in omega (arith, leb-true 2 n both.0, leb-true n 2 both.1)
+
+-- one claim and no more is one
 just_one : (n : ℕ) → (nat_le 1 n && nat_le n 1) ≡ true → n ≡ 1
 just_one n fits = let both = and_parts (nat_le 1 n) (nat_le n 1) fits in omega (arith, leb-true 1 n both.0, leb-true n 1 both.1)
 
@@ -61,6 +62,19 @@ counts_by c (Mock outs refuse_config not_ready fail_update) shape claims reads f
   references = refl;
   claims = counted outs (length c.claims) shape (up_to (Mock outs refuse_config not_ready fail_update) (length c.claims) claims);
 }
+counts_by c (Transmission carried reduction offset) shape claims reads few =
+    let one = just_one (length c.claims) claims in
+    record { reads = ap length shape.1; references = length-map c.claims (reference_for c.name) ∙ one; claims = one }
+counts_by c (Differential carried reduction1 reduction2 offset1 offset2) shape claims reads few =
+    let two = just_two (length c.claims) claims in
+    record { reads = ap length shape.1; references = length-map c.claims (reference_for c.name) ∙ two; claims = two }
+counts_by c (Limiter lowest highest vmax amax) shape claims reads few =
+    let one = just_one (length c.claims) claims in
+    record {
+      reads = eqb-true (length c.reads) 1 reads;
+      references = length-map c.claims (reference_for c.name) ∙ one;
+      claims = one;
+    }
 
 -- the counts of a controller are those of its parameters, and it claims no more than one may
 pub record IsWellShaped (c : CtlDesc) : Type 0 where
@@ -70,13 +84,10 @@ pub record IsWellShaped (c : CtlDesc) : Type 0 where
 controller_so : (path : List ℕ) (c : CtlDesc) → IsShaped c → controller_ranged path c ≡ Ok tt → length c.reads ≤ 256
     → IsWellShaped c
 controller_so path c shaped passes few =
-    let rate = bind_Ok (ranged (nat_le c.rate HIGHEST_RATE) _) _ tt passes in
-    let fallbacks = bind_Ok (ranged (nat_le (length c.fallback) MOST_FALLBACKS) _) _ tt rate.2 in
-    let claims = bind_Ok (ranged (claims_fit c.params (length c.claims)) _) _ tt fallbacks.2 in
-    let reads = bind_Ok (ranged (reads_fit c.params (length c.claims) (length c.reads)) _) _ tt claims.2 in
+    let links = (ranged_parts path c passes).links in
     record {
-      counts = counts_by c c.params shaped (in_range_passes _ _ claims.1) (in_range_passes _ _ reads.1) few;
-      few_claims = few_by c.params (length c.claims) (in_range_passes _ _ claims.1);
+      counts = counts_by c c.params shaped links.claims links.reads few;
+      few_claims = few_by c.params (length c.claims) links.claims;
     }
 
 -- Each controller of a valid description, which reads no more than may be read, has the counts that its parameters say.

@@ -12,8 +12,9 @@ use Rattle.cm_document.specs.declared.description.CtlKind.{CtlKind}
 use Rattle.cm_document.specs.declared.description.Params.{Params}
 use Rattle.cm_document.specs.declared.life.Life.{Life}
 use Rattle.cm_document.specs.declared.life.Life.TheVariants.{Unconfigured, Inactive, Active, Finalized}
-use Rattle.cm_model.specs.Controllers.{Stepped, Updated, started, with_mail, pid_update, loop_update, set_update, trajectory_update, publishes_states, only_if, updated, activated, deactivated, mailed, step_with, update_step, ctl_step, IsIdle, IsRunning, IsInactiveWith, CanBeUpdated}
-use Rattle.cm_model.specs.Kinds.{publishes, follows_points, tuning_of, is_over_values, fails_in}
+use Rattle.cm_model.specs.Controllers.{Stepped, Updated, started, with_mail, pid_update, loop_update, bounded_update, set_update, trajectory_update, publishes_states, only_if, updated, activated, deactivated, mailed, step_with, update_step, ctl_step, IsIdle, IsRunning, IsInactiveWith, CanBeUpdated}
+use Rattle.cm_model.specs.Kinds.{publishes, follows_points, tuning_of, bounds_of, is_over_values, fails_in}
+use Rattle.cm_model.specs.Limiters.{Bounds}
 use Rattle.cm_model.specs.Pids.{Tuning}
 use Rattle.cm_model.specs.Scene.{is_running}
 use Rattle.cm_model.specs.declared.data.CtlData.{CtlData}
@@ -199,6 +200,12 @@ loop_publishes_none : (own : Option Tuning) (chained : Bool) (set : Value) (inte
 loop_publishes_none None chained set integral last dt_us targets states = refl
 loop_publishes_none (Some tuning) chained set integral last dt_us targets states = pid_publishes_none tuning chained set integral last dt_us targets states
 
+limiter_publishes_none : (own : Option Bounds) (chained : Bool) (set : Value) (at step : ℤ) (dt_us : ℕ) (targets : List Value)
+    → (bounded_update own chained set at step dt_us targets).published ≡ []
+limiter_publishes_none None chained set at step dt_us targets = refl
+limiter_publishes_none (Some bounds) chained set at step dt_us [] = refl
+limiter_publishes_none (Some bounds) chained set at step dt_us (target ∷ targets) = refl
+
 -- a kind that does not publish publishes nothing
 none_published : (k : CtlKind) (states : List ℤ) → publishes k ≡ false → [] ≡ published_by k states
 none_published k states none = rw none refl
@@ -218,6 +225,8 @@ published_updated k p (run.Trajectory hold fresh start_us from points) tick stat
     only_so (λ given. given.published ≡ []) (follows_points (kind_of p)) (run.Trajectory hold fresh start_us from points) _
     (trajectory_publishes_none tick.time_us states hold fresh start_us from points) refl
     ∙ none_published k states h
+published_updated k p (run.Limiter chained set at step) tick states refs e h =
+    limiter_publishes_none (bounds_of p) chained set at step tick.dt_us _ ∙ none_published k states h
 published_updated k p (run.Broadcaster last) tick states refs e h =
     own_published (publishes (kind_of p)) last states ∙ ap (λ (kind : CtlKind). published_by kind states) e
 

@@ -36,6 +36,7 @@ update_gives_within tuning (run.Pid chained set integral last) tick states refs 
 update_gives_within tuning (run.Set chained set) tick states refs limits = tt
 update_gives_within tuning (run.Trajectory hold fresh start_us from points) tick states refs limits = tt
 update_gives_within tuning (run.Broadcaster last) tick states refs limits = tt
+update_gives_within tuning (run.Limiter chained set at step) tick states refs limits = tt
 
 pub update_keeps_integral : (tuning : Tuning) (r : RunData) (tick : Tick) (states : List ℤ) (refs : List Value) → HasLimits tuning
     → IntegralIsWithin tuning.imax r → IntegralIsWithin tuning.imax (updated (params_of tuning) r tick states refs).run
@@ -44,6 +45,7 @@ update_keeps_integral tuning (run.Pid chained set integral last) tick states ref
 update_keeps_integral tuning (run.Set chained set) tick states refs limits near = tt
 update_keeps_integral tuning (run.Trajectory hold fresh start_us from points) tick states refs limits near = tt
 update_keeps_integral tuning (run.Broadcaster last) tick states refs limits near = tt
+update_keeps_integral tuning (run.Limiter chained set at step) tick states refs limits near = tt
 
 pub nothing_is_within : (limit : ℤ) → pos 0 ≤ℤ limit → IsWithin limit (pos 0)
 nothing_is_within limit some = (omega (arith, ints, some), omega (arith, ints, some))

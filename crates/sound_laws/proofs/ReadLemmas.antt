@@ -7,6 +7,7 @@ use Rattle.fixed_num.specs.declared.value.BodyState.{BodyState}
 use Rattle.fixed_num.specs.declared.value.Value.{Value}
 use Rattle.iface_names.specs.declared.interface.IfaceName.{IfaceName}
 use Rattle.cm_document.proofs.DistinctLemmas.{all_so, all_map}
+use Rattle.cm_document.specs.Params.{kind_at}
 use Rattle.cm_document.specs.Places.{Whose, of_joint, of_controller}
 use Rattle.cm_document.specs.declared.description.CtlDesc.{CtlDesc}
 use Rattle.cm_document.specs.declared.life.Life.{Life}
@@ -17,13 +18,13 @@ use Rattle.cm_model.specs.Loans.{is_number, IsEmptyUnless, IsUnsetUnlessClaimed}
 use Rattle.cm_model.specs.Order.{Places}
 use Rattle.cm_model.specs.State.{available_in}
 use Rattle.cm_model.specs.Steady.{HoldsNumber, HasBody}
-use Rattle.cm_model.specs.Values.{InterfaceValue, running, belongs_to, is_state_of, kind_in, shown, read_of, after_reads}
+use Rattle.cm_model.specs.Values.{InterfaceValue, running, belongs_to, is_state_of, shown, read_of, after_reads}
 
 -- ---- What is shown
 
 shown_number : (components : ℕ → Bool) (bodies : List BodyState) (name : IfaceName) (whose : Whose) → HasBody (length bodies) whose → belongs_to components whose ≡ true
     → is_number (shown bodies name whose) ≡ true
-shown_number components bodies name (of_joint component joint) body belongs = measured_number (slice_get bodies joint) (kind_in name) (some_at bodies joint body)
+shown_number components bodies name (of_joint component joint) body belongs = measured_number (slice_get bodies joint) (kind_at name) (some_at bodies joint body)
 shown_number components bodies name (of_controller place) body belongs = absurd (true≢false (sym belongs))
 
 -- ---- One interface
