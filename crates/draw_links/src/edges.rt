@@ -3,7 +3,7 @@
 use crate::boxes::reference_at;
 use crate::levels::Below;
 use crate::ports::{Group, Ports};
-use cm_document::{CtlDesc, CtlKind, Description};
+use cm_document::{CtlDesc, Description, Exports};
 use draw_replay::{ControllerLinks, Link, Linked};
 use draw_svg::{Area, PagePoint, Px, Svg};
 use fixed_num::Memory;
@@ -159,10 +159,10 @@ fn followed_at(
         .as_slice()
         .get(follower)?
         .params
-        .kind()
+        .exports()
     {
-        CtlKind::Passthrough => links.claims.as_slice(),
-        _ => links.reads.as_slice(),
+        Exports::EachClaim => links.claims.as_slice(),
+        Exports::FirstRead | Exports::Nothing => links.reads.as_slice(),
     };
     let number = exported
         .iter()

@@ -1,13 +1,12 @@
-//! Where each joint was over the cycles, and where it was commanded to be.
+//! Where each joint was over the cycles, and where it was commanded to be; and what each limiter gave.
 
-use cm_document::JointDesc;
 use draw_cycles::{Strip, draw_axis};
 use draw_replay::{JointCourse, Sample};
 use draw_svg::{Area, MARGIN, PagePoint, Px, Svg, short, shortened};
 use fixed_num::Memory;
 use std::alloc::Global;
 
-/// How high the curve of a joint is that moves, and of one that does not, in pixels.
+/// How high a curve is that moves, and one that does not, in pixels.
 const MOVING_HEIGHT: u64 = 84;
 
 const STILL_HEIGHT: u64 = 14;
@@ -28,7 +27,7 @@ struct Scale {
 }
 
 impl Scale {
-    /// Wide enough for all positions and commands of a joint.
+    /// Wide enough for all positions and commands of a course.
     fn of(course: &JointCourse, top: Px) -> Scale {
         let mut least = course.start;
         let mut most = course.start;
@@ -66,24 +65,33 @@ impl Scale {
     }
 }
 
+/// A course with its name.
+#[derive(Clone, Copy)]
+pub struct NamedCourse<'a> {
+    /// Whose it is.
+    pub name: &'a str,
+    /// What it is of, behind the name; empty if that goes without saying.
+    pub part: &'static str,
+    /// The course.
+    pub course: &'a JointCourse,
+}
+
 /// What curves are drawn from.
 #[derive(Clone, Copy)]
 pub struct Curves<'a> {
     /// The columns.
     pub strip: &'a Strip,
-    /// The joints.
-    pub joints: &'a [(usize, &'a JointDesc)],
-    /// Their courses.
-    pub courses: &'a [JointCourse],
+    /// The courses.
+    pub courses: &'a [NamedCourse<'a>],
     /// The letters of the longest number at the end of a range.
     pub values: usize,
 }
 
-/// The letters of the longest number at the end of a joint's range.
-pub fn longest_value(alloc: Global, courses: &[JointCourse]) -> Result<usize, Memory> {
+/// The letters of the longest number at the end of a range.
+pub fn longest_value(alloc: Global, courses: &[NamedCourse<'_>]) -> Result<usize, Memory> {
     let mut longest = 1usize;
-    for course in courses {
-        let scale = Scale::of(course, Px::of(0));
+    for named in courses {
+        let scale = Scale::of(named.course, Px::of(0));
         let least = short(alloc, scale.least)?;
         let most = short(alloc, scale.most)?;
         longest = longest.max(least.len()).max(most.len());
@@ -91,7 +99,7 @@ pub fn longest_value(alloc: Global, courses: &[JointCourse]) -> Result<usize, Me
     Ok(longest)
 }
 
-/// Draws the curves of all joints from this height on, and gives where they end.
+/// Draws the curves from this height on, and gives where they end.
 pub fn draw_curves(
     alloc: Global,
     svg: &mut Svg,
@@ -100,7 +108,6 @@ pub fn draw_curves(
 ) -> Result<Px, Memory> {
     let Curves {
         strip,
-        joints,
         courses,
         values,
     } = curves;
@@ -112,25 +119,26 @@ pub fn draw_curves(
         .minus(Px::letters(values.saturating_add(2)))
         .room();
     let mut y = top;
-    for ((_, joint), course) in joints.iter().zip(courses) {
-        let scale = Scale::of(course, y);
-        draw_name(alloc, svg, joint.name.as_str(), room, scale)?;
-        draw_joint(alloc, svg, strip, joint.name.as_str(), course, scale)?;
+    for named in courses {
+        let scale = Scale::of(named.course, y);
+        let name = format!(in alloc; "{}{}", named.name, named.part)?;
+        draw_name(alloc, svg, name.as_str(), room, scale)?;
+        draw_course(alloc, svg, strip, name.as_str(), named.course, scale)?;
         y = scale.end();
     }
     Ok(bottom.plus(Px::of(24)))
 }
 
 /// Where the curves end.
-fn bottom_of(top: Px, courses: &[JointCourse]) -> Px {
+fn bottom_of(top: Px, courses: &[NamedCourse<'_>]) -> Px {
     let mut bottom = top;
-    for course in courses {
-        bottom = Scale::of(course, bottom).end();
+    for named in courses {
+        bottom = Scale::of(named.course, bottom).end();
     }
     bottom
 }
 
-fn draw_joint(
+fn draw_course(
     alloc: Global,
     svg: &mut Svg,
     strip: &Strip,
@@ -148,7 +156,7 @@ fn draw_joint(
     draw_samples(alloc, svg, strip, name, course, scale)
 }
 
-/// The joint's name, in this room.
+/// The name, in this room.
 fn draw_name(
     alloc: Global,
     svg: &mut Svg,

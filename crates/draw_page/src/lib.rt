@@ -3,7 +3,9 @@
 
 pub use page::{page_of, whys_of};
 
+mod courses;
 mod curves;
 mod keys;
 mod page;
 mod style;
+mod warnings;

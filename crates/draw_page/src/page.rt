@@ -1,9 +1,11 @@
 //! The page: a heading, who claims and reads what, the run, and the joints.
 
+use crate::courses::{joint_courses, limiter_courses};
 use crate::curves::{Curves, draw_curves, longest_value};
 use crate::keys::{draw_curve_keys, draw_link_keys, draw_run_keys};
 use crate::style::STYLE;
-use cm_document::{Description, JointDesc, Script};
+use crate::warnings::{draw_warnings, push_warnings};
+use cm_document::{CtlKind, Description, JointDesc, Script};
 use cm_model::Entry;
 use draw_cycles::{Run, Strip, draw_log, draw_run, push_whys};
 use draw_links::draw_links;
@@ -63,6 +65,7 @@ fn whys_of_linked<'a>(
     let columns = Columns::of(linked.description.cycles);
     let replay = Replay::of(alloc, columns, linked, script, history)?;
     let mut text = String::new(alloc);
+    push_warnings(alloc, &mut text, linked.description)?;
     push_whys(&mut text, &replay)?;
     Ok(text)
 }
@@ -87,7 +90,10 @@ fn page(
     columns: Columns,
     replay: &Replay<'_>,
 ) -> Result<String, Memory> {
-    let values = longest_value(alloc, replay.courses.as_slice())?;
+    let joints = joint_courses(alloc, linked, replay)?;
+    let limiters = limiter_courses(alloc, linked, replay)?;
+    let longest = longest_value(alloc, joints.as_slice())?;
+    let values = longest.max(longest_value(alloc, limiters.as_slice())?);
     let left = names_end(linked.description, linked.joints, values);
     let run = Run {
         strip: Strip::of(columns, left),
@@ -96,7 +102,19 @@ fn page(
     };
     let mut svg = Svg::new(alloc);
     let top = draw_head(alloc, &mut svg, name, linked.description, run.replay.counts)?;
-    let bottom = draw(alloc, &mut svg, top, linked, run, values)?;
+    let top = draw_warnings(alloc, &mut svg, top, linked.description)?;
+    let top = draw(alloc, &mut svg, top, linked, run)?;
+    let curves = Curves {
+        strip: &run.strip,
+        courses: joints.as_slice(),
+        values,
+    };
+    let top = draw_curve_part(alloc, &mut svg, top, "Where each joint was", curves)?;
+    let given = Curves {
+        courses: limiters.as_slice(),
+        ..curves
+    };
+    let bottom = draw_curve_part(alloc, &mut svg, top, "What each limiter gave", given)?;
     whole(alloc, &svg, bottom)
 }
 
@@ -105,6 +123,10 @@ fn names_end(description: &Description, joints: &[(usize, &JointDesc)], values: 
     let mut longest = 14usize;
     for controller in description.controllers.as_slice() {
         longest = longest.max(controller.name.as_str().len());
+        if controller.params.kind() == CtlKind::Limiter {
+            let both = controller.name.as_str().len().saturating_add(values);
+            longest = longest.max(both.saturating_add(9));
+        }
     }
     for component in description.components.as_slice() {
         longest = longest.max(component.name.as_str().len());
@@ -116,19 +138,17 @@ fn names_end(description: &Description, joints: &[(usize, &JointDesc)], values: 
     Px::letters(longest.min(MOST_LETTERS)).plus(Px::of(MARGIN + 12))
 }
 
-/// Draws all below the heading, and gives where it ends.
+/// Draws all between the heading and the curves, and gives where it ends.
 fn draw(
     alloc: Global,
     svg: &mut Svg,
     top: Px,
     linked: Linked<'_>,
     run: Run<'_>,
-    values: usize,
 ) -> Result<Px, Memory> {
     let top = draw_link_part(alloc, svg, top, linked)?;
     let top = draw_run_part(alloc, svg, top.plus(Px::of(20)), run)?;
-    let top = draw_log_part(alloc, svg, top, run)?;
-    draw_curve_part(alloc, svg, top.plus(Px::of(20)), linked, run, values)
+    draw_log_part(alloc, svg, top, run)
 }
 
 fn draw_link_part(alloc: Global, svg: &mut Svg, top: Px, linked: Linked<'_>) -> Result<Px, Memory> {
@@ -158,27 +178,19 @@ fn draw_log_part(alloc: Global, svg: &mut Svg, top: Px, run: Run<'_>) -> Result<
     draw_log(alloc, svg, top, cycles, answered)
 }
 
-/// Where each joint was, where there are any.
+/// A part of curves, if it has any.
 fn draw_curve_part(
     alloc: Global,
     svg: &mut Svg,
     top: Px,
-    linked: Linked<'_>,
-    run: Run<'_>,
-    values: usize,
+    words: &str,
+    curves: Curves<'_>,
 ) -> Result<Px, Memory> {
-    if linked.joints.is_empty() {
+    if curves.courses.is_empty() {
         return Ok(top);
     }
-    let top = draw_section(svg, top, "Where each joint was")?;
+    let top = draw_section(svg, top.plus(Px::of(20)), words)?;
     let top = draw_curve_keys(svg, top)?;
-    let courses = run.replay.courses.as_slice();
-    let curves = Curves {
-        strip: &run.strip,
-        joints: linked.joints,
-        courses,
-        values,
-    };
     draw_curves(alloc, svg, top, curves)
 }
 

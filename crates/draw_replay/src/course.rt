@@ -43,12 +43,17 @@ pub struct JointCourse {
 impl JointCourse {
     /// Of a joint that has not moved yet.
     fn blank(alloc: Global, joint: &JointDesc, columns: usize) -> Result<JointCourse, Memory> {
+        JointCourse::still(alloc, joint.position.micro(), columns)
+    }
+
+    /// Of what is nowhere else yet.
+    pub fn still(alloc: Global, start: i64, columns: usize) -> Result<JointCourse, Memory> {
         let mut samples = Vec::new(alloc);
         for _column in 0..columns {
             samples.push(None)?;
         }
         Ok(JointCourse {
-            start: joint.position.micro(),
+            start,
             samples,
             own: None,
             reference: None,
@@ -103,6 +108,14 @@ impl JointCourse {
                 command,
             });
         }
+    }
+
+    /// In a cycle of this column it is here. What nobody saw before starts here too.
+    pub fn pass(&mut self, column: usize, micro: i64) {
+        if self.samples.iter().all(|sample| sample.is_none()) {
+            self.start = micro;
+        }
+        self.reach(column, micro);
     }
 
     /// Where it is commanded to be: by its own interface, or else by a reference for it.

@@ -4,6 +4,7 @@
 pub use columns::{Columns, MOST_COLUMNS};
 pub use course::{JointCourse, Sample};
 pub use incidents::Incident;
+pub use limiters::LimiterCourse;
 pub use links::{ControllerLinks, Link, Linked, joints_of, links_of};
 pub use present::Asked;
 pub use replay::{Answered, Became, Replay, RunCounts};
@@ -12,6 +13,7 @@ pub use rows::{ColumnState, Event, Row, RowCell};
 mod columns;
 mod course;
 mod incidents;
+mod limiters;
 mod links;
 mod present;
 mod replay;

@@ -4,6 +4,7 @@
 use crate::columns::Columns;
 use crate::course::{JointCourse, blank_courses, forget};
 use crate::incidents::{Incident, push_incidents};
+use crate::limiters::{LimiterCourse, blank_limiters, stop_limiter};
 use crate::links::{Linked, component_place, controller_place};
 use crate::present::{Asked, Present};
 use crate::rows::{ColumnState, Event, Row, blank_rows, mark_row};
@@ -73,6 +74,8 @@ pub struct Replay<'a> {
     pub components: Vec<Row>,
     /// The courses of the joints, by place.
     pub courses: Vec<JointCourse>,
+    /// The courses of the limiters, by place.
+    pub limiters: Vec<LimiterCourse>,
     /// How often things happened.
     pub counts: RunCounts,
     alloc: Global,
@@ -113,6 +116,7 @@ impl<'a> Replay<'a> {
             controllers: blank_rows(alloc, controllers, columns.count())?,
             components: blank_rows(alloc, components, columns.count())?,
             courses: blank_courses(alloc, description, columns.count())?,
+            limiters: blank_limiters(alloc, description, columns.count())?,
             counts: RunCounts {
                 done: 0,
                 refused: 0,
@@ -340,6 +344,7 @@ impl<'a> Replay<'a> {
         if let Some(place) = controller_place(controllers, name) {
             self.present.stop(place);
             forget(&mut self.courses, place);
+            stop_limiter(&mut self.limiters, place);
         }
     }
 
@@ -402,6 +407,10 @@ impl<'a> Replay<'a> {
         let Some(links) = all.get(place) else {
             return Ok(());
         };
+        let chained = self.present.is_chained(place);
+        for limiter in &mut self.limiters {
+            limiter.read(place, chained, column, ran.outs);
+        }
         for (claim, value) in links.claims.iter().zip(ran.outs) {
             if let Some(course) = self.courses.get_mut(claim.joint) {
                 course.take(place, claim, value.get());
@@ -425,6 +434,7 @@ impl<'a> Replay<'a> {
                 }
                 self.present.stop(place);
                 forget(&mut self.courses, place);
+                stop_limiter(&mut self.limiters, place);
             }
         }
         if !stops.is_empty() {
