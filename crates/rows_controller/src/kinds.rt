@@ -4,23 +4,27 @@
 ghost use Rattle.cm_model.specs.Controllers.{IsBlank};
 
 mod computing;
+mod given;
 mod pages;
+mod shaping;
 mod tried;
 
 use crate::kinds::computing::{BROADCASTERS, LIMITS, LINES, PIDS, TRAJECTORIES};
+use crate::kinds::given::params_of;
 use crate::kinds::pages::{FORWARDS, LIFECYCLE, MOCKS, PASSTHROUGHS};
+use crate::kinds::shaping::{DIFFERENTIALS, LIMITERS, STANDING, TRANSMISSIONS};
 use crate::kinds::tried::Tried;
-use cm_document::{Cycles, Mail, Params, Point2};
+use cm_document::{Mail, Params, Point2};
 use cm_model::Tick;
 use ctl_bcast::Broadcaster;
 use ctl_forward::{Forward, Passthrough};
 use ctl_mock::Mock;
 use ctl_pid::PidCtl;
+use ctl_shape::{DifferentialCtl, LimiterCtl, TransmissionCtl};
 use ctl_trait::Controller;
 use ctl_traj::TrajCtl;
 use fixed_num::{Fx, Value};
 use pages_cases::pages::{Teller, hold, push_parted};
-use pages_cases::words::number;
 use sequence::Seq;
 use std::alloc::Global;
 use std::test::Fail;
@@ -42,6 +46,15 @@ fn each_kind_that_computes_does_what_its_row_says(rt: HostRuntime) -> Result<(),
     hold(alloc, &Trajectories, "", TRAJECTORIES)?;
     hold(alloc, &Trajectories, "", LINES)?;
     hold(alloc, &Broadcasters, "", BROADCASTERS)
+}
+
+#[test]
+fn each_kind_that_shapes_a_command_does_what_its_row_says(rt: HostRuntime) -> Result<(), Fail> {
+    let alloc = rt.alloc();
+    hold(alloc, &Transmissions, "", TRANSMISSIONS)?;
+    hold(alloc, &Differentials, "", DIFFERENTIALS)?;
+    hold(alloc, &Limiters, "", LIMITERS)?;
+    hold(alloc, &Limiters, "", STANDING)
 }
 
 /// A kind of controller, of which each case plays with a blank. Other bodies hold it as a `C` alone: one that makes a
@@ -84,6 +97,24 @@ impl Kind for Broadcaster {
 impl Kind for Mock {
     fn blank() -> Mock {
         Mock::blank()
+    }
+}
+
+impl Kind for TransmissionCtl {
+    fn blank() -> TransmissionCtl {
+        TransmissionCtl::blank()
+    }
+}
+
+impl Kind for DifferentialCtl {
+    fn blank() -> DifferentialCtl {
+        DifferentialCtl::blank()
+    }
+}
+
+impl Kind for LimiterCtl {
+    fn blank() -> LimiterCtl {
+        LimiterCtl::blank()
     }
 }
 
@@ -138,6 +169,33 @@ struct Mocks;
 impl Teller for Mocks {
     fn told(&self, alloc: Global, text: &str) -> Result<String, Fail> {
         play::<Mock>(alloc, text)
+    }
+}
+
+/// Tells the answers of a transmission to the calls of a case.
+struct Transmissions;
+
+impl Teller for Transmissions {
+    fn told(&self, alloc: Global, text: &str) -> Result<String, Fail> {
+        play::<TransmissionCtl>(alloc, text)
+    }
+}
+
+/// Tells the answers of a differential to the calls of a case.
+struct Differentials;
+
+impl Teller for Differentials {
+    fn told(&self, alloc: Global, text: &str) -> Result<String, Fail> {
+        play::<DifferentialCtl>(alloc, text)
+    }
+}
+
+/// Tells the answers of a limiter to the calls of a case.
+struct Limiters;
+
+impl Teller for Limiters {
+    fn told(&self, alloc: Global, text: &str) -> Result<String, Fail> {
+        play::<LimiterCtl>(alloc, text)
     }
 }
 
@@ -303,62 +361,6 @@ fn push_value(told: &mut String, value: &Value) -> Result<(), Fail> {
     Ok(())
 }
 
-/// The parameters of `KIND NUMBERS` or `mock CLAIMS, refuses, not ready CYCLES, fails CYCLES`.
-fn params_of(alloc: Global, text: &str) -> Result<Params, Fail> {
-    let (kind, given) = text.split_once(" ").unwrap_or((text, ""));
-    match kind {
-        "forward" => Ok(Params::Forward {
-            outs: given.parse()?,
-        }),
-        "passthrough" => Ok(Params::Passthrough {
-            outs: given.parse()?,
-        }),
-        "trajectory" => Ok(Params::Trajectory {
-            outs: given.parse()?,
-        }),
-        "broadcaster" => Ok(Params::Broadcaster {
-            ins: given.parse()?,
-        }),
-        "pid" => pid_of(given),
-        "mock" => mock_of(alloc, given),
-        _ => Err(Fail::new("an unknown kind")),
-    }
-}
-
-/// The parameters of a pid: its three gains and its two limits.
-fn pid_of(given: &str) -> Result<Params, Fail> {
-    Ok(Params::Pid {
-        kp: number(given, 0)?,
-        ki: number(given, 1)?,
-        kd: number(given, 2)?,
-        imax: number(given, 3)?,
-        omax: number(given, 4)?,
-    })
-}
-
-/// The parameters of a mock.
-fn mock_of(alloc: Global, given: &str) -> Result<Params, Fail> {
-    let (outs, parts) = given.split_once(", ").unwrap_or((given, ""));
-    let not_ready = wholes(alloc, behind(parts, "not ready "))?;
-    let fail_update = wholes(alloc, behind(parts, "fails "))?;
-    Ok(Params::Mock {
-        outs: outs.parse()?,
-        refuse_config: parts.contains("refuses"),
-        not_ready: Cycles::of(alloc, not_ready)?,
-        fail_update: Cycles::of(alloc, fail_update)?,
-    })
-}
-
-/// What stands behind these words in a part that begins with them.
-fn behind<'a>(parts: &'a str, words: &str) -> &'a str {
-    for part in parts.split(", ") {
-        if let Some(rest) = part.strip_prefix(words) {
-            return rest;
-        }
-    }
-    ""
-}
-
 /// A plain list, or points `@TIME VALUES, @TIME VALUES`.
 fn mail_of(alloc: Global, given: &str) -> Result<Mail, Fail> {
     if !given.starts_with("@") {
@@ -402,13 +404,4 @@ fn value_of(word: &str) -> Result<Value, Fail> {
         "unset" => Ok(Value::Unset),
         _ => Ok(Value::Num(Fx::read(word.as_bytes())?)),
     }
-}
-
-/// Words that stand for whole numbers.
-fn wholes(alloc: Global, text: &str) -> Result<Vec<u64>, Fail> {
-    let mut wholes = Vec::new(alloc);
-    for word in text.split_ascii_whitespace() {
-        wholes.push(word.parse()?)?;
-    }
-    Ok(wholes)
 }

@@ -35,9 +35,15 @@ passthrough
 passthrough
 trajectory
 broadcaster
+transmission
+differential
+limiter
 forward
 => mock
 passthrough
+none left
+none left
+none left
 none left
 none left
 none left

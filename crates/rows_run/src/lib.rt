@@ -22,6 +22,8 @@ mod pages;
 #[cfg(test)]
 mod runs;
 #[cfg(test)]
+mod shaping;
+#[cfg(test)]
 mod switches;
 #[cfg(test)]
 mod turns;

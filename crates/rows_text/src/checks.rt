@@ -9,6 +9,7 @@ mod links;
 mod names;
 mod orders;
 mod ranges;
+mod shaping;
 
 use crate::descriptions::TOP;
 use crate::pages::{Teller, hold};
@@ -22,6 +23,7 @@ use links::{LINKS, LINKS_OF_AN_ARM};
 use names::{NAMES, NAMES_OF_AN_ARM};
 use orders::{ORDERS, ORDERS_OF_AN_ARM};
 use ranges::{RANGES, RANGES_OF_AN_ARM, RANGES_OF_THE_TOP};
+use shaping::{LIMITERS, TRANSMISSIONS};
 use std::alloc::Global;
 use std::test::Fail;
 
@@ -61,7 +63,9 @@ fn names_and_ranges(rt: HostRuntime) -> Result<(), Fail> {
     hold(alloc, &Checks, TOP, NAMES)?;
     hold(alloc, &Checks, ARM, NAMES_OF_AN_ARM)?;
     hold(alloc, &Checks, TOP, RANGES)?;
-    hold(alloc, &Checks, ARM, RANGES_OF_AN_ARM)
+    hold(alloc, &Checks, ARM, RANGES_OF_AN_ARM)?;
+    hold(alloc, &Checks, ARM, TRANSMISSIONS)?;
+    hold(alloc, &Checks, ARM, LIMITERS)
 }
 
 #[test]

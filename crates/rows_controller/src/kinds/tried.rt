@@ -4,7 +4,7 @@ ghost use Rattle.std.specs.Prelude.{◌≡◌, Bool, true, ◌&&◌, ℤ, List, 
 ghost use Rattle.cm_model.specs.Kinds.{are_ranged, AreItsReads};
 ghost use Rattle.cm_model.specs.Controllers.{runs_chained, started, IsBlank};
 
-use cm_document::{MOST_CLAIMS_OF_ONE, Mail, Params};
+use cm_document::{MOST_CLAIMS_OF_ONE, Mail, Params, is_motion};
 use cm_model::{LONGEST_PERIOD, Tick};
 use cm_storage::Done;
 use ctl_trait::{CfgFault, Controller, shape_of, takes, takes_none};
@@ -183,8 +183,11 @@ fn keeps_chained(params: &Params) -> bool
         → runs_chained (started params.now states chained) ≡ (result && chained) }
 {
     match params {
-        Params::Passthrough { .. } | Params::Pid { .. } => true,
-        _ => false,
+        Params::Forward { .. }
+        | Params::Trajectory { .. }
+        | Params::Broadcaster { .. }
+        | Params::Mock { .. } => false,
+        _ => true,
     }
 }
 
@@ -196,6 +199,19 @@ fn are_ranged(params: &Params) -> bool
     match params {
         Params::Pid { imax, omax, .. } => imax.micro() >= 0 && omax.micro() >= 0,
         Params::Broadcaster { .. } => true,
+        Params::Transmission { reduction, .. } => reduction.micro() >= 1,
+        Params::Differential {
+            kind,
+            reduction1,
+            reduction2,
+            ..
+        } => is_motion(*kind) && reduction1.micro() >= 1 && reduction2.micro() >= 1,
+        Params::Limiter {
+            min,
+            max,
+            vmax,
+            amax,
+        } => min.micro() <= max.micro() && vmax.micro() >= 0 && amax.micro() >= 0,
         Params::Mock { .. } => claims <= MOST_CLAIMS_OF_ONE,
         _ => claims >= 1 && claims <= MOST_CLAIMS_OF_ONE,
     }

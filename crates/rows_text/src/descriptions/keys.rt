@@ -96,6 +96,9 @@ fn every_key_of_a_controller_is_read_by_the_rule_of_its_type(rt: HostRuntime) ->
         &A_TRAJECTORY,
         &A_BROADCASTER,
         &A_MOCK,
+        &A_TRANSMISSION,
+        &A_DIFFERENTIAL,
+        &A_LIMITER,
     ] {
         hold_lines(alloc, table, "", OF_EVERY_TYPE)?;
     }
@@ -104,7 +107,10 @@ fn every_key_of_a_controller_is_read_by_the_rule_of_its_type(rt: HostRuntime) ->
     hold_lines(alloc, &A_PID, "", PID)?;
     hold_lines(alloc, &A_TRAJECTORY, "", TRAJECTORY)?;
     hold_lines(alloc, &A_BROADCASTER, "", BROADCASTER)?;
-    hold_lines(alloc, &A_MOCK, "", MOCK)
+    hold_lines(alloc, &A_MOCK, "", MOCK)?;
+    hold_lines(alloc, &A_TRANSMISSION, "", TRANSMISSION)?;
+    hold_lines(alloc, &A_DIFFERENTIAL, "", DIFFERENTIAL)?;
+    hold_lines(alloc, &A_LIMITER, "", LIMITER)
 }
 
 /// The least top table, component and joint.
@@ -183,6 +189,31 @@ const A_BROADCASTER: Table = Table {
 const A_MOCK: Table = Table {
     before: CONTROLLER,
     lines: "name = \"c1\"\ntype = \"mock\"",
+    path: "controller[0].",
+};
+
+const A_TRANSMISSION: Table = Table {
+    before: CONTROLLER,
+    lines: "name = \"c1\"\ntype = \"transmission\"\nclaims = []\nreduction = 1",
+    path: "controller[0].",
+};
+
+const A_DIFFERENTIAL: Table = Table {
+    before: CONTROLLER,
+    lines: "name = \"c1\"\ntype = \"differential\"\nclaims = []\nreduction1 = 1\nreduction2 = 1",
+    path: "controller[0].",
+};
+
+const A_LIMITER: Table = Table {
+    before: CONTROLLER,
+    lines: r#"name = "c1"
+type = "limiter"
+claims = []
+reads = []
+min = 0
+max = 1
+vmax = 1
+amax = 1"#,
     path: "controller[0].",
 };
 
@@ -293,3 +324,34 @@ not_ready => rbbbbbrb
 fail_update => rbbbbbrb
 kp => rkkkkkkk
 joint => rkkkkkkk";
+
+/// Those of a transmission, and some of other types.
+const TRANSMISSION: &str = "\
+claims => kbbbbbrb
+reduction => krfbbbbb
+offset => rrfbbbbb
+reads => rkkkkkkk
+reduction1 => rkkkkkkk
+vmax => rkkkkkkk";
+
+/// Those of a differential, and some of other types.
+const DIFFERENTIAL: &str = "\
+claims => kbbbbbrb
+reduction1 => krfbbbbb
+reduction2 => krfbbbbb
+offset1 => rrfbbbbb
+offset2 => rrfbbbbb
+reads => rkkkkkkk
+reduction => rkkkkkkk
+offset => rkkkkkkk";
+
+/// Those of a limiter, and some of other types.
+const LIMITER: &str = "\
+claims => kbbbbbrb
+reads => kbbbbbrb
+min => krfbbbbb
+max => krfbbbbb
+vmax => krfbbbbb
+amax => krfbbbbb
+omax => rkkkkkkk
+offset => rkkkkkkk";
