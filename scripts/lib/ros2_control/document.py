@@ -4,7 +4,7 @@ from textwrap import wrap
 
 from .listing import plain
 from .motion import MICROSECONDS, Motion
-from .quantities import MOST_UNITS, toml_text
+from .quantities import MOST_UNITS, rounded_down, toml_text
 
 WIDEST = 120  # columns of a comment or a list
 SESSION = "operator"
@@ -32,12 +32,17 @@ def component(it):
 
 
 def joint(it):
-    vmax = MOST_UNITS if it.limits.velocity is None else toml_text(it.limits.velocity)
+    vmax = MOST_UNITS if it.limits.velocity is None else toml_text(of_actuator(it.limits.velocity, it))
     lines = ["[[component.joint]]", f'name = "{it.name}"', f"vmax = {vmax}"]
-    begins = (("position", it.position), ("velocity", it.velocity))
+    begins = (("position", of_actuator(it.position - it.offset, it)), ("velocity", of_actuator(it.velocity, it)))
     lines += [f"{key} = {toml_text(value)}" for key, value in begins if value]
     lines += [listed(key, kinds) for key, kinds in (("command", it.command), ("state", it.state)) if kinds]
     return "\n".join(lines)
+
+
+def of_actuator(value, joint):
+    """Returns what is described of an actuator for this of its joint, with no more than six decimals."""
+    return value if joint.turns == 1 else min(rounded_down(value * joint.turns), MOST_UNITS)
 
 
 def controller(it, linked):

@@ -53,8 +53,39 @@ class Linked:
             self.claims[it.name] = self.claimed(it) if it.kind != "mock" else []
             self.reads[it.name] = self.reads[it.name] if it.kind != "mock" else []
             self.check_twice(it.claims, self.claims[it.name], it)
+        for gear in self.robot.gears:
+            self.put_gear(gear)
         self.refuse_too_many()
         self.refuse_loops()
+
+    def put_gear(self, gear):
+        """Puts a transmission between its joint, which is the actuator then, and those who command it."""
+        joint = self.robot.joint(gear.joint)
+        claims = [it for own in self.claims.values() for it in own if joint and it.joint is joint and not it.exporter]
+        if why := self.without_counterpart(gear, joint, claims):
+            self.listing.left_out(gear.place, f"transmission {quoted(gear.given)}, because {why}")
+            return
+        it = gear.controller(self)
+        self.claims[it.name], self.reads[it.name] = [Claim(gear.place, joint, claims[0].kind)], []
+        for claim in claims:
+            claim.exporter = it
+        self.controllers.insert(0, it)
+        joint.turns, joint.offset = gear.reduction, gear.offset
+        self.listing.changed(gear.place, f"joint {quoted(gear.joint)} is the actuator of transmission {quoted(gear.given)}, "
+                                         "also in what is read of it")
+
+    def without_counterpart(self, gear, joint, claims):
+        """Answers why a transmission has no counterpart, or nothing."""
+        if not claims:
+            return f"no controller commands joint {quoted(gear.joint)}"
+        if len({claim.kind for claim in claims}) > 1:
+            return f"joint {quoted(gear.joint)} is commanded in several ways"
+        if gear.reduction <= 0:
+            return "its reduction is not above 0"
+        for it in self.controllers:
+            if it.kind != "broadcaster" and any(read.joint is joint for read in self.reads[it.name] or []):
+                return f"{quoted(it.given)} reads joint {quoted(gear.joint)}, and a transmission has no states"
+        return None
 
     def export(self, it):
         """Lists the references of a controller, each with the joint that it ends with."""
@@ -160,7 +191,7 @@ class Linked:
                 why = f"with {quoted(it.given)} there are more than {MOST_OF_A_KIND} of the kind {it.kind}"
                 raise Refused(it.place, why)
             counts["controllers"] += 1
-            counts["references"] += len(claims) if it.kind in ("passthrough", "pid") else 0
+            counts["references"] += len(claims) if it.kind in ("passthrough", "pid", "transmission") else 0
             counts["claims"] += len(claims)
             counts["reads"] += states if reads is None else len(reads)
             for what, count in counts.items():

@@ -3,6 +3,7 @@
 from dataclasses import dataclass, field
 from decimal import Decimal
 
+from .gears import gear_of
 from .listing import Place, Refused, plain, quoted
 from .names import Names
 from .quantities import MOST_UNITS, hint, number, rounded
@@ -43,6 +44,8 @@ class Joint:
     seen: set = field(default_factory=set)  # the interfaces so far, those that were left out too
     position: Decimal = Decimal(0)
     velocity: Decimal = Decimal(0)
+    turns: Decimal = Decimal(1)  # of what is described in its place, an actuator, for one of its own
+    offset: Decimal = Decimal(0)  # its position where the actuator's is 0
 
 
 @dataclass
@@ -61,6 +64,7 @@ class Robot:
     components: list
     left_out: set  # interfaces that are there and have no counterpart, as `command` or `state` with "io/output"
     without_joints: set  # the components that were left out
+    gears: list  # the simple transmissions
 
     def joints(self):
         return [joint for component in self.components for joint in component.joints]
@@ -83,7 +87,7 @@ def robot_of(path, listing):
     components = [it for tag in root.all("ros2_control") if (it := reading.component(tag))]
     if not root.all("ros2_control"):
         raise Refused(root.place, "there is no ros2_control tag directly in <robot>")
-    return Robot(path, components, reading.left_out, reading.without_joints)
+    return Robot(path, components, reading.left_out, reading.without_joints, reading.gears)
 
 
 def limits_of(root):
@@ -135,7 +139,7 @@ class Reading:
     def __init__(self, file, listing, limits):
         self.file, self.listing, self.limits = file, listing, limits
         self.component_names, self.joint_names = Names("component", listing), Names("joint", listing)
-        self.left_out, self.without_joints, self.joints = set(), set(), {}
+        self.left_out, self.without_joints, self.joints, self.gears = set(), set(), {}, []
 
     def component(self, tag: Element):
         """Returns the component, or nothing if it has no joint."""
@@ -164,6 +168,8 @@ class Reading:
             for inner in child.children:
                 word = inner.attributes.get("name", inner.text)
                 self.listing.left_out(inner.place, f"{plain(inner.tag)} {quoted(word)} {of_it}, which is simulated")
+        elif child.tag == "transmission" and (gear := gear_of(child)):
+            self.gears.append(gear)
         elif child.tag in WITHOUT_COUNTERPART:
             self.leave_out(child, of_it)
             if child.tag in WITH_INTERFACES:
