@@ -64,14 +64,14 @@ def serial(size):
     """Loads until no blank is left of any type, each unloaded before the next."""
     parts = [of_type(kind, f"x{k}") for k, kind in enumerate(TYPES)]
     own = [[f"load x{k % len(TYPES)}", "list controllers", f"unload x{k % len(TYPES)}"] for k in range(size)]
-    return case(head() + arm() + "".join(parts), ["session a", *(line for lines in own for line in lines)])
+    return case(head() + arm(2) + "".join(parts), ["session a", *(line for lines in own for line in lines)])
 
 
 def blanks(kind, size):
     names = named("x", size)
     out = max(0, size - BLANKS)
     parts = "".join(of_type(kind, name) for name in names)
-    return case(head() + arm() + parts, ["session a", *every("load {}", names), "list controllers"], told={"stock_empty": out})
+    return case(head() + arm(2) + parts, ["session a", *every("load {}", names), "list controllers"], told={"stock_empty": out})
 
 
 def unknown_names(size):

@@ -9,7 +9,9 @@ from ...tree import TOP
 
 REQUESTS, NO_CALLS = ("switch ", "hw "), ("session ", "schedule", "step ", "begin", "end", "#")
 KINDS = ("position", "velocity", "effort")
-TYPES = ("forward", "passthrough", "pid", "trajectory", "broadcaster", "mock")
+TYPES = ("forward", "passthrough", "pid", "trajectory", "broadcaster", "mock", "transmission", "differential", "limiter")
+REQUIRED = {"transmission": "reduction = 1\n", "differential": "reduction1 = 1\nreduction2 = 1\n",
+            "limiter": "min = 0\nmax = 1\nvmax = 1\namax = 1\n"}
 cited = set()
 
 
@@ -117,6 +119,8 @@ def named(letter, size):
 
 def of_type(kind, name, claims=1):
     """A controller of this type with so many claims, where its type lets it choose."""
+    claims = 2 if kind == "differential" else claims
     wanted = [f"j{k}/position" if k < JOINTS else f"j{k - JOINTS}/velocity" for k in range(claims)]
-    has_claims, has_reads = kind != "broadcaster", kind in ("pid", "trajectory", "broadcaster")
-    return controller(name, kind, wanted if has_claims else None, wanted if has_reads else None)
+    has_claims, has_reads = kind != "broadcaster", kind in ("pid", "trajectory", "broadcaster", "limiter")
+    more = REQUIRED.get(kind, "")
+    return controller(name, kind, wanted if has_claims else None, wanted if has_reads else None, more)
