@@ -7,7 +7,8 @@ ghost use Rattle.cm_document.specs.Limits.{is_version};
 ghost use Rattle.cm_document.specs.Valid.{ranged, not_negative, each_ranged, may_have, joint_ranged, joint_count_fits, component_ranged, claims_fit, reads_fit, limits_ranged, controller_ranged, group_ranged, in_range, are_all_of, claims_carried, links_ranged};
 
 use cm_document::{
-    CheckFault, CompDesc, CompKind, CtlDesc, Description, FIRST_VERSION, GroupDesc, HIGHEST_RATE, JointDesc, MOST_CYCLES, MOST_FALLBACKS, MOST_MEMBERS, Params, SECOND_VERSION, Text, kind_at,
+    CheckFault, CompDesc, CompKind, CtlDesc, Description, FIRST_VERSION, GroupDesc, HIGHEST_RATE,
+    JointDesc, MOST_CYCLES, MOST_FALLBACKS, MOST_MEMBERS, Params, SECOND_VERSION, Text, kind_at,
 };
 use fixed_num::Fx;
 use iface_names::{IfaceName, Kind};

@@ -40,7 +40,10 @@ pub fn push_warnings(
         if let Some(least) = missed(description, controller) {
             text.push_str(warning(alloc, controller, least)?.as_str())?;
             let least = short(alloc, least)?;
-            write!(text, "\n    mend: an amax of {least} or more, or fewer updates a second\n")?;
+            write!(
+                text,
+                "\n    mend: an amax of {least} or more, or fewer updates a second\n"
+            )?;
         }
     }
     Ok(())
@@ -49,7 +52,9 @@ pub fn push_warnings(
 fn warning(alloc: Global, controller: &CtlDesc, least: i64) -> Result<String, Memory> {
     let name = controller.name.as_str();
     let least = short(alloc, least)?;
-    Ok(format!(in alloc; "{name} stands for ever: in the time of its updates an amax below {least} comes to nothing")?)
+    Ok(format!(in alloc;
+        "{name} stands for ever: in the time of its updates an amax below {least} comes to nothing"
+    )?)
 }
 
 /// The least acceleration with which a limiter moves, in micro-units, if its own is less.
