@@ -56,6 +56,7 @@ one_joint : description_in (tree_of (codes "version = 1\nupdate_rate = 100\ncycl
         reads = [];
         params = Forward 1;
       } ∷ [];
+      groups = [];
     })
 unfolding tree_of is_utf8 chars toml_on_literals digits description_form top_table described_states component_table joint_table controller_table number_of interface_of
 one_joint = refl

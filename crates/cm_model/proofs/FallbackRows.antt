@@ -78,6 +78,20 @@ lists_one_after_the_other : once_ready (codes "mk" ∷ codes "mk2" ∷ codes "fw
 unfolding digits rank_within stays_within reaches all_concluded commit spelled stepped cycle after_cycle
 lists_one_after_the_other = refl
 
+-- a controller that stops because its component failed brings none
+abbrev failing : Description
+failing = a_description 1 100 4 (record arm { fail_read = 1 ∷ [] } ∷ []) (
+    a_headed (record { name = codes "fwd"; rate = 0; fallback = codes "mk" ∷ [] }) (j1_position ∷ []) [] (Forward 1)
+    ∷ a_controller (codes "mk") 0 [] [] (Mock 0 false [] []) ∷ [])
+
+another_stop_brings_none : replies (record (names_in failing []) { controllers = codes "fwd" ∷ codes "mk" ∷ [] })
+    (after (boot failing stock 1) (ready (codes "fwd" ∷ codes "mk" ∷ [])))
+    (strictly [] (codes "fwd" ∷ []) ∷ Begin 0 ∷ End 0 ∷ Begin 1 ∷ End 1 ∷ Begin 2 ∷ [])
+    ≡ codes "queued 0" ∷ codes "0 done" ∷ codes "run fwd ok unset; joint j1 0.000000 0.000000 0.000000" ∷ codes "none"
+    ∷ codes "fail arm read; joint j1 0.000000 0.000000 0.000000; stop fwd" ∷ codes "none" ∷ []
+unfolding digits rank_within stays_within reaches all_concluded commit spelled stepped cycle after_cycle
+another_stop_brings_none = refl
+
 -- ---- What is told where they are owed
 
 abbrev of_fallbacks : Decision

@@ -2,7 +2,7 @@
 -- once, predecessors first; one configuration holds from a begin to its end; each request is decided once, and a strict
 -- switch whole or not at all, with a cause that is true; an unload leaves nothing behind.
 use Rattle.std.specs.Prelude.{◌≡◌, ℕ, ◌==◌, Bool, true, false, not, ◌&&◌, ◌||◌, List, [], ◌∷◌, ◌++◌, map, find, Option}
-use Rattle.std.specs.Prelude.{length, filter, Some, None, option_map, is_some, IfSome}
+use Rattle.std.specs.Prelude.{if◌then◌else◌, length, filter, flat_map, Some, None, option_map, is_some, IfSome}
 use Rattle.std.specs.List.{list_any, AllByRecursion, IsDistinct}
 use Rattle.std.specs.Option.{option_map_or}
 use Rattle.fixed_num.specs.declared.value.BodyState.{BodyState}
@@ -184,9 +184,8 @@ TicketsFrom so_far [] = Unit {0}
 TicketsFrom so_far (moment ∷ moments) =
     TicketsAreRight so_far moment × TicketsFrom (so_far ++ ticketed (decisions_in moment.reply)) moments
 
--- Those that were to stand in were asked for, from one state to the next: as many of them as can came to be active, as
--- by a switch of best effort that deactivates none; what no request changes is as it was, and nobody waits to stand in
--- any more.
+-- Those that were to stand in were asked for, from one state to the next, as by a switch of best effort that deactivates
+-- none. What no request changes is as it was, and nobody waits to stand in any more.
 pub record HaveStoodIn (before : State) (names : List (List ℕ)) (after : State) : Type 0 where
   pub switched : IsDoneInPart (record before { fallbacks = [] })
       (record { on = map One names; off = []; strict = false }) after
@@ -216,34 +215,36 @@ IsLed true (d ∷ ds) =
     (d.ticket ≡ None) × ((dropped : List Dropped) × (d.outcome ≡ outcome.Done dropped)) × (ticketed ds ≡ ds)
 IsLed false ds = ticketed ds ≡ ds
 
--- a begin tells first of those that stand in, where they are owed; no other call tells of any
-abbrev pub IsLedAt : Bool → Moment → Call → Type 0
-IsLedAt owed moment (call.Begin _) = IsLed owed (decisions_in moment.reply)
+-- Where these fallbacks are owed: a begin asks for these and no others, and tells of them first, if there are any. No
+-- other call tells of any.
+abbrev pub IsLedAt : List (List ℕ) → Moment → Call → Type 0
+IsLedAt owed moment (call.Begin _) =
+    (moment.before.fallbacks ≡ owed) × IsLed (not (length owed == 0)) (decisions_in moment.reply)
 IsLedAt owed moment _ = IsLed false (decisions_in moment.reply)
 
--- in the record of a cycle the update of a controller failed that has fallbacks
-abbrev pub calls_for_fallbacks : State → Reply → Bool
-calls_for_fallbacks s (reply.Cycle happened) =
-    list_any (λ ran. is_error ran.done && not (length (fallbacks_of s ran.serial) == 0)) happened.ran
-calls_for_fallbacks s _ = false
+-- the fallbacks that the record of a cycle calls for: of each controller whose update failed those that are described
+abbrev pub called_for : State → Reply → List (List ℕ)
+called_for s (reply.Cycle happened) =
+    flat_map (λ ran. if is_error ran.done then fallbacks_of s ran.serial else []) happened.ran
+called_for s _ = []
 
--- whether they are owed after this call: such an end owes them, and the begin behind it tells of them
-abbrev pub owed_after : Bool → Moment → Call → Bool
-owed_after owed moment (call.Begin _) = false
-owed_after owed moment (call.End _) = calls_for_fallbacks moment.before moment.reply
+-- those that are owed after this call: an end owes what its record calls for, and the begin behind it asks for them
+abbrev pub owed_after : List (List ℕ) → Moment → Call → List (List ℕ)
+owed_after owed moment (call.Begin _) = []
+owed_after owed moment (call.End _) = called_for moment.before moment.reply
 owed_after owed moment _ = owed
 
--- Fallbacks are told of by the begin behind an end that owes them, and by no other call.
-abbrev pub LedFrom : Bool → List Moment → Type 0
+-- Fallbacks are asked for by the begin behind an end that owes them, and by no other call.
+abbrev pub LedFrom : List (List ℕ) → List Moment → Type 0
 LedFrom owed [] = Unit {0}
 LedFrom owed (moment ∷ moments) =
     IsLedAt owed moment moment.call × LedFrom (owed_after owed moment moment.call) moments
 
--- Each ticket is decided once, and told so; each begin decides rightly; and fallbacks are told of where they are owed.
+-- Each ticket is decided once, and told so; each begin decides rightly; and fallbacks are asked for where they are owed.
 pub record RequestsAreDecidedOnce (moments : List Moment) : Type 0 where
   pub tickets : TicketsFrom [] moments
   pub whole : AllByRecursion (λ moment. DecidesRightly moment moment.call) moments
-  pub fallbacks : LedFrom false moments
+  pub fallbacks : LedFrom [] moments
 
 -- ---- Fifth: an unload leaves nothing behind
 

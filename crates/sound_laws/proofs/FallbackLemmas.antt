@@ -1,7 +1,6 @@
 -- Fallbacks are told of by the begin behind an end that owes them, and by no other call.
 use Rattle.std.proofs.Common.{◌≡◌, ℕ, Bool, true, false, List, [], ◌∷◌, ◌++◌, length, map, cond, Some, None, refl, sym, ◌∙◌, subst, ap}
-use Rattle.std.specs.Prelude.{◌==◌, ◌&&◌, ◌||◌, not, filter, flat_map, Option}
-use Rattle.std.specs.List.{list_any}
+use Rattle.std.specs.Prelude.{◌==◌, not, filter, flat_map, Option}
 use Rattle.std.proofs.Math.Dec.{eqb-suc-zero}
 use Rattle.std.proofs.lemmas.Option.{same_Some}
 use Rattle.cm_document.specs.declared.call.Call.{Call}
@@ -13,7 +12,7 @@ use Rattle.cm_model.specs.Boundary.{waiting, standing_in, after_standing_in, aft
 use Rattle.cm_model.specs.Commit.{scene_of, commit}
 use Rattle.cm_model.specs.Cycle.{is_error, fallbacks_of, fallbacks_after, cycle, after_cycle}
 use Rattle.cm_model.specs.Machine.{LegalFrom}
-use Rattle.cm_model.specs.Sound.{moments, decisions_in, ticketed, IsLed, IsLedAt, calls_for_fallbacks, owed_after, LedFrom}
+use Rattle.cm_model.specs.Sound.{moments, decisions_in, ticketed, IsLed, IsLedAt, called_for, owed_after, LedFrom}
 use Rattle.cm_model.specs.State.{State}
 use Rattle.cm_model.specs.Switches.{Decided, refused, done}
 use Rattle.cm_model.specs.declared.cause.Cause.{Cause}
@@ -78,20 +77,16 @@ led s (name ∷ names) ds all =
 
 -- ---- Which ends owe them
 
-some_append : (xs ys : List (List ℕ)) → some_of (xs ++ ys) ≡ (some_of xs || some_of ys)
-some_append [] ys = refl
-some_append (x ∷ xs) ys = some_cons x (xs ++ ys) ∙ sym (ap (λ (b : Bool). b || some_of ys) (some_cons x xs))
-
--- those are to stand in after a cycle that are described for controllers whose update failed
-owes : (s : State) (ran : List Ran) → list_any (λ (one : Ran). is_error one.done && some_of (fallbacks_of s one.serial)) ran ≡ some_of (fallbacks_after s ran)
+-- those are to stand in after a cycle that its record calls for
+owes : (s : State) (ran : List Ran) → flat_map (λ (one : Ran). cond (is_error one.done) (fallbacks_of s one.serial) []) ran ≡ fallbacks_after s ran
 owes s [] = refl
 owes s (one ∷ ran) =
-    ap (λ (b : Bool). (is_error one.done && some_of (fallbacks_of s one.serial)) || b) (owes s ran)
+    ap (λ (names : List (List ℕ)). cond (is_error one.done) (fallbacks_of s one.serial) [] ++ names) (owes s ran)
     ∙ sym (erred_case (is_error one.done))
   where
-    erred_case : (failed : Bool) → some_of (flat_map (fallbacks_of s) (map (λ (each : Ran). each.serial) (cond failed (one ∷ filter (λ (each : Ran). is_error each.done) ran) (filter (λ (each : Ran). is_error each.done) ran))))
-        ≡ ((failed && some_of (fallbacks_of s one.serial)) || some_of (fallbacks_after s ran))
-    erred_case true = some_append (fallbacks_of s one.serial) (fallbacks_after s ran)
+    erred_case : (failed : Bool) → flat_map (fallbacks_of s) (map (λ (each : Ran). each.serial) (cond failed (one ∷ filter (λ (each : Ran). is_error each.done) ran) (filter (λ (each : Ran). is_error each.done) ran)))
+        ≡ cond failed (fallbacks_of s one.serial) [] ++ fallbacks_after s ran
+    erred_case true = refl
     erred_case false = refl
 
 -- ---- Histories
@@ -104,38 +99,38 @@ never_decides _ plain decides = decides
 none_led : (r : Reply) → decisions_in r ≡ [] → ticketed (decisions_in r) ≡ decisions_in r
 none_led r none = subst (λ (ds : List Decision). ticketed ds ≡ ds) (sym none) refl
 
-module _ (s : State) (made : State × Reply) (owed : Bool) (is_owed : owed ≡ some_of s.fallbacks) where
+module _ (s : State) (made : State × Reply) (owed : List (List ℕ)) (is_owed : owed ≡ s.fallbacks) where
   -- each call tells of them where they are owed
   led_at : (call : Call) → IsStep s call made → (IsPlain call → decisions_in made.1 ≡ []) → IsLedAt owed (moment_of s call made) call
   led_at (Begin number) is none =
-      subst (λ (answer : Reply). IsLed owed (decisions_in answer)) (same_Some (begin_reply s) made.1 is.replied)
-      (subst (λ (b : Bool). IsLed b (decisions_in (begin_reply s))) (sym is_owed)
-      (led s s.fallbacks (decisions_between s (boundary s)) (between_ticketed s (boundary s))))
+      (sym is_owed, subst (λ (answer : Reply). IsLed (some_of owed) (decisions_in answer)) (same_Some (begin_reply s) made.1 is.replied)
+      (subst (λ (names : List (List ℕ)). IsLed (some_of names) (decisions_in (begin_reply s))) (sym is_owed)
+      (led s s.fallbacks (decisions_between s (boundary s)) (between_ticketed s (boundary s)))))
   led_at (End number) is none =
       subst (λ (answer : Reply). ticketed (decisions_in answer) ≡ decisions_in answer) (same_Some (reply.Cycle (cycle s).happened) made.1 is.replied) refl
   led_at Close is none =
       subst (λ (answer : Reply). ticketed (decisions_in answer) ≡ decisions_in answer) (same_Some (close_reply s) made.1 is.replied) (between_ticketed s (close_effect s))
   led_at _ is none = none_led made.1 (none tt)
 
-  -- and they are owed after it where some are to stand in
-  owed_then : (call : Call) → IsStep s call made → (IsPlain call → made.0.fallbacks ≡ s.fallbacks) → owed_after owed (moment_of s call made) call ≡ some_of made.0.fallbacks
+  -- and after it those are owed that are to stand in
+  owed_then : (call : Call) → IsStep s call made → (IsPlain call → made.0.fallbacks ≡ s.fallbacks) → owed_after owed (moment_of s call made) call ≡ made.0.fallbacks
   unfolding after_cycle commit
-  owed_then (Begin number) is stays = ap some_of (sym (ap (λ (t : State). t.fallbacks) is.next ∙ begin_leaves_none s))
+  owed_then (Begin number) is stays = sym (ap (λ (t : State). t.fallbacks) is.next ∙ begin_leaves_none s)
   owed_then (End number) is stays =
-      subst (λ (answer : Reply). calls_for_fallbacks s answer ≡ some_of made.0.fallbacks) (same_Some (reply.Cycle (cycle s).happened) made.1 is.replied)
-      (owes s (cycle s).happened.ran ∙ ap some_of (sym (ap (λ (t : State). t.fallbacks) is.next)))
-  owed_then Close is stays = is_owed ∙ ap some_of (sym (ap (λ (t : State). t.fallbacks) is.next))
-  owed_then _ is stays = is_owed ∙ ap some_of (sym (stays tt))
+      subst (λ (answer : Reply). called_for s answer ≡ made.0.fallbacks) (same_Some (reply.Cycle (cycle s).happened) made.1 is.replied)
+      (owes s (cycle s).happened.ran ∙ sym (ap (λ (t : State). t.fallbacks) is.next))
+  owed_then Close is stays = is_owed ∙ sym (ap (λ (t : State). t.fallbacks) is.next)
+  owed_then _ is stays = is_owed ∙ sym (stays tt)
 
   -- both for the call that was made
   led_now : (call : Call) → IsStep s call made → IsLedAt owed (moment_of s call made) call
   led_now call is = led_at call is (λ plain. none_told s call made.1 (never_decides call plain) is.replied)
 
-  owed_now : (call : Call) → IsStep s call made → owed_after owed (moment_of s call made) call ≡ some_of made.0.fallbacks
+  owed_now : (call : Call) → IsStep s call made → owed_after owed (moment_of s call made) call ≡ made.0.fallbacks
   owed_now call is = owed_then call is (λ plain. ap (λ (t : State). t.fallbacks) is.next ∙ (plain_stays s call made.1 plain).fallbacks)
 
--- Along each legal history fallbacks are told of where they are owed.
-pub led_from : (s : State) (owed : Bool) (history : List Entry) → owed ≡ some_of s.fallbacks → LegalFrom s history → LedFrom owed (moments s history)
+-- Along each legal history fallbacks are asked for where they are owed, and no others.
+pub led_from : (s : State) (owed : List (List ℕ)) (history : List Entry) → owed ≡ s.fallbacks → LegalFrom s history → LedFrom owed (moments s history)
 led_from s owed [] is_owed legal = tt
 led_from s owed (e ∷ es) is_owed legal =
     let first = legal_step s e es legal in

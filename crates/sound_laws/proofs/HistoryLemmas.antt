@@ -120,7 +120,7 @@ module _ (d : Description) (blanks : Blanks) (sessions : ℕ) (history : List En
   requests_decided_once = record {
     tickets = tickets_from (boot d blanks sessions) [] history refl legal;
     whole = begins_right;
-    fallbacks = led_from (boot d blanks sessions) false history refl legal;
+    fallbacks = led_from (boot d blanks sessions) [] history refl legal;
   }
 
 -- An unload leaves nothing behind.
