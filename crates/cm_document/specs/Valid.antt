@@ -15,7 +15,8 @@ use Rattle.cm_document.specs.Reading.{◌>>=◌}
 use Rattle.cm_document.specs.Forms.{item_path, inside}
 use Rattle.cm_document.specs.Described.{states_of, description_form}
 use Rattle.cm_document.specs.Limits.{is_version, limits_of}
-use Rattle.cm_document.specs.Params.{fewest_claims, most_claims, reads_beside, limits_at, Bounded, kind_at, claimed_kind, read_kind, may_carry}
+use Rattle.cm_document.specs.Params.{Bounded, fewest_claims, most_claims, reads_beside, limits_at}
+use Rattle.cm_document.specs.Params.{kind_at, claimed_kind, read_kind, may_carry}
 use Rattle.cm_document.specs.Links.{joints_of, commands_of, references_of, is_among, first_in_loop}
 use Rattle.cm_document.specs.declared.description.CompDesc.{CompDesc}
 use Rattle.cm_document.specs.declared.description.CompKind.{CompKind}

@@ -184,8 +184,8 @@ TicketsFrom so_far [] = Unit {0}
 TicketsFrom so_far (moment ∷ moments) =
     TicketsAreRight so_far moment × TicketsFrom (so_far ++ ticketed (decisions_in moment.reply)) moments
 
--- Those that were to stand in were asked for, from one state to the next, as by a switch of best effort that deactivates
--- none. What no request changes is as it was, and nobody waits to stand in any more.
+-- Those that were to stand in were asked for, from one state to the next, as by a switch of best effort that
+-- deactivates none. What no request changes is as it was, and nobody waits to stand in any more.
 pub record HaveStoodIn (before : State) (names : List (List ℕ)) (after : State) : Type 0 where
   pub switched : IsDoneInPart (record before { fallbacks = [] })
       (record { on = map One names; off = []; strict = false }) after
@@ -240,7 +240,7 @@ LedFrom owed [] = Unit {0}
 LedFrom owed (moment ∷ moments) =
     IsLedAt owed moment moment.call × LedFrom (owed_after owed moment moment.call) moments
 
--- Each ticket is decided once, and told so; each begin decides rightly; and fallbacks are asked for where they are owed.
+-- Each ticket is decided once, and told so; each begin decides rightly; fallbacks are asked for where they are owed.
 pub record RequestsAreDecidedOnce (moments : List Moment) : Type 0 where
   pub tickets : TicketsFrom [] moments
   pub whole : AllByRecursion (λ moment. DecidesRightly moment moment.call) moments
