@@ -1,5 +1,5 @@
 -- A controller of a valid description has parameters with which it can be configured.
-use Rattle.std.proofs.Common.{◌≡◌, ℕ, zero, suc, ◌+◌, ◌≤◌, ◌^◌, ◌-◌, ℤ, Bool, true, List, [], ◌∷◌, length, min, Some, Ok, refl, subst, ◌∙◌, arith}
+use Rattle.std.proofs.Common.{◌≡◌, ℕ, zero, suc, ◌+◌, ◌≤◌, ◌^◌, ◌-◌, ℤ, Bool, true, false, List, [], ◌∷◌, length, min, Some, Ok, refl, subst, ◌∙◌, arith}
 use Rattle.std.specs.Prelude.{IfOk, codes, nat_le, ◌&&◌, slice_get}
 use Rattle.std.specs.List.{AllByRecursion, list_all}
 use Rattle.std.proofs.lemmas.Bool.{leb-true, and_parts}
