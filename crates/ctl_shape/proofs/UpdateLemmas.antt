@@ -1,8 +1,7 @@
 -- Every update of a limiter keeps its limits.
-use Rattle.std.proofs.Common.{◌≡◌, ℕ, ℤ, pos, ◌+ℤ◌, ◌-ℤ◌, Bool, true, false, List, [], ◌∷◌, refl, sym, subst, arith}
+use Rattle.std.proofs.Common.{◌≡◌, ℕ, ℤ, ◌+ℤ◌, ◌-ℤ◌, Bool, true, false, List, [], ◌∷◌, refl, sym, subst, arith}
 use Rattle.std.proofs.lemmas.Int.{ints}
 use Rattle.fixed_num.specs.declared.value.Value.{Value}
-use Rattle.fixed_num.specs.declared.value.Value.TheVariants.{Num}
 use Rattle.cm_model.specs.Controllers.{first_state, started, limiter_update, updated}
 use Rattle.cm_model.specs.Limiters.{Bounds, Reach, reach_of, wanted_step, new_step}
 use Rattle.cm_model.specs.declared.data.RunData.TheVariants as run

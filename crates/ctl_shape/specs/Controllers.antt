@@ -74,6 +74,8 @@ bounds_params bounds = params.Limiter bounds.lowest bounds.highest bounds.speed 
 -- a limiter is that of these limits, which can be kept
 pub record IsPaced (limits : Limits) (limiter : Reach) : Type 0 where
   pub bounds : AreBounds (bounds_in limits)
+  pub low : IsInRange limits.min
+  pub high : IsInRange limits.max
   pub fast : IsInRange limits.vmax
   pub limiter_is : limiter ≡ capped (reach_in limits)
 

@@ -1,5 +1,5 @@
 -- What is said of limiters: which steps are feasible, which is the new one, and what a run of them keeps.
-use Rattle.std.specs.Prelude.{◌≡◌, ℕ, suc, ◌≤◌, List, [], ◌∷◌, ◌⊎◌}
+use Rattle.std.specs.Prelude.{◌≡◌, suc, ◌≤◌, List, [], ◌∷◌, ◌⊎◌}
 use Rattle.std.specs.Prelude.{ℤ, pos, negsuc, ◌+ℤ◌, ◌-ℤ◌, ◌≤ℤ◌, nat_abs}
 use Rattle.fixed_num.specs.declared.value.Value.{Value}
 use Rattle.cm_model.specs.Limiters.{Bounds, Reach, reach_of, way_after, brought, wanted_step}

@@ -1,6 +1,5 @@
 -- What is said of every update of a limiter.
-use Rattle.std.specs.Prelude.{◌≡◌, ℤ, pos, Bool, [], ◌∷◌}
-use Rattle.fixed_num.specs.declared.value.Value.{Value}
+use Rattle.std.specs.Prelude.{◌≡◌, ℤ, [], ◌∷◌}
 use Rattle.fixed_num.specs.declared.value.Value.TheVariants.{Num}
 use Rattle.cm_model.specs.Controllers.{Updated}
 use Rattle.cm_model.specs.Limiters.{Reach}

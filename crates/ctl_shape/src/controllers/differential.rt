@@ -1,8 +1,8 @@
 //! The controller that tells two actuators what the two joints are to do that they move together.
 
-ghost use Rattle.std.specs.Prelude.{◌≡◌, ◌&&◌, true, pos, int_le, if◌then◌else◌, [], ◌∷◌};
+ghost use Rattle.std.specs.Prelude.{◌≡◌, ◌&&◌, true, pos, int_le, [], ◌∷◌};
 ghost use Rattle.cm_document.specs.Params.{is_motion};
-ghost use Rattle.cm_model.specs.Controllers.{through_both};
+ghost use Rattle.cm_model.specs.Controllers.{through_both, wanted};
 ghost use Rattle.cm_model.specs.State.{fresh};
 ghost use Rattle.cm_document.specs.declared.description.CtlKind.TheVariants as kind;
 
@@ -105,7 +105,8 @@ impl Controller for DifferentialCtl {
             },
         ) = &self.kept
         {
-            let told = through_both(pair, run.wanted(both(refs)));
+            let wanted = run.wanted(both(refs));
+            let told = through_both(pair, wanted.0, wanted.1);
             // It has two claims.
             outs.copy_from_slice(&[told.0, told.1]);
         }
@@ -134,7 +135,8 @@ impl SetTwo {
 
     /// What is wanted: the references where it is chained, else what was set.
     fn wanted(&self, references: (Value, Value)) -> (Value, Value)
-        ensures { result ≡ (if self.now.chained then references else (self.now.first, self.now.second)) }
+        ensures { result.0 ∷ result.1 ∷ [] ≡
+            wanted self.now.chained (references.0 ∷ references.1 ∷ []) (self.now.first ∷ self.now.second ∷ []) }
     {
         if self.chained {
             references
@@ -153,14 +155,24 @@ fn pair_by(kind: Kind, reductions: (Fx, Fx), offsets: (Fx, Fx)) -> Differential
 }
 
 /// What the two actuators are told.
-fn through_both(pair: &Differential, wanted: (Value, Value)) -> (Value, Value)
-    ensures { result.0 ∷ result.1 ∷ [] ≡ through_both pair.now (wanted.0 ∷ wanted.1 ∷ []) }
+fn through_both(pair: &Differential, first: Value, second: Value) -> (Value, Value)
+    ensures { result.0 ∷ result.1 ∷ [] ≡ through_both pair.now (first ∷ second ∷ []) }
 {
-    match wanted {
-        (Value::Num(first), Value::Num(second)) => {
-            let (u1, u2) = pair.to_actuators(first, second);
-            (Value::Num(u1), Value::Num(u2))
+    match first {
+        Value::Num(first) => through_with(pair, first, second),
+        Value::Unset => (Value::Unset, Value::Unset),
+    }
+}
+
+/// The same for a first joint that is to have this value.
+fn through_with(pair: &Differential, first: Fx, second: Value) -> (Value, Value)
+    ensures { result.0 ∷ result.1 ∷ [] ≡ through_both pair.now (Value.Num first ∷ second ∷ []) }
+{
+    match second {
+        Value::Num(second) => {
+            let told = pair.to_actuators(first, second);
+            (Value::Num(told.0), Value::Num(told.1))
         }
-        _ => (Value::Unset, Value::Unset),
+        Value::Unset => (Value::Unset, Value::Unset),
     }
 }

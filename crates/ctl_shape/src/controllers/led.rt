@@ -1,6 +1,6 @@
 //! A position that is led within limits.
 
-ghost use Rattle.std.specs.Prelude.{◌≡◌, ◌≤◌, Some, None, option_map, IfSome};
+ghost use Rattle.std.specs.Prelude.{◌≡◌, ◌≤◌, Some, None, option_map, IfSome, if◌then◌else◌};
 ghost use Rattle.ctl_shape.specs.Limiters.{bounds_in};
 ghost use Rattle.ctl_shape.specs.Controllers.{AreBounds, begun, with_set, IsLedOn};
 
@@ -87,7 +87,7 @@ impl LedLimiter {
         let Some(led) = self.run else {
             return Value::Unset;
         };
-        let wanted = if led.chained { reference } else { led.set };
+        let wanted = led.wanted(reference);
         let at = self.paced.advance(dt_us, led.at, led.step, wanted);
         self.run = Some(Led {
             at,
@@ -95,5 +95,14 @@ impl LedLimiter {
             ..led
         });
         Value::Num(at)
+    }
+}
+
+impl Led {
+    /// What is wanted: the reference where it is chained, else what was set.
+    fn wanted(&self, reference: Value) -> Value
+        ensures { result ≡ (if self.now.chained then reference else self.now.set) }
+    {
+        if self.chained { reference } else { self.set }
     }
 }
