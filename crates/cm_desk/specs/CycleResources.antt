@@ -176,7 +176,7 @@ pub record CanBePrepared (d : Description) (b : CycleResources) (order : List Me
   pub kept : AreKept b.robot.value.places b.buffers.workspaces.items b.members.value.items
 
 -- It can be prepared where it stands: it is at home, and no update failed.
-pub record CanBeSuppliedAtHome (d : Description) (b : CycleResources) (order : List Member) : Type 0 where
+pub record CanBePreparedAtHome (d : Description) (b : CycleResources) (order : List Member) : Type 0 where
   pub home : IsAtHome b
   pub none_erred : b.erred.value.items ≡ []
   pub can : CanBePrepared d b order

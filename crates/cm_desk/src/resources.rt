@@ -9,7 +9,7 @@ ghost use Rattle.cm_model.specs.declared.member.Member.{Member};
 ghost use Rattle.cm_hardware.specs.Holding.{IsHardwareOf, MovesComponent};
 ghost use Rattle.cm_hardware.specs.Shown.{HasLinesFor, Shows};
 ghost use Rattle.stop_plan.specs.Ending.{HasFlags};
-ghost use Rattle.cm_desk.specs.CycleResources.{place_among, IsAtHome, IsAtStart, IsHome, IsIdle, IsListing, IsMadeReady, IsRewired, IsPrepared, CanBePrepared, CanBeSuppliedAtHome, CanSendOut, HasSentOut, HasForgotten, HasTakenBack};
+ghost use Rattle.cm_desk.specs.CycleResources.{place_among, IsAtHome, IsAtStart, IsHome, IsIdle, IsListing, IsMadeReady, IsRewired, IsPrepared, CanBePrepared, CanBePreparedAtHome, CanSendOut, HasSentOut, HasForgotten, HasTakenBack};
 ghost use Rattle.cm_desk.specs.CycleNeeds.{AreNeeds};
 ghost use Rattle.rt_flight.specs.Flights.{TellsNothing};
 ghost use Rattle.cm_desk.specs.Works.{CanSwitch, HasSwitched, KeepsRest};
@@ -260,7 +260,7 @@ impl CycleResources {
         order: &[Member],
         loaded: usize,
     ) -> Result<(), Memory>
-        requires { CanBeSuppliedAtHome checked.now self.old order.now }
+        requires { CanBePreparedAtHome checked.now self.old order.now }
         ensures prepared { OnOk result (IsPrepared checked.now order.now loaded self.new) }
         ensures resources { IsMadeReady self.old self.new }
     {
