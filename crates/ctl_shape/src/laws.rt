@@ -62,9 +62,9 @@ pub fn every_output_keeps_the_limits()
         → IsRun reach at last wanted outs → AllKeepLimits reach at last outs }
 {}
 
-/// Whatever a limiter is activated with, it stands then between its ends, without a step, from where it keeps its limits.
-/// Whatever it is updated with, its output keeps them, and it goes on safely from there. So every run of updates with one
-/// time between them keeps the limits.
+/// Whatever a limiter is activated with, it stands between its ends then, without a step, and is safe. Whatever it is
+/// updated with, its output keeps the limits, and it goes on safely from there. So every run of updates with one time
+/// between them keeps the limits.
 pub fn every_update_keeps_the_limits()
     ensures begins { (bounds : Bounds) (dt_us : ℕ) (states : List ℤ) (chained : Bool) → AreBounds bounds
         → RunsSafely (reach_of bounds dt_us) (started (bounds_params bounds) states chained) }
