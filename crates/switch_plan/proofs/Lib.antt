@@ -1,3 +1,4 @@
+pub mod PickLemmas
 pub mod TestLemmas
 pub mod StayLemmas
 pub mod JoinLemmas

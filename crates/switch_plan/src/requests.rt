@@ -1,8 +1,9 @@
 //! What becomes of a switch request.
 
-ghost use Rattle.std.specs.Prelude.{◌≡◌, IfOk, IfSome};
+ghost use Rattle.std.specs.Prelude.{◌≡◌, ◌||◌, IfOk, IfSome};
+ghost use Rattle.std.specs.List.{list_any};
 ghost use Rattle.chain_order.specs.Links.{leaders_of};
-ghost use Rattle.cm_document.specs.Picks.{flat};
+ghost use Rattle.cm_document.specs.Picks.{is_group, flat};
 ghost use Rattle.cm_model.specs.Switches.{planned};
 ghost use Rattle.cm_model.specs.BestEffort.{flat_decided, plan_of};
 ghost use Rattle.switch_plan.specs.View.{scene_of, IsView};
@@ -75,10 +76,17 @@ fn decided(alloc: Global, setting: &Setting, request: &SwitchRequest) -> Result<
     ensures { IfOk result (λ plan. plan ≡ plan_of (set_scene setting.now) request.now) }
 {
     let (off, on) = (request.off.as_slice(), request.on.as_slice());
-    if has_group(off) || has_group(on) {
+    if have_groups(off, on) {
         return decided_as_flat(alloc, setting, request.strict, off, on);
     }
     flat_decided(alloc, setting, request.strict, off, on)
+}
+
+/// Whether one of these lists has a group.
+fn have_groups(off: &[Pick], on: &[Pick]) -> bool
+    ensures { result ≡ (list_any is_group off.now || list_any is_group on.now) }
+{
+    has_group(off) || has_group(on)
 }
 
 /// What becomes of a switch of lists that have groups.
