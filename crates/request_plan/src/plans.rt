@@ -78,7 +78,7 @@ fn stand_in(
     if names.as_slice().is_empty() {
         return Ok(None);
     }
-    let picks = each_by_itself(alloc, names.as_slice())?;
+    let picks = each_by_itself(alloc, names)?;
     let request = SwitchRequest {
         on: picks,
         off: Seq::new(alloc),
@@ -90,12 +90,12 @@ fn stand_in(
 }
 
 /// The controllers of these names, each named by itself.
-fn each_by_itself(alloc: Global, names: &[Name]) -> Result<Seq<Pick>, Memory>
-    ensures { IfOk result (λ picks. picks ≡ map One names.now) }
+fn each_by_itself(alloc: Global, names: Seq<Name>) -> Result<Seq<Pick>, Memory>
+    ensures { IfOk result (λ picks. picks ≡ map One names) }
 {
     let mut picks = Seq::new(alloc);
-    for name in names {
-        picks.push(Pick::One(name.clone()?))?;
+    for name in names.into_vec() {
+        picks.push(Pick::One(name))?;
     }
     Ok(picks)
 }
