@@ -6,3 +6,4 @@ pub mod NameLemmas
 pub mod VerdictLemmas
 pub mod FallbackLemmas
 pub mod MemberLemmas
+pub mod RangeLemmas

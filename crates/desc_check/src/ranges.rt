@@ -1,9 +1,12 @@
 //! Numbers and numbers of items within their ranges, in the order of the walk.
 
 ghost use Rattle.std.specs.Prelude.{◌≡◌, ◌++◌, codes, length, pos, int_le, IfOk};
+ghost use Rattle.std.specs.List.{list_all};
 ghost use Rattle.sequence.specs.Answers.{Answers};
+ghost use Rattle.iface_names.specs.Interfaces.{same_kind};
 ghost use Rattle.cm_document.specs.Forms.{item_path, inside};
 ghost use Rattle.cm_document.specs.Limits.{is_version};
+ghost use Rattle.cm_document.specs.Params.{kind_at};
 ghost use Rattle.cm_document.specs.Valid.{ranged, not_negative, each_ranged, may_have, joint_ranged, joint_count_fits, component_ranged, claims_fit, reads_fit, limits_ranged, controller_ranged, group_ranged, in_range, are_all_of, claims_carried, links_ranged};
 
 use cm_document::{
@@ -173,11 +176,18 @@ fn are_all_of(asked: Option<Kind>, interfaces: &[IfaceName]) -> bool
     ensures { result ≡ are_all_of asked interfaces.now }
 {
     match asked {
-        Some(kind) => interfaces
-            .iter()
-            .all(|interface| kind_at(interface) == kind),
+        Some(kind) => are_of(kind, interfaces),
         None => true,
     }
+}
+
+/// Whether each of these interfaces is of this kind.
+fn are_of(kind: Kind, interfaces: &[IfaceName]) -> bool
+    ensures { result ≡ list_all (λ interface. same_kind (kind_at interface) kind) interfaces.now }
+{
+    interfaces
+        .iter()
+        .all(|interface| kind_at(interface) == kind)
 }
 
 /// Whether so many claims are as many as a controller with these parameters may have.
