@@ -63,6 +63,8 @@ impl<C: Controller> Works<C> {
     }
 
     /// The same, where somebody may be to stand in, requests wait, or others may be active than in the cycle before.
+    /// It stands apart, because each begin would else clear the memory that this works on.
+    #[inline(never)]
     fn begin_anew(&mut self, alloc: Global) -> Result<(Flight<C>, Rare<Decision>), Memory>
         requires { CanBegin self.old }
         ensures begun { IfOk result (λ begun. HasBegun self.old self.new begun.0 begun.1) }
@@ -297,6 +299,7 @@ fn push_names(names: &mut Seq<Name>, further: &[Name]) -> Result<(), Memory>
 }
 
 /// There is room for the cells and the boxes of so many.
+#[inline(always)]
 fn make_places<C: Controller>(
     cells: &mut Vec<Cell<C>>,
     boxes: &mut Vec<C>,
@@ -314,6 +317,7 @@ fn make_places<C: Controller>(
 
 /// The cycle of this number takes off: the mail of those that are due goes aloft, the boxes of those that run leave their slots, and come
 /// to their cells with what works in the cycle. It takes no memory.
+#[inline(always)]
 fn take_off<C: Controller>(
     slots: &mut Slots<C>,
     run: &[u32],

@@ -13,7 +13,9 @@ use cm_slots::{Room, Slots};
 use ctl_trait::Controller;
 
 /// A set of controllers becomes active: those that are stopped are deactivated, and those that are started activated,
-/// as these flags say; the board and the joints go by it, and who is active is looked up anew. It takes no memory.
+/// as these flags say; the board and the joints go by it, and who is active is looked up anew. It takes no memory. It
+/// stands apart, because few cycles need it.
+#[inline(never)]
 pub(crate) fn commit<C: Controller>(
     slots: &mut Slots<C>,
     hardware: &mut ResourceManager,
