@@ -1,22 +1,20 @@
 -- Where the loaded controllers of a steady state of a valid description stand.
-use Rattle.std.proofs.Common.{◌≡◌, ℕ, zero, suc, ◌<◌, ◌≤◌, Bool, true, false, List, [], ◌∷◌, length, map, Option, Some, None, Ok, refl, sym, ap, ◌∙◌, true≢false, arith}
+use Rattle.std.proofs.Common.{◌≡◌, ℕ, suc, ◌<◌, ◌≤◌, Bool, true, false, List, [], ◌∷◌, length, Option, Some, None, refl, sym, ap, ◌∙◌, true≢false, arith}
 use Rattle.std.specs.Prelude.{◌||◌, if◌then◌else◌, IfSome}
 use Rattle.std.specs.List.{AllByRecursion, IsDistinct}
 use Rattle.std.proofs.lemmas.Option.{slice_get-get_or}
-use Rattle.iface_names.specs.Interfaces.{same_interface, interface_text}
-use Rattle.iface_names.specs.Sameness.{same_interface-Decides, same_interface-IsEquivalence}
+use Rattle.iface_names.specs.Interfaces.{same_interface}
+use Rattle.iface_names.specs.Sameness.{same_interface-Decides}
 use Rattle.iface_names.specs.declared.interface.IfaceName.{IfaceName}
 use Rattle.cm_document.specs.Described.{states_of}
-use Rattle.cm_document.specs.Links.{is_among, joints_of, references_of, refs_of}
+use Rattle.cm_document.specs.Links.{is_among, refs_of}
 use Rattle.cm_document.specs.Places.{interfaces_of}
-use Rattle.cm_document.specs.Valid.{limited, few_enough, names_apart, interfaces_apart, links_apart, named_apart, repeated_after, valid, IsValid}
+use Rattle.cm_document.specs.Valid.{IsValid}
 use Rattle.cm_document.specs.declared.description.CtlDesc.{CtlDesc}
 use Rattle.cm_document.specs.declared.description.Description.{Description}
 use Rattle.cm_document.specs.declared.description.Params.{Params}
-use Rattle.cm_document.specs.declared.faults.CheckFault.TheVariants.{NameTwice}
-use Rattle.cm_document.specs.declared.faults.What.TheVariants.{Components, Joints, States}
-use Rattle.cm_document.proofs.DistinctLemmas.{all_so, repeated_after-IsDistinct}
-use Rattle.cm_document.proofs.ReadingLemmas.{bind_Ok}
+use Rattle.cm_document.specs.declared.limits.TheConstants.{MOST_STATES}
+use Rattle.cm_document.proofs.DistinctLemmas.{all_so}
 use Rattle.cm_model.specs.Controllers.{AreItsCounts}
 use Rattle.cm_model.specs.Order.{controller_at, nobody}
 use Rattle.cm_model.specs.State.{Loaded}
@@ -77,7 +75,7 @@ distinct_most (x ∷ xs) ys apart among =
 -- ---- Reads
 
 -- A controller reads no more interfaces than there may be states.
-few_reads : (d : Description) → IsValid d → (p : ℕ) → length (controller_at d.controllers p).reads ≤ 96
+few_reads : (d : Description) → IsValid d → (p : ℕ) → length (controller_at d.controllers p).reads ≤ MOST_STATES
 few_reads d ok p =
     let reads = (controller_at d.controllers p).reads in
     let there = all_so (λ name. is_among name reads ≡ true) (λ name. is_among name (states_of d.components) ≡ true)

@@ -12,8 +12,8 @@ use Rattle.cm_document.specs.declared.description.CtlKind.{CtlKind}
 use Rattle.cm_document.specs.declared.description.Params.{Params}
 use Rattle.cm_document.specs.declared.life.Life.{Life}
 use Rattle.cm_document.specs.declared.life.Life.TheVariants.{Unconfigured, Inactive, Active, Finalized}
-use Rattle.cm_model.specs.Controllers.{Stepped, Updated, started, with_mail, pid_update, loop_update, bounded_update, set_update, trajectory_update, publishes_states, only_if, updated, activated, deactivated, mailed, step_with, update_step, ctl_step, IsIdle, IsRunning, IsInactiveWith, CanBeUpdated}
-use Rattle.cm_model.specs.Kinds.{publishes, follows_points, tuning_of, bounds_of, is_over_values, fails_in}
+use Rattle.cm_model.specs.Controllers.{Stepped, Updated, started, with_mail, pid_update, loop_update, limiter_update, bounded_update, set_update, trajectory_update, publishes_states, only_if, updated, activated, deactivated, mailed, step_with, update_step, ctl_step, IsIdle, IsRunning, CanBeActivated, CanBeUpdated}
+use Rattle.cm_model.specs.Kinds.{shape_of, publishes, follows_points, tuning_of, bounds_of, is_over_values, fails_in, AreItsReads}
 use Rattle.cm_model.specs.Limiters.{Bounds}
 use Rattle.cm_model.specs.Pids.{Tuning}
 use Rattle.cm_model.specs.Scene.{is_running}
@@ -30,13 +30,6 @@ some_there P None h = absurd h
 some_there P (Some x) h = tt
 
 -- ---- It comes and leaves
-
-activated_from : (ctl : CtlData) (p : Option Params) (states : List ℤ) (chained : Bool) → ctl.params ≡ p → IsSomeAnd p (λ x. Unit {0}) → IsRunning (activated ctl states chained)
-activated_from ctl None states chained e h = absurd h
-activated_from ctl (Some params) states chained e h = rw e (record { configured = tt; running = tt })
-
-running_once_activated : (ctl : CtlData) (Holds : Params → Type 0) (states : List ℤ) (chained : Bool) → IsInactiveWith ctl Holds → IsRunning (activated ctl states chained)
-running_once_activated ctl Holds states chained can = activated_from ctl ctl.params states chained refl (some_there Holds ctl.params can.configured)
 
 idle_once_deactivated : (ctl : CtlData) → IsRunning ctl → IsIdle (deactivated ctl)
 idle_once_deactivated ctl h = record { configured = h.configured; idle = refl }
@@ -62,9 +55,10 @@ kept_activated ctl (Some q) states chained e h own = rw e (record {
   own_part = runs_as_started ctl.kind q states chained own;
 })
 
-pub kept_once_activated : (life : Life) (ctl : CtlData) (Holds : Params → Type 0) (states : List ℤ) (chained : Bool) → IsKept life ctl → IsInactiveWith ctl Holds
+pub kept_once_activated : (life : Life) (ctl : CtlData) (count : ℕ) (states : List ℤ) (chained : Bool) → IsKept life ctl → CanBeActivated ctl count
     → IsKept Active (activated ctl states chained)
-kept_once_activated life ctl Holds states chained h can = kept_activated ctl ctl.params states chained refl (some_there Holds ctl.params can.configured) h.own_kind
+kept_once_activated life ctl count states chained h can =
+    kept_activated ctl ctl.params states chained refl (some_there (λ params. AreItsReads (shape_of params).reads count) ctl.params can.configured) h.own_kind
 
 pub kept_once_deactivated : (life : Life) (ctl : CtlData) → IsKept life ctl → IsRunning ctl → IsKept Inactive (deactivated ctl)
 kept_once_deactivated life ctl h runs = record { state = idle_once_deactivated ctl runs; own_kind = h.own_kind; own_part = tt }
@@ -278,6 +272,16 @@ loop_gives_none : (own : Option Tuning) (chained : Bool) (set : Value) (integral
 loop_gives_none None chained set integral last dt_us targets states = λ e. refl
 loop_gives_none (Some tuning) chained set integral last dt_us targets states = λ e. absurd (pid_never_errs tuning chained set integral last dt_us targets states e)
 
+limiter_never_errs : (bounds : Bounds) (chained : Bool) (set : Value) (at step : ℤ) (dt_us : ℕ) (targets : List Value)
+    → (limiter_update bounds chained set at step dt_us targets).done ≡ done.Error → ⊥
+limiter_never_errs bounds chained set at step dt_us [] e = cc
+limiter_never_errs bounds chained set at step dt_us (target ∷ targets) e = cc
+
+limiter_gives_none : (own : Option Bounds) (chained : Bool) (set : Value) (at step : ℤ) (dt_us : ℕ) (targets : List Value)
+    → GivesNone (bounded_update own chained set at step dt_us targets)
+limiter_gives_none None chained set at step dt_us targets = λ e. refl
+limiter_gives_none (Some bounds) chained set at step dt_us targets = λ e. absurd (limiter_never_errs bounds chained set at step dt_us targets e)
+
 erred_updated : (p : Params) (part : RunData) (tick : Tick) (states : List ℤ) (refs : List Value) → GivesNone (updated p part tick states refs)
 erred_updated p (run.Set chained set) tick states refs =
     only_so GivesNone (is_over_values p) (run.Set chained set) _ (set_gives_none (fails_in p tick.cycle) (run.Set chained set) _) (λ e. refl)
@@ -285,6 +289,7 @@ erred_updated p (run.Pid chained set integral last) tick states refs = loop_give
 erred_updated p (run.Trajectory hold fresh start_us from points) tick states refs =
     only_so GivesNone (follows_points (kind_of p)) (run.Trajectory hold fresh start_us from points) _
     (λ e. absurd (trajectory_never_errs tick.time_us states hold fresh start_us from points e)) (λ e. refl)
+erred_updated p (run.Limiter chained set at step) tick states refs = limiter_gives_none (bounds_of p) chained set at step tick.dt_us _
 erred_updated p (run.Broadcaster last) tick states refs =
     only_so GivesNone (publishes (kind_of p)) (run.Broadcaster last) (publishes_states states) (λ e. refl) (λ e. refl)
 

@@ -1,5 +1,5 @@
 -- That no mail waits where it is told so, whatever becomes of controllers.
-use Rattle.std.proofs.Common.{◌≡◌, ℕ, zero, suc, ℤ, Bool, true, false, List, [], ◌∷◌, map, slice_set, Option, Some, None, true≢false, refl, sym, ap, ap₂, ◌∙◌}
+use Rattle.std.proofs.Common.{◌≡◌, ℕ, zero, suc, Bool, true, false, List, [], ◌∷◌, map, slice_set, Option, Some, None, true≢false, refl, sym, ap, ap₂, ◌∙◌}
 use Rattle.std.specs.Prelude.{◌||◌, ◌&&◌, if◌then◌else◌, slice_get, filter_map, option_map, OnOk, OnErr, Result, Ok, Err}
 use Rattle.std.specs.List.{AllByRecursion, cons_option, list_any}
 use Rattle.sequence.proofs.ListLemmas.{all_at, all_set}
