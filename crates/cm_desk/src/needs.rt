@@ -116,8 +116,8 @@ pub(crate) fn prepare(
     )
 }
 
-/// The workspaces are those of these controllers, and it is known who they are: those that are there, where the same flew last, and else new
-/// ones.
+/// The workspaces are those of these controllers, and it is known who they are: those that are there, where the same flew
+/// last, and else new ones.
 fn fit_workspaces(
     alloc: Global,
     places: &CtlPlaces,
@@ -133,6 +133,24 @@ fn fit_workspaces(
     if are_workspaces_of(workspaces, order) {
         return Ok(());
     }
+    renew_workspaces(alloc, places, order, workspaces, members)
+}
+
+/// The workspaces are new ones of these controllers, and it is known who they are. It stands apart, because few cycles
+/// need it.
+#[inline(never)]
+fn renew_workspaces(
+    alloc: Global,
+    places: &CtlPlaces,
+    order: &[Member],
+    workspaces: &mut Vec<Workspace>,
+    members: &mut Vec<Member>,
+) -> Result<(), Memory>
+    requires rows { All (λ m. HasRows places.now m.place) order.now }
+    requires kept { AreKept places.now workspaces.old.items members.old.items }
+    ensures run { OnOk result (IsRun places.now order.now workspaces.new.items members.new.items) }
+    ensures kept { AreKept places.now workspaces.new.items members.new.items }
+{
     let others = new_workspaces(alloc, places, order)?;
     let who = copy_of(alloc, order)?;
     *workspaces = others;
@@ -216,6 +234,26 @@ fn renew_room(
     if room.is_some() && is_silent(size, order) {
         return Ok(());
     }
+    make_record(alloc, checked, places, size, order, room, left_over)
+}
+
+/// There is new room to tell of a cycle of hardware of this size in which these controllers are active. It stands apart,
+/// because each begin would else clear the memory that this works on.
+#[inline(never)]
+fn make_record(
+    alloc: Global,
+    checked: &Checked,
+    places: &CtlPlaces,
+    size: HardwareSize,
+    order: &[Member],
+    room: &mut Option<RecordRoom>,
+    left_over: &mut Option<Box<CycleParts>>,
+) -> Result<(), Memory>
+    requires can { CanPrepare checked.now places.now size order.now }
+    requires told { IfSome room.old TellsNothing }
+    ensures room { OnOk result (IsSomeAnd room.new (HasRoom checked.now places.now order.now)) }
+    ensures told { IfSome room.new TellsNothing }
+{
     let made = record_for(alloc, checked, places, size, order, left_over.take())?;
     *room = Some(made);
     Ok(())

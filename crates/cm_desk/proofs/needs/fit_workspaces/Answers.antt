@@ -1,5 +1,5 @@
 use Rattle.std.proofs.Common.{◌∙◌}
-use Rattle.cm_desk.proofs.NeedsLemmas.{kept_for, stands_same}
+use Rattle.cm_desk.proofs.NeedsLemmas.{stands_same}
 use Rattle.cm_desk.proofs.needs.fit_workspaces.Goals as goal
 
 -- where the same flew last, the workspaces are theirs, and so are they who stood there
@@ -7,7 +7,3 @@ pub returns-then-are_workspaces_of-clause-run : goal.returns-then-are_workspaces
 returns-then-are_workspaces_of-clause-run c =
     let stands = rw (c.deref.ensures.value) at (c.are_workspaces_of.ensures c.if-are_workspaces_of.true) in
     record { workspaces = record { stands = stands; fitted = c.requires.kept.fitted }; order = c.requires.kept.ordered ∙ stands_same _ _ stands }
-
--- else they are new
-pub returns-clause-kept : goal.returns-clause-kept
-returns-clause-kept c = kept_for _ c.args.order.now _ _ c.in_ok-others.ensures c.in_ok-who.ensures
