@@ -1,5 +1,5 @@
 -- The table that a description is printed as: every key with its value, but no list that is empty.
-use Rattle.std.specs.Prelude.{ℕ, ℤ, pos, List, [], ◌∷◌, map, codes, Option, Some, None}
+use Rattle.std.specs.Prelude.{ℕ, ℤ, pos, List, [], ◌∷◌, ◌++◌, map, codes, Option, Some, None}
 use Rattle.std.specs.Ordering.{nat_cmp, match_ordering}
 use Rattle.std.specs.Cmp.Lexicographic.{slice_cmp}
 use Rattle.toml.specs.Data.{Data, string, integer, boolean, array, table, Items, no_items, item}
@@ -137,10 +137,26 @@ params_rows (params.Mock outs refuse_config not_ready fail_update) =
     (codes "refuse_config", Some (boolean refuse_config))
     ∷ (codes "not_ready", cycles not_ready)
     ∷ (codes "fail_update", cycles fail_update) ∷ []
+params_rows (params.Transmission carried reduction offset) =
+    (codes "reduction", quantity reduction) ∷ (codes "offset", quantity offset) ∷ []
+params_rows (params.Differential carried reduction1 reduction2 offset1 offset2) =
+    (codes "reduction1", quantity reduction1)
+    ∷ (codes "reduction2", quantity reduction2)
+    ∷ (codes "offset1", quantity offset1)
+    ∷ (codes "offset2", quantity offset2) ∷ []
+params_rows (params.Limiter lowest highest vmax amax) =
+    (codes "min", quantity lowest)
+    ∷ (codes "max", quantity highest)
+    ∷ (codes "vmax", quantity vmax)
+    ∷ (codes "amax", quantity amax) ∷ []
 params_rows _ = []
 
+-- the rows of a controller
+abbrev pub controller_rows : CtlDesc → List Row
+controller_rows c = head_rows c ++ reads_row c c.params ∷ params_rows c.params
+
 abbrev pub controller_tree : CtlDesc → Members
-controller_tree c = with_rows (params_rows c.params) (with_row (reads_row c c.params) (table_of (head_rows c)))
+controller_tree c = table_of (controller_rows c)
 
 -- ---- The whole
 

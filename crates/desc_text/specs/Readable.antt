@@ -7,6 +7,7 @@ use Rattle.iface_names.specs.Names.{is_name}
 use Rattle.iface_names.specs.declared.interface.IfaceName.{IfaceName}
 use Rattle.iface_names.specs.declared.interface.IfaceName.TheVariants.{Joint, Reference}
 use Rattle.cm_document.specs.Described.{count}
+use Rattle.cm_document.specs.Params.{first_kind}
 use Rattle.cm_document.specs.declared.description.CompDesc.{CompDesc}
 use Rattle.cm_document.specs.declared.description.CtlDesc.{CtlDesc}
 use Rattle.cm_document.specs.declared.description.Description.{Description}
@@ -73,6 +74,13 @@ Fits (params.Trajectory outs) claims reads = (outs ≡ count claims) × (1 ≤ l
 Fits (params.Broadcaster ins) claims reads = (ins ≡ count reads) × (claims ≡ [])
 Fits (params.Mock outs refuse_config not_ready fail_update) claims reads =
     (outs ≡ count claims) × AreWholes not_ready × AreWholes fail_update
+Fits (params.Transmission carried reduction offset) claims reads =
+    (carried ≡ first_kind claims) × (1 ≤ length claims) × (reads ≡ []) × IsInRange reduction × IsInRange offset
+Fits (params.Differential carried reduction1 reduction2 offset1 offset2) claims reads =
+    (carried ≡ first_kind claims) × (1 ≤ length claims) × (reads ≡ []) × IsInRange reduction1 × IsInRange reduction2
+    × IsInRange offset1 × IsInRange offset2
+Fits (params.Limiter lowest highest vmax amax) claims reads =
+    (1 ≤ length claims) × (1 ≤ length reads) × IsInRange lowest × IsInRange highest × IsInRange vmax × IsInRange amax
 
 pub record ControllerIsReadable (c : CtlDesc) : Type 0 where
   pub named : IsName c.name
@@ -86,6 +94,7 @@ pub record ControllerIsReadable (c : CtlDesc) : Type 0 where
 
 pub record GroupIsReadable (g : GroupDesc) : Type 0 where
   pub named : IsName g.name
+  pub some : 1 ≤ length g.members
   pub members : AllByRecursion IsName g.members
 
 -- A description that its table is read as.

@@ -1,4 +1,4 @@
-//! A description's text, read: the description that it is, or its first fault with its place; and a description, printed.
+//! A description's text, read: the description that it is, or its first fault with its place. A description, printed.
 //! Each kind of table is one file, with the keys that it may have and how each is read.
 #![tactic(auto)]
 

@@ -3,6 +3,7 @@
 mod controllers;
 mod parts;
 mod rows;
+mod shaping;
 
 ghost use Rattle.std.specs.Prelude.{◌≡◌, Ok, IfOk, OnOk, drop, map};
 ghost use Rattle.std.specs.List.{AllByRecursion};
@@ -22,8 +23,8 @@ use rows::{put_list, put_whole};
 use std::alloc::Global;
 use toml::{Table, Value};
 
-/// The text of a description of the second version: the walk reads it as this description. A list that is empty is left out,
-/// but for the reads of a broadcaster, and each quantity is a text. The layout is that of `toml`.
+/// The text of a description of the second version: the walk reads it as this description. An empty list is left out,
+/// except for the reads of a broadcaster. Each quantity is a text. The layout is that of `toml`.
 pub fn print_description(alloc: Global, description: &Description) -> Result<Vec<u8>, Memory>
     requires { IsReadable description.now }
     ensures { IfOk result (λ text. description_in (tree_of text.items) ≡ Ok description.now) }

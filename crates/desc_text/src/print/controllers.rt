@@ -1,15 +1,17 @@
 //! The table of a controller.
 
-ghost use Rattle.std.specs.Prelude.{◌≡◌, List, IfOk, OnOk};
+ghost use Rattle.std.specs.Prelude.{◌≡◌, ◌∷◌, [], List, codes, Some, IfOk, OnOk};
+ghost use Rattle.toml.specs.Data.{boolean};
 ghost use Rattle.toml.specs.View.{table_view};
-ghost use Rattle.desc_text.specs.Printed.{controller_tree, head_rows, params_rows, reads_row, with_row, with_rows};
+ghost use Rattle.desc_text.specs.Printed.{controller_tree, cycles, head_rows, params_rows, reads_row, with_row, with_rows};
 ghost use Rattle.iface_names.specs.declared.interface.IfaceName.{IfaceName};
-ghost use Rattle.desc_text.specs.Readable.{ControllerIsReadable, Fits};
+ghost use Rattle.desc_text.specs.Readable.{AreWholes, ControllerIsReadable, Fits};
 
 use crate::print::rows::{
     interface_texts, put, put_cycles, put_flag, put_interfaces, put_names, put_quantity, put_text,
     put_whole,
 };
+use crate::print::shaping::{put_differential, put_limiter, put_transmission};
 use cm_document::{CtlDesc, Params};
 use fixed_num::Memory;
 use std::alloc::Global;
@@ -29,6 +31,7 @@ pub fn controller_table(alloc: Global, controller: &CtlDesc) -> Result<Table, Me
 
 /// Puts in what a controller of every type has.
 fn put_head(alloc: Global, made: &mut Table, controller: &CtlDesc) -> Result<(), Memory>
+    requires { ControllerIsReadable controller.now }
     ensures { OnOk result (table_view made.new ≡ with_rows (head_rows controller.now) (table_view made.old)) }
 {
     put_text(alloc, made, "name", controller.name.as_str())?;
@@ -76,11 +79,52 @@ fn put_params(alloc: Global, made: &mut Table, params: &Params) -> Result<(), Me
             not_ready,
             fail_update,
             ..
-        } => {
-            put_flag(alloc, made, "refuse_config", *refuse_config)?;
-            put_cycles(alloc, made, "not_ready", not_ready.as_slice())?;
-            put_cycles(alloc, made, "fail_update", fail_update.as_slice())
-        }
+        } => put_mock(
+            alloc,
+            made,
+            *refuse_config,
+            not_ready.as_slice(),
+            fail_update.as_slice(),
+        ),
+        Params::Transmission {
+            reduction,
+            offset,
+            ..
+        } => put_transmission(alloc, made, *reduction, *offset),
+        Params::Differential {
+            reduction1,
+            reduction2,
+            offset1,
+            offset2,
+            ..
+        } => put_differential(alloc, made, *reduction1, *reduction2, *offset1, *offset2),
+        Params::Limiter {
+            min,
+            max,
+            vmax,
+            amax,
+        } => put_limiter(alloc, made, *min, *max, *vmax, *amax),
         _ => Ok(()),
     }
+}
+
+/// Puts in the parameters of a mock.
+fn put_mock(
+    alloc: Global,
+    made: &mut Table,
+    refuse_config: bool,
+    not_ready: &[u64],
+    fail_update: &[u64],
+) -> Result<(), Memory>
+    requires ready { AreWholes not_ready.now }
+    requires fails { AreWholes fail_update.now }
+    ensures { OnOk result (table_view made.new ≡ with_rows
+        ((codes "refuse_config", Some (boolean refuse_config))
+        ∷ (codes "not_ready", cycles not_ready.now)
+        ∷ (codes "fail_update", cycles fail_update.now) ∷ [])
+        (table_view made.old)) }
+{
+    put_flag(alloc, made, "refuse_config", refuse_config)?;
+    put_cycles(alloc, made, "not_ready", not_ready)?;
+    put_cycles(alloc, made, "fail_update", fail_update)
 }
