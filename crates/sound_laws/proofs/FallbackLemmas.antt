@@ -102,10 +102,12 @@ none_led r none = subst (λ (ds : List Decision). ticketed ds ≡ ds) (sym none)
 module _ (s : State) (made : State × Reply) (owed : List (List ℕ)) (is_owed : owed ≡ s.fallbacks) where
   -- each call tells of them where they are owed
   led_at : (call : Call) → IsStep s call made → (IsPlain call → decisions_in made.1 ≡ []) → IsLedAt owed (moment_of s call made) call
-  led_at (Begin number) is none =
-      (sym is_owed, subst (λ (answer : Reply). IsLed (some_of owed) (decisions_in answer)) (same_Some (begin_reply s) made.1 is.replied)
-      (subst (λ (names : List (List ℕ)). IsLed (some_of names) (decisions_in (begin_reply s))) (sym is_owed)
-      (led s s.fallbacks (decisions_between s (boundary s)) (between_ticketed s (boundary s)))))
+  led_at (Begin number) is none = (
+    sym is_owed,
+    subst (λ (answer : Reply). IsLed (some_of owed) (decisions_in answer)) (same_Some (begin_reply s) made.1 is.replied)
+        (subst (λ (names : List (List ℕ)). IsLed (some_of names) (decisions_in (begin_reply s))) (sym is_owed)
+        (led s s.fallbacks (decisions_between s (boundary s)) (between_ticketed s (boundary s)))),
+  )
   led_at (End number) is none =
       subst (λ (answer : Reply). ticketed (decisions_in answer) ≡ decisions_in answer) (same_Some (reply.Cycle (cycle s).happened) made.1 is.replied) refl
   led_at Close is none =
