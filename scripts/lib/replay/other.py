@@ -3,7 +3,7 @@
 import functools
 import sys
 
-STAGE = "r15"  # what it is told that the program accepts
+STAGE = "r16"  # what it is told that the program accepts
 
 
 @functools.cache
