@@ -11,10 +11,11 @@ use Rattle.cm_document.specs.declared.document.Document.{Document}
 use Rattle.cm_model.specs.declared.blanks.Blanks.{Blanks}
 use Rattle.cm_words.specs.declared.job.Job.{Job}
 use Rattle.cm_words.specs.declared.job.TheConstants.{MOST_ROUNDS}
-use Rattle.cm_top.specs.Answering.{Answering, AnsweredWith, Answers, WroteAnswer, DidJob}
+use Rattle.cm_words.specs.Words.{asked}
+use Rattle.cm_top.specs.Answering.{Answering, IsAnswer, AnsweredWith, Answers, WroteAnswer, DidJob}
 use Rattle.cm_top.specs.Book.{BookFacts, IsShort, Task, task_of}
 use Rattle.cm_top.specs.Calls.Read.{ReadAs, EndsUnread, Reads, ReadsFrom, MindsSource}
-use Rattle.cm_top.specs.Calls.Run.{SourceFacts, SinkFacts, MindsSink, MindsFaults, AnswersFrom, DoesJob, written}
+use Rattle.cm_top.specs.Calls.Run.{SourceFacts, SinkFacts, MindsSink, MindsFaults, RefusesWords, RunsFrom, AnswersFrom, DoesJob, written}
 use Rattle.cm_top.specs.Status.{Written, Wrote, ComesOfBytes, ComesBeforeWriting, IsPlain, status_of}
 use Rattle.cm_top.specs.declared.status.Status.{Status}
 use Rattle.cm_top.specs.declared.status.Status.TheVariants as status
@@ -23,7 +24,7 @@ use Rattle.cm_top.proofs.ReadLemmas.{told-Rose, short-status, some_known, read-R
 -- ---- Of an accepted document
 
 wrote-AnsweredWith : (job : Answering) (bytes : List ℕ) (d : Document) (w : Written) (ended : Status) (text : List ℕ) → IsShort bytes → document whole_grammar bytes ≡ Ok d
-    → job.IsAnswer d text → Wrote text w ended → AnsweredWith job bytes w ended
+    → IsAnswer job d text → Wrote text w ended → AnsweredWith job bytes w ended
 wrote-AnsweredWith job bytes d w status.Ok text short accepted is wrote = record {
   document_is = d;
   short = short;
@@ -187,3 +188,28 @@ pub did-late : (answering : Option Answering) (task : Task) (d : Document) (blan
     → ComesBeforeWriting ended → ⊥
 did-late None task d blanks w ended book did before = RanDocument-late task d blanks w ended book did before
 did-late (Some job) task d blanks w ended book did before = answer-late job d w ended did.1 before
+
+-- ---- Of accepted words
+
+run-never_words : (make : Option ℕ) (task : Task) (blanks : Blanks) (source source' : SourceFacts) (sink sink' : SinkFacts) (ended : Status) (book : Option BookFacts)
+    → RunsFrom make task blanks source source' sink sink' ended book → ended ≡ status.BadWords → ⊥
+run-never_words None task blanks source source' sink sink' ended book runs words = runs.never_words words
+run-never_words (Some rounds) task blanks source source' sink sink' ended book runs words = rw words at runs.ran.of_bytes
+
+-- no job ends as if its words were refused
+pub job-never_words : (answering : Option Answering) (job : Job) (blanks : Blanks) (source source' : SourceFacts) (sink sink' : SinkFacts) (ended : Status) (book : Option BookFacts)
+    → DoesJob answering job blanks source source' sink sink' ended book → ended ≡ status.BadWords → ⊥
+job-never_words None job blanks source source' sink sink' ended book does words =
+    run-never_words job.make (task_of job blanks) blanks source source' sink sink' ended book does words
+job-never_words (Some answering) job blanks source source' sink sink' ended book does words = does.never_words words
+
+-- so words that ask for a job are not refused
+pub accepted-RefusesWords : {S K B : Type 0} (words : List (List ℕ)) (source source' : S) (sink sink' : K) (ended : Status) (book : Option B) (job : Job) → asked words ≡ Ok job
+    → (ended ≡ status.BadWords → ⊥) → RefusesWords words source source' sink sink' ended book
+accepted-RefusesWords words source source' sink sink' ended book job is never = record {
+  alone = λ bad. absurd (never bad);
+  refused = λ refused. cc;
+  nothing_read = λ refused. cc;
+  nothing_written = λ refused. cc;
+  no_book = λ refused. cc;
+}

@@ -16,15 +16,14 @@ use Rattle.cm_top.specs.Status.{Written, Wrote, RanDocument}
 use Rattle.cm_top.specs.declared.status.Status.{Status}
 use Rattle.cm_top.specs.declared.status.Status.TheVariants as status
 
--- What such a job answers: of each accepted document, which texts are an answer.
-pub record Answering : Type 0 where
-  pub IsAnswer : Document → List ℕ → Type 0
+-- The jobs that answer so.
+pub data Answering : Type 0 where
+  upgrading : Answering
 
--- an upgrade answers a text that is read as the description, with the second version
-abbrev pub upgrading : Answering
-upgrading = record {
-  IsAnswer = λ d text. description_in (tree_of text) ≡ Ok (record d.description { version = SECOND_VERSION });
-}
+-- Which texts answer a document: to an upgrade those that are read as its description, with the second version.
+abbrev pub IsAnswer : Answering → Document → List ℕ → Type 0
+IsAnswer upgrading d text =
+    description_in (tree_of text) ≡ Ok (record d.description { version = SECOND_VERSION })
 
 -- the answering of a job that has no book
 abbrev pub answering_of : JobKind → Option Answering
@@ -37,7 +36,7 @@ pub record Answered (job : Answering) (bytes : List ℕ) (w : Written) : Type 0 
   pub short : IsShort bytes
   pub accepted : document whole_grammar bytes ≡ Ok document_is
   pub text : List ℕ
-  pub is_answer : job.IsAnswer document_is text
+  pub is_answer : IsAnswer job document_is text
   pub taken : Appends w.old w.new text
   pub all_flushed : AllFlushed w.new w.flushed
 
@@ -47,7 +46,7 @@ pub record IsCutShort (job : Answering) (bytes : List ℕ) (w : Written) : Type 
   pub short : IsShort bytes
   pub accepted : document whole_grammar bytes ≡ Ok document_is
   pub text : List ℕ
-  pub is_answer : job.IsAnswer document_is text
+  pub is_answer : IsAnswer job document_is text
   pub taken : AppendsPrefix w.old w.new text
 
 -- What such a job says of these bytes by its status. Each refusal names the document's first fault, exactly.
@@ -75,7 +74,7 @@ Answers job w _ = Unit {0}
 -- Memory ran out and nothing was written, or writing an answer came to this.
 abbrev pub WroteAnswer : Answering → Document → Written → Status → Type 0
 WroteAnswer job d w ended =
-    ((ended ≡ status.Memory) × Keeps w.old w.new) ⊎ ((text : List ℕ) × job.IsAnswer d text × Wrote text w ended)
+    ((ended ≡ status.Memory) × Keeps w.old w.new) ⊎ ((text : List ℕ) × IsAnswer job d text × Wrote text w ended)
 
 -- What a job came to: a run to its book, or an answer without one.
 abbrev pub DidJob : Option Answering → Task → Document → Blanks → Written → Status → Option BookFacts → Type 0
