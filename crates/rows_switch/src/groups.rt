@@ -32,7 +32,7 @@ pub const GROUPS: &str = r#"pid inactive
 traj inactive
 mk inactive
 strict +@motion => done;; +pid +traj
-strict +@motion +mk => done;; +mk +pid +traj
+strict +@motion +mk => done;; +pid +mk +traj
 strict +@motion +@motion => refused pid twice;;
 strict +traj +@motion => refused traj twice;;
 best +@motion +pid => done dropped pid twice;; +pid +traj
