@@ -1,6 +1,6 @@
 //! Whole descriptions, and all that is read of each: a line for the top table, a component, a joint, a controller.
 
-/// One joint with a forward controller; seven controllers of all types round one joint; an arm of six joints with a
+/// One joint with a forward controller; seven controllers of six types round one joint; an arm of six joints with a
 /// trajectory and a broadcaster; and every key of the components, of a pid and of a mock, in another order than that
 /// in which they are visited.
 pub const WHOLE: &str = r#"version = 1
@@ -239,6 +239,36 @@ type = "broadcaster"
 reads = []
 => 1 100 5
 controller c 0 [] [] broadcaster 0
+
+[[controller]]
+name = "c"
+type = "transmission"
+claims = ["j/velocity"]
+reduction = "2.5"
+=> 1 100 5
+controller c 0 [j/velocity] [] transmission velocity 2500000 0
+
+[[controller]]
+name = "c"
+type = "differential"
+claims = ["j/position", "k/position"]
+reduction1 = 2
+reduction2 = 3
+offset2 = "0.5"
+=> 1 100 5
+controller c 0 [j/position k/position] [] differential position 2000000 3000000 0 500000
+
+[[controller]]
+name = "c"
+type = "limiter"
+claims = ["j/position"]
+reads = ["j/position"]
+min = -1
+max = 1
+vmax = 2
+amax = 3
+=> 1 100 5
+controller c 0 [j/position] [j/position] limiter -1000000 1000000 2000000 3000000
 
 [[controller]]
 name = "c"

@@ -134,6 +134,43 @@ fn push_params(text: &mut String, params: &Params) -> Result<(), Fail> {
             push_list(text, not_ready.as_slice())?;
             push_list(text, fail_update.as_slice())?;
         }
+        shaping => push_shaping(text, shaping)?,
+    }
+    Ok(())
+}
+
+/// The parameters of a controller that shapes commands, its quantities in micro-units.
+fn push_shaping(text: &mut String, params: &Params) -> Result<(), Fail> {
+    match params {
+        Params::Transmission {
+            kind,
+            reduction,
+            offset,
+        } => {
+            let (reduction, offset) = (reduction.micro(), offset.micro());
+            write!(text, " transmission {kind} {reduction} {offset}")?;
+        }
+        Params::Differential {
+            kind,
+            reduction1,
+            reduction2,
+            offset1,
+            offset2,
+        } => {
+            let (first, second) = (reduction1.micro(), reduction2.micro());
+            write!(text, " differential {kind} {first} {second}")?;
+            write!(text, " {} {}", offset1.micro(), offset2.micro())?;
+        }
+        Params::Limiter {
+            min,
+            max,
+            vmax,
+            amax,
+        } => {
+            write!(text, " limiter {} {}", min.micro(), max.micro())?;
+            write!(text, " {} {}", vmax.micro(), amax.micro())?;
+        }
+        _ => {}
     }
     Ok(())
 }

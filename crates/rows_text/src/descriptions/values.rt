@@ -90,7 +90,10 @@ type = "forward" => bad_key controller[0].reads
 type = "passthrough" => bad_key controller[0].reads
 type = "broadcaster" => bad_key controller[0].claims
 type = "Pid" => bad_value controller[0].type
-type = "differential" => bad_value controller[0].type
+type = "transmission" => bad_key controller[0].reads
+type = "differential" => bad_key controller[0].reads
+type = "limiter" => bad_key controller[0].min
+type = "servo" => bad_value controller[0].type
 type = "" => bad_value controller[0].type"#;
 
 /// States of a component.
