@@ -33,6 +33,7 @@ const UPGRADE: Runs = Runs {
 const SEPARATOR: &str = "--- script ---\n";
 
 /// Tells what the run of an upgraded document prints; of one that is refused, how its upgrade ends.
+#[derive(Clone, Copy)]
 struct Upgraded;
 
 impl Teller for Upgraded {
