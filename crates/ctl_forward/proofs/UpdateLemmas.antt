@@ -7,7 +7,6 @@ use Rattle.cm_document.specs.declared.description.CtlKind.{CtlKind}
 use Rattle.cm_document.specs.declared.description.Params.{Params}
 use Rattle.cm_model.specs.Controllers.{Updated, wanted, stepped_to, step_with, update_step, put_out}
 use Rattle.cm_model.specs.declared.data.CtlData.{CtlData}
-use Rattle.cm_model.specs.declared.data.RunData.{RunData}
 use Rattle.cm_model.specs.declared.data.RunData.TheVariants.{Set}
 use Rattle.cm_model.specs.declared.tick.Tick.{Tick}
 use Rattle.ctl_trait.specs.Parts.{Part, data_of, is_chained_part}
