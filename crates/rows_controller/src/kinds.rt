@@ -4,14 +4,14 @@
 ghost use Rattle.cm_model.specs.Controllers.{IsBlank};
 
 mod computing;
-mod given;
 mod pages;
+mod parameters;
 mod shaping;
 mod tried;
 
 use crate::kinds::computing::{BROADCASTERS, LIMITS, LINES, PIDS, TRAJECTORIES};
-use crate::kinds::given::params_of;
 use crate::kinds::pages::{FORWARDS, LIFECYCLE, MOCKS, PASSTHROUGHS};
+use crate::kinds::parameters::params_of;
 use crate::kinds::shaping::{DIFFERENTIALS, LIMITERS, STANDING, TRANSMISSIONS};
 use crate::kinds::tried::Tried;
 use cm_document::{Mail, Params, Point2};
