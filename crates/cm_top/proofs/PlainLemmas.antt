@@ -23,6 +23,7 @@ plain_check (check_fault.NameTwice name) other = tt
 plain_check (check_fault.BadRange path) other = tt
 plain_check (check_fault.NoInterface controller interface) other = tt
 plain_check (check_fault.NoFallback controller name) other = tt
+plain_check (check_fault.NoMember group name) other = tt
 plain_check (check_fault.ChainLoop controller) other = tt
 plain_check check_fault.Memory other = absurd (other refl)
 
