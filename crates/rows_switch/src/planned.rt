@@ -5,7 +5,7 @@ ghost use Rattle.request_plan.specs.Situations.{IsSituation};
 
 use crate::scenes::{Scene, are_below, life_of, request_of};
 use chain_order::PlaceSet;
-use cm_document::Checked;
+use cm_document::{Checked, Pick};
 use cm_model::{Decision, Reply, Request};
 use iface_names::Name;
 use pages_calls::robots::ARM_AND_LEG;
@@ -97,6 +97,17 @@ fn requests_are_planned_one_after_the_other(rt: HostRuntime) -> Result<(), Fail>
     hold_acts::<Queue>(rt.alloc(), ARM_AND_LEG, PLANS)
 }
 
+/// The controllers among these.
+fn controllers_of(alloc: Global, picks: &[Pick]) -> Result<Seq<Name>, Fail> {
+    let mut names = Seq::new(alloc);
+    for pick in picks {
+        if let Pick::One(name) = pick {
+            names.push(name.clone()?)?;
+        }
+    }
+    Ok(names)
+}
+
 /// A scene in which requests wait. Besides a request an act is `close`, `told TICKET`: what became of the request, or `fallback` with
 /// the names of those that are to stand in.
 #[derive(Drop)]
@@ -140,8 +151,8 @@ impl Queue {
 
     /// These are to stand in, and are planned before the requests.
     fn stand_in(&mut self, alloc: Global, words: &str) -> Result<String, Fail> {
-        let names = request_of(alloc, words)?;
-        self.fallbacks = names.on.clone()?;
+        let request = request_of(alloc, words)?;
+        self.fallbacks = controllers_of(alloc, request.on.as_slice())?;
         self.first_told(alloc, &self.plan(alloc)?)
     }
 
