@@ -3,7 +3,7 @@
 import functools
 import sys
 
-STAGE = "r16"  # what it is told that the program accepts
+STAGE = "r18"  # what it is told that the program accepts
 
 
 @functools.cache
