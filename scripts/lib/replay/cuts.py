@@ -22,7 +22,7 @@ from ..tree import TOP
 from . import programs
 from .examples import EXAMPLES, beside, words_of
 from .memory import CASES
-from .other import STAGE, judge
+from .other import JUDGED, judge
 
 PAGE = TOP / "docs/FAULTS.md"
 SEPARATOR = b"--- script ---"
@@ -80,7 +80,7 @@ def by_turns(program, other):
         disagreement = judge(other)
         why = None if is_so else f"status {came.status}, {came.told!r}, {came.printed!r}"
         if is_so and disagreement:
-            why = disagreement(cut, words_of(document), STAGE, came.status, came.printed, came.told)
+            why = disagreement(cut, words_of(document), JUDGED, came.status, came.printed, came.told)
         yield f"{turns} turns", why
 
 
@@ -127,7 +127,7 @@ def tried(program, other, is_whole, numbered):
         if not why and came.seconds >= SECONDS:
             why = "it takes too long"
         if not why and judge(other) and (is_whole or is_compared(number, text, left)):
-            why = judge(other)(text[:left], words, STAGE, came.status, came.printed, came.told)
+            why = judge(other)(text[:left], words, JUDGED, came.status, came.printed, came.told)
         if why:
             said = f"status {came.status}, {came.told!r}, {came.seconds:.3f} s"
             found.append((f"{document.relative_to(TOP)}, {left} bytes", f"{why}: {said}"))

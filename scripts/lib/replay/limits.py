@@ -12,7 +12,7 @@ from pathlib import Path
 
 from ..tool import Tally
 from . import programs
-from .other import STAGE, judge
+from .other import JUDGED, judge
 from .sizes.parts import (
     CALLS, CLAIMS_OF_ONE, CONTROLLERS, CYCLES, JOINTS, KINDS, LINE, LONGEST, NAME, RATE, SESSIONS, component, controller, head, joint, limit,
     of_first, quoted)
@@ -115,7 +115,7 @@ def main(asked):
             given, lines = document(job, cycles)
             came = programs.came([program, job], given, LIMIT)
             compares = judge(asked.other) if cycles == FEW else None
-            judged = lambda: compares and compares(given, [job], STAGE, came.status, came.printed, came.told)
+            judged = lambda: compares and compares(given, [job], JUDGED, came.status, came.printed, came.told)
             why = wrong(came, lines + told(job, came.printed), judged)
             tally.tell(f"{job}, {cycles:,} cycles: {len(came.printed):,} bytes in {came.seconds:.1f} s", why)
     return tally.end()

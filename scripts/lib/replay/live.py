@@ -21,7 +21,7 @@ import sys
 from pathlib import Path
 
 from . import programs
-from .other import STAGE, judge
+from .other import JUDGED, STAGE, judge
 from .traces import SEPARATOR, aloft, before_close, calls_of, scheduled
 
 LIMIT = 60  # seconds; a run takes some hundredths of one
@@ -121,7 +121,7 @@ def finding(program, other, document, came):
         return f"status {came.status} {came.told[:200]!r}"
     disagreement = judge(other)
     wrong = reason(program, document, came.printed)
-    return wrong or disagreement and disagreement(document, ["live"], STAGE, came.status, came.printed, came.told)
+    return wrong or disagreement and disagreement(document, ["live"], JUDGED, came.status, came.printed, came.told)
 
 
 # ---- The runs

@@ -3,7 +3,8 @@
 import functools
 import sys
 
-STAGE = "r18"  # what it is told that the program accepts
+STAGE = "r16"  # what it makes documents of, and the jobs that it is told of: later ones do not stand
+JUDGED = "r18"  # what it is told that a document may have: every kind of controller
 
 
 @functools.cache

@@ -130,7 +130,7 @@ def rows_of_scripts():
     yield Row("moves", CALLS, calls.moves)
     yield Row("loads", len(TYPES) * BLANKS, calls.serial)
     for kind in TYPES:
-        most = limit("cm_document::MOST_REFERENCES") // 2 if kind == "differential" else CONTROLLERS
+        most = of_first("references") // 2 if kind == "differential" else CONTROLLERS
         yield Row(f"blanks of {kind}", most, of(calls.blanks, kind))
     names = limit("cm_document::MOST_NAMES")
     yield Row("dropped names", names, calls.unknown_names, TOO_MANY)
