@@ -8,7 +8,6 @@ ghost use Rattle.cm_document.specs.ScriptLaws.{MeetsRules};
 ghost use Rattle.cm_model.specs.Blanks.{blanks_of_each};
 ghost use Rattle.ctl_rack.specs.Stocks.{AreBlanks};
 ghost use Rattle.cm_program.specs.declared.stock.TheConstants.{BLANKS};
-ghost use Rattle.cm_top.specs.Book.{RunsAlone};
 
 use crate::unkept::Unkept;
 use cm_document::{CtlKind, Description, Document, DocumentFault, LONGEST_DOCUMENT, Script};
@@ -50,12 +49,10 @@ fn main(rt: HostRuntime) -> ExitCode {
 /// What is drawn.
 #[derive(Drop)]
 struct Asked {
-    /// The job whose run it is.
-    kind: JobKind,
+    /// Whether the run is that of `steps`, and not of `run`.
+    in_steps: bool,
     /// What is written of the run.
     form: Form,
-    // No live run is drawn.
-    ghost runs: { RunsAlone kind },
 }
 
 /// What is written of a run.
@@ -146,25 +143,21 @@ fn asked_of<E: Env + AllocGlobal>(rt: &E) -> Result<Asked, Status> {
 /// What these words ask for.
 fn asked_by(alloc: Global, words: &[String]) -> Result<Asked, Status> {
     match words.split_first() {
-        Some((word, others)) if word.as_str() == "run" => asked_named(alloc, JobKind::Run, others),
-        Some((word, others)) if word.as_str() == "steps" => {
-            asked_named(alloc, JobKind::Steps, others)
-        }
-        _ => asked_named(alloc, JobKind::Run, words),
+        Some((word, others)) if word.as_str() == "run" => asked_named(alloc, false, others),
+        Some((word, others)) if word.as_str() == "steps" => asked_named(alloc, true, others),
+        _ => asked_named(alloc, false, words),
     }
 }
 
-/// What a job and these words behind it ask for.
-fn asked_named(alloc: Global, kind: JobKind, words: &[String]) -> Result<Asked, Status>
-    requires runs { RunsAlone kind }
-{
+/// What the words behind the job ask for.
+fn asked_named(alloc: Global, in_steps: bool, words: &[String]) -> Result<Asked, Status> {
     let form = match words {
         [] => Form::Page(String::new(alloc)),
         [key] if key.as_str() == "--why" => Form::Whys,
         [key, name] if key.as_str() == "--name" => named_page(alloc, name.as_str())?,
         _ => return Err(Status::BadWords),
     };
-    Ok(Asked { kind, form })
+    Ok(Asked { in_steps, form })
 }
 
 /// A page with this name in its title.
@@ -237,10 +230,12 @@ fn draw_document<K: Sink, C: Controller>(
     let Ok(described) = own_parts(&document) else {
         return Status::Memory;
     };
-    let job = Job {
-        kind: asked.kind,
-        make: None,
+    let kind = if asked.in_steps {
+        JobKind::Steps
+    } else {
+        JobKind::Run
     };
+    let job = Job { kind, make: None };
     match run_document(alloc, job, document, &mut Unkept, stock) {
         (Status::Ok, Some(book)) => {
             write_page(alloc, asked, sink, &described, book.history.as_slice())
