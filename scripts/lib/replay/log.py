@@ -67,7 +67,7 @@ class Told:
             ticket, outcome = one.split(" ", 1)
             if ticket == FALLBACK:
                 self.rows.append(Row("", self.now(), "", FALLBACK, outcome))
-                self.whys += [f"cycle {self.ended}: {FALLBACK} {name} for " for name in left_out_of(outcome)]
+                self.whys += [f"cycle {self.ended}: {FALLBACK} {one.split(' ')[0]} for " for one in left_out_of(outcome)]
             else:
                 self.rows.append(Row(ticket, self.now(), *self.asked[ticket], outcome))
                 self.decided(*self.asked[ticket], outcome)
@@ -76,9 +76,9 @@ class Told:
         if outcome == "loop_ended":
             self.whys.append(f"at the close, {who}: {call}: not decided, ")
         elif outcome.startswith("refused "):
-            self.whys.append(f"cycle {self.ended}, {who}: {call}: refused, {outcome.split(' ')[1]} ")
-        for name in left_out_of(outcome):
-            self.whys.append(f"cycle {self.ended}, {who}: {call}: left out, {name} ")
+            self.whys.append(f"cycle {self.ended}, {who}: {call}: refused, {told_as(outcome.removeprefix('refused '))} ")
+        for one in left_out_of(outcome):
+            self.whys.append(f"cycle {self.ended}, {who}: {call}: left out, {told_as(one)} ")
 
     def counts(self):
         decided = [it for it in self.rows if it.ticket]
@@ -93,8 +93,14 @@ class Told:
 
 
 def left_out_of(outcome):
-    """The names that were left out of what was done."""
-    return [one.split(" ")[0] for one in outcome.split(" dropped ")[1].split(", ")] if " dropped " in outcome else []
+    """The names that were left out of what was done, each with its cause."""
+    return outcome.split(" dropped ")[1].split(", ") if " dropped " in outcome else []
+
+
+def told_as(one):
+    """How a name and its cause are told in words: with whom the words begin."""
+    name, cause = one.split(" ")[:2]
+    return f"no group {name}" if cause == "no_group" else name
 
 
 def log_of(page):
