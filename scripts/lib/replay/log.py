@@ -98,7 +98,7 @@ def left_out_of(outcome):
 
 
 def told_as(one):
-    """How a name and its cause are told in words: with whom the words begin."""
+    """How the words begin that tell of a name and its cause."""
     name, cause = one.split(" ")[:2]
     return f"no group {name}" if cause == "no_group" else name
 

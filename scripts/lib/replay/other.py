@@ -3,7 +3,7 @@
 import functools
 import sys
 
-STAGE = "r16"  # what it makes documents of, and the jobs that it is told of: later ones do not stand
+STAGE = "r16"  # of the documents that it makes, and of the jobs that it is told of: the program has no later job
 JUDGED = "r18"  # what it is told that a document may have: every kind of controller
 
 
