@@ -1,6 +1,6 @@
 //! What became of requests and calls, and why, in plain words.
 
-use cm_document::CtlDesc;
+use cm_document::{Call, CtlDesc, GroupDesc};
 use cm_model::{Dropped, Outcome, Why};
 use draw_causes::{push_cause, why_words};
 use draw_replay::{Answered, Became};
@@ -38,9 +38,24 @@ pub fn push_when(text: &mut String, answered: &Answered<'_>) -> Result<(), Memor
 /// Appends what was asked.
 pub fn push_asked(text: &mut String, answered: &Answered<'_>) -> Result<(), Memory> {
     match (answered.asked, answered.ticket) {
-        (Some(asked), _) => write!(text, "{}", asked.call)?,
+        (Some(asked), _) => push_call(text, asked.call, answered.groups.as_slice())?,
         (None, Some(ticket)) => write!(text, "request {ticket}")?,
         (None, None) => push_fallbacks(text, answered.failed.as_slice())?,
+    }
+    Ok(())
+}
+
+/// Appends a call, and behind it the members of each group that it names.
+fn push_call(text: &mut String, call: &Call, groups: &[&GroupDesc]) -> Result<(), Memory> {
+    write!(text, "{call}")?;
+    let mut before = " (";
+    for group in groups {
+        write!(text, "{before}{}: ", group.name)?;
+        push_names(text, group.members.as_slice())?;
+        before = "; ";
+    }
+    if !groups.is_empty() {
+        text.push_str(")")?;
     }
     Ok(())
 }

@@ -12,9 +12,11 @@ pub use rows::{ColumnState, Event, Row, RowCell};
 
 mod columns;
 mod course;
+mod groups;
 mod incidents;
 mod limiters;
 mod links;
+mod outcomes;
 mod present;
 mod replay;
 mod rows;

@@ -3,15 +3,16 @@
 
 use crate::columns::Columns;
 use crate::course::{JointCourse, blank_courses, forget};
+use crate::groups::{groups_of, members_of};
 use crate::incidents::{Incident, push_incidents};
 use crate::limiters::{LimiterCourse, blank_limiters, stop_limiter};
 use crate::links::{Linked, component_place, controller_place};
+use crate::outcomes::{event_of, is_left_out, stays};
 use crate::present::{Asked, Present};
 use crate::rows::{ColumnState, Event, Row, blank_rows, mark_row};
-use cm_document::{Call, CtlDesc, Description, Pick, Script, SwitchRequest, group_of};
-use cm_model::{Cause, Decision, Dropped, Entry, Outcome, Reply, Why};
+use cm_document::{Call, CtlDesc, Description, GroupDesc, Pick, Script, SwitchRequest};
+use cm_model::{Decision, Dropped, Entry, Outcome, Reply, Why};
 use cm_storage::{CycleRecord, Done, FailedPart, RanRef};
-use draw_causes::is_own;
 use fixed_num::Memory;
 use iface_names::Name;
 use std::alloc::Global;
@@ -34,6 +35,8 @@ pub struct Answered<'a> {
     pub ticket: Option<u32>,
     /// The name of the session that asked, and what it asked, where that is known.
     pub asked: Option<Asked<'a>>,
+    /// The described groups that it named, each once.
+    pub groups: Vec<&'a GroupDesc>,
     /// The controllers whose fallbacks were asked for because their updates failed, in the order of these; of a request, none.
     pub failed: Vec<&'a CtlDesc>,
     /// What became of it.
@@ -161,6 +164,7 @@ impl<'a> Replay<'a> {
             cycle,
             ticket: None,
             asked: Some(asked),
+            groups: groups_of(self.alloc, self.present.description, Some(asked))?,
             failed: Vec::new(self.alloc),
             became: Became::Not(why),
         })?;
@@ -214,6 +218,7 @@ impl<'a> Replay<'a> {
             cycle: self.present.ended,
             ticket: Some(ticket),
             asked,
+            groups: groups_of(self.alloc, self.present.description, asked)?,
             failed: Vec::new(self.alloc),
             became: Became::Decided(outcome),
         })?;
@@ -237,6 +242,7 @@ impl<'a> Replay<'a> {
             cycle: self.present.ended,
             ticket: None,
             asked: None,
+            groups: Vec::new(self.alloc),
             failed,
             became: Became::Decided(outcome),
         })?;
@@ -459,14 +465,6 @@ fn show_components(rows: &mut Vec<Row>, present: &Present<'_>, column: usize) {
     }
 }
 
-/// The members of a group; none where no such group is described.
-fn members_of<'a>(description: &'a Description, name: &Name) -> &'a [Name] {
-    match group_of(description, name) {
-        Some(group) => group.members.as_slice(),
-        None => &[],
-    }
-}
-
 /// The controller that a call names which is no request.
 fn controller_of(call: &Call) -> Option<&Name> {
     match call {
@@ -475,48 +473,5 @@ fn controller_of(call: &Call) -> Option<&Name> {
         }
         Call::Rate { name, .. } | Call::Send { name, .. } => Some(name),
         _ => None,
-    }
-}
-
-/// What a request comes to, as it is marked.
-fn event_of(outcome: &Outcome) -> Event {
-    match outcome {
-        Outcome::Done { dropped } => done_without(dropped.as_slice()),
-        Outcome::Refused(..) => Event::Refused,
-        Outcome::LoopEnded => Event::Ended,
-    }
-}
-
-/// A request is carried out without these.
-fn done_without(dropped: &[Dropped]) -> Event {
-    if dropped.is_empty() {
-        Event::Done
-    } else {
-        Event::Partly
-    }
-}
-
-/// Whether a controller that was to leave stays: another one that stays claims a reference of its own.
-fn stays(name: &Name, dropped: &[Dropped]) -> bool {
-    dropped
-        .iter()
-        .any(|it| it.name == *name && is_own(&it.cause, name))
-}
-
-/// Whether a controller that was to come is left out.
-fn is_left_out(name: &Name, dropped: &[Dropped]) -> bool {
-    dropped
-        .iter()
-        .any(|it| it.name == *name && speaks_against(&it.cause, name))
-}
-
-/// Whether this keeps a controller that is ready for it from becoming active.
-fn speaks_against(cause: &Cause, name: &Name) -> bool {
-    match cause {
-        Cause::MissingFollower(_) => !is_own(cause, name),
-        Cause::Unavailable(_) | Cause::Conflict(..) | Cause::ModeRefused(_) | Cause::NotReady => {
-            true
-        }
-        _ => false,
     }
 }

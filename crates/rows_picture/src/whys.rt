@@ -33,6 +33,11 @@ fn each_fallback_that_is_left_out_is_told(rt: HostRuntime) -> Result<(), Fail> {
 }
 
 #[test]
+fn each_group_is_told_with_its_members(rt: HostRuntime) -> Result<(), Fail> {
+    hold(rt.alloc(), &OF_PROGRAM, "", OF_GROUPS)
+}
+
+#[test]
 fn a_run_in_which_all_was_done_says_so(rt: HostRuntime) -> Result<(), Fail> {
     hold(rt.alloc(), &OF_PROGRAM, HEAD, QUIET)
 }
@@ -325,6 +330,38 @@ cycle 2: fallback idle for mk and mk2: left out, idle is named twice in one list
     mend: nothing, idle is asked for once
 cycle 2: fallback other for mk: left out, other claims j1/position, which fwd claims, too
     mend: have only one of other and fwd active at a time";
+
+/// Behind a request stand the groups that it names and that are described, each once.
+const OF_GROUPS: &str = r#"version = 2
+update_rate = 100
+cycles = 4
+[[controller]]
+name = "mk"
+type = "mock"
+[[controller]]
+name = "mk2"
+type = "mock"
+[[group]]
+name = "both"
+members = ["mk", "mk2"]
+[[group]]
+name = "second"
+members = ["mk2"]
+--- script ---
+session a
+load mk
+load mk2
+configure mk
+configure mk2
+switch best +@both +mk
+switch strict -@both +@second +@both
+switch strict -@both +@both +@ghost
+=> cycle 0, a: switch best +@both +mk (both: mk mk2): left out, mk is named twice in one list
+    mend: name mk once in each list
+cycle 1, a: switch strict -@both +@second +@both (both: mk mk2; second: mk2): refused, mk2 is named twice in one list
+    mend: name mk2 once in each list
+cycle 2, a: switch strict -@both +@both +@ghost (both: mk mk2): refused, no group ghost is described
+    mend: describe the group ghost, or name a controller without an @"#;
 
 /// A run in which all is done.
 const QUIET: &str = r#"cycles = 1

@@ -3,8 +3,8 @@
 - each text, line and mark lies on the page and within its section, and no text lies on another or on a mark;
 - each interface that is named is one that `list interfaces` prints, and each reference that this prints is named;
 - the counts of the heading are those of the trace that `cm` prints;
-- the log has each request and each refused call of the trace, in that order, with ticket, cycle, session, call and what became of it, or
-  says how many it leaves out;
+- the log has each request and each refused call of the trace, in that order, with ticket, cycle, session, call, the members of the groups
+  that it names, and what became of it, or says how many it leaves out;
 - `--why` tells each refusal, each name that was left out, each failure and each stop of the trace, in that order.
 Prints a line for each fault, and last `N passed, M failed`. The exit status is 1 if a page is wrong.
 """
@@ -12,6 +12,7 @@ Prints a line for each fault, and last `N passed, M failed`. The exit status is 
 import concurrent.futures
 import re
 import sys
+import tomllib
 from pathlib import Path
 
 from ..tree import TOP
@@ -93,9 +94,14 @@ class Looker:
         _, trace = ran(self.cm, words, document)
         page = Page(svg)
         cycles = int(re.search(r"run of (\d+) cycle", page.texts[0].words)[1])
-        told = Told(trace, cycles)
+        told = Told(trace, cycles, self.groups(document) if "@" in trace else {})
         _, text = ran(self.draw, [*words, "--why"], document)
         return name, [*places(page), *names(page, self.interfaces(document)), *log(page, told), *whys(text, told)]
+
+    def groups(self, document):
+        """The members of each described group, by its name."""
+        _, printed = ran(self.cm, ["upgrade"], document)
+        return {group["name"]: group["members"] for group in tomllib.loads(printed).get("group", [])}
 
     def interfaces(self, document):
         """The interfaces that `list interfaces` prints of a document's description."""

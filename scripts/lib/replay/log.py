@@ -22,16 +22,24 @@ class Row:
 
 
 class Told:
-    """What a trace tells: rows of the log, how often things happened, and how each line begins that tells what went wrong."""
+    """What a trace tells: rows of the log, how often things happened, and how each line begins that tells what went wrong. Of each group
+    its members are given, by its name."""
 
-    def __init__(self, trace, cycles):
+    def __init__(self, trace, cycles, groups):
         self.rows, self.asked, self.cycles, self.ended = [], {}, cycles, 0
+        self.groups = groups
         self.failed = self.stopped = 0
         self.whys = []
         for line in trace.splitlines():
             who, rest = line.split(" ", 1)
             call, reply = rest.split(": ", 1)
-            self.read(who, call, reply)
+            self.read(who, self.with_members(call), reply)
+
+    def with_members(self, call):
+        """A call, and behind it the members of each described group that it names."""
+        named = dict.fromkeys(word[2:] for word in call.split(" ") if word[1:2] == "@") if call.startswith("switch ") else ()
+        members = [f"{name}: {' '.join(self.groups[name])}" for name in named if name in self.groups]
+        return f"{call} ({'; '.join(members)})" if members else call
 
     def read(self, who, call, reply):
         word = call.split(" ")[0]
