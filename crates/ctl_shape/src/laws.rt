@@ -5,13 +5,13 @@ ghost use Rattle.fixed_num.specs.declared.value.Value.{Value};
 ghost use Rattle.cm_model.specs.Transmissions.{Gear, Pair, IsMotion, IsPair};
 ghost use Rattle.ctl_shape.specs.RoundTrips.{NothingClamps, NothingClampsInBoth, IsFromTo};
 ghost use Rattle.ctl_shape.specs.RoundTrips.{LosesLittle, grain, lost, both_lost};
-ghost use Rattle.cm_model.specs.Controllers.{started, updated};
+ghost use Rattle.cm_model.specs.Controllers.{first_state, started, updated};
 ghost use Rattle.cm_model.specs.Limiters.{Bounds, Reach, reach_of, brought, new_step};
 ghost use Rattle.cm_model.specs.declared.data.RunData.TheVariants as run;
 ghost use Rattle.cm_model.specs.declared.tick.Tick.{Tick};
 ghost use Rattle.ctl_shape.specs.Controllers.{AreBounds, bounds_params};
 ghost use Rattle.ctl_shape.specs.Limiters.{IsFeasible, IsNewStep, IsSafe, IsRun, IsRunFrom, AllKeepLimits};
-ghost use Rattle.ctl_shape.specs.Updates.{RunsSafely, UpdateKeepsLimits};
+ghost use Rattle.ctl_shape.specs.Updates.{RunsSafely, UpdateKeepsLimits, Input, RunKeepsLimits, all_given};
 
 /// A round trip through a simple transmission takes nothing from a position or a velocity, or at most as many
 /// micro-units of the joint as one of the actuator is, rounded up. This holds for every reduction above 0, if no
@@ -64,7 +64,7 @@ pub fn every_output_keeps_the_limits()
 
 /// Whatever a limiter is activated with, it stands between its ends then, without a step, and is safe. Whatever it is
 /// updated with, its output keeps the limits, and it goes on safely from there. So every run of updates with one time
-/// between them keeps the limits.
+/// between them keeps the limits, whatever it is sent in between.
 pub fn every_update_keeps_the_limits()
     ensures begins { (bounds : Bounds) (dt_us : ℕ) (states : List ℤ) (chained : Bool) → AreBounds bounds
         → RunsSafely (reach_of bounds dt_us) (started (bounds_params bounds) states chained) }
@@ -72,4 +72,8 @@ pub fn every_update_keeps_the_limits()
         (reference : Value) → IsSafe (reach_of bounds tick.dt_us) at step
         → UpdateKeepsLimits (reach_of bounds tick.dt_us) at step
         (updated (bounds_params bounds) (run.Limiter chained set at step) tick states (reference ∷ [])) }
+    ensures runs { (bounds : Bounds) (dt_us : ℕ) (states : List ℤ) (chained : Bool) (inputs : List Input)
+        → AreBounds bounds
+        → RunKeepsLimits (reach_of bounds dt_us) (brought (reach_of bounds dt_us) (first_state states)) (pos 0)
+        (all_given bounds dt_us (started (bounds_params bounds) states chained) inputs) }
 {}
