@@ -1,4 +1,5 @@
 mod Crossing
+pub mod LimitLemmas
 pub mod LineLemmas
 mod TextLemmas
 pub mod WordLemmas

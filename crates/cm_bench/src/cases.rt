@@ -1,10 +1,13 @@
 //! The numbers that the bodies get. They come from a seed given at run time, so the compiler knows none of them.
 
-ghost use Rattle.std.specs.Prelude.{pos, ◌<ℤ◌, ◌≤◌};
+ghost use Rattle.std.specs.Prelude.{◌≡◌, ◌*◌, pos, nat_abs, ◌<ℤ◌, ◌≤◌, ◌≤ℤ◌};
+ghost use Rattle.fixed_num.specs.declared.TheConstants.{LARGEST};
 ghost use Rattle.joint_body.specs.declared.TheConstants.{LONGEST_STEP};
-ghost use Rattle.cm_bench.specs.declared.cases.TheConstants.{FAR};
+ghost use Rattle.cm_bench.specs.Shapes.{timed};
+ghost use Rattle.cm_bench.specs.declared.cases.TheConstants.{FAR, LOWEST, HIGHEST};
 
-use fixed_num::{Fx, JointMode, Memory};
+use ctl_shape::Limiter;
+use fixed_num::{Fx, JointMode, LARGEST, Memory, Value};
 use joint_body::LONGEST_STEP;
 use std::alloc::Global;
 
@@ -58,12 +61,83 @@ pub fn pushes(alloc: Global, seed: u64) -> Result<Vec<Push>, Memory> {
 
 /// So many numbers of a seed, of up to ten units either way.
 pub fn few_units(alloc: Global, seed: u64, count: usize) -> Result<Vec<Fx>, Memory> {
+    numbers(alloc, seed, count, NEAR)
+}
+
+/// So many numbers of a seed, of at most so many micro-units either way.
+fn numbers(alloc: Global, seed: u64, count: usize, far: u64) -> Result<Vec<Fx>, Memory>
+    requires { far ≤ FAR }
+{
     let mut source = SplitMix::make(seed);
     let mut numbers = Vec::new(alloc);
     for _ in 0..count {
-        numbers.push(source.within(NEAR))?;
+        numbers.push(source.within(far))?;
     }
     Ok(numbers)
+}
+
+/// The positions of a round's joints.
+pub fn positions(alloc: Global, seed: u64) -> Result<Vec<Fx>, Memory> {
+    few_units(alloc, seed, COUNT)
+}
+
+/// The ends of the limiter that is timed, in micro-units.
+pub(crate) const LOWEST: i64 = -5000;
+
+pub(crate) const HIGHEST: i64 = 5000;
+
+/// So far from 0 wanted positions are: beyond both ends, so that it comes to them.
+const WANTED: u64 = 6000;
+
+/// A position is wanted for so many updates: long enough to go from end to end, and to stand there.
+const UPDATES: usize = 100;
+
+/// One update of a limiter: where it stands, the step that led there, and what is wanted.
+#[derive(Clone, Copy)]
+pub struct Stand {
+    pub at: Fx,
+    pub last: i64,
+    pub wanted: Fx,
+    ghost above: { LOWEST ≤ℤ at },
+    ghost below: { at ≤ℤ HIGHEST },
+    ghost short: { nat_abs last ≤ 2 * LARGEST },
+}
+
+impl Stand {
+    /// The next update of this limiter, towards another position.
+    fn next(&self, limiter: &Limiter, wanted: Fx) -> Stand
+        requires { limiter.now ≡ timed }
+    {
+        let at = limiter.advance(self.at, self.last, Value::Num(self.wanted));
+        Stand {
+            at,
+            last: Fx::difference(at, self.at),
+            wanted,
+        }
+    }
+}
+
+/// The updates of a round, one after the other, of a limiter that goes for positions of a seed.
+pub fn stands(alloc: Global, seed: u64, limiter: &Limiter) -> Result<Vec<Stand>, Memory>
+    requires { limiter.now ≡ timed }
+{
+    let wanted = numbers(alloc, seed, COUNT / UPDATES, WANTED)?;
+    let mut stands = Vec::with_capacity(alloc, COUNT)?;
+    let mut stand = Stand {
+        at: Fx::ZERO,
+        last: 0,
+        wanted: Fx::ZERO,
+    };
+    for number in 0..COUNT {
+        stands.push(stand)?;
+        stand = stand.next(limiter, wanted_in(wanted.as_slice(), number));
+    }
+    Ok(stands)
+}
+
+/// What is wanted in the update of this number.
+fn wanted_in(wanted: &[Fx], number: usize) -> Fx {
+    wanted.get(number / UPDATES).copied().unwrap_or(Fx::ZERO)
 }
 
 /// Gives numbers without visible order: the generator known as SplitMix64.

@@ -4,6 +4,8 @@
 use bodies::{FastMul, FastOver, FastText, PlainMul, PlainOver, PlainText};
 use cases::Case;
 use crowds::compare_callers;
+use gears::{FastGear, PlainGear};
+use limits::{FastLimiter, PlainLimiter, limiter};
 use lines::{FastLine, PlainLine};
 use lives::tell_live;
 use plan::TurnsAsked;
@@ -23,6 +25,8 @@ mod callers;
 mod cases;
 mod crowds;
 mod desks;
+mod gears;
+mod limits;
 mod lines;
 mod lives;
 mod plain;
@@ -61,14 +65,15 @@ where
     Ok(motions && callers && requests)
 }
 
-/// Prints the lines of what a cycle does: numbers and steps.
+/// Prints the lines of what a cycle does: numbers, steps and shapes of a command.
 fn compare_motions<R>(rt: &R, plan: TurnsAsked) -> anyhow::Result<bool>
 where
     R: Clock + Print + AllocGlobal,
 {
     let numbers = compare_numbers(rt, plan)?;
     let steps = compare_steps(rt, plan)?;
-    Ok(numbers && steps)
+    let shapes = compare_shapes(rt, plan)?;
+    Ok(numbers && steps && shapes)
 }
 
 /// Prints the lines of what is done with a description and a history: orders and traces.
@@ -125,6 +130,45 @@ where
     };
     course.tell(rt, STEP, &mut PlainStep::make(), &mut FastStep::make())
 }
+
+/// Prints the lines of a transmission and of a limiter.
+fn compare_shapes<R>(rt: &R, plan: TurnsAsked) -> anyhow::Result<bool>
+where
+    R: Clock + Print + AllocGlobal,
+{
+    let gears = compare_gears(rt, plan)?;
+    let limits = compare_limits(rt, plan)?;
+    Ok(gears && limits)
+}
+
+/// Prints the line of what an actuator is told.
+fn compare_gears<R>(rt: &R, plan: TurnsAsked) -> anyhow::Result<bool>
+where
+    R: Clock + Print + AllocGlobal,
+{
+    let positions = cases::positions(rt.alloc(), plan.seed)?;
+    let course = Trial {
+        cases: positions.as_slice(),
+        turns: plan.turns,
+    };
+    course.tell(rt, GEAR, &mut PlainGear::make(), &mut FastGear::make())
+}
+
+/// Prints the line of a limiter's update.
+fn compare_limits<R>(rt: &R, plan: TurnsAsked) -> anyhow::Result<bool>
+where
+    R: Clock + Print + AllocGlobal,
+{
+    let stands = cases::stands(rt.alloc(), plan.seed, &limiter())?;
+    let course = Trial {
+        cases: stands.as_slice(),
+        turns: plan.turns / LIMIT_SHARE + 1,
+    };
+    course.tell(rt, LIMIT, &mut PlainLimiter, &mut FastLimiter::make())
+}
+
+/// A step is looked for in some microseconds, so it gets one turn for so many of the others.
+const LIMIT_SHARE: u64 = 100;
 
 /// Prints the line of an order by rank.
 fn compare_orders<R>(rt: &R, plan: TurnsAsked) -> anyhow::Result<bool>
@@ -186,6 +230,16 @@ const TEXT: Title = Title {
 
 const STEP: Title = Title {
     name: "step",
+    what: "answers",
+};
+
+const GEAR: Title = Title {
+    name: "transmission",
+    what: "answers",
+};
+
+const LIMIT: Title = Title {
+    name: "limiter",
     what: "answers",
 };
 
