@@ -25,14 +25,14 @@ def joints(size):
     return case(head() + arm(size), ["session a", "list interfaces", "list components"])
 
 
-def states(size):
-    parts = [joint(f"j{k}", (), KINDS[: max(0, min(3, size - 3 * k))]) for k in range(JOINTS)]
+def states(size, joints=JOINTS):
+    parts = [joint(f"j{k}", (), KINDS[: max(0, min(3, size - 3 * k))]) for k in range(joints)]
     reader = controller("b", "broadcaster", more='reads = "all"\n')
     return case(head() + component("arm", parts) + reader, [*activated(["b"]), "list interfaces"])
 
 
-def commands(size):
-    parts = [joint(f"j{k}", KINDS[: max(0, min(3, size - 3 * k))], ()) for k in range(JOINTS)]
+def commands(size, joints=JOINTS):
+    parts = [joint(f"j{k}", KINDS[: max(0, min(3, size - 3 * k))], ()) for k in range(joints)]
     return case(head() + component("arm", parts), ["session a", "list interfaces"])
 
 
@@ -136,8 +136,11 @@ def of_second(described):
     return described.replace("version = 1", "version = 2", 1)
 
 
-def second_joints(size):
-    return case(of_second(head()) + arm(size), ["session a", "list interfaces", "list components"])
+def in_second(make, size, **more):
+    """What is made of this size, as a document of the second version."""
+    made = make(size, **more)
+    made.text = of_second(made.text)
+    return made
 
 
 def group(name, members):

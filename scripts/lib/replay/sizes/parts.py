@@ -26,12 +26,16 @@ def limit(path):
 
 
 @functools.cache
-def of_first(what):
-    """How much of this a description of the first version may have, by the record of its limits; `MOST_` of it is the most in any."""
+def of_version(version, what):
+    """How much of this a description of this version may have, by the record of its limits; `MOST_` of it is the most in any."""
     cited.add(f"cm_document::MOST_{what.upper()}")
     limits = (TOP / "crates/cm_document/src/limits.rt").read_text()
-    (said,) = re.findall(rf"(?ms)^pub const LIMITS_1: VersionLimits = VersionLimits {{.*?^    {what}: (\w+),$", limits)
+    (said,) = re.findall(rf"(?ms)^pub const LIMITS_{version}: VersionLimits = VersionLimits {{.*?^    {what}: (\w+),$", limits)
     return int(said) if said.isdecimal() else limit(f"cm_document::{said}")
+
+
+def of_first(what):
+    return of_version(1, what)
 
 
 def without_row():

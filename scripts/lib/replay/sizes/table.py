@@ -8,7 +8,7 @@ from typing import Callable, Optional
 from . import calls, descriptions
 from .parts import (
     BLANKS, CALLS, CLAIMS_OF_ONE, COMMANDS, CONTROLLERS, CYCLES, DECIMALS, DIGITS, JOINTS, LINE, LONGEST, NAME, RATE, ROUNDS,
-    SESSIONS, STATES, TOP, TYPES, UNITS, Case, limit, of_first)
+    SESSIONS, STATES, TOP, TYPES, UNITS, Case, limit, of_first, of_version)
 
 EACH = 130  # up to this limit each size is tried
 WHOLE = 2**32 - 1  # the largest whole of a description
@@ -93,8 +93,7 @@ def rows_of_descriptions():
     yield Row("cycle of failures", CYCLES - 1, descriptions.cycle_of_failures)
     first, second = limit("cm_document::FIRST_VERSION"), limit("cm_document::SECOND_VERSION")
     yield Row("version", second, descriptions.version, bad_range("version"), first, bad_range("version"))
-    most_joints = limit("cm_document::MOST_JOINTS")
-    yield Row("joints of the second version", most_joints, descriptions.second_joints, too_many("joints"), 1, bad_range("component[0].joint"))
+    yield from rows_of_second()
     yield Row("groups", limit("cm_document::MOST_GROUPS"), descriptions.groups, too_many("groups"))
     out_of_group = bad_range("group[0].members")
     yield Row("members", limit("cm_document::MOST_MEMBERS"), descriptions.members, out_of_group, 1, out_of_group)
@@ -112,6 +111,18 @@ def rows_of_descriptions():
     yield Row("an unlisted key", LINE, descriptions.key, least=1)
     yield Row("nested arrays", NESTING, descriptions.nested_arrays, "description: not_toml", 1)
     yield Row("bytes of a document", LONGEST, descriptions.document_bytes, f"document longer than {LONGEST} bytes")
+
+
+def rows_of_second():
+    """What a description of the second version may have more of."""
+    most = functools.partial(of_version, 2)
+    second = functools.partial(of, descriptions.in_second)
+    out_of_range = bad_range("component[0].joint")
+    yield Row("joints of the second version", most("joints"), second(descriptions.joints), too_many("joints"), 1, out_of_range)
+    for what, make in (("states", descriptions.states), ("commands", descriptions.commands)):
+        yield Row(f"{what} of the second version", most(what), functools.partial(second(make), joints=most("joints")))
+    for what, make in (("references", descriptions.references), ("claims", descriptions.claims), ("reads", descriptions.reads)):
+        yield Row(f"{what} of the second version", most(what), second(make), too_many(what))
 
 
 def rows_of_scripts():
