@@ -2,19 +2,34 @@
 
 Each NAME.cm of examples/ is upgraded, and its script put behind what is printed. The new document is run with the example's words, as
 `scripts/replay examples` does, and must print the same. One that is refused must be refused so by `upgrade`, too. A live run prints
-another trace each time, so those examples are run by `run`. The description must end with a line feed, hold no separator, and be
-printed again as it is.
-Prints a line an example, and last `N passed, M failed`. The exit status is 1 if one failed.
+another trace each time, so those documents are run by `run`. The description must end with a line feed, hold no separator, and be
+printed again as it is. So are the documents at all limits of `scripts/replay limits` upgraded, and random documents, if another
+implementation is named that makes them.
+Prints a line a document, but of random ones for those alone that fail, and last `N passed, M failed`. The exit status is 1 if one failed.
 """
+
+import functools
+import os
+import sys
+from concurrent.futures import ProcessPoolExecutor
+from pathlib import Path
 
 from ..tool import Tally
 from . import programs
 from .examples import EXAMPLES, LIVE, words_of
+from .limits import FEW, VERSIONS, Limits
+from .other import JUDGED, judge
 
 SEPARATOR = b"--- script ---"
+RUNS = (["run"], ["steps"], [LIVE])
+LIMIT = 60  # seconds
+AT_ONCE = 400  # random documents, before it is looked whether there are enough
 
 
 def options(parser):
+    parser.add_argument("--other", type=Path, metavar="FOLDER", help="of another implementation that makes random documents")
+    parser.add_argument("--count", type=int, default=2000, help="so many random documents that run, 2,000 if it is not said")
+    parser.add_argument("--jobs", type=int, default=os.cpu_count(), help="how many random documents are run side by side")
     programs.options(parser)
 
 
@@ -25,25 +40,60 @@ def split(document):
     return b"\n".join(lines[:at]), b"\n".join(lines[at:])
 
 
-def reason(document, program, words):
-    """Returns what is wrong with the upgrade of a document, or None."""
-    status, printed, told = programs.ran([program, "upgrade"], document)
-    wanted = programs.ran([program, *words], document)
+def answer(program, words, document):
+    came = programs.came([program, *words], document, LIMIT)
+    return came.status, came.printed, came.told
+
+
+def tried(document, program, words):
+    """Upgrades a document. Returns whether it runs, and what is wrong with its upgrade, or None."""
+    words = ["run"] if words == [LIVE] else words
+    status, printed, told = answer(program, ["upgrade"], document)
+    wanted = answer(program, words, document)
     if status != 0:
-        return None if (status, printed, told) == wanted and status in (3, 4) else f"status and line are: {status} {told!r}"
+        is_refused = (status, printed, told) == wanted and status in (3, 4)
+        return False, None if is_refused else f"status and line are: {status} {told!r}"
     if not printed.endswith(b"\n") or SEPARATOR in printed.split(b"\n"):
-        return "the description ends without a line feed, or has a separator"
+        return True, "the description ends without a line feed, or has a separator"
     again = printed + split(document)[1]
-    if programs.ran([program, "upgrade"], again)[1] != printed:
-        return "it is printed in another way when it is upgraded again"
-    return None if programs.ran([program, *words], again) == wanted else "the upgraded document does not print the same"
+    if answer(program, ["upgrade"], again)[1] != printed:
+        return True, "it is printed in another way when it is upgraded again"
+    return True, None if answer(program, words, again) == wanted else "the upgraded document does not print the same"
+
+
+def tried_at_random(program, folder, seed):
+    """The same of the random document of a seed; of one that no job runs, None."""
+    sys.path.insert(0, str(folder))
+    from cm_oracle.gen import case
+    made = case(JUDGED, seed)
+    return tried(made.document, program, made.words) if made.words in RUNS else None
+
+
+def random_documents(asked, program, tally):
+    """Upgrades as many random documents as run, and says how many of those between them are refused."""
+    one, seed, ran, refused = functools.partial(tried_at_random, program, asked.other), 1, 0, 0
+    with ProcessPoolExecutor(asked.jobs) as pool:
+        while ran < asked.count:
+            seeds = range(seed, seed + AT_ONCE)
+            for number, came in zip(seeds, pool.map(one, seeds, chunksize=8)):
+                if came and came[1]:
+                    tally.tell(f"random document {number}", came[1])
+                ran, refused = ran + bool(came and came[0]), refused + bool(came and not came[0])
+            seed += AT_ONCE
+    tally.tell(f"{ran:,} random documents that run, and {refused:,} that are refused")
 
 
 def main(asked):
     program, tally = programs.program(asked), Tally()
     for document in sorted(EXAMPLES.glob("*.cm")):
         words = words_of(document)
-        text = document.read_bytes()
         if "--make" not in words:
-            tally.tell(document.name, reason(text, program, ["run"] if words[0] == LIVE else words))
+            tally.tell(document.name, tried(document.read_bytes(), program, words)[1])
+    for version in VERSIONS:
+        runs, why = tried(Limits(version).document("run", FEW)[0], program, ["run"])
+        tally.tell(f"the document at all limits of version {version}", why or (None if runs else "it is refused"))
+    if judge(asked.other):
+        random_documents(asked, program, tally)
+    else:
+        print("no other implementation is named that makes random documents: none are upgraded")
     return tally.end()
