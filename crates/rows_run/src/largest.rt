@@ -36,6 +36,11 @@ fn a_run_in_which_many_controllers_run(rt: HostRuntime) -> Result<(), Fail> {
     hold(alloc, &RUNS, description.as_str(), SWITCHED)
 }
 
+#[test]
+fn a_run_of_the_largest_description_of_the_second_version(rt: HostRuntime) -> Result<(), Fail> {
+    hold(rt.alloc(), &RUNS, OF_SECOND, CHAINED)
+}
+
 /// 64 mocks with names as long as names may be; a session of 10,000 calls, which loads each of them, lists them 936
 /// times and asks 9,000 times for one that is loaded; 100,000 cycles; and a comment that makes up the longest document.
 const RUN: &str = r#"version = 1
@@ -91,3 +96,102 @@ switch best<0..72 *  -n#> +p0<0..50 *  +m#><0..3 *  +f#> +p1 +p2
 send p0<0..32 *  0.5>
 list interfaces
 => 20689 bytes: 4254010 a39bf168";
+
+/// All limits of the second version at once: 16 components of four joints each, with every kind of command and state; and
+/// 64 controllers, which export 192 references, claim 384 interfaces and read 512, and of which each has 8 fallbacks. Eight
+/// groups have the first 32 mocks as members, and eight the other controllers that run, and some of the mocks.
+const OF_SECOND: &str = r#"version = 2
+update_rate = 10000
+cycles = 1000
+<0..16 * [[component]]
+name = "c#"
+kind = "system"
+[[component.joint]]
+name = "h#"
+vmax = 1
+command = ["position", "velocity", "effort"]
+state = ["position", "velocity", "effort"]
+[[component.joint]]
+name = "k#"
+vmax = 1
+command = ["position", "velocity", "effort"]
+state = ["position", "velocity", "effort"]
+[[component.joint]]
+name = "l#"
+vmax = 1
+command = ["position", "velocity", "effort"]
+state = ["position", "velocity", "effort"]
+[[component.joint]]
+name = "r#"
+vmax = 1
+command = ["position", "velocity", "effort"]
+state = ["position", "velocity", "effort"]
+>\
+<0..3 * [[controller]]
+name = "p#"
+type = "passthrough"
+fallback = [(0..8 * "b#", )]
+claims = [(0..16 * "l#/position", "r#/position", )]
+[[controller]]
+name = "f#"
+type = "forward"
+fallback = [(0..8 * "b#", )]
+claims = [(0..16 * "p0/l#/position", "p0/r#/position", )]
+[[controller]]
+name = "q#"
+type = "passthrough"
+fallback = [(0..8 * "b#", )]
+claims = [(0..16 * "h#/position", "k#/position", )]
+[[controller]]
+name = "g#"
+type = "forward"
+fallback = [(0..8 * "b#", )]
+claims = [(0..16 * "q0/h#/position", "q0/k#/position", )]
+>\
+<0..16 * [[controller]]
+name = "b#"
+type = "broadcaster"
+fallback = [(0..8 * "m#", )]
+reads = [(0..16 * "l#/position", "k#/position", )]
+>\
+<0..36 * [[controller]]
+name = "m#"
+type = "mock"
+fallback = [(0..8 * "b#", )]
+>\
+<0..8 * [[group]]
+name = "s#"
+members = [(0..32 * "m#", )]
+[[group]]
+name = "t#"
+members = [(0..16 * "b#", )(24..36 * "m#", )"p0", "f0", "q0", "g0"]
+>\
+"#;
+
+/// All 64 are loaded and configured. A best effort of 128 words asks eight times for all groups, which are 4,096 names: it
+/// brings on the mocks, the broadcasters, and two forwards, each above a passthrough. Each forward is sent 32 values, so
+/// all 64 joints move for the 1,000 cycles.
+const CHAINED: &str = r"--- script ---
+session a
+<0..36 * load m#
+configure m#
+>\
+<0..16 * load b#
+configure b#
+>\
+<0..3 * load p#
+configure p#
+load f#
+configure f#
+load q#
+configure q#
+load g#
+configure g#
+>\
+switch best<0..8 * (0..8 *  +@s# +@t#)>
+send f0<0..32 *  0.5>
+send g0<0..32 *  -0.5>
+list controllers
+list components
+list interfaces
+=> 36846 bytes: 9326695 c98cc45e";
