@@ -5,7 +5,7 @@ ghost use Rattle.switch_plan.specs.Relations.{relations_of};
 
 use crate::causes::{LISTS, MEMBERS};
 use crate::efforts::EFFORTS;
-use crate::groups::{GROUPED, GROUPS};
+use crate::groups::{CHAIN, GROUPED, GROUPS, IN_A_CHAIN};
 use crate::largest::{RISING_REQUESTS, SINKING_REQUESTS};
 use crate::requests::ONE_JOINT;
 use crate::restarts::RESTARTS;
@@ -26,6 +26,7 @@ fn requests_have_their_plans(rt: HostRuntime) -> Result<(), Fail> {
     let alloc = rt.alloc();
     hold_acts::<Scene>(alloc, SEVEN, ONE_JOINT)?;
     hold_acts::<Scene>(alloc, GROUPED, GROUPS)?;
+    hold_acts::<Scene>(alloc, IN_A_CHAIN, CHAIN)?;
     hold_acts::<Scene>(alloc, ARM_AND_LEG, LISTS)?;
     hold_acts::<Scene>(alloc, ARM_AND_LEG, MEMBERS)?;
     hold_acts::<Scene>(alloc, ARM_AND_LEG, RESTARTS)?;

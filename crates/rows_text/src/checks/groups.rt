@@ -168,6 +168,15 @@ kind = "x"
 [[component]]
 name = "c"
 kind = "system"
+<0..33 * [[component.joint]]
+name = "j#"
+vmax = 1
+>\
+=> valid
+
+[[component]]
+name = "c"
+kind = "system"
 <0..64 * [[component.joint]]
 name = "j#"
 vmax = 1
