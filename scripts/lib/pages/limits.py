@@ -1,5 +1,5 @@
-"""The table of limits in docs/FORMATS.md, from crates/cm_document/src/limits.rt: of each constant its docstring and its number, and the number
-of the first version where that has another."""
+"""The tables of limits in docs/FORMATS.md, from crates/cm_document/src/limits.rt: of each constant its docstring and its number. Those that a
+version has its own of come first, with the number of each version."""
 
 import re
 
@@ -9,22 +9,29 @@ SOURCE = "the constants of cm_document say"
 PAGE, LIMITS = TOP / "docs/FORMATS.md", TOP / "crates/cm_document/src/limits.rt"
 PLACE = re.compile(r"(?s)(?<=<!-- limits, by scripts/pages write -->\n).*?(?=<!-- end of limits -->)")
 CONSTANT = re.compile(r"(?m)^/// (?:The|An) (.*)\.\npub const (\w+): \w+ = ([\d_]+);$")
-VERSIONED = re.compile(r"(?ms)^pub const LIMITS_1: VersionLimits = VersionLimits {\n(.*?)^};$")
+VERSIONED = re.compile(r"(?ms)^pub const LIMITS_(\d): VersionLimits = VersionLimits {\n(.*?)^};$")
 APART = ("FIRST_VERSION", "SECOND_VERSION")  # no limits
 
 
-def first(text):
-    """The numbers that stand in the first version's record, by the names of the constants for any version."""
-    return {f"MOST_{key.upper()}": int(number) for key, number in re.findall(r"(\w+): ([\d_]+),", VERSIONED.search(text)[1])}
+def by_version(text):
+    """The fields of the record of each version: a number, or the constant that has it."""
+    return [dict(re.findall(r"(\w+): (\w+),", fields)) for _, fields in VERSIONED.findall(text)]
 
 
 def rows():
-    yield "| What | At most | Constant |\n|---|---|---|\n"
     text = LIMITS.read_text()
-    for what, name, number in CONSTANT.findall(text):
-        what = f"{what.removesuffix(', in any version')}; in version 1 {first(text)[name]}" if name in first(text) else what
-        if name not in APART:
-            yield f"| {what} | {int(number):,} | `cm_document::{name}` |\n"
+    constants = {name: (what.removesuffix(", in any version"), int(number)) for what, name, number in CONSTANT.findall(text)}
+    versions = by_version(text)
+    named = {key: f"MOST_{key.upper()}" for key in versions[0]}
+    yield f"| What | {' | '.join(f'In version {k}' for k in range(1, len(versions) + 1))} | Constant of the most |\n|---|{'---|' * len(versions)}---|\n"
+    for key, name in named.items():
+        numbers = (fields[key] for fields in versions)
+        cells = (f"{constants[it][1] if it in constants else int(it):,}" for it in numbers)
+        yield f"| {constants[name][0]} | {' | '.join(cells)} | `cm_document::{name}` |\n"
+    yield "\n| What, in any version | At most | Constant |\n|---|---|---|\n"
+    for name, (what, number) in constants.items():
+        if name not in APART and name not in named.values():
+            yield f"| {what} | {number:,} | `cm_document::{name}` |\n"
 
 
 def made():
