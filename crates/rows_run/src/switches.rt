@@ -31,7 +31,7 @@ fn a_switch_is_done_refused_or_left_in_part(rt: HostRuntime) -> Result<(), Fail>
 }
 
 /// The first whole run of one joint.
-const OF_MOVED: &str = "=> ok
+pub const OF_MOVED: &str = "=> ok
 a load fwd: ok 0
 a configure fwd: ok
 a switch strict +fwd: queued 0

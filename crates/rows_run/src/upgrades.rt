@@ -3,10 +3,12 @@
 use crate::fallbacks::{ROBOT as MOCK_AND_FORWARD, STAND_INS};
 use crate::groups::{FIRST_VERSION, ROBOT as GROUPED, SWITCHES as OF_GROUPS, WITHOUT_GROUPS};
 use crate::pages::DESCRIPTIONS;
-use crate::switches::SWITCHES;
+use crate::shaping::{CHAINED, CLAIMED, GEARED, WRIST};
+use crate::switches::{OF_MOVED, SWITCHES};
 use cm_top::Status;
 use cm_words::JobKind;
 use pages_cases::pages::{Teller, halves, hold, joined};
+use pages_runs::documents::MOVED;
 use pages_runs::runs::{IN_STOCK, OF_PROGRAM, Runs, ample_sink};
 use std::alloc::Global;
 use std::str;
@@ -15,11 +17,19 @@ use std::test::Fail;
 #[test]
 fn an_upgraded_document_prints_the_same(rt: HostRuntime) -> Result<(), Fail> {
     let alloc = rt.alloc();
+    hold(alloc, &Upgraded, MOVED, OF_MOVED)?;
     hold(alloc, &Upgraded, "", SWITCHES)?;
     hold(alloc, &Upgraded, MOCK_AND_FORWARD, STAND_INS)?;
     hold(alloc, &Upgraded, GROUPED, OF_GROUPS)?;
     hold(alloc, &Upgraded, FIRST_VERSION, WITHOUT_GROUPS)?;
     hold(alloc, &Upgraded, "", DESCRIPTIONS)
+}
+
+#[test]
+fn upgraded_transmissions_and_limiters_print_the_same(rt: HostRuntime) -> Result<(), Fail> {
+    let alloc = rt.alloc();
+    hold(alloc, &Upgraded, GEARED, CHAINED)?;
+    hold(alloc, &Upgraded, WRIST, CLAIMED)
 }
 
 /// The job `upgrade` with the program's stock.

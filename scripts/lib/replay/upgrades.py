@@ -1,7 +1,7 @@
 """Answers: does an upgraded description run as the one that it was made of?
 
-Each NAME.cm of examples/ is upgraded, and its script put behind what is printed. The new document is run with the example's words, as
-`scripts/replay examples` does, and must print the same. One that is refused must be refused so by `upgrade`, too. A live run prints
+Each NAME.cm of examples/ and scripts/cases is upgraded, and its script put behind what is printed. The new document is run with the words
+of the old one, as `scripts/replay examples` does, and must print the same. One that is refused must be refused so by `upgrade`, too. A live run prints
 another trace each time, so those documents are run by `run`. The description must end with a line feed, hold no separator, and be
 printed again as it is. So are the documents at all limits of `scripts/replay limits` upgraded, and random documents, if another
 implementation is named that makes them.
@@ -18,6 +18,7 @@ from ..tool import Tally
 from . import programs
 from .examples import EXAMPLES, LIVE, words_of
 from .limits import FEW, VERSIONS, Limits
+from .memory import CASES
 from .other import JUDGED, judge
 
 SEPARATOR = b"--- script ---"
@@ -85,7 +86,7 @@ def random_documents(asked, program, tally):
 
 def main(asked):
     program, tally = programs.program(asked), Tally()
-    for document in sorted(EXAMPLES.glob("*.cm")):
+    for document in (*sorted(EXAMPLES.glob("*.cm")), *sorted(CASES.glob("*.cm"))):
         words = words_of(document)
         if "--make" not in words:
             tally.tell(document.name, tried(document.read_bytes(), program, words)[1])

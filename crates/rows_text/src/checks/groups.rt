@@ -103,6 +103,15 @@ members = ["k"]
 [[controller]]
 name = "m"
 type = "mock"
+fallback = ["g"]
+[[group]]
+name = "g"
+members = ["m"]
+=> no_fallback m g
+
+[[controller]]
+name = "m"
+type = "mock"
 reads = ["j1/position"]
 [[group]]
 name = "g"
