@@ -34,7 +34,7 @@ fn twice_with_way(step: u64, change: u64) -> u128
 }
 
 /// The longest step after which the way to stop has room, in constant time: first how many whole changes that step has.
-#[tactic(auto, using(crate::proofs::FormulaLemmas::longest_step_fits, crate::proofs::FormulaLemmas::no_step_longer, crate::proofs::FormulaLemmas::product_fits))]
+#[tactic(auto, using(crate::proofs::FormulaLemmas::product_fits))]
 fn farthest(room: u64, change: u64) -> u64
     requires { IsRoom room change }
     ensures fits { result + way_after change result ≤ room }
