@@ -194,7 +194,7 @@ apart_at first (t ∷ later) zero within apart = apart.0
 apart_at first (t ∷ later) (suc who) within apart = apart_at first later who (omega arith) apart.1
 
 -- a session's name is a name
-named_at : (sessions : List SessionText) (who : ℕ) → who < length sessions → AllByRecursion IsSession sessions → IsName (session_name sessions who)
+pub named_at : (sessions : List SessionText) (who : ℕ) → who < length sessions → AllByRecursion IsSession sessions → IsName (session_name sessions who)
 named_at [] who within all = absurd (omega (arith, within))
 named_at (s ∷ sessions) zero within all = all.0.named
 named_at (s ∷ sessions) (suc who) within all = named_at sessions who (omega arith) all.1
@@ -212,7 +212,7 @@ found_from (s ∷ sessions) (suc who) i within apart =
     let e : (i + 1) + who ≡ i + suc who = omega arith in
     rw other (found_from sessions who (i + 1) (omega arith) apart.1 ∙ ap Some e)
 
-found : (sessions : List SessionText) (who : ℕ) → who < length sessions → AreApart sessions → position (λ s. same_name (session_name sessions who) s.name) sessions ≡ Some who
+pub found : (sessions : List SessionText) (who : ℕ) → who < length sessions → AreApart sessions → position (λ s. same_name (session_name sessions who) s.name) sessions ≡ Some who
 found sessions who within apart =
     let e : 0 + who ≡ who = omega arith in
     position_from-zero (λ s. same_name (session_name sessions who) s.name) sessions ∙ found_from sessions who 0 within apart ∙ ap Some e

@@ -48,14 +48,14 @@ words_spaced word (w ∷ ws) one more = rw (word_then word (w ++ spaced ws) one.
 -- ---- Lines
 
 -- a printed line ends at its feed
-line_then : (line rest : List ℕ) → IsPrinted line → raw_lines (line ++ 10 ∷ rest) ≡ (line ++ 10 ∷ []) ∷ raw_lines rest
+pub line_then : (line rest : List ℕ) → IsPrinted line → raw_lines (line ++ 10 ∷ rest) ≡ (line ++ 10 ∷ []) ∷ raw_lines rest
 line_then [] rest printed = refl
 line_then (b ∷ bs) rest printed =
     let inside : (b == 10) ≡ false = grind (arith, nat_tests, printed.0) in
     rw inside (ap (onto_first b) (line_then bs rest printed.1))
 
 -- the feed goes
-without_feed : (line : List ℕ) → without_last 10 (line ++ 10 ∷ []) ≡ line
+pub without_feed : (line : List ℕ) → without_last 10 (line ++ 10 ∷ []) ≡ line
 without_feed [] = refl
 without_feed (b ∷ []) = refl
 without_feed (b ∷ c ∷ bs) = ap (λ l. b ∷ l) (without_feed (c ∷ bs))
@@ -71,15 +71,15 @@ bare_line : (line : List ℕ) → IsPrinted line → bare (line ++ 10 ∷ []) �
 bare_line line printed = ap (without_last 13) (without_feed line) ∙ without_return line printed
 
 -- what two printed texts are together
-IsPrinted-append : (xs ys : List ℕ) → IsPrinted xs → IsPrinted ys → IsPrinted (xs ++ ys)
+pub IsPrinted-append : (xs ys : List ℕ) → IsPrinted xs → IsPrinted ys → IsPrinted (xs ++ ys)
 IsPrinted-append [] ys p q = q
 IsPrinted-append (x ∷ xs) ys p q = (p.0, IsPrinted-append xs ys p.1 q)
 
-shown_IsPrinted : (word : List ℕ) → AllByRecursion (λ b. 32 < b) word → IsPrinted word
+pub shown_IsPrinted : (word : List ℕ) → AllByRecursion (λ b. 32 < b) word → IsPrinted word
 shown_IsPrinted [] shown = tt
 shown_IsPrinted (b ∷ bs) shown = (omega (arith, shown.0), shown_IsPrinted bs shown.1)
 
-spaced_IsPrinted : (ws : List (List ℕ)) → AllByRecursion IsWord ws → IsPrinted (spaced ws)
+pub spaced_IsPrinted : (ws : List (List ℕ)) → AllByRecursion IsWord ws → IsPrinted (spaced ws)
 spaced_IsPrinted [] all = tt
 spaced_IsPrinted (w ∷ ws) all = (omega arith, IsPrinted-append w (spaced ws) (shown_IsPrinted w all.0.shown) (spaced_IsPrinted ws all.1))
 

@@ -1,0 +1,11 @@
+pub mod GoesLemmas
+pub mod WayLemmas
+pub mod LoadsLemmas
+pub mod SameLineLemmas
+pub mod LineLemmas
+pub mod ThroughLemmas
+pub mod ReplayLemmas
+pub mod JudgeLemmas
+pub mod StockLemmas
+pub mod StockedLemmas
+pub mod PrintedLemmas

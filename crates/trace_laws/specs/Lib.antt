@@ -1,0 +1,6 @@
+-- In reading order.
+pub mod OnTheWay
+pub mod Next
+pub mod Told
+pub mod Judged
+pub mod Stocks
