@@ -1,8 +1,4 @@
-pub mod NumberLemmas
-pub mod PortLemmas
 pub mod PartsLemmas
-pub mod SettleLemmas
-pub mod JobLemmas
 pub mod PlainLemmas
 pub mod TopLemmas
 pub mod ReadLemmas

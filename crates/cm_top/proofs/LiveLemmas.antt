@@ -31,9 +31,9 @@ use Rattle.turn_lock.specs.declared.kept.Kept.{Ghosts}
 use Rattle.turn_lock.specs.declared.lock.TurnLock.{TurnLock}
 use Rattle.turn_lock.specs.declared.pass.TurnPass.{TurnPass}
 use Rattle.cm_top.specs.Book.{IsDone}
-use Rattle.cm_top.specs.Jobs.{AreAtFirst}
+use Rattle.desk_turns.specs.Jobs.{AreAtFirst}
 use Rattle.cm_top.specs.Live.{CanStart, HasMadeItsLines, HasRun}
-use Rattle.cm_top.proofs.NumberLemmas.{heads, tails}
+use Rattle.desk_turns.proofs.NumberLemmas.{heads, tails}
 
 -- what is so of two lists behind one another is so of the first
 front_of : {X : Type 0} (P : X → Type 0) (xs ys : List X) → AllByRecursion P (xs ++ ys) → AllByRecursion P xs

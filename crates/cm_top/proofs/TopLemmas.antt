@@ -1,20 +1,15 @@
 -- From the parts of a run to what it promises.
-use Rattle.std.proofs.Common.{◌≡◌, ℕ, ◌+◌, ◌<◌, ◌≤◌, ◌^◌, List, [], ◌∷◌, length, map, Option, Some, None, Ok, true, refl, sym, ap, subst, ◌∙◌, inl, inr, ◌⊎◌, arith}
-use Rattle.std.specs.Prelude.{IfSome, sum_by}
-use Rattle.std.specs.List.{All, AllByRecursion}
-use Rattle.std.proofs.lemmas.List.Elements.{All-from_recursion}
-use Rattle.std.proofs.lemmas.List.Sums.{sum_by-cons}
+use Rattle.std.proofs.Common.{◌≡◌, ℕ, ◌+◌, ◌≤◌, List, length, map, Option, Some, None, Ok, true, refl, sym, ap, subst, ◌∙◌, inl, inr, ◌⊎◌}
+use Rattle.std.specs.Prelude.{IfSome}
 use Rattle.std.specs.Io.KnownBytes.{Keeps, Appends}
 use Rattle.std.proofs.KnownBytes.{Appends-kept}
 use Rattle.outside_io.specs.Bytes.{AllFlushed}
 use Rattle.outside_io.proofs.Prefixes.{AppendsPrefix-all}
-use Rattle.cm_document.specs.declared.limits.TheConstants.{LONGEST_DOCUMENT, MOST_CALLS}
+use Rattle.cm_document.specs.declared.limits.TheConstants.{LONGEST_DOCUMENT}
 use Rattle.cm_document.specs.Grammars.{whole_grammar}
 use Rattle.cm_document.specs.Document.{accepted_script, document}
 use Rattle.cm_document.specs.Lines.{parts_of}
-use Rattle.cm_document.specs.ScriptLaws.{CanBeWritten, IsSession, MeetsRules, UsesGrammar}
-use Rattle.cm_document.specs.declared.call.Call.{Call}
-use Rattle.cm_document.specs.declared.call.Call.TheVariants.{Told, Begin, End, Close}
+use Rattle.cm_document.specs.ScriptLaws.{MeetsRules, UsesGrammar}
 use Rattle.cm_model.specs.Machine.{IsLegal, LegalFrom}
 use Rattle.cm_model.specs.Scheduled.{Progress, start, cycles, cycles_left, landed, turns, finish, scheduled, scheduled_in_steps}
 use Rattle.cm_model.specs.Sessions.{IsWhole}
@@ -23,49 +18,20 @@ use Rattle.cm_model.specs.State.{State, Loaded, boot}
 use Rattle.cm_model.specs.declared.entry.Entry.{Entry}
 use Rattle.cm_document.specs.declared.document.Document.{Document}
 use Rattle.cm_document.specs.declared.script.Script.{Script}
-use Rattle.cm_document.specs.declared.script.SessionText.{SessionText}
 use Rattle.cm_model.specs.declared.blanks.Blanks.{Blanks}
 use Rattle.cm_document.proofs.DocumentLemmas.{document-AcceptedParts}
 use Rattle.cm_model.proofs.WholeLemmas.{scheduled-IsWhole, steps-IsWhole}
 use Rattle.script_text.proofs.ReadScriptLemmas.{read_script_meets, read_script_uses}
 use Rattle.cm_desk.specs.Desk.{History, IsRight, now_of}
-use Rattle.console_session.specs.Sessions.{IsLine, AreLines}
 use Rattle.cm_words.specs.declared.job.JobKind.{JobKind}
 use Rattle.cm_words.specs.declared.job.JobKind.TheVariants as kind
-use Rattle.cm_top.specs.Jobs.{JobFacts, progress_of}
+use Rattle.desk_turns.specs.Jobs.{JobFacts, progress_of}
 use Rattle.cm_top.specs.Book.{BookFacts, Histories, IsDone, Task, book_of, made_by}
 use Rattle.cm_top.specs.Calls.Run.{SinkFacts, RunsBytes}
 use Rattle.cm_top.specs.Status.{Written, EndedWith, HandsOut, Wrote, RanDocument, IsPlain, ComesOfBytes}
 use Rattle.cm_model.proofs.HistoryLemmas.{whole-closed}
 use Rattle.cm_top.specs.declared.status.Status.{Status}
 use Rattle.cm_top.specs.declared.status.Status.TheVariants as status
-
--- the number of sessions of a script that meets the rules fits
-pub rules_few : (s : Script) → MeetsRules s → length s.sessions < 2 ^ 32
-rules_few s rules = omega (arith, rules.few_sessions)
-
--- a line that a script can say is a session's
-written_line : (call : Call) → CanBeWritten call → IsLine call
-written_line (Told ticket) written = absurd written
-written_line (Begin cycle) written = absurd written
-written_line (End cycle) written = absurd written
-written_line Close written = absurd written
-written_line _ written = tt
-
-written_lines : (lines : List Call) → AllByRecursion CanBeWritten lines → AllByRecursion IsLine lines
-written_lines [] written = tt
-written_lines (call ∷ lines) written = (written_line call written.0, written_lines lines written.1)
-
--- the lines of each session can be numbered, where there are few in all
-sessions_lines : (sessions : List SessionText) → AllByRecursion IsSession sessions → sum_by (λ t. length t.lines) sessions ≤ MOST_CALLS → AllByRecursion (λ t. AreLines t.lines) sessions
-sessions_lines [] rules few = tt
-sessions_lines (t ∷ sessions) rules few =
-    let all = sum_by-cons (λ (u : SessionText). length u.lines) t sessions in
-    (record { each = written_lines t.lines rules.0.written; few = omega (arith, few, all) }, sessions_lines sessions rules.1 (omega (arith, few, all)))
-
--- so each session of a script that meets the rules has lines that it can make
-pub rules_lines : (s : Script) → MeetsRules s → All (λ t. AreLines t.lines) s.sessions
-rules_lines s rules = All-from_recursion (λ (t : SessionText). AreLines t.lines) s.sessions (sessions_lines s.sessions rules.sessions (omega (arith, rules.few_calls)))
 
 -- what an accepted script is
 accepted_script-Rules : (lines : ℕ) (text : Option (List ℕ)) (s : Script) → accepted_script whole_grammar lines text ≡ Ok s → MeetsRules s × UsesGrammar whole_grammar s

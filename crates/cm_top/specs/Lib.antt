@@ -1,5 +1,3 @@
-pub mod Ports
-pub mod Jobs
 pub mod Book
 pub mod Status
 pub mod Answering

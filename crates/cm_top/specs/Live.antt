@@ -12,7 +12,7 @@ use Rattle.turn_lock.specs.Passes.{view}
 use Rattle.turn_lock.specs.declared.kept.Kept.{Ghosts}
 use Rattle.turn_lock.specs.declared.lock.TurnLock.{TurnLock}
 use Rattle.turn_lock.specs.declared.pass.TurnPass.{TurnPass}
-use Rattle.cm_top.specs.Jobs.{AreAtFirst}
+use Rattle.desk_turns.specs.Jobs.{AreAtFirst}
 
 module _ {K : Type 0} {g : Ghosts K Entry State} where
   -- A live run can start: the desk was shared as it was booted, these are all its passes, which have seen nothing, and

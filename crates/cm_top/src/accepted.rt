@@ -11,13 +11,13 @@ ghost use Rattle.cm_top.specs.Book.{RunsAlone, IsDone, book_facts, book_of, made
 ghost use Rattle.cm_top.specs.Calls.Run.{sink_facts, MindsSink};
 ghost use Rattle.cm_top.specs.Status.{RanDocument, Wrote};
 
-use crate::jobs::{run_in_steps, run_job};
 use crate::status::Status;
 use cm_desk::{Book, Desk};
 use cm_document::{Checked, Document, Script};
 use cm_words::JobKind;
 use ctl_rack::Stock;
 use ctl_trait::Controller;
+use desk_turns::{run_in_steps, run_job};
 use fixed_num::Memory;
 use outside_io::Sink;
 use std::alloc::Global;

@@ -9,11 +9,9 @@ pub use top::{run, run_alone};
 
 mod accepted;
 mod document;
-mod jobs;
 pub mod laws;
 mod live;
 mod parts;
-mod port;
 mod reading;
 mod status;
 mod top;

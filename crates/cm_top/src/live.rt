@@ -12,13 +12,13 @@ ghost use Rattle.cm_top.specs.Live.{CanStart, HasRun};
 ghost use Rattle.cm_top.specs.Status.{RanDocument};
 
 use crate::accepted::write_out;
-use crate::jobs::waiting;
 use crate::status::Status;
 use cm_desk::{Book, Desk};
 use cm_document::{Checked, Document, Script};
 use console_session::Session;
 use ctl_rack::Stock;
 use ctl_trait::Controller;
+use desk_turns::waiting;
 use fixed_num::Memory;
 use live_run::live;
 use outside_io::{Gate, Pace, Sink};

@@ -1,4 +1,5 @@
-use Rattle.cm_top.proofs.TopLemmas.{rules_few, rules_lines, run_done, steps_done}
+use Rattle.desk_turns.proofs.RulesLemmas.{rules_few, rules_lines}
+use Rattle.cm_top.proofs.TopLemmas.{run_done, steps_done}
 use Rattle.cm_top.proofs.accepted.made.Goals as goal
 
 -- a script that meets the rules has few sessions, with lines that they can make

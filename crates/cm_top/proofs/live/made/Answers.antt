@@ -7,8 +7,8 @@ use Rattle.cm_model.specs.State.{boot}
 use Rattle.console_session.specs.Sessions.{AreLines}
 use Rattle.cm_top.specs.Live.{CanStart, HasRun}
 use Rattle.cm_top.proofs.LiveLemmas.{can_start, live_done}
-use Rattle.cm_top.proofs.NumberLemmas.{as_many}
-use Rattle.cm_top.proofs.TopLemmas.{rules_few, rules_lines}
+use Rattle.desk_turns.proofs.NumberLemmas.{as_many}
+use Rattle.desk_turns.proofs.RulesLemmas.{rules_few, rules_lines}
 use Rattle.cm_top.proofs.live.made.Goals as goal
 
 -- a script that meets the rules has few sessions, with lines that they can make

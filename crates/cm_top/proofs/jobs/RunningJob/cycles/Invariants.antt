@@ -1,7 +1,0 @@
-use Rattle.cm_model.specs.Scheduled.{cycles}
-use Rattle.cm_top.specs.Jobs.{GoesOn}
-use Rattle.cm_top.proofs.jobs.RunningJob.cycles.Given as goal
-
--- the cycles so far
-abbrev pub invariant-loop-number : goal.invariant-loop-number
-invariant-loop-number g l = GoesOn (cycles l.number) l.fn.self l.self

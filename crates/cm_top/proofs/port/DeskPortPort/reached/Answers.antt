@@ -1,7 +1,0 @@
-use Rattle.cm_top.proofs.PortLemmas.{ground_reached}
-use Rattle.cm_top.proofs.port.DeskPortPort.reached.Goals as goal
-
--- an await is a call of a console
-pub returns-else-not-reached-clause-still : goal.returns-else-not-reached-clause-still
-returns-else-not-reached-clause-still g c =
-    ground_reached c.args.self.now.desk.ghost_name c.args.self.now.who c.args.cycles c.args.self.now.desk.now c.reached.new.self c.in_ok-reached.reached c.in_ok-reached.ensures.made

@@ -1,0 +1,5 @@
+pub mod NumberLemmas
+pub mod PortLemmas
+pub mod SettleLemmas
+pub mod JobLemmas
+pub mod RulesLemmas
