@@ -2,7 +2,7 @@
 #![tactic(auto)]
 
 pub use any_kind::AnyKind;
-pub use stock::blanks;
+pub use stock::{blanks, counted};
 
 mod any_kind;
 mod stock;

@@ -3,3 +3,4 @@ pub mod Joined
 pub mod Replies
 pub mod Heads
 pub mod Quiet
+pub mod OneByOne

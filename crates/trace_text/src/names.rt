@@ -1,9 +1,10 @@
 //! What stands for serials and places in a trace.
 
-ghost use Rattle.std.specs.Prelude.{◌≡◌, ◌++◌, map, slice_get, option_map, unwrap_or, IfOk, OnOk, string_bytes};
+ghost use Rattle.std.specs.Prelude.{◌≡◌, ◌++◌, [], map, slice_get, option_map, unwrap_or, IfOk, OnOk, string_bytes};
 ghost use Rattle.cm_document.specs.Links.{joints_of};
 ghost use Rattle.cm_model.specs.Trace.{names_of, names_in, loaded_by};
 ghost use Rattle.trace_text.specs.Heads.{run_head, body_head};
+ghost use Rattle.trace_text.specs.OneByOne.{with_name};
 
 use crate::interfaces::interface_texts;
 use cm_document::{CompDesc, Description, JointDesc};
@@ -70,6 +71,33 @@ impl<'a> Names<'a> {
             bodies,
             interfaces: interface_texts(alloc, description)?,
         })
+    }
+
+    /// What stands for each number before a controller is loaded.
+    pub fn before_loads(alloc: Global, description: &'a Description) -> Result<Names<'a>, Memory>
+        ensures { IfOk result (λ names. names ≡ names_in description.now []) }
+    {
+        let components = description.components.as_slice();
+        let joints = joint_names(alloc, components)?;
+        let bodies = body_heads(alloc, joints.as_slice())?;
+        Ok(Names {
+            controllers: Vec::new(alloc),
+            runs: Vec::new(alloc),
+            components,
+            joints,
+            bodies,
+            interfaces: interface_texts(alloc, description)?,
+        })
+    }
+
+    /// A controller of this name is given the next serial. Without memory the names stay as they were.
+    pub fn load(&mut self, alloc: Global, name: &'a Name) -> Result<(), Memory>
+        ensures loaded { OnOk result (self.new ≡ with_name self.old name.now) }
+    {
+        self.controllers.reserve(1)?;
+        self.runs.push(run_head(alloc, name)?)?;
+        self.controllers.push_reserved(name);
+        Ok(())
     }
 
     /// What the item of an update that computed begins with, of the controller with this serial.

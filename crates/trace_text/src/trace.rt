@@ -185,7 +185,7 @@ impl Room {
 }
 
 /// Makes the line of an entry. Both are only room: what stood there is gone.
-fn make_line(
+pub(crate) fn make_line(
     line: &mut Vec<u8>,
     words: &mut String,
     sessions: &[SessionText],
