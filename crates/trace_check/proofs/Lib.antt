@@ -1,0 +1,2 @@
+pub mod LoopCallLemmas
+pub mod SessionStandLemmas

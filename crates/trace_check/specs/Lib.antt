@@ -1,0 +1,4 @@
+-- In reading order.
+pub mod Checks
+pub mod Standing
+pub mod Steps
