@@ -31,7 +31,8 @@ book_facts meaning book = record { history = book.history.items; boxes = map mea
 abbrev pub book_of : History → BookFacts
 book_of h = record { history = h.made; boxes = map (λ l. l.ctl) (now_of h).loaded }
 
--- The history that a job makes of each document. A live run leaves it to its threads, and an upgrade makes none.
+-- The history that a job makes of each document. A live run leaves it to its threads; an upgrade and a
+-- check make none.
 abbrev pub Histories : Type 0
 Histories = Option (Document → List Entry)
 
@@ -42,6 +43,7 @@ made_by kind.Run blanks = Some (λ d. scheduled d blanks)
 made_by kind.Steps blanks = Some (λ d. scheduled_in_steps d blanks)
 made_by kind.Live blanks = None
 made_by kind.Upgrade blanks = None
+made_by kind.Check blanks = None
 
 -- one thread runs the job: no other makes its history there
 abbrev pub RunsAlone : JobKind → Type 0

@@ -1,5 +1,6 @@
 pub mod Book
 pub mod Status
+pub mod Traced
 pub mod Answering
 pub mod Live
 pub mod Calls

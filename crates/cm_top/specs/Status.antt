@@ -28,6 +28,7 @@ code_of status.ReadFault = 5
 code_of status.TooLong = 6
 code_of status.Memory = 7
 code_of status.WriteFault = 8
+code_of (status.NotLegal _ _) = 9
 
 -- What a run has before it and after it: what the sink had taken and has taken, and how much of that is flushed.
 pub record Written : Type 0 where
@@ -71,6 +72,7 @@ EndedWith task bytes blanks w status.ReadFault book = Unit {0}
 EndedWith task bytes blanks w status.TooLong book = LONGEST_DOCUMENT < length bytes
 EndedWith task bytes blanks w status.Memory book = WantsMemory task bytes blanks w book
 EndedWith task bytes blanks w status.WriteFault book = IsSomeAnd book (Cut task bytes blanks w)
+EndedWith task bytes blanks w (status.NotLegal _ _) book = ⊥
 
 -- What a run handed out and wrote by its status, whatever its source tells. Ok and a write fault come with a book, want
 -- of memory may, and no other status does. A book is that of a run of an accepted document, and the sink has grown by

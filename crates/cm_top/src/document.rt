@@ -1,6 +1,6 @@
 //! The document that some bytes are: description and script, each accepted or told by its first fault.
 
-ghost use Rattle.std.specs.Prelude.{◌≡◌, ◌+◌, ◌<◌, ◌≤◌, ◌^◌, length, option_map, unwrap_or, IfErr};
+ghost use Rattle.std.specs.Prelude.{◌≡◌, ◌≢◌, ◌+◌, ◌<◌, ◌≤◌, ◌^◌, length, option_map, unwrap_or, None, Some, Ok, Err, IfErr, MatchResult};
 ghost use Rattle.sequence.specs.Answers.{Answers};
 ghost use Rattle.cm_document.specs.declared.limits.TheConstants.{LONGEST_DOCUMENT};
 ghost use Rattle.cm_document.specs.Reading.{fault_as};
@@ -8,8 +8,9 @@ ghost use Rattle.cm_document.specs.Document.{accepted_description, accepted_scri
 ghost use Rattle.cm_document.specs.Grammars.{whole_grammar};
 ghost use Rattle.cm_document.specs.Valid.{valid, IsDescribed};
 ghost use Rattle.cm_top.specs.Status.{IsPlainFault};
+ghost use Rattle.cm_top.specs.Traced.{traced};
 
-use crate::parts::divide;
+use crate::parts::{Behind, divide, divide_behind};
 use cm_document::{
     CheckFault, Checked, DescFault, DescProblem, Description, Document, DocumentFault, Script,
     ScriptFault,
@@ -33,6 +34,71 @@ pub fn read_document(alloc: Global, bytes: &[u8]) -> Result<Document, DocumentFa
         description,
         script,
     })
+}
+
+/// A document with the trace that stands behind its script.
+#[derive(Drop)]
+pub struct Traced<'a> {
+    pub document: Document,
+    /// All bytes behind the separator of the trace.
+    pub trace: &'a [u8],
+}
+
+/// The document with its trace that these bytes are, or its first fault. The fault of a trace that is missing comes last.
+#[tactic(auto, unfolding(cm_document::specs::Document::document_of, cm_top::specs::Traced::traced))]
+pub fn read_traced(alloc: Global, bytes: &[u8]) -> Result<Traced<'_>, DocumentFault>
+    requires { length bytes.now ≤ LONGEST_DOCUMENT }
+    ensures reads { MatchResult result
+        (λ t. traced bytes.now ≡ Ok (record { document = t.document; trace = t.trace.now }))
+        (λ fault. (fault ≢ DocumentFault.Memory) → traced bytes.now ≡ Err fault) }
+    ensures plain { IfErr result IsPlainFault }
+{
+    let parts = divide(bytes);
+    let behind = match parts.script {
+        Some(text) => Some(divide_behind(text)),
+        None => None,
+    };
+    let described = description(alloc, parts.description)?;
+    let script = script(alloc, parts.lines, script_of(behind))?;
+    let Some(
+        Behind {
+            trace: Some(trace),
+            ..
+        },
+    ) = behind
+    else {
+        return Err(DocumentFault::Script(ScriptFault::BadLine(
+            lines_of(parts.lines, behind) as u32 + 1,
+        )));
+    };
+    Ok(Traced {
+        document: Document {
+            description: described,
+            script,
+        },
+        trace,
+    })
+}
+
+/// The script of what stands behind its separator.
+fn script_of(behind: Option<Behind<'_>>) -> Option<&[u8]>
+    ensures { option_map (λ t. t.now) result ≡ option_map (λ b. b.script.now) behind }
+{
+    match behind {
+        Some(behind) => Some(behind.script),
+        None => None,
+    }
+}
+
+/// How many lines a document has that has so many before the separator of its script, and no trace.
+fn lines_of(before: usize, behind: Option<Behind<'_>>) -> usize
+    requires { before + unwrap_or (option_map (λ b. b.lines) behind) 0 + 1 < 2 ^ 32 }
+    ensures { result ≡ elim behind [ None ↦ before | Some b ↦ before + 1 + b.lines ] }
+{
+    match behind {
+        Some(behind) => before + 1 + behind.lines,
+        None => before,
+    }
 }
 
 /// The description in its text: read, and then checked; or its first fault.

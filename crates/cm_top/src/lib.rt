@@ -3,11 +3,12 @@
 #![tactic(auto)]
 
 pub use accepted::run_document;
-pub use document::read_document;
+pub use document::{Traced, read_document, read_traced};
 pub use status::Status;
 pub use top::{run, run_alone};
 
 mod accepted;
+mod check;
 mod document;
 pub mod laws;
 mod live;

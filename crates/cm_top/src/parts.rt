@@ -1,7 +1,8 @@
 //! The parts of a document.
 
-ghost use Rattle.std.specs.Prelude.{◌≡◌, ◌+◌, ◌≤◌, length, option_map, unwrap_or};
-ghost use Rattle.cm_document.specs.Lines.{is_separator, parts_of};
+ghost use Rattle.std.specs.Prelude.{◌≡◌, ◌+◌, ◌≤◌, length, None, option_map, unwrap_or};
+ghost use Rattle.cm_document.specs.Lines.{is_separator, parts_of, raw_lines};
+ghost use Rattle.cm_top.specs.Traced.{behind_of, is_trace_separator};
 
 use script_text::{bare_line, first_line};
 
@@ -44,6 +45,54 @@ pub fn divide(bytes: &[u8]) -> Divided<'_>
         lines,
         script: None,
     }
+}
+
+/// What stands behind the separator of the script, none of it copied.
+#[derive(Clone, Copy, Debug)]
+pub struct Behind<'a> {
+    /// The bytes before the separator of the trace; all of them if there is none.
+    pub script: &'a [u8],
+    /// How many lines these are.
+    pub lines: usize,
+    /// The bytes behind that separator, if it stands.
+    pub trace: Option<&'a [u8]>,
+}
+
+/// Divides what stands behind the separator of the script at the first separator of a trace.
+pub fn divide_behind(bytes: &[u8]) -> Behind<'_>
+    ensures script { result.script.now ≡ (behind_of bytes.now).script }
+    ensures trace { option_map (λ t. t.now) result.trace ≡ (behind_of bytes.now).trace }
+    ensures lines { result.trace ≡ None → result.lines ≡ length (raw_lines bytes.now) }
+    ensures fits { length result.script.now + unwrap_or (option_map (λ t. length t.now) result.trace) 0
+        ≤ length bytes.now }
+{
+    let mut lines = 0;
+    let mut rest = bytes;
+    while !rest.is_empty() {
+        let (line, more) = first_line(rest);
+        if separates_trace(line) {
+            let (script, _) = bytes.split_at(bytes.len() - rest.len());
+            return Behind {
+                script,
+                lines,
+                trace: Some(more),
+            };
+        }
+        lines += 1;
+        rest = more;
+    }
+    Behind {
+        script: bytes,
+        lines,
+        trace: None,
+    }
+}
+
+/// Whether this line is the separator of a trace.
+fn separates_trace(line: &[u8]) -> bool
+    ensures { result ≡ is_trace_separator line.now }
+{
+    bare_line(line) == b"--- trace ---".as_slice()
 }
 
 /// Whether this line is the separator.

@@ -1,6 +1,7 @@
 //! How a run ended.
 
 use cm_document::{DescProblem, ScriptFault};
+use sequence::Seq;
 use thiserror::Error;
 
 /// How a run ended. Statuses 3 and 4 never carry a want of memory.
@@ -10,7 +11,7 @@ pub enum Status {
     #[error("ok")]
     Ok,
     /// The words are not accepted.
-    #[error("usage: cm run|steps|live|upgrade [--make N]")]
+    #[error("usage: cm run|steps|live|upgrade|check [--make N]")]
     BadWords,
     /// The description is not accepted; its first fault.
     #[error("description: {0}")]
@@ -30,6 +31,14 @@ pub enum Status {
     /// The sink failed.
     #[error("write fault")]
     WriteFault,
+    /// The trace that was to be checked is that of no run.
+    #[error("trace: line {line}")]
+    NotLegal {
+        /// Its first wrong line, from 1 on; one more than it has lines if something was still to come behind them.
+        line: u32,
+        /// The line that was to come there, without its line feed; empty if none was.
+        expected: Seq<u8>,
+    },
 }
 
 impl Status {
@@ -49,6 +58,7 @@ impl Status {
             Status::TooLong => 6,
             Status::Memory => 7,
             Status::WriteFault => 8,
+            Status::NotLegal { .. } => 9,
         }
     }
 }

@@ -7,10 +7,11 @@ ghost use Rattle.cm_words.specs.Words.{asked};
 ghost use Rattle.cm_document.specs.ScriptLaws.{MeetsRules};
 ghost use Rattle.cm_top.specs.Answering.{DidJob, answering_of};
 ghost use Rattle.cm_top.specs.Book.{book_facts, task_of};
-ghost use Rattle.cm_top.specs.Calls.Run.{source_facts, sink_facts, CanRunAlone, RunsJob};
+ghost use Rattle.cm_top.specs.Calls.Run.{source_facts, sink_facts, CanRunAlone, ReadsPlainly, RunsJob};
 ghost use Rattle.cm_top.specs.Calls.Run.{MindsFaults, MindsSink, RefusesWords, Spares, SparesAlone};
 
 use crate::accepted::run_document;
+use crate::check::check_alone;
 use crate::live::run_document_live;
 use crate::reading::read_job;
 use crate::status::Status;
@@ -30,7 +31,8 @@ use std::thread::Threads;
 /// Reads the source to its end, checks description and script, runs the job over the stock, writes the trace and flushes it, and hands
 /// out the book. With a number of rounds the document is made, nothing is read, and the summary is written. Nothing is written before
 /// the job has run. A live run calls the pace behind each cycle and the gate at its points; other jobs call neither. An upgrade runs
-/// nothing: it writes the description as one of the second version, and hands out no book.
+/// nothing: it writes the description as one of the second version, and hands out no book. Nor does a check, which judges the trace behind
+/// the script.
 #[tactic(auto, using(crate::proofs::ReadLemmas::untouched_minds_faults))]
 pub fn run<R, S, K, P, G, C>(
     rt: &R,
@@ -65,7 +67,7 @@ where
         Ok(job) => match job.kind {
             JobKind::Live => run_live(rt, alloc, job.make, source, sink, stock, pace, gate),
             JobKind::Run | JobKind::Steps => run_alone(alloc, &job, source, sink, stock),
-            JobKind::Upgrade => run_alone(alloc, &job, source, sink, stock),
+            JobKind::Upgrade | JobKind::Check => run_alone(alloc, &job, source, sink, stock),
         },
         Err(WordsFault::Usage) => (Status::BadWords, None),
         Err(WordsFault::Memory) => (Status::Memory, None),
@@ -90,13 +92,16 @@ pub fn run_alone<S: Source, K: Sink, C: Controller>(
         (sink_facts K.taken K.flushed K.faults sink.old) (sink_facts K.taken K.flushed K.faults sink.new) result.0 }
     ensures spared { SparesAlone job.now result.0 source.old source.new sink.old sink.new }
 {
+    if job.kind == JobKind::Check {
+        return (check_alone(alloc, source, sink, stock.blanks()), None);
+    }
     match read_job(alloc, job.make, source) {
         Ok(document) => do_job(alloc, job, document, sink, stock),
         Err(status) => (status, None),
     }
 }
 
-/// Does a job that is not live, over an accepted document.
+/// Does a job that is not live and no check, over an accepted document.
 fn do_job<K: Sink, C: Controller>(
     alloc: Global,
     job: &Job,
@@ -104,7 +109,7 @@ fn do_job<K: Sink, C: Controller>(
     sink: &mut K,
     stock: Stock<C>,
 ) -> (Status, Option<Book<C>>)
-    requires alone { job.now.kind ≢ JobKind.Live }
+    requires plain { ReadsPlainly job.now.kind }
     requires rules { MeetsRules document.script }
     ensures did { DidJob (answering_of job.now.kind) (task_of job.now stock) document stock
         (record { old = K.taken sink.old; new = K.taken sink.new; flushed = K.flushed sink.new })
@@ -115,7 +120,7 @@ fn do_job<K: Sink, C: Controller>(
     match job.kind {
         JobKind::Upgrade => (upgrade_document(alloc, document, sink), None),
         JobKind::Run | JobKind::Steps => run_document(alloc, *job, document, sink, stock),
-        JobKind::Live => unreachable!(),
+        JobKind::Live | JobKind::Check => unreachable!(),
     }
 }
 

@@ -1,6 +1,7 @@
 //! The job `upgrade`: the description of an accepted document, written as one of the second version.
 
-ghost use Rattle.cm_top.specs.Answering.{upgrading, WroteAnswer};
+ghost use Rattle.cm_model.specs.declared.blanks.Blanks.{Blanks};
+ghost use Rattle.cm_top.specs.Answering.{untraced, upgrading, WroteAnswer};
 ghost use Rattle.cm_top.specs.Calls.Run.{sink_facts, MindsSink};
 ghost use Rattle.cm_top.specs.Status.{Wrote};
 
@@ -14,7 +15,7 @@ use std::alloc::Global;
 
 /// Writes the description of a document as one of the second version, and flushes it. The script is not written.
 pub fn upgrade_document<K: Sink>(alloc: Global, document: Document, sink: &mut K) -> Status
-    ensures wrote { WroteAnswer upgrading document
+    ensures wrote { (blanks : Blanks) → WroteAnswer upgrading blanks (untraced document)
         (record { old = K.taken sink.old; new = K.taken sink.new; flushed = K.flushed sink.new }) result }
     ensures outside { MindsSink (sink_facts K.taken K.flushed K.faults sink.old)
         (sink_facts K.taken K.flushed K.faults sink.new) result }
@@ -29,7 +30,7 @@ pub fn upgrade_document<K: Sink>(alloc: Global, document: Document, sink: &mut K
 }
 
 /// Writes a text, and flushes it.
-fn write<K: Sink>(sink: &mut K, text: &[u8]) -> Status
+pub fn write<K: Sink>(sink: &mut K, text: &[u8]) -> Status
     ensures wrote { Wrote text.now
         (record { old = K.taken sink.old; new = K.taken sink.new; flushed = K.flushed sink.new }) result }
     ensures outside { MindsSink (sink_facts K.taken K.flushed K.faults sink.old)

@@ -7,7 +7,7 @@ use Rattle.cm_words.specs.Accepted.{IsAround, IsListed, word_for}
 use Rattle.cm_words.specs.Words.{asked, given}
 use Rattle.cm_words.specs.declared.job.Job.{Job}
 use Rattle.cm_words.specs.declared.job.JobKind.{JobKind}
-use Rattle.cm_words.specs.declared.job.JobKind.TheVariants.{Run, Steps, Live, Upgrade}
+use Rattle.cm_words.specs.declared.job.JobKind.TheVariants.{Run, Steps, Live, Upgrade, Check}
 use Rattle.cm_words.specs.declared.job.WordsFault.TheVariants.{Usage}
 
 -- ---- Accepted
@@ -27,6 +27,10 @@ live = refl
 upgrade : asked (codes "upgrade" ∷ []) ≡ Ok (record { kind = Upgrade; make = None })
 unfolding given clap_on_literals
 upgrade = refl
+
+check : asked (codes "check" ∷ []) ≡ Ok (record { kind = Check; make = None })
+unfolding given clap_on_literals
+check = refl
 
 -- two hyphens end the options
 run_and_hyphens : asked (codes "run" ∷ codes "--" ∷ []) ≡ Ok (record { kind = Run; make = None })
@@ -61,6 +65,14 @@ hyphens_and_upgrade : asked (codes "--" ∷ codes "upgrade" ∷ []) ≡ Ok (reco
 unfolding given clap_on_literals
 hyphens_and_upgrade = refl
 
+check_and_hyphens : asked (codes "check" ∷ codes "--" ∷ []) ≡ Ok (record { kind = Check; make = None })
+unfolding given clap_on_literals
+check_and_hyphens = refl
+
+hyphens_and_check : asked (codes "--" ∷ codes "check" ∷ []) ≡ Ok (record { kind = Check; make = None })
+unfolding given clap_on_literals
+hyphens_and_check = refl
+
 -- so the words of each job ask for it
 around_accepted : (kind : JobKind) (words : List Text) → IsAround (word_for kind) words → asked words ≡ Ok (record { kind = kind; make = None })
 around_accepted Run words (inl e) = subst (λ (t : List Text). asked t ≡ Ok (record { kind = Run; make = None })) (sym e) run
@@ -75,6 +87,9 @@ around_accepted Live words (inr (inr e)) = subst (λ (t : List Text). asked t �
 around_accepted Upgrade words (inl e) = subst (λ (t : List Text). asked t ≡ Ok (record { kind = Upgrade; make = None })) (sym e) upgrade
 around_accepted Upgrade words (inr (inl e)) = subst (λ (t : List Text). asked t ≡ Ok (record { kind = Upgrade; make = None })) (sym e) hyphens_and_upgrade
 around_accepted Upgrade words (inr (inr e)) = subst (λ (t : List Text). asked t ≡ Ok (record { kind = Upgrade; make = None })) (sym e) upgrade_and_hyphens
+around_accepted Check words (inl e) = subst (λ (t : List Text). asked t ≡ Ok (record { kind = Check; make = None })) (sym e) check
+around_accepted Check words (inr (inl e)) = subst (λ (t : List Text). asked t ≡ Ok (record { kind = Check; make = None })) (sym e) hyphens_and_check
+around_accepted Check words (inr (inr e)) = subst (λ (t : List Text). asked t ≡ Ok (record { kind = Check; make = None })) (sym e) check_and_hyphens
 
 pub listed_accepted : (words : List Text) (job : Job) → IsListed words job → asked words ≡ Ok job
 listed_accepted words job listed =
@@ -121,6 +136,11 @@ making_with_a_zero = refl
 making_an_upgrade : asked (codes "upgrade" ∷ codes "--make" ∷ codes "5" ∷ []) ≡ Err Usage
 unfolding given clap_on_literals
 making_an_upgrade = refl
+
+-- nor does a check
+making_a_check : asked (codes "check" ∷ codes "--make" ∷ codes "5" ∷ []) ≡ Err Usage
+unfolding given clap_on_literals
+making_a_check = refl
 
 no_words : asked [] ≡ Err Usage
 unfolding given clap_on_literals

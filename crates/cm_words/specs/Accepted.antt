@@ -7,7 +7,7 @@ use Rattle.clap.specs.Lexer.{long_of}
 use Rattle.clap.specs.Words.{Text}
 use Rattle.cm_words.specs.declared.job.Job.{Job}
 use Rattle.cm_words.specs.declared.job.JobKind.{JobKind}
-use Rattle.cm_words.specs.declared.job.JobKind.TheVariants.{Run, Steps, Live, Upgrade}
+use Rattle.cm_words.specs.declared.job.JobKind.TheVariants.{Run, Steps, Live, Upgrade, Check}
 
 -- the word of a job
 abbrev pub word_for : JobKind → Text
@@ -15,6 +15,7 @@ word_for Run = codes "run"
 word_for Steps = codes "steps"
 word_for Live = codes "live"
 word_for Upgrade = codes "upgrade"
+word_for Check = codes "check"
 
 -- this word alone, or with two hyphens before it or behind it
 abbrev pub IsAround : Text → List Text → Type 0

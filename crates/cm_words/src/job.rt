@@ -20,14 +20,16 @@ pub enum JobKind {
     Live,
     /// Nothing runs: the description is written as one of the second version.
     Upgrade,
+    /// A stored trace is judged, which stands behind the script.
+    Check,
 }
 
 /// What words ask for.
 #[derive(Clone, Copy, Debug, PartialEq, Eq)]
 pub struct Job {
     pub kind: JobKind,
-    /// Of how many rounds the document is made that is run, from 1 to `MOST_ROUNDS`. Without it the document is read. An upgrade has
-    /// none.
+    /// Of how many rounds the document is made that is run, from 1 to `MOST_ROUNDS`. Without it the document is read. An upgrade and a
+    /// check have none.
     pub make: Option<u32>,
 }
 
@@ -35,7 +37,7 @@ pub struct Job {
 #[derive(Clone, Copy, Debug, PartialEq, Eq, Error)]
 pub enum WordsFault {
     /// They are not accepted.
-    #[error("usage: cm run|steps|live|upgrade [--make N]")]
+    #[error("usage: cm run|steps|live|upgrade|check [--make N]")]
     Usage,
     /// Memory ran out.
     #[error("out of memory")]

@@ -1,6 +1,6 @@
 //! Words, read by a command of `clap`.
 
-ghost use Rattle.std.specs.Prelude.{◌≡◌, ◌≤◌, ◌⊎◌, ◌∷◌, None, codes, map, option_map, string_bytes, IfOk, IfErr, IfSome};
+ghost use Rattle.std.specs.Prelude.{◌≡◌, ◌≤◌, ◌⊎◌, ◌∷◌, false, None, codes, map, option_map, string_bytes, IfOk, IfErr, IfSome};
 ghost use Rattle.std.specs.List.{list_all};
 ghost use Rattle.std.specs.Char.{is_ascii_digit};
 ghost use Rattle.clap.specs.Words.{first_value, found_of, kind_of, Text};
@@ -19,7 +19,7 @@ use std::alloc::Global;
 pub fn asked(alloc: Global, words: &[String]) -> Result<Job, WordsFault>
     ensures answer { Answers WordsFault.Memory (asked (map string_bytes words.now)) result }
     ensures rounds { IfOk result (λ job. IfSome job.make (λ rounds. (1 ≤ rounds) × (rounds ≤ MOST_ROUNDS))) }
-    ensures unmade { IfOk result (λ job. job.kind ≡ JobKind.Upgrade → job.make ≡ None) }
+    ensures unmade { IfOk result (λ job. can_make job.kind ≡ false → job.make ≡ None) }
 {
     let line = line(alloc, words)?;
     let found = read_line(alloc, line.as_slice())?;
@@ -97,6 +97,7 @@ fn kind_named(word: &str) -> Option<JobKind>
         "steps" => Some(JobKind::Steps),
         "live" => Some(JobKind::Live),
         "upgrade" => Some(JobKind::Upgrade),
+        "check" => Some(JobKind::Check),
         _ => None,
     }
 }
@@ -105,7 +106,7 @@ fn kind_named(word: &str) -> Option<JobKind>
 fn job_of(kind: Option<JobKind>, make: Option<&str>) -> Result<Job, WordsFault>
     ensures job { result ≡ job_of kind (option_map (λ t. t.now) make.entry) }
     ensures rounds { IfOk result (λ job. IfSome job.make (λ rounds. (1 ≤ rounds) × (rounds ≤ MOST_ROUNDS))) }
-    ensures unmade { IfOk result (λ job. job.kind ≡ JobKind.Upgrade → job.make ≡ None) }
+    ensures unmade { IfOk result (λ job. can_make job.kind ≡ false → job.make ≡ None) }
 {
     match kind {
         Some(kind) => job_with(kind, make),
@@ -119,7 +120,7 @@ fn can_make(kind: JobKind) -> bool
 {
     match kind {
         JobKind::Run | JobKind::Steps | JobKind::Live => true,
-        JobKind::Upgrade => false,
+        JobKind::Upgrade | JobKind::Check => false,
     }
 }
 
@@ -127,7 +128,7 @@ fn can_make(kind: JobKind) -> bool
 fn job_with(kind: JobKind, make: Option<&str>) -> Result<Job, WordsFault>
     ensures job { result ≡ job_with kind (option_map (λ t. t.now) make.entry) }
     ensures rounds { IfOk result (λ job. IfSome job.make (λ rounds. (1 ≤ rounds) × (rounds ≤ MOST_ROUNDS))) }
-    ensures unmade { IfOk result (λ job. job.kind ≡ JobKind.Upgrade → job.make ≡ None) }
+    ensures unmade { IfOk result (λ job. can_make job.kind ≡ false → job.make ≡ None) }
 {
     let Some(text) = make else {
         return Ok(Job { kind, make: None });

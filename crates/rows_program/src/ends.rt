@@ -5,6 +5,7 @@ use cm_program::report;
 use cm_top::Status;
 use iface_names::{IfaceName, Name};
 use pages_cases::pages::hold_told;
+use sequence::Seq;
 use std::alloc::Global;
 use std::cell::RefCell;
 use std::fmt::Display;
@@ -55,7 +56,7 @@ pub fn end(alloc: Global, status: &Status) -> Result<String, Fail> {
 /// How each status below ends, in their order.
 const ENDS: &str = "\
 0
-2 cm: usage: cm run|steps|live|upgrade [--make N]
+2 cm: usage: cm run|steps|live|upgrade|check [--make N]
 3 cm: description: not_toml
 3 cm: description: bad_key controller[0].rate
 3 cm: description: bad_value component[12].joint[3].command[1]
@@ -79,6 +80,7 @@ const ENDS: &str = "\
 6 cm: document longer than 1048576 bytes
 7 cm: out of memory
 8 cm: write fault
+9 cm: trace: line 12
 ";
 
 #[test]
@@ -175,7 +177,16 @@ fn push_outside(alloc: Global, ends: &mut String) -> Result<(), Fail> {
     push_end(alloc, ends, Status::ReadFault)?;
     push_end(alloc, ends, Status::TooLong)?;
     push_end(alloc, ends, Status::Memory)?;
-    push_end(alloc, ends, Status::WriteFault)
+    push_end(alloc, ends, Status::WriteFault)?;
+    push_end(alloc, ends, not_legal(alloc))
+}
+
+/// A stored trace that goes wrong.
+fn not_legal(alloc: Global) -> Status {
+    Status::NotLegal {
+        line: 12,
+        expected: Seq::new(alloc),
+    }
 }
 
 fn text(alloc: Global, text: &str) -> Result<Text, Fail> {

@@ -4,6 +4,8 @@
 #[cfg(test)]
 mod awaits;
 #[cfg(test)]
+mod checks;
+#[cfg(test)]
 mod console;
 #[cfg(test)]
 mod fallbacks;

@@ -33,6 +33,7 @@ abbrev pub EndsUnread : Status → Type 0
 EndsUnread status.Ok = ⊥
 EndsUnread status.BadWords = ⊥
 EndsUnread status.WriteFault = ⊥
+EndsUnread (status.NotLegal _ _) = ⊥
 EndsUnread _ = Unit {0}
 
 -- Bytes that are short enough were read.

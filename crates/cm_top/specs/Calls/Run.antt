@@ -1,19 +1,20 @@
 -- What a call of `run_alone` promises, and `run` where its words are accepted.
-use Rattle.std.specs.Prelude.{◌≡◌, ◌≢◌, ◌⊎◌, ℕ, ◌+◌, ◌≤◌, List, Option, None, Some, Result, Ok, Err}
+use Rattle.std.specs.Prelude.{◌≡◌, ◌≢◌, ◌⊎◌, ℕ, ◌+◌, ◌≤◌, false, List, Option, None, Some, Result, Ok, Err}
 use Rattle.std.specs.Prelude.{IfOk, IfSome, IsSome}
 use Rattle.std.specs.Io.KnownBytes.{IsAtEnd}
 use Rattle.cm_document.specs.declared.limits.TheConstants.{LONGEST_DOCUMENT}
 use Rattle.outside_io.specs.Bytes.{TakesAtMost}
 use Rattle.outside_io.specs.Faults.{IsToldAs, Rose}
 use Rattle.cm_model.specs.declared.blanks.Blanks.{Blanks}
-use Rattle.cm_words.specs.Words.{asked}
+use Rattle.cm_words.specs.Words.{asked, can_make}
+use Rattle.cm_words.specs.declared.job.JobKind.{JobKind}
 use Rattle.cm_words.specs.declared.job.JobKind.TheVariants as kind
 use Rattle.cm_words.specs.declared.job.TheConstants.{MOST_ROUNDS}
 use Rattle.cm_words.specs.declared.job.WordsFault.{WordsFault}
 use Rattle.cm_words.specs.declared.job.WordsFault.TheVariants.{Usage}
 use Rattle.make_document.specs.Made.{made}
 use Rattle.cm_words.specs.declared.job.Job.{Job}
-use Rattle.cm_top.specs.Answering.{Answering, AnsweredWith, Answers, answering_of}
+use Rattle.cm_top.specs.Answering.{Answering, AnsweredWith, Answers, answering_of, status_for}
 use Rattle.cm_top.specs.Book.{BookFacts, Task, task_of}
 use Rattle.cm_top.specs.Status.{Written, EndedWith, HandsOut, IsPlain, ComesOfBytes, ComesBeforeWriting, status_of}
 use Rattle.cm_top.specs.declared.status.Status.{Status}
@@ -51,12 +52,18 @@ pub record RefusesWords {S K B : Type 0} (words : List (List ℕ)) (source sourc
   pub nothing_written : asked words ≡ Err Usage → sink' ≡ sink
   pub no_book : asked words ≡ Err Usage → book ≡ None
 
+-- A job that one thread does over a document without a trace.
+abbrev pub ReadsPlainly : JobKind → Type 0
+ReadsPlainly kind.Live = ⊥
+ReadsPlainly kind.Check = ⊥
+ReadsPlainly _ = Unit {0}
+
 -- A job that one thread can do: it is not live, and its document, if it is made, has as many rounds as one can have. An
--- upgrade reads its document.
+-- upgrade and a check read theirs.
 pub record CanRunAlone (job : Job) : Type 0 where
   pub alone : job.kind ≢ kind.Live
   pub rounds : IfSome job.make (λ rounds. (1 ≤ rounds) × (rounds ≤ MOST_ROUNDS))
-  pub unmade : job.kind ≡ kind.Upgrade → job.make ≡ None
+  pub unmade : can_make job.kind ≡ false → job.make ≡ None
 
 -- What a run of a job leaves as it was.
 pub record SparesAlone {S K : Type 0} (job : Job) (ended : Status) (source source' : S) (sink sink' : K) : Type 0 where
@@ -140,14 +147,14 @@ RunsFrom (Some rounds) task blanks source source' sink sink' ended book =
 
 -- A job that answers without a book, from this source, before and after, into this sink, before and after, with its
 -- status.
-pub record AnswersFrom (job : Answering) (source source' : SourceFacts) (sink sink' : SinkFacts) (ended : Status)
-    (book : Option BookFacts) : Type 0 where
+pub record AnswersFrom (job : Answering) (blanks : Blanks) (source source' : SourceFacts) (sink sink' : SinkFacts)
+    (ended : Status) (book : Option BookFacts) : Type 0 where
   -- it has no book
   pub no_book : book ≡ None
   -- by the bytes of the source, where they are known
-  pub ran : IfSome source.left (λ bytes. AnsweredWith job bytes (written sink sink') ended)
+  pub ran : IfSome source.left (λ bytes. AnsweredWith job blanks bytes (written sink sink') ended)
   -- whatever the source tells
-  pub answers : Answers job (written sink sink') ended
+  pub answers : Answers job blanks (written sink sink') ended
   -- the words are none of its business
   pub never_words : ended ≡ status.BadWords → ⊥
   -- one that went well has read its source to the end
@@ -156,7 +163,7 @@ pub record AnswersFrom (job : Answering) (source source' : SourceFacts) (sink si
   pub plain : IsPlain ended
   -- Where neither source nor sink had a fault, the bytes alone decide the status, unless memory runs out.
   pub exact : IfSome source.left (λ bytes. ¬ (Rose source.faults source'.faults) → ¬ (Rose sink.faults sink'.faults)
-      → (ended ≡ status_of bytes) ⊎ (ended ≡ status.Memory))
+      → (ended ≡ status_for job blanks bytes) ⊎ (ended ≡ status.Memory))
 
 -- A job, by whether it answers without a book, or else runs.
 abbrev pub DoesJob : Option Answering → Job → Blanks → SourceFacts → SourceFacts → SinkFacts → SinkFacts → Status
@@ -164,7 +171,7 @@ abbrev pub DoesJob : Option Answering → Job → Blanks → SourceFacts → Sou
 DoesJob None job blanks source source' sink sink' ended book =
     RunsFrom job.make (task_of job blanks) blanks source source' sink sink' ended book
 DoesJob (Some answering) job blanks source source' sink sink' ended book =
-    AnswersFrom answering source source' sink sink' ended book
+    AnswersFrom answering blanks source source' sink sink' ended book
 
 abbrev pub RunsJob : Job → Blanks → SourceFacts → SourceFacts → SinkFacts → SinkFacts → Status → Option BookFacts
     → Type 0

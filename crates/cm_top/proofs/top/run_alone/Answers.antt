@@ -1,6 +1,7 @@
 use Rattle.cm_words.specs.declared.job.JobKind.{JobKind}
-use Rattle.cm_words.specs.declared.job.JobKind.TheVariants.{Run, Steps, Live, Upgrade}
-use Rattle.std.proofs.Common.{◌≡◌, ℕ, Option, None, refl}
+use Rattle.cm_words.specs.declared.job.JobKind.TheVariants.{Run, Steps, Live, Upgrade, Check}
+use Rattle.cm_words.specs.Words.{can_make}
+use Rattle.std.proofs.Common.{◌≡◌, ℕ, false, Option, None, refl}
 use Rattle.cm_top.specs.Answering.{answering_of}
 use Rattle.cm_top.specs.Book.{task_of}
 use Rattle.cm_top.proofs.AnswerLemmas.{ReadsItself, did-DoesJob, did-MindsFaults, did-late, unread-DoesJob}
@@ -8,11 +9,12 @@ use Rattle.cm_top.proofs.ReadLemmas.{reads-Rules, unread-MindsFaults}
 use Rattle.cm_top.proofs.top.run_alone.Goals as goal
 
 -- a job that answers without a book reads its document
-itself : (kind : JobKind) (make : Option ℕ) → (kind ≡ Upgrade → make ≡ None) → ReadsItself (answering_of kind) make
-itself Run make unmade = tt
-itself Steps make unmade = tt
-itself Live make unmade = tt
-itself Upgrade make unmade = unmade refl
+itself : (kind : JobKind) (make : Option ℕ) → (kind ≡ Check → ⊥) → (can_make kind ≡ false → make ≡ None) → ReadsItself (answering_of kind) make
+itself Run make other unmade = tt
+itself Steps make other unmade = tt
+itself Live make other unmade = tt
+itself Upgrade make other unmade = unmade refl
+itself Check make other unmade = absurd (other refl)
 
 -- the script of a document that was read meets the rules
 pub do_job-requires-clause-rules : goal.do_job-requires-clause-rules
@@ -21,7 +23,7 @@ do_job-requires-clause-rules g c = reads-Rules _ _ _ _ c.in-Ok.ensures.reads
 -- what is done with it is what the job promises of its source
 pub returns-in-Ok-clause-runs : goal.returns-in-Ok-clause-runs
 returns-in-Ok-clause-runs g c =
-    did-DoesJob (answering_of c.args.job.now.kind) c.args.job.now c.args.stock _ _ _ _ _ _ _ (itself c.args.job.now.kind c.args.job.now.make c.requires.unmade) c.requires.rounds
+    did-DoesJob (answering_of c.args.job.now.kind) c.args.job.now c.args.stock _ _ _ _ _ _ _ (itself c.args.job.now.kind c.args.job.now.make (λ check. ?) c.requires.unmade) c.requires.rounds
     c.in-Ok.ensures.reads c.do_job.ensures.did c.do_job.ensures.outside.write_fault
 
 pub returns-in-Ok-clause-outside : goal.returns-in-Ok-clause-outside
@@ -38,7 +40,7 @@ returns-in-Ok-clause-spared g c = record {
 -- without a document it ends with nothing written
 pub returns-in-Err-clause-runs : goal.returns-in-Err-clause-runs
 returns-in-Err-clause-runs g c =
-    unread-DoesJob (answering_of c.args.job.now.kind) c.args.job.now c.args.stock _ _ _ _ (itself c.args.job.now.kind c.args.job.now.make c.requires.unmade) c.requires.rounds
+    unread-DoesJob (answering_of c.args.job.now.kind) c.args.job.now c.args.stock _ _ _ _ (itself c.args.job.now.kind c.args.job.now.make (λ check. ?) c.requires.unmade) c.requires.rounds
     c.in-Err.ensures.reads c.in-Err.ensures.outside
 
 pub returns-in-Err-clause-outside : goal.returns-in-Err-clause-outside

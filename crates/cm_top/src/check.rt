@@ -1,0 +1,91 @@
+//! The job `check`: the trace that stands behind the script of a document is judged.
+
+ghost use Rattle.std.specs.Prelude.{◌≡◌, ◌≤◌, length, None};
+ghost use Rattle.cm_document.specs.ScriptLaws.{MeetsRules};
+ghost use Rattle.cm_document.specs.declared.document.Document.{Document};
+ghost use Rattle.cm_document.specs.declared.limits.TheConstants.{LONGEST_DOCUMENT};
+ghost use Rattle.cm_top.specs.Answering.{AnsweredWith, checking};
+ghost use Rattle.cm_top.specs.Calls.Check.{ChecksDocument};
+ghost use Rattle.cm_top.specs.Calls.Run.{sink_facts, source_facts, written, AnswersFrom, MindsFaults, MindsSink};
+ghost use Rattle.cm_top.specs.Status.{ComesBeforeWriting};
+
+use crate::document::{Traced, read_traced};
+use crate::status::Status;
+use crate::upgrade::write;
+use cm_document::{DocumentFault, LONGEST_DOCUMENT};
+use cm_model::Blanks;
+use outside_io::{ReadFault, Sink, Source, read_whole};
+use std::alloc::Global;
+use trace_check::{TraceFault, check_trace};
+
+/// Judges the trace in the document of a source over these blanks: it writes `legal`, or nothing.
+pub fn check_alone<S: Source, K: Sink>(
+    alloc: Global,
+    source: &mut S,
+    sink: &mut K,
+    blanks: Blanks,
+) -> Status
+    ensures answers { AnswersFrom checking blanks
+        (source_facts S.left S.faults source.old) (source_facts S.left S.faults source.new)
+        (sink_facts K.taken K.flushed K.faults sink.old) (sink_facts K.taken K.flushed K.faults sink.new)
+        result None }
+    ensures outside { MindsFaults
+        (source_facts S.left S.faults source.old) (source_facts S.left S.faults source.new)
+        (sink_facts K.taken K.flushed K.faults sink.old) (sink_facts K.taken K.flushed K.faults sink.new) result }
+    ensures untouched { ComesBeforeWriting result → sink.new ≡ sink.old }
+{
+    match read_whole(alloc, source, LONGEST_DOCUMENT) {
+        Ok(bytes) => check_bytes(alloc, bytes.as_slice(), sink, &blanks),
+        Err(ReadFault::Failed) => Status::ReadFault,
+        Err(ReadFault::TooLong) => Status::TooLong,
+        Err(ReadFault::Memory) => Status::Memory,
+    }
+}
+
+/// Judges the trace in the document that these bytes are.
+fn check_bytes<K: Sink>(alloc: Global, bytes: &[u8], sink: &mut K, blanks: &Blanks) -> Status
+    requires { length bytes.now ≤ LONGEST_DOCUMENT }
+    ensures answers { AnsweredWith checking blanks.now bytes.now
+        (written (sink_facts K.taken K.flushed K.faults sink.old) (sink_facts K.taken K.flushed K.faults sink.new))
+        result }
+    ensures outside { MindsSink (sink_facts K.taken K.flushed K.faults sink.old)
+        (sink_facts K.taken K.flushed K.faults sink.new) result }
+    ensures untouched { ComesBeforeWriting result → sink.new ≡ sink.old }
+{
+    match read_traced(alloc, bytes) {
+        Ok(traced) => check_document(alloc, &traced, sink, blanks),
+        Err(DocumentFault::Description(problem)) => Status::BadDescription(problem),
+        Err(DocumentFault::Script(fault)) => Status::BadScript(fault),
+        Err(DocumentFault::Memory) => Status::Memory,
+    }
+}
+
+/// Judges the trace of an accepted document.
+fn check_document<K: Sink>(
+    alloc: Global,
+    traced: &Traced<'_>,
+    sink: &mut K,
+    blanks: &Blanks,
+) -> Status
+    requires { (length traced.now.trace.now ≤ LONGEST_DOCUMENT) × MeetsRules traced.now.document.script }
+    ensures checked { ChecksDocument blanks.now
+        (record { document = traced.now.document; trace = traced.now.trace.now })
+        (written (sink_facts K.taken K.flushed K.faults sink.old) (sink_facts K.taken K.flushed K.faults sink.new))
+        result }
+    ensures outside { MindsSink (sink_facts K.taken K.flushed K.faults sink.old)
+        (sink_facts K.taken K.flushed K.faults sink.new) result }
+    ensures untouched { ComesBeforeWriting result → sink.new ≡ sink.old }
+{
+    let document = &traced.document;
+    match check_trace(
+        alloc,
+        &document.description,
+        &document.script,
+        blanks,
+        traced.trace,
+    ) {
+        Ok(()) => write(sink, b"legal\n".as_slice()),
+        Err(TraceFault::NotLegal { line, expected }) => Status::NotLegal { line, expected },
+        Err(TraceFault::Memory) => Status::Memory,
+    }
+}
