@@ -13,7 +13,7 @@ use crate::unkept::Unkept;
 use cm_document::{CtlKind, Description, Document, DocumentFault, LONGEST_DOCUMENT, Script};
 use cm_model::Entry;
 use cm_program::stock::BLANKS;
-use cm_top::{Status, read_document, run_document};
+use cm_top::{Status, Traced, read_document, read_traced, run_document};
 use cm_words::{Job, JobKind};
 use ctl_bcast::Broadcaster;
 use ctl_forward::{Forward, Passthrough};
@@ -23,14 +23,16 @@ use ctl_rack::{Stock, add};
 use ctl_shape::{DifferentialCtl, LimiterCtl, TransmissionCtl};
 use ctl_trait::Controller;
 use ctl_traj::TrajCtl;
-use draw_page::{page_of, whys_of};
+use draw_page::{WrongTrace, page_of, trace_page_of, trace_whys_of, whys_of};
 use fixed_num::Memory;
 use outside_io::{ReadFault, Sink, Source, StdSink, StdSource, read_whole, write_whole};
+use script_text::{bare_line, first_line};
 use std::alloc::Global;
 use std::io::Eprint;
 use std::process::ExitCode;
 use std::rt::Env;
 use std::{env, io};
+use trace_check::{Replayed, replay_over};
 
 mod unkept;
 
@@ -49,10 +51,22 @@ fn main(rt: HostRuntime) -> ExitCode {
 /// What is drawn.
 #[derive(Drop)]
 struct Asked {
-    /// Whether the run is that of `steps`, and not of `run`.
-    in_steps: bool,
+    /// Whose run it is.
+    drawn: Drawn,
     /// What is written of the run.
     form: Form,
+}
+
+/// Whose run is drawn.
+#[derive(Drop)]
+enum Drawn {
+    /// That of `run`, or that of `steps`.
+    Made {
+        /// Whether it is that of `steps`.
+        in_steps: bool,
+    },
+    /// The run that a stored trace tells.
+    Told,
 }
 
 /// What is written of a run.
@@ -143,21 +157,29 @@ fn asked_of<E: Env + AllocGlobal>(rt: &E) -> Result<Asked, Status> {
 /// What these words ask for.
 fn asked_by(alloc: Global, words: &[String]) -> Result<Asked, Status> {
     match words.split_first() {
-        Some((word, others)) if word.as_str() == "run" => asked_named(alloc, false, others),
-        Some((word, others)) if word.as_str() == "steps" => asked_named(alloc, true, others),
-        _ => asked_named(alloc, false, words),
+        Some((word, others)) if word.as_str() == "run" => asked_made(alloc, false, others),
+        Some((word, others)) if word.as_str() == "steps" => asked_made(alloc, true, others),
+        Some((word, others)) if word.as_str() == "check" => {
+            asked_named(alloc, Drawn::Told, others)
+        }
+        _ => asked_made(alloc, false, words),
     }
 }
 
+/// What the words behind a job that makes a run ask for.
+fn asked_made(alloc: Global, in_steps: bool, words: &[String]) -> Result<Asked, Status> {
+    asked_named(alloc, Drawn::Made { in_steps }, words)
+}
+
 /// What the words behind the job ask for.
-fn asked_named(alloc: Global, in_steps: bool, words: &[String]) -> Result<Asked, Status> {
+fn asked_named(alloc: Global, drawn: Drawn, words: &[String]) -> Result<Asked, Status> {
     let form = match words {
         [] => Form::Page(String::new(alloc)),
         [key] if key.as_str() == "--why" => Form::Whys,
         [key, name] if key.as_str() == "--name" => named_page(alloc, name.as_str())?,
         _ => return Err(Status::BadWords),
     };
-    Ok(Asked { in_steps, form })
+    Ok(Asked { drawn, form })
 }
 
 /// A page with this name in its title.
@@ -195,8 +217,25 @@ fn draw_bytes<K: Sink, C: Controller>(
 ) -> Status
     requires { length bytes.now ≤ LONGEST_DOCUMENT }
 {
+    match &asked.drawn {
+        Drawn::Made { in_steps } => draw_made(alloc, asked, *in_steps, bytes, sink, stock),
+        Drawn::Told => draw_traced(alloc, asked, bytes, sink, stock),
+    }
+}
+
+/// Runs the document that these bytes are, and draws its book.
+fn draw_made<K: Sink, C: Controller>(
+    alloc: Global,
+    asked: &Asked,
+    in_steps: bool,
+    bytes: &[u8],
+    sink: &mut K,
+    stock: Stock<C>,
+) -> Status
+    requires { length bytes.now ≤ LONGEST_DOCUMENT }
+{
     match read_document(alloc, bytes) {
-        Ok(document) => draw_document(alloc, asked, document, sink, stock),
+        Ok(document) => draw_document(alloc, asked, in_steps, document, sink, stock),
         Err(DocumentFault::Description(problem)) => Status::BadDescription(problem),
         Err(DocumentFault::Script(fault)) => Status::BadScript(fault),
         Err(DocumentFault::Memory) => Status::Memory,
@@ -221,6 +260,7 @@ fn own_parts(document: &Document) -> Result<Described, Memory> {
 fn draw_document<K: Sink, C: Controller>(
     alloc: Global,
     asked: &Asked,
+    in_steps: bool,
     document: Document,
     sink: &mut K,
     stock: Stock<C>,
@@ -230,7 +270,7 @@ fn draw_document<K: Sink, C: Controller>(
     let Ok(described) = own_parts(&document) else {
         return Status::Memory;
     };
-    let kind = if asked.in_steps {
+    let kind = if in_steps {
         JobKind::Steps
     } else {
         JobKind::Run
@@ -244,6 +284,85 @@ fn draw_document<K: Sink, C: Controller>(
     }
 }
 
+/// Draws the stored trace of the document that these bytes are, as far as it is legal.
+fn draw_traced<K: Sink, C: Controller>(
+    alloc: Global,
+    asked: &Asked,
+    bytes: &[u8],
+    sink: &mut K,
+    stock: Stock<C>,
+) -> Status
+    requires { length bytes.now ≤ LONGEST_DOCUMENT }
+{
+    match read_traced(alloc, bytes) {
+        Ok(traced) => draw_trace(alloc, asked, &traced, sink, stock),
+        Err(DocumentFault::Description(problem)) => Status::BadDescription(problem),
+        Err(DocumentFault::Script(fault)) => Status::BadScript(fault),
+        Err(DocumentFault::Memory) => Status::Memory,
+    }
+}
+
+/// Replays a stored trace over the program's stock, and draws what its lines told.
+fn draw_trace<K: Sink, C: Controller>(
+    alloc: Global,
+    asked: &Asked,
+    traced: &Traced<'_>,
+    sink: &mut K,
+    stock: Stock<C>,
+) -> Status
+    requires short { length traced.now.trace.now ≤ LONGEST_DOCUMENT }
+    requires rules { MeetsRules traced.now.document.script }
+{
+    let Document {
+        description,
+        script,
+    } = &traced.document;
+    let Ok(replay) = replay_over(alloc, description, script, stock, traced.trace) else {
+        return Status::Memory;
+    };
+    let wrong = wrong_of(&replay, traced.trace);
+    let description = description.description();
+    let text = match &asked.form {
+        Form::Page(name) => trace_page_of(
+            alloc,
+            name.as_str(),
+            description,
+            script,
+            replay.told(),
+            wrong,
+        ),
+        Form::Whys => trace_whys_of(alloc, description, script, replay.told(), wrong),
+    };
+    write_text(sink, text)
+}
+
+/// Where a replay goes wrong, with the line that came.
+fn wrong_of<'a, C: Controller>(replay: &'a Replayed<C>, trace: &'a [u8]) -> Option<WrongTrace<'a>> {
+    let Some(wrong) = replay.wrong() else {
+        return None;
+    };
+    Some(WrongTrace {
+        line: wrong.line,
+        came: line_at(trace, wrong.line),
+        expected: wrong.expected.as_slice(),
+    })
+}
+
+/// The line of this number, without its end; nothing past the last.
+fn line_at(text: &[u8], number: u32) -> &[u8] {
+    let mut rest = text;
+    let mut before = 1u32;
+    while !rest.is_empty() {
+        let (line, more) = first_line(rest);
+        if before == number {
+            return bare_line(line);
+        }
+        before = before.saturating_add(1);
+        rest = more;
+    }
+    rest
+}
+
 /// Draws a history or tells it in words, and writes that.
 fn write_page<K: Sink>(
     alloc: Global,
@@ -252,7 +371,12 @@ fn write_page<K: Sink>(
     described: &Described,
     history: &[Entry],
 ) -> Status {
-    let Ok(text) = text_of(alloc, &asked.form, described, history) else {
+    write_text(sink, text_of(alloc, &asked.form, described, history))
+}
+
+/// Writes a text, if there was memory for it.
+fn write_text<K: Sink>(sink: &mut K, text: Result<String, Memory>) -> Status {
+    let Ok(text) = text else {
         return Status::Memory;
     };
     if write_whole(sink, text.as_bytes()).is_err() || sink.flush().is_err() {
@@ -283,7 +407,7 @@ fn report<R: Eprint>(rt: &R, status: &Status) -> u8 {
     match status {
         Status::Ok => {}
         Status::BadWords => {
-            let _ = eprintln!(rt; "cm: usage: draw [run|steps] [--why | --name NAME]");
+            let _ = eprintln!(rt; "cm: usage: draw [run|steps|check] [--why | --name NAME]");
         }
         fault => {
             let _ = eprintln!(rt; "cm: {fault}");

@@ -5,6 +5,7 @@ use crate::curves::{Curves, draw_curves, longest_value};
 use crate::keys::{draw_curve_keys, draw_link_keys, draw_run_keys};
 use crate::style::STYLE;
 use crate::warnings::{draw_warnings, push_warnings};
+use crate::wrong::{WrongTrace, draw_wrong, push_wrong};
 use cm_document::{CtlKind, Description, JointDesc, Script};
 use cm_model::Entry;
 use draw_cycles::{Run, Strip, draw_log, draw_run, push_whys};
@@ -35,7 +36,40 @@ pub fn page_of(
         joints: joints.as_slice(),
         links: links.as_slice(),
     };
-    page_of_linked(alloc, name, linked, script, history)
+    page_of_linked(alloc, name, linked, script, history, None)
+}
+
+/// The page of a stored trace, whose lines tell this history up to the first that is wrong.
+pub fn trace_page_of(
+    alloc: Global,
+    name: &str,
+    description: &Description,
+    script: &Script,
+    history: &[Entry],
+    wrong: Option<WrongTrace<'_>>,
+) -> Result<String, Memory> {
+    let joints = joints_of(alloc, description)?;
+    let links = links_of(alloc, description, joints.as_slice())?;
+    let linked = Linked {
+        description,
+        joints: joints.as_slice(),
+        links: links.as_slice(),
+    };
+    page_of_linked(alloc, name, linked, script, history, wrong)
+}
+
+/// Where a stored trace goes wrong, and what went wrong in the run before it, as lines of plain text.
+pub fn trace_whys_of(
+    alloc: Global,
+    description: &Description,
+    script: &Script,
+    history: &[Entry],
+    wrong: Option<WrongTrace<'_>>,
+) -> Result<String, Memory> {
+    let mut text = String::new(alloc);
+    push_wrong(alloc, &mut text, wrong)?;
+    text.push_str(whys_of(alloc, description, script, history)?.as_str())?;
+    Ok(text)
 }
 
 /// What was not done as asked in a run, or went wrong, as lines of plain text: why, and what would mend it.
@@ -77,10 +111,11 @@ fn page_of_linked<'a>(
     linked: Linked<'a>,
     script: &'a Script,
     history: &'a [Entry],
+    wrong: Option<WrongTrace<'_>>,
 ) -> Result<String, Memory> {
     let columns = Columns::of(linked.description.cycles);
     let replay = Replay::of(alloc, columns, linked, script, history)?;
-    page(alloc, name, linked, columns, &replay)
+    page(alloc, name, linked, columns, &replay, wrong)
 }
 
 fn page(
@@ -89,6 +124,7 @@ fn page(
     linked: Linked<'_>,
     columns: Columns,
     replay: &Replay<'_>,
+    wrong: Option<WrongTrace<'_>>,
 ) -> Result<String, Memory> {
     let joints = joint_courses(alloc, linked, replay)?;
     let limiters = limiter_courses(alloc, linked, replay)?;
@@ -102,6 +138,7 @@ fn page(
     };
     let mut svg = Svg::new(alloc);
     let top = draw_head(alloc, &mut svg, name, linked.description, run.replay.counts)?;
+    let top = draw_wrong(alloc, &mut svg, top, wrong)?;
     let top = draw_warnings(alloc, &mut svg, top, linked.description)?;
     let top = draw(alloc, &mut svg, top, linked, run)?;
     let curves = Curves {
