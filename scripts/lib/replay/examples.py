@@ -1,7 +1,7 @@
 """Answers: does the program print what the examples say?
 
 Each NAME.cm of the folder is run with the words of NAME.cm.args, one a line, or with `run` if there is no such file. Its output must be
-NAME.cm.stdout, its status 0, and standard error empty, but for the two examples that are refused. A live run prints another trace each
+NAME.cm.stdout, its status 0, and standard error empty, but for the examples that are refused. A live run prints another trace each
 time, so what it prints and what is stored (NAME.cm.stdout.2 too) are judged each, as `scripts/replay live` does. With `--write` the output of a document
 that ends with status 0 is stored, if it differs or is not there yet: read it first. That of a live run is stored if there is none.
 Prints a line an example, and last `N passed, M failed`. The exit status is 1 if one failed, or if the folder has no document.
@@ -19,6 +19,8 @@ LIVE = "live"
 REFUSED = {
     "a_float.cm": (3, b"cm: description: float_given component[0].joint[0].vmax\n"),
     "a_wrong_key.cm": (3, b"cm: description: bad_key controller[1].p\n"),
+    "changed_digit.cm": (9, b"cm: trace: line 11\n"),
+    "exchanged_lines.cm": (9, b"cm: trace: line 9\n"),
 }
 
 

@@ -2,8 +2,8 @@
 
 Each document is run live, so many times, and each trace is judged. The program's own job `steps` makes the calls of the trace again, in
 their order: it has to print the same lines, up to the close of the loop. (It goes on otherwise: before its close sessions settle.) Each
-session has to have made the calls that it makes in the job `run`, in their order. Another implementation, if one is named, judges the
-whole trace.
+session has to have made the calls that it makes in the job `run`, in their order. The job `check` judges the whole trace, and so does
+another implementation, if one is named.
 
 The documents are made here: four sessions list, send, wait and switch beside 300 cycles. Every other one comes from the maker of the other
 implementation, if one is named. Last it says how many different traces the documents gave, and how many lines of sessions came while a
@@ -22,7 +22,7 @@ from pathlib import Path
 
 from . import programs
 from .other import JUDGED, STAGE, judge
-from .traces import SEPARATOR, aloft, before_close, calls_of, scheduled
+from .traces import LONGEST, SEPARATOR, aloft, before_close, calls_of, scheduled, with_trace
 
 LIMIT = 60  # seconds; a run takes some hundredths of one
 CYCLES, SESSIONS, LINES, JOINTS = 300, 4, 20, 3
@@ -113,6 +113,15 @@ def reason(program, document, printed):
     return differs_in_steps(program, document, lines) if 2 * len(lines) < MOST_TURNS else None
 
 
+def is_refused(program, document, printed):
+    """How the job `check` refuses what a live run printed, or None. A document with its trace may be too long for it."""
+    text = with_trace(document, printed)
+    if len(text) > LONGEST:
+        return None
+    judged = programs.came([program, "check"], text, LIMIT)
+    return None if (judged.status, judged.printed) == (0, b"legal\n") else f"the job check refuses it: {judged.told[:200]!r}"
+
+
 def finding(program, other, document, came):
     """What is wrong with a live run of the document, or None."""
     if came.status is None:
@@ -120,7 +129,7 @@ def finding(program, other, document, came):
     if came.status or came.told:
         return f"status {came.status} {came.told[:200]!r}"
     disagreement = judge(other)
-    wrong = reason(program, document, came.printed)
+    wrong = reason(program, document, came.printed) or is_refused(program, document, came.printed)
     return wrong or disagreement and disagreement(document, ["live"], JUDGED, came.status, came.printed, came.told)
 
 

@@ -1,7 +1,14 @@
 """A trace as a schedule: the job `steps` makes the calls of a live run again, in their order."""
 
 SEPARATOR = b"--- script ---\n"
+TRACE = b"--- trace ---\n"
+LONGEST = 1_048_576  # bytes of a document, with its trace
 LOOP, CLOSE, TOLD = b"loop ", b"loop close", b"told"
+
+
+def with_trace(document, trace):
+    """A document with this trace behind its script."""
+    return document + (b"" if document.endswith(b"\n") else b"\n") + TRACE + trace
 
 
 def session_of(line):
