@@ -46,8 +46,8 @@ named_by (Some name) lines = with_controller lines name
 abbrev pub with_load : LinesFacts → Entry → LinesFacts
 with_load lines e = named_by (loaded_by e.call e.reply) lines
 
--- A line was replayed behind the history of this job: it told an entry, which the job has made; or it is wrong, and that
--- was to come in its place.
+-- A line was replayed behind the history of this job: it told an entry, which the job has made; or it is wrong, and
+-- that was to come in its place.
 abbrev pub HasReplayedLine : Document → Blanks → List ℕ → JobFacts → JobFacts → LinesFacts → Option (List ℕ)
     → Type 0
 HasReplayedLine document blanks line old new lines None =
