@@ -12,7 +12,7 @@ from pathlib import Path
 from ..tool import Tally
 from . import programs
 from .examples import EXAMPLES, words_of
-from .other import STAGE, judge
+from .other import JUDGED, judge
 from .traces import LONGEST, SEPARATOR, with_trace
 
 MOST_LINES = 40  # of a trace that are changed, spread over all of them
@@ -50,7 +50,7 @@ def fault(program, disagreement, text, least):
     """What is wrong with how this trace is judged, or None."""
     came = programs.ran([program, "check"], text)
     if disagreement:
-        return disagreement(text, ["check"], STAGE, *came)
+        return disagreement(text, ["check"], JUDGED, *came)
     return None if is_right(*came, least) else f"status and line are: {came[0]} {came[2]!r}"
 
 
