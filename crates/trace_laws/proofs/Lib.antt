@@ -8,4 +8,10 @@ pub mod ReplayLemmas
 pub mod JudgeLemmas
 pub mod StockLemmas
 pub mod StockedLemmas
+pub mod SpellingLemmas
+pub mod NamedLemmas
+pub mod CauseTextLemmas
+pub mod StateTextLemmas
+pub mod ReplyTextLemmas
+pub mod SaidLemmas
 pub mod PrintedLemmas
