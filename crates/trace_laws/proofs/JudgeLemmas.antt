@@ -37,7 +37,7 @@ module _ (document : Document) (blanks : Blanks) (rules : MeetsRules document.sc
       let lines : raw_lines text ≡ map (line_in document blanks rules history) history = ap raw_lines prints.printed ∙ lines_are history prints.legal prints.on_its_way in
       ap (replayed document blanks [] 1) lines ∙ replay_tells document blanks rules [] history 1 prints.legal prints.on_its_way
 
-  same_Ok : (a b : List Entry) → Ok {E = WrongLine} a ≡ Ok b → a ≡ b
+  same_Ok : (a b : List Entry) → ◌≡◌ {A = Result (List Entry) WrongLine} (Ok a) (Ok b) → a ≡ b
   same_Ok a b e = cc
 
   pub one_history : (text : List ℕ) (one other : List Entry) → Prints document blanks text one → Prints document blanks text other → one ≡ other
@@ -70,7 +70,7 @@ module _ (document : Document) (blanks : Blanks) (rules : MeetsRules document.sc
     | Some e ↦ replayed document blanks (history ++ e ∷ []) (suc number) lines
   ]
 
-  same_Err : (a b : WrongLine) → Err {A = List Entry} a ≡ Err b → a ≡ b
+  same_Err : (a b : WrongLine) → ◌≡◌ {A = Result (List Entry) WrongLine} (Err a) (Err b) → a ≡ b
   same_Err a b e = cc
 
   ends_here : (line : List ℕ) (lines : List (List ℕ)) (history : List Entry) (number : ℕ) → told_by document blanks history line ≡ None
@@ -122,26 +122,30 @@ module _ (document : Document) (blanks : Blanks) (rules : MeetsRules document.sc
 
   ends_at : (lines : List (List ℕ)) (history : List Entry) (number : ℕ) (wrong : WrongLine) → replayed document blanks history number lines ≡ Err wrong → EndsAt history number lines wrong
   ends_at [] history number wrong replay = cc
-  ends_at (line ∷ lines) history number wrong replay = go (told_by document blanks history line) refl replay
+  ends_at (line ∷ lines) history number wrong replay =
+      go (λ e ends. ends_at lines (history ++ e ∷ []) (suc number) wrong ends) (told_by document blanks history line) refl replay
     where
-      go : (o : Option Entry) → told_by document blanks history line ≡ o → on_line history number line lines o ≡ Err wrong → EndsAt history number (line ∷ lines) wrong
-      go None told ends =
+      go : ((e : Entry) → replayed document blanks (history ++ e ∷ []) (suc number) lines ≡ Err wrong → EndsAt (history ++ e ∷ []) (suc number) lines wrong)
+          → (o : Option Entry) → told_by document blanks history line ≡ o → on_line history number line lines o ≡ Err wrong → EndsAt history number (line ∷ lines) wrong
+      go rest None told ends =
           subst (EndsAt history number (line ∷ lines)) (same_Err (record { line = number; expected = expected_at document blanks history line }) wrong ends)
           (ends_here line lines history number told)
-      go (Some e) told ends = ends_later line lines history number e wrong told (ends_at lines (history ++ e ∷ []) (suc number) wrong ends)
+      go rest (Some e) told ends = ends_later line lines history number e wrong told (rest e ends)
 
   -- each beginning of lines that are replayed is replayed
   all_replayed : (lines : List (List ℕ)) (history h : List Entry) (number : ℕ) → replayed document blanks history number lines ≡ Ok h
       → (count : ℕ) → (g : List Entry) × (replayed document blanks history number (take count lines) ≡ Ok g)
   all_replayed lines history h number replay zero = (history, refl)
   all_replayed [] history h number replay (suc count) = (history, refl)
-  all_replayed (line ∷ lines) history h number replay (suc count) = go (told_by document blanks history line) refl replay
+  all_replayed (line ∷ lines) history h number replay (suc count) =
+      go (λ e replays. all_replayed lines (history ++ e ∷ []) h (suc number) replays count) (told_by document blanks history line) refl replay
     where
-      go : (o : Option Entry) → told_by document blanks history line ≡ o → on_line history number line lines o ≡ Ok h
+      go : ((e : Entry) → replayed document blanks (history ++ e ∷ []) (suc number) lines ≡ Ok h
+          → (g : List Entry) × (replayed document blanks (history ++ e ∷ []) (suc number) (take count lines) ≡ Ok g)) → (o : Option Entry) → told_by document blanks history line ≡ o → on_line history number line lines o ≡ Ok h
           → (g : List Entry) × (on_line history number line (take count lines) (told_by document blanks history line) ≡ Ok g)
-      go None told replays = cc
-      go (Some e) told replays =
-          let its = all_replayed lines (history ++ e ∷ []) h (suc number) replays count in
+      go rest None told replays = cc
+      go rest (Some e) told replays =
+          let its = rest e replays in
           (its.0, ap (on_line history number line (take count lines)) told ∙ its.1)
 
   -- ---- The judgement
@@ -152,7 +156,7 @@ module _ (document : Document) (blanks : Blanks) (rules : MeetsRules document.sc
   through_from : (lines : ℕ) (h : List Entry) → through_behind document lines h ≡ Ok tt → is_through document h ≡ true
   through_from lines h through = either (is_through document h) refl through
     where
-      either : (b : Bool) → is_through document h ≡ b → (if b then Ok tt else Err {A = Unit {0}} (record { line = suc lines; expected = [] })) ≡ Ok tt → is_through document h ≡ true
+      either : (b : Bool) → is_through document h ≡ b → ◌≡◌ {A = Result (Unit {0}) WrongLine} (if b then Ok tt else Err (record { line = suc lines; expected = [] })) (Ok tt) → is_through document h ≡ true
       either true is through = is
       either false is through = cc
 
@@ -223,11 +227,11 @@ module _ (document : Document) (blanks : Blanks) (rules : MeetsRules document.sc
       n : ℕ
       n = length (raw_lines text)
 
-      same_wrong : (a b : WrongLine) → Err {A = Unit {0}} a ≡ Err b → a ≡ b
+      same_wrong : (a b : WrongLine) → ◌≡◌ {A = Result (Unit {0}) WrongLine} (Err a) (Err b) → a ≡ b
       same_wrong a b e = cc
 
       behind : (h : List Entry) (b : Bool) → replayed document blanks [] 1 (raw_lines text) ≡ Ok h → is_through document h ≡ b
-          → (if b then Ok tt else Err (record { line = suc (length (raw_lines text)); expected = [] })) ≡ Err wrong → IsWrong document blanks text wrong
+          → ◌≡◌ {A = Result (Unit {0}) WrongLine} (if b then Ok tt else Err (record { line = suc (length (raw_lines text)); expected = [] })) (Err wrong) → IsWrong document blanks text wrong
       behind h true at through ended = cc
       behind h false at through ended =
           subst (IsWrong document blanks text) (same_wrong (record { line = suc (length (raw_lines text)); expected = [] }) wrong ended) (missing_line text h at through)

@@ -43,6 +43,14 @@ legal_rest (x ∷ xs) ys s legal =
     let first = step_of (step s x.who x.call) x.reply (λ after. LegalFrom after (xs ++ ys)) legal in
     rw (first.1, state_after) (legal_rest xs ys first.0 first.2)
 
+-- a line is its caller, and what stands behind the space
+caller_first : (caller call r : List ℕ) → caller ++ codes " " ++ call ++ codes ": " ++ r ++ codes "\n" ≡ caller ++ (32 ∷ (call ++ codes ": " ++ r ++ codes "\n"))
+caller_first caller call r =
+    ap (λ text. text ++ codes ": " ++ r ++ codes "\n") (append_assoc caller (codes " ") call)
+    ∙ ap (λ text. text ++ r ++ codes "\n") (append_assoc caller (codes " " ++ call) (codes ": "))
+    ∙ ap (λ text. text ++ codes "\n") (append_assoc caller (codes " " ++ call ++ codes ": ") r)
+    ∙ append_assoc caller (codes " " ++ call ++ codes ": " ++ r) (codes "\n")
+
 module _ (document : Document) (blanks : Blanks) (rules : MeetsRules document.script) where
   -- legal for the document over these blanks
   abbrev Legal : List Entry → Type 0
@@ -56,9 +64,10 @@ module _ (document : Document) (blanks : Blanks) (rules : MeetsRules document.sc
 
   line_names : (history : List Entry) (e : Entry) → e.who ≤ length document.script.sessions → caller_named document.script.sessions (first_word (entry_line document history e)) ≡ Some e.who
   line_names history e few =
-      ap (caller_named document.script.sessions)
-      (first_word_is (caller_text document.script.sessions e.who)
-      (call_text e.call ++ codes ": " ++ reply_text (names_in document.description (history ++ e ∷ [])) e.reply ++ codes "\n") (caller_shown document.script rules e.who few))
+      let caller = caller_text document.script.sessions e.who in
+      let r = reply_text (names_in document.description (history ++ e ∷ [])) e.reply in
+      ap (λ text. caller_named document.script.sessions (first_word text)) (caller_first caller (call_text e.call) r)
+      ∙ ap (caller_named document.script.sessions) (first_word_is caller (call_text e.call ++ codes ": " ++ r ++ codes "\n") (caller_shown document.script rules e.who few))
       ∙ caller_is document.script rules e.who few
 
   next_made : (history later : List Entry) (e : Entry) → Legal (history ++ e ∷ later) → IsOnItsWay document (history ++ e ∷ later) → next_entry document blanks history e.who ≡ Some e
@@ -203,15 +212,16 @@ module _ (document : Document) (blanks : Blanks) (rules : MeetsRules document.sc
       let same : history ≡ h = same_Ok history h replay in
       subst (λ (l : List Entry). IsReplayed l (text ++ [])) same (subst (IsReplayed history) (sym (append-nil text)) so_far)
     where
-      same_Ok : (a b : List Entry) → Ok {E = WrongLine} a ≡ Ok b → a ≡ b
+      same_Ok : (a b : List Entry) → ◌≡◌ {A = Result (List Entry) WrongLine} (Ok a) (Ok b) → a ≡ b
       same_Ok a b e = cc
-  replay_is (line ∷ lines) history h number text so_far replay = go (told_by document blanks history line) refl replay
+  replay_is (line ∷ lines) history h number text so_far replay =
+      go (λ e so_far on_it. replay_is lines (history ++ e ∷ []) h (suc number) (text ++ line) so_far on_it) (told_by document blanks history line) refl replay
     where
-      go : (o : Option Entry) → told_by document blanks history line ≡ o → on history number line lines o ≡ Ok h → IsReplayed h (text ++ joined (line ∷ lines))
-      go None told on_it = cc
-      go (Some e) told on_it =
-          subst (IsReplayed h) (append_assoc text line (joined lines))
-          (replay_is lines (history ++ e ∷ []) h (suc number) (text ++ line) (step_more history text line e so_far (telling history line e told)) on_it)
+      go : ((e : Entry) → IsReplayed (history ++ e ∷ []) (text ++ line) → replayed document blanks (history ++ e ∷ []) (suc number) lines ≡ Ok h → IsReplayed h ((text ++ line) ++ joined lines))
+          → (o : Option Entry) → told_by document blanks history line ≡ o → on history number line lines o ≡ Ok h → IsReplayed h (text ++ joined (line ∷ lines))
+      go rest None told on_it = cc
+      go rest (Some e) told on_it =
+          subst (IsReplayed h) (append_assoc text line (joined lines)) (rest e (step_more history text line e so_far (telling history line e told)) on_it)
 
   -- before the first entry
   pub nothing_replayed : IsOnItsWay document [] → IsReplayed [] []

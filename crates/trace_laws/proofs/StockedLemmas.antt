@@ -5,6 +5,7 @@ use Rattle.std.specs.Option.{option_map_or}
 use Rattle.std.proofs.Math.Nat.{le-min, min-eq_right}
 use Rattle.std.proofs.lemmas.Bool.{cases_Bool}
 use Rattle.std.proofs.lemmas.Bool.Decides.{nat_tests}
+use Rattle.std.proofs.lemmas.Option.{same_Some}
 use Rattle.cm_document.specs.Lines.{raw_lines, without_last}
 use Rattle.cm_document.specs.Reading.{◌>>=◌}
 use Rattle.cm_document.specs.ScriptLaws.{MeetsRules}
@@ -26,12 +27,12 @@ use Rattle.trace_laws.proofs.StockLemmas.{stocked, AreEnough, AreAlike, StepAlik
 
 module _ (document : Document) (all some : Blanks) (rules : MeetsRules document.script) where
   -- a history leads to states that are alike for so many loads
-  record LeadsAlike (history : List Entry) (loads : ℕ) : Type 0 where
-    s : State
-    t : State
-    to_s : Leads (boot document.description all (length document.script.sessions)) history s
-    to_t : Leads (boot document.description some (length document.script.sessions)) history t
-    alike : AreAlike loads s t
+  pub record LeadsAlike (history : List Entry) (loads : ℕ) : Type 0 where
+    pub s : State
+    pub t : State
+    pub to_s : Leads (boot document.description all (length document.script.sessions)) history s
+    pub to_t : Leads (boot document.description some (length document.script.sessions)) history t
+    pub alike : AreAlike loads s t
 
   -- an entry of this call with the reply of a step
   abbrev entry_made : ℕ → Call → Option (State × Reply) → Option Entry
@@ -65,10 +66,10 @@ module _ (document : Document) (all some : Blanks) (rules : MeetsRules document.
       here = ap (λ (s : State). step s e.who e.call) (sym leads.to_s.ends) ∙ stepped
 
       go : (o p : Option (State × Reply)) → step leads.s e.who e.call ≡ o → step leads.t e.who e.call ≡ p → StepAlike loads o p → LeadsAlike (history ++ e ∷ []) loads
-      go o p at bt (neither none nor) = let no = sym here ∙ at ∙ none in cc
+      go o p at bt (neither none nor) = let nothing = sym here ∙ at ∙ none in cc
       go o p at bt (both s t r first second alike) =
           let made : Some (s, r) ≡ Some (after, e.reply) = sym (at ∙ first) ∙ here in
-          let reply : r ≡ e.reply = cc in
+          let reply : r ≡ e.reply = ap (λ (p : State × Reply). p.1) (same_Some (s, r) (after, e.reply) made) in
           record {
             s = s;
             t = t;
@@ -88,17 +89,19 @@ module _ (document : Document) (all some : Blanks) (rules : MeetsRules document.
   replay_alike [] history number leads = refl
   replay_alike (line ∷ lines) history number leads =
       let named = named_alike history (length lines) line leads in
-      ap (on_line some history number line lines) (ap (if_it_prints document history line) named) ∙ go (told_by document all history line) refl named
+      ap (on_line some history number line lines) (ap (if_it_prints document history line) named)
+      ∙ go (λ e leads. replay_alike lines (history ++ e ∷ []) (suc number) leads) (told_by document all history line) refl named
     where
-      go : (o : Option Entry) → told_by document all history line ≡ o → entry_named document some history line ≡ entry_named document all history line
+      go : ((e : Entry) → LeadsAlike (history ++ e ∷ []) (length lines)
+          → replayed document some (history ++ e ∷ []) (suc number) lines ≡ replayed document all (history ++ e ∷ []) (suc number) lines) → (o : Option Entry) → told_by document all history line ≡ o → entry_named document some history line ≡ entry_named document all history line
           → on_line some history number line lines (told_by document all history line) ≡ on_line all history number line lines (told_by document all history line)
-      go None told named =
+      go rest None told named =
           let expected : expected_at document some history line ≡ expected_at document all history line =
           ap (λ (o : Option Entry). option_map_or (λ e. without_last 10 (entry_line document history e)) o []) named in
           rw told (ap (λ text. Err (record { line = number; expected = text })) expected)
-      go (Some e) told named =
+      go rest (Some e) told named =
           let tells = telling document all rules history line e told in
-          rw told (replay_alike lines (history ++ e ∷ []) (suc number) (leads_on history (length lines) e tells.after tells.stepped leads))
+          rw told (rest e (leads_on history (length lines) e tells.after tells.stepped leads))
 
   pub judged_alike : (text : List ℕ) → LeadsAlike [] (length (raw_lines text)) → judged document some text ≡ judged document all text
   unfolding judged

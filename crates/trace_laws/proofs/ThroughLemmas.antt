@@ -89,7 +89,7 @@ loop_more cycles es e begins next =
 -- ---- One entry more
 
 -- the entries of another caller stay
-other_split : (k : ℕ) (history : List Entry) (e : Entry) → (e.who == k) ≡ false → entries_by k (history ++ e ∷ []) ≡ entries_by k history
+pub other_split : (k : ℕ) (history : List Entry) (e : Entry) → (e.who == k) ≡ false → entries_by k (history ++ e ∷ []) ≡ entries_by k history
 other_split k history e other = filter-append (λ (each : Entry). each.who == k) history (e ∷ []) ∙ ap (λ (l : List Entry). entries_by k history ++ l) (left_out (e.who == k) other) ∙ append-nil (entries_by k history)
   where
     left_out : (b : Bool) → b ≡ false → (if b then e ∷ [] else []) ≡ []
@@ -222,7 +222,9 @@ whole_through document history whole =
   where
     at : (k : ℕ) (o : Option SessionText) → IfSome o (λ s. Follows s.lines (entries_by k history)) → IfSome o (λ s. next_of_session s.lines (entries_by (0 + k) history) ≡ None)
     at k None follows = tt
-    at k (Some s) follows = follows_through s.lines (entries_by k history) follows
+    at k (Some s) follows =
+        let e : k ≡ 0 + k = omega arith in
+        subst (λ n. next_of_session s.lines (entries_by n history) ≡ None) e (follows_through s.lines (entries_by k history) follows)
 
 -- and one on its way after which nobody has a call left is whole
 pub through_whole : (document : Document) (history : List Entry) → IsOnItsWay document history → is_through document history ≡ true → IsWhole document history
@@ -237,4 +239,6 @@ through_whole document history way through =
   where
     at : (k : ℕ) (o : Option SessionText) → IfSome o (λ s. CanFollow s.lines (entries_by k history)) → IfSome o (λ s. next_of_session s.lines (entries_by (0 + k) history) ≡ None) → IfSome o (λ s. Follows s.lines (entries_by k history))
     at k None can none = tt
-    at k (Some s) can none = through_follows s.lines (entries_by k history) can none
+    at k (Some s) can none =
+        let e : 0 + k ≡ k = omega arith in
+        through_follows s.lines (entries_by k history) can (subst (λ n. next_of_session s.lines (entries_by n history) ≡ None) e none)
