@@ -1,5 +1,5 @@
 -- What is decided names what its request names or what is described, so it prints without a byte that ends a line.
-use Rattle.std.proofs.Common.{◌≡◌, ℕ, zero, suc, Bool, true, false, List, [], ◌∷◌, ◌++◌, length, map, Option, Some, None, inl, inr, refl, sym, subst, arith}
+use Rattle.std.proofs.Common.{ℕ, Bool, true, false, List, [], ◌∷◌, ◌++◌, map, Option, Some, None, refl, arith}
 use Rattle.std.specs.Prelude.{◌==◌, ◌&&◌, ◌||◌, not, if◌then◌else◌, find, filter_map, flat_map, option_map, codes, IfSome}
 use Rattle.std.specs.List.{AllByRecursion, list_any}
 use Rattle.std.specs.Option.{option_map_or}
@@ -13,12 +13,11 @@ use Rattle.cm_document.specs.Picks.{group_of, flat_pick, flat, picked_names}
 use Rattle.cm_document.specs.declared.call.Pick.{Pick}
 use Rattle.cm_document.specs.declared.call.Pick.TheVariants.{One, Group}
 use Rattle.cm_document.specs.declared.call.SwitchRequest.{SwitchRequest}
-use Rattle.cm_document.specs.declared.description.CtlDesc.{CtlDesc}
 use Rattle.cm_document.specs.declared.description.Description.{Description}
 use Rattle.cm_document.specs.declared.description.GroupDesc.{GroupDesc}
 use Rattle.cm_document.specs.declared.life.Life.{Life}
-use Rattle.cm_model.specs.BestEffort.{faulty, faultless, stays, reduced, needed_reference, kept_drop, Joined, joined_with, join, join_all, by_height, joining, best_leaving, best_asked, best, flat_decided, decided}
-use Rattle.cm_model.specs.Boundary.{user_of, life_at, move_fault, with_move_unless, with_move, component_place, with_switch, Concluded, concluded}
+use Rattle.cm_model.specs.BestEffort.{faulty, faultless, stays, reduced, needed_reference, kept_drop, Joined, joined_with, join, join_all, by_height, joining, best, flat_decided, decided}
+use Rattle.cm_model.specs.Boundary.{user_of, life_at, move_fault, with_move_unless, with_move, component_place, with_switch, concluded}
 use Rattle.cm_model.specs.Causes.{cause_text, dropped_text, drops_text, outcome_text}
 use Rattle.cm_model.specs.Claims.{uses}
 use Rattle.cm_model.specs.Commit.{scene_of, described_of}
@@ -163,7 +162,7 @@ faulty_print against words before (One name ∷ picks) all =
     let others = faulty_print against words (before ++ name ∷ []) picks all.1 in of (against before name) (words before name) others
   where
     of : (o : Option Cause) → IfSome o CausePrints → AllByRecursion DroppedPrints (faulty against (before ++ name ∷ []) picks)
-        → AllByRecursion DroppedPrints (elim o [ | Some reason ↦ with_name name reason ∷ faulty against (before ++ name ∷ []) picks | None ↦ faulty against (before ++ name ∷ []) picks ])
+        → AllByRecursion DroppedPrints (elim o [ Some reason ↦ with_name name reason ∷ faulty against (before ++ name ∷ []) picks | None ↦ faulty against (before ++ name ∷ []) picks ])
     of None prints others = others
     of (Some reason) prints others = (record { name = all.0; cause = prints }, others)
 

@@ -1,20 +1,14 @@
 -- How the entries of a session go on: behind each entry that gave a ticket stands its Told, and no Told stands elsewhere.
-use Rattle.std.proofs.Common.{◌≡◌, ℕ, zero, suc, Bool, true, false, List, [], ◌∷◌, ◌++◌, length, drop, map, Option, Some, None, refl, sym, ap, subst, ◌∙◌, inl, inr, append_assoc, append-nil, true≢false}
-use Rattle.std.specs.Prelude.{flat_map, not, slice_get, if◌then◌else◌}
-use Rattle.std.specs.List.{AllByRecursion}
-use Rattle.std.proofs.Math.Seq.{drop-append_seam, drop-length}
+use Rattle.std.proofs.Common.{◌≡◌, ℕ, Bool, true, false, List, [], ◌∷◌, ◌++◌, drop, Option, Some, None, refl, sym, ap, subst, ◌∙◌, inl, inr, true≢false}
+use Rattle.std.specs.Prelude.{flat_map, slice_get, if◌then◌else◌}
 use Rattle.std.proofs.lemmas.Bool.{cases_Bool}
-use Rattle.std.proofs.lemmas.List.{length-map, map-append}
-use Rattle.std.proofs.lemmas.List.Elements.{filter-append}
 use Rattle.std.proofs.lemmas.Option.{same_Some}
 use Rattle.cm_document.specs.declared.call.Call.{Call}
 use Rattle.cm_document.specs.declared.call.Call.TheVariants.{Told}
 use Rattle.cm_model.specs.Scheduled.{ticket_in}
-use Rattle.cm_model.specs.Sessions.{calls_of, is_told, told_of, with_its_told, asked, Follows}
+use Rattle.cm_model.specs.Sessions.{calls_of, is_told, told_of, with_its_told, asked}
 use Rattle.cm_model.specs.declared.entry.Entry.{Entry}
-use Rattle.cm_model.specs.declared.reply.Reply.TheVariants as reply
-use Rattle.trace_laws.specs.Next.{ticket_given, ticket_after, stands_after, next_of_session}
-use Rattle.trace_laws.specs.OnTheWay.{CanFollow}
+use Rattle.trace_laws.specs.Next.{ticket_given, ticket_after}
 
 -- From here on, with this ticket to be told of, the entries go on so: first its Told, then any other call, and behind that again.
 abbrev pub Goes : List Entry → Option ℕ → Type 0

@@ -19,9 +19,9 @@ use Rattle.cm_model.specs.declared.entry.Entry.{Entry}
 use Rattle.trace_laws.specs.Judged.{told_by, replayed, is_through, through_behind, judged}
 use Rattle.trace_laws.specs.Next.{expected_at}
 use Rattle.trace_laws.specs.OnTheWay.{CanFollow, IsOnItsWay}
-use Rattle.trace_laws.specs.Told.{Prints, IsBegun, IsTold, first_lines, WrongLine, GoesWrongAt, IsWrong}
+use Rattle.trace_laws.specs.Told.{Prints, IsTold, first_lines, WrongLine, IsWrong}
 use Rattle.trace_laws.proofs.LineLemmas.{lines_taken}
-use Rattle.trace_laws.proofs.ReplayLemmas.{line_in, text_of, IsReplayed, replay_is, replay_tells, nothing_replayed}
+use Rattle.trace_laws.proofs.ReplayLemmas.{line_in, text_of, replay_is, replay_tells, nothing_replayed}
 use Rattle.trace_laws.proofs.ThroughLemmas.{through_whole, whole_through, written_none}
 use Rattle.trace_laws.proofs.WayLemmas.{stands_can, whole_way}
 

@@ -13,7 +13,7 @@ use Rattle.cm_model.specs.Boundary.{waiting, standing_in, after_standing_in, aft
 use Rattle.cm_model.specs.Commit.{scene_of, commit}
 use Rattle.cm_model.specs.Console.{unless_refused, place_of, slot_of, where_done, with_slot, with_changed, without_slot, after_configure, after_cleanup, after_rate, after_send}
 use Rattle.cm_model.specs.Cycle.{after_cycle}
-use Rattle.cm_model.specs.Machine.{load_refusals, reply_of, with_controller, with_loaded, load_effect, effect}
+use Rattle.cm_model.specs.Machine.{load_refusals, reply_of, with_controller, with_loaded, effect}
 use Rattle.cm_model.specs.Order.{Places}
 use Rattle.cm_model.specs.State.{State, Loaded}
 use Rattle.cm_model.specs.Switches.{Decided, refused, done}

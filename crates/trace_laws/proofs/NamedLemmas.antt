@@ -1,5 +1,5 @@
 -- What is named in a description prints without a byte that ends a line.
-use Rattle.std.proofs.Common.{◌≡◌, ℕ, zero, suc, ◌+◌, List, [], ◌∷◌, ◌++◌, length, map, refl, sym, subst, arith}
+use Rattle.std.proofs.Common.{◌≡◌, ℕ, zero, suc, ◌+◌, List, [], ◌∷◌, ◌++◌, length, map, refl, sym, subst}
 use Rattle.std.specs.Prelude.{take, codes}
 use Rattle.std.specs.List.{AllByRecursion}
 use Rattle.iface_names.specs.Interfaces.{interface_text, kind_word}

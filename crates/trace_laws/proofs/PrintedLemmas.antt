@@ -1,5 +1,5 @@
 -- Each entry prints one line: no byte before its line feed ends a line.
-use Rattle.std.proofs.Common.{◌≡◌, ℕ, zero, suc, ◌≤◌, ◌<◌, List, [], ◌∷◌, ◌++◌, length, map, Option, Some, None, refl, sym, ap, subst, ◌∙◌, arith, append_assoc}
+use Rattle.std.proofs.Common.{◌≡◌, ℕ, ◌≤◌, List, [], ◌∷◌, ◌++◌, length, map, refl, sym, ap, ◌∙◌, append_assoc}
 use Rattle.std.specs.Prelude.{flat_map, codes}
 use Rattle.std.specs.List.{AllByRecursion}
 use Rattle.iface_names.specs.Interfaces.{interface_text}
@@ -20,7 +20,7 @@ use Rattle.cm_model.specs.State.{boot}
 use Rattle.cm_model.specs.Trace.{caller_text, names_in, reply_text, line_text, output}
 use Rattle.cm_model.specs.declared.blanks.Blanks.{Blanks}
 use Rattle.cm_model.specs.declared.entry.Entry.{Entry}
-use Rattle.script_text.proofs.PrintWordLemmas.{IsPrinted, IsPrinted-append, line_then, shown_IsPrinted}
+use Rattle.script_text.proofs.PrintWordLemmas.{IsPrinted, line_then, shown_IsPrinted}
 use Rattle.trace_laws.specs.OnTheWay.{IsOnItsWay}
 use Rattle.trace_laws.proofs.LineLemmas.{caller_shown}
 use Rattle.trace_laws.proofs.NamedLemmas.{DescriptionPrints, valid_prints, joints_print, interfaces_print}

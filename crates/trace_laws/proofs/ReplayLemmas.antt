@@ -1,6 +1,6 @@
 -- Lines that are replayed: those of a history on its way tell it, and what lines tell is such a history.
-use Rattle.std.proofs.Common.{◌≡◌, ℕ, zero, suc, ◌≤◌, ◌<◌, Bool, true, false, List, [], ◌∷◌, ◌++◌, length, map, Option, Some, None, refl, sym, ap, ap₂, subst, ◌∙◌, append_assoc, append-nil, arith, ltb-true}
-use Rattle.std.specs.Prelude.{flat_map, codes, slice_get, option_map, position, if◌then◌else◌, nat_eq, Result, Ok, Err, IsSomeAnd}
+use Rattle.std.proofs.Common.{◌≡◌, ℕ, suc, ◌≤◌, ◌<◌, Bool, true, false, List, [], ◌∷◌, ◌++◌, length, map, Option, Some, None, refl, sym, ap, ap₂, subst, ◌∙◌, append_assoc, append-nil, arith, ltb-true}
+use Rattle.std.specs.Prelude.{flat_map, codes, option_map, position, if◌then◌else◌, nat_eq, Result, Ok, Err}
 use Rattle.std.specs.List.{position_or_len}
 use Rattle.std.specs.Cmp.Lexicographic.{pointwise}
 use Rattle.std.proofs.lemmas.Cmp.{nat_list_eq_equiv}
@@ -13,10 +13,10 @@ use Rattle.cm_document.specs.Lines.{joined}
 use Rattle.cm_document.specs.ScriptLaws.{MeetsRules}
 use Rattle.cm_document.specs.declared.call.Call.{Call}
 use Rattle.cm_document.specs.declared.document.Document.{Document}
-use Rattle.cm_model.proofs.LegalLemmas.{Leads, Leads-step, step_of}
+use Rattle.cm_model.proofs.LegalLemmas.{Leads-step, step_of}
 use Rattle.cm_model.specs.Machine.{LegalFrom, IsLegal, state_after, step}
 use Rattle.cm_model.specs.State.{State, boot}
-use Rattle.cm_model.specs.Trace.{caller_text, line_text, names_in, output, reply_text}
+use Rattle.cm_model.specs.Trace.{caller_text, line_text, names_in, reply_text}
 use Rattle.cm_model.specs.declared.blanks.Blanks.{Blanks}
 use Rattle.cm_model.specs.declared.entry.Entry.{Entry}
 use Rattle.cm_model.specs.declared.reply.Reply.{Reply}

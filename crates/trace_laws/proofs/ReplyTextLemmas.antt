@@ -1,6 +1,6 @@
 -- Each reply along a legal history prints without a byte that ends a line.
 use Rattle.std.proofs.Common.{◌≡◌, ℕ, zero, suc, ◌+◌, Bool, true, false, List, [], ◌∷◌, ◌++◌, length, drop, map, Option, Some, None, ℤ, refl, sym, subst, arith}
-use Rattle.std.specs.Prelude.{if◌then◌else◌, codes, decimal, slice_get, unwrap_or, option_map, flat_map, IfSome}
+use Rattle.std.specs.Prelude.{if◌then◌else◌, codes, decimal, slice_get, unwrap_or, option_map, IfSome}
 use Rattle.std.specs.List.{AllByRecursion}
 use Rattle.std.proofs.lemmas.Option.{same_Some}
 use Rattle.fixed_num.specs.Text.{spelled}
@@ -29,7 +29,7 @@ use Rattle.cm_model.specs.Cycle.{cycle}
 use Rattle.cm_model.specs.Items.{Names, nth_name, component_name, value_text, divisor_text, chained_text, controller_head, controller_text, described_component, component_text, owner_text, held_text, iface_text, failed_text, outs_text, numbers_text, done_text, ran_text, body_text, body_texts, stop_text, record_items}
 use Rattle.cm_model.specs.Machine.{LegalFrom, load_refusals, reply_of, step}
 use Rattle.cm_model.specs.State.{State, Loaded, controller_line, controller_lines, interface_lines, component_lines}
-use Rattle.cm_model.specs.Trace.{why_word, joined, reply_text}
+use Rattle.cm_model.specs.Trace.{why_word, reply_text}
 use Rattle.cm_model.specs.declared.cause.Decision.{Decision}
 use Rattle.cm_model.specs.declared.cause.Outcome.{Outcome}
 use Rattle.cm_model.specs.declared.entry.Entry.{Entry}

@@ -6,12 +6,10 @@ use Rattle.std.proofs.lemmas.Option.{same_Some}
 use Rattle.sequence.proofs.ListLemmas.{all_append, all_at}
 use Rattle.cm_document.specs.CallText.{call_text}
 use Rattle.cm_document.specs.ScriptLaws.{CanBeWritten, IsSession, MeetsRules}
-use Rattle.cm_document.specs.Vocabulary.{verb_word}
 use Rattle.cm_document.specs.declared.call.Call.{Call}
 use Rattle.cm_document.specs.declared.call.Call.TheVariants.{Load, Told, Begin, End, Close}
 use Rattle.cm_document.specs.declared.document.Document.{Document}
 use Rattle.cm_document.specs.declared.script.SessionText.{SessionText}
-use Rattle.cm_document.specs.declared.script.Verb.TheVariants as verb
 use Rattle.cm_model.specs.Scheduled.{next_call}
 use Rattle.cm_model.specs.Sessions.{asked, entries_by, cycle_calls, loop_calls}
 use Rattle.cm_model.specs.Trace.{loaded_by, names_of}
@@ -20,9 +18,9 @@ use Rattle.cm_model.specs.declared.reply.Reply.{Reply}
 use Rattle.cm_model.specs.declared.reply.Reply.TheVariants as reply
 use Rattle.cm_document.proofs.DistinctLemmas.{all_so}
 use Rattle.cm_storage.specs.Kept.{load_name}
-use Rattle.script_text.proofs.PrintCallLemmas.{SaysCall, call_says}
+use Rattle.script_text.proofs.PrintCallLemmas.{call_says}
 use Rattle.script_text.proofs.PrintWordLemmas.{IsPrinted, IsPrinted-append, shown_IsPrinted, spaced, spaced_IsPrinted}
-use Rattle.trace_laws.specs.Next.{ticket_after, next_of_loop, next_past, next_by, next_of}
+use Rattle.trace_laws.specs.Next.{ticket_after, next_of_loop, next_past, next_by}
 use Rattle.trace_laws.specs.OnTheWay.{IsOnItsWay}
 use Rattle.trace_laws.proofs.SpellingLemmas.{word_printed, name_printed, decimal_printed, each_found_so, got_so}
 use Rattle.trace_laws.proofs.StateTextLemmas.{IsSaid, all_drop}

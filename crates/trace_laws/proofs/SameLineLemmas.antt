@@ -1,7 +1,7 @@
 -- An entry of a legal history prints the same however the history goes on.
-use Rattle.std.proofs.Common.{◌≡◌, ℕ, zero, suc, ◌+◌, ◌<◌, ◌≤◌, Bool, true, false, List, [], ◌∷◌, ◌++◌, length, map, Option, Some, None, refl, sym, ap, ap₂, subst, ◌∙◌, arith, append_assoc, append-nil, length-append}
-use Rattle.std.specs.Prelude.{◌==◌, ◌&&◌, not, if◌then◌else◌, codes, slice_get, option_map, filter, find, filter_map, unwrap_or, IfSome}
-use Rattle.std.specs.List.{AllByRecursion, Contains, IsDistinct, cons_option}
+use Rattle.std.proofs.Common.{◌≡◌, ℕ, zero, suc, ◌+◌, ◌<◌, Bool, true, false, List, [], ◌∷◌, ◌++◌, length, map, Option, Some, None, refl, sym, ap, ap₂, subst, ◌∙◌, arith, append_assoc, length-append}
+use Rattle.std.specs.Prelude.{◌&&◌, not, if◌then◌else◌, codes, option_map, filter, find, IfSome}
+use Rattle.std.specs.List.{AllByRecursion, Contains, IsDistinct}
 use Rattle.std.proofs.lemmas.List.Elements.{filter_map-append}
 use Rattle.fixed_num.specs.declared.value.BodyState.{BodyState}
 use Rattle.iface_names.specs.Interfaces.{interface_text}
@@ -10,7 +10,6 @@ use Rattle.cm_document.specs.Links.{joints_of}
 use Rattle.cm_document.specs.Places.{Interface, interfaces_of}
 use Rattle.cm_document.specs.declared.call.Call.{Call}
 use Rattle.cm_document.specs.declared.description.Description.{Description}
-use Rattle.cm_document.specs.declared.document.Document.{Document}
 use Rattle.cm_document.specs.declared.script.SessionText.{SessionText}
 use Rattle.cm_storage.specs.Happened.{Happened}
 use Rattle.cm_storage.specs.Ran.{Ran}
@@ -19,7 +18,7 @@ use Rattle.cm_model.proofs.LegalLemmas.{step_of}
 use Rattle.cm_model.proofs.StayLemmas.{IsStep, step-IsStep}
 use Rattle.cm_model.proofs.UpdateLemmas.{cycle_tells}
 use Rattle.cm_model.specs.Cycle.{active_order, is_due_now, is_held_off, updated_in, must_stop, stops, cycle}
-use Rattle.cm_model.specs.Items.{Names, nth_name, owner_text, value_text, held_text, iface_text, component_text, failed_text, done_text, ran_text, body_text, body_texts, stop_text, record_items}
+use Rattle.cm_model.specs.Items.{Names, nth_name, owner_text, value_text, iface_text, component_text, failed_text, done_text, ran_text, body_text, body_texts, stop_text, record_items}
 use Rattle.cm_model.specs.Machine.{LegalFrom, IsLegal, reply_of, effect, step}
 use Rattle.cm_model.specs.Serials.{serials_of, IsNumbered}
 use Rattle.cm_model.specs.State.{State, Loaded, boot, is_active, owner, claims_name, interface_line, interface_lines_from, component_lines}

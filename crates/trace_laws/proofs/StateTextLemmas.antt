@@ -1,6 +1,6 @@
 -- Along a legal history all that a state tells prints without a byte that ends a line: its requests, their outcomes, and those that stand in.
-use Rattle.std.proofs.Common.{◌≡◌, ℕ, zero, suc, Bool, true, false, List, [], ◌∷◌, ◌++◌, length, drop, map, Option, Some, None, refl, sym, ap, subst, ◌∙◌}
-use Rattle.std.specs.Prelude.{◌==◌, if◌then◌else◌, find, slice_get, option_map, IfSome}
+use Rattle.std.proofs.Common.{◌≡◌, ℕ, zero, suc, List, [], ◌∷◌, ◌++◌, length, drop, map, Option, Some, None, refl, sym, subst}
+use Rattle.std.specs.Prelude.{◌==◌, find, slice_get, option_map}
 use Rattle.std.specs.List.{AllByRecursion}
 use Rattle.std.specs.Option.{option_map_or}
 use Rattle.sequence.proofs.ListLemmas.{all_append, all_push}
@@ -15,7 +15,7 @@ use Rattle.cm_document.specs.declared.life.Life.{Life}
 use Rattle.cm_model.proofs.StayLemmas.{effect-Stands}
 use Rattle.cm_model.proofs.WaitingLemmas.{boundary-requests}
 use Rattle.cm_model.specs.BestEffort.{decided}
-use Rattle.cm_model.specs.Boundary.{waiting, request_effect, with_switch, component_place, move_fault, with_move_unless, with_move, concluded, with_outcome, all_concluded, standing_in, after_standing_in, after_fallbacks, boundary, begin_effect}
+use Rattle.cm_model.specs.Boundary.{waiting, request_effect, with_switch, component_place, move_fault, with_move_unless, with_move, concluded, with_outcome, all_concluded, standing_in, after_standing_in, after_fallbacks, boundary}
 use Rattle.cm_model.specs.Commit.{scene_of, described_of, commit}
 use Rattle.cm_model.specs.Console.{place_of, slot_of, after_configure, after_cleanup, after_rate, after_send, where_done, with_slot, with_changed, without_slot}
 use Rattle.cm_model.specs.Cycle.{erred_in, fallbacks_of, fallbacks_after, cycle, after_cycle}

@@ -1,6 +1,6 @@
 -- States that differ in their blanks alone, of which each has enough for what is to come, make the same steps.
-use Rattle.std.proofs.Common.{◌≡◌, ℕ, zero, suc, ◌+◌, ◌≤◌, Bool, true, false, List, [], ◌∷◌, ◌++◌, Option, Some, None, refl, sym, ap, ap₂, subst, ◌∙◌, inl, inr, ◌⊎◌, arith}
-use Rattle.std.specs.Prelude.{◌==◌, ◌-◌, option_map, slice_get, is_some, if◌then◌else◌, min}
+use Rattle.std.proofs.Common.{◌≡◌, ℕ, suc, ◌≤◌, Bool, true, false, List, [], ◌∷◌, ◌++◌, Option, Some, None, refl, sym, ap, subst, ◌∙◌, inl, inr, ◌⊎◌, arith}
+use Rattle.std.specs.Prelude.{◌==◌, ◌-◌, option_map, slice_get, if◌then◌else◌}
 use Rattle.std.specs.Option.{option_map_or}
 use Rattle.std.proofs.lemmas.Bool.Decides.{nat_tests}
 use Rattle.cm_document.specs.Params.{kind_of, same_controller_kind}
@@ -18,7 +18,7 @@ use Rattle.cm_model.specs.Boundary.{request_effect, Concluded, with_switch, comp
 use Rattle.cm_model.specs.Commit.{scene_of, commit}
 use Rattle.cm_model.specs.Console.{unless_refused, place_of, slot_of, where_done, with_slot, with_changed, without_slot, configured_with, description_of, after_configure, after_cleanup, after_rate, after_send}
 use Rattle.cm_model.specs.Cycle.{CycleResult, cycle, after_cycle, begun}
-use Rattle.cm_model.specs.Machine.{is_enabled, is_sold_out_at, load_refusals, reply_of, with_controller, with_loaded, load_effect, effect, answered, step}
+use Rattle.cm_model.specs.Machine.{is_enabled, load_refusals, reply_of, with_controller, with_loaded, load_effect, effect, answered, step}
 use Rattle.cm_model.specs.Order.{Places}
 use Rattle.cm_model.specs.State.{State, Loaded}
 use Rattle.cm_model.specs.Switches.{Decided, refused, done}

@@ -1,6 +1,6 @@
 -- A text is replayed alike over two stocks of which each has enough for its lines.
-use Rattle.std.proofs.Common.{◌≡◌, ℕ, zero, suc, ◌≤◌, List, [], ◌∷◌, ◌++◌, length, Option, Some, None, refl, sym, ap, subst, ◌∙◌, inl, inr, ◌⊎◌, arith}
-use Rattle.std.specs.Prelude.{option_map, min, nat_le, Result, Ok, Err}
+use Rattle.std.proofs.Common.{◌≡◌, ℕ, suc, ◌≤◌, List, [], ◌∷◌, ◌++◌, length, Option, Some, None, refl, sym, ap, subst, ◌∙◌, inl, inr, ◌⊎◌, arith}
+use Rattle.std.specs.Prelude.{option_map, min, nat_le, Result, Err}
 use Rattle.std.specs.Option.{option_map_or}
 use Rattle.std.proofs.Math.Nat.{le-min, min-eq_right}
 use Rattle.std.proofs.lemmas.Bool.{cases_Bool}
@@ -23,7 +23,7 @@ use Rattle.trace_laws.specs.Next.{caller_named, first_word, next_of, state_of, e
 use Rattle.trace_laws.specs.Stocks.{at_most}
 use Rattle.trace_laws.specs.Told.{WrongLine}
 use Rattle.trace_laws.proofs.ReplayLemmas.{telling}
-use Rattle.trace_laws.proofs.StockLemmas.{stocked, AreEnough, AreAlike, StepAlike, neither, both, counted_at, step_alike}
+use Rattle.trace_laws.proofs.StockLemmas.{AreAlike, StepAlike, neither, both, counted_at, step_alike}
 
 module _ (document : Document) (all some : Blanks) (rules : MeetsRules document.script) where
   -- a history leads to states that are alike for so many loads

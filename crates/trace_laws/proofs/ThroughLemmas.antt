@@ -1,14 +1,12 @@
 -- One entry more on the way, and the end of the way: a history after which nobody has a call left is whole.
-use Rattle.std.proofs.Common.{◌≡◌, ℕ, zero, suc, ◌+◌, ◌≤◌, ◌<◌, Bool, true, false, List, [], ◌∷◌, ◌++◌, length, drop, Option, Some, None, refl, sym, ap, subst, ◌∙◌, inl, inr, append_assoc, append-nil, arith}
-use Rattle.std.specs.Prelude.{◌==◌, ◌&&◌, slice_get, is_none, if◌then◌else◌, IfSome}
+use Rattle.std.proofs.Common.{◌≡◌, ℕ, zero, suc, ◌+◌, ◌≤◌, Bool, true, false, List, [], ◌∷◌, ◌++◌, length, drop, Option, Some, None, refl, sym, ap, subst, ◌∙◌, inl, inr, append_assoc, append-nil, arith}
+use Rattle.std.specs.Prelude.{◌==◌, slice_get, is_none, if◌then◌else◌, IfSome}
 use Rattle.std.specs.List.{AllByRecursion}
 use Rattle.std.proofs.lemmas.Bool.{and_parts, and_from, cases_Bool}
 use Rattle.std.proofs.lemmas.Bool.Decides.{nat_tests}
 use Rattle.std.proofs.lemmas.List.{map-append}
 use Rattle.std.proofs.lemmas.List.Elements.{filter-append}
 use Rattle.std.proofs.lemmas.Option.{same_Some, slice_get_past}
-use Rattle.std.proofs.Math.Seq.{drop-length}
-use Rattle.cm_document.proofs.ReadingLemmas.{cases_Option}
 use Rattle.cm_document.specs.ScriptLaws.{CanBeWritten, IsSession, MeetsRules}
 use Rattle.cm_document.specs.declared.call.Call.{Call}
 use Rattle.cm_document.specs.declared.call.Call.TheVariants.{Told}
@@ -20,8 +18,8 @@ use Rattle.cm_model.specs.declared.entry.Entry.{Entry}
 use Rattle.trace_laws.specs.Judged.{sessions_are_through, is_through}
 use Rattle.trace_laws.specs.Next.{ticket_after, next_of_session, next_of_loop, next_past, next_by, next_of}
 use Rattle.trace_laws.specs.OnTheWay.{BeginsWith, CanFollow, IsOnItsWay}
-use Rattle.trace_laws.proofs.GoesLemmas.{Goes, asked_first, asked_past, goes_from, goes_join, none_left, told_each}
-use Rattle.trace_laws.proofs.WayLemmas.{Stands, HaveNoTold, all_more, calls_split, can_stand, left_lines, own_split, past_all, stands_can}
+use Rattle.trace_laws.proofs.GoesLemmas.{Goes, asked_first, asked_past, goes_join, none_left, told_each}
+use Rattle.trace_laws.proofs.WayLemmas.{Stands, HaveNoTold, all_more, calls_split, can_stand, left_lines, own_split, stands_can}
 
 -- ---- One entry more of a session
 

@@ -1,6 +1,6 @@
 -- Histories on their way: where their sessions stand, what comes next in them, and which of them are whole.
-use Rattle.std.proofs.Common.{◌≡◌, ℕ, zero, suc, ◌≤◌, ◌<◌, Bool, true, false, List, [], ◌∷◌, ◌++◌, length, drop, map, Option, Some, None, refl, sym, ap, subst, ◌∙◌, inl, inr, append_assoc, append-nil, arith}
-use Rattle.std.specs.Prelude.{◌==◌, not, slice_get, filter, if◌then◌else◌, IfSome}
+use Rattle.std.proofs.Common.{◌≡◌, ℕ, ◌≤◌, Bool, true, false, List, [], ◌∷◌, ◌++◌, length, drop, Option, Some, None, refl, sym, ap, subst, ◌∙◌, inl, inr, append_assoc, append-nil, arith}
+use Rattle.std.specs.Prelude.{◌==◌, not, slice_get, if◌then◌else◌, IfSome}
 use Rattle.std.specs.List.{AllByRecursion}
 use Rattle.std.proofs.Math.Seq.{drop-append_seam}
 use Rattle.std.proofs.lemmas.Bool.Decides.{nat_tests}
@@ -15,7 +15,7 @@ use Rattle.cm_model.specs.Scheduled.{next_call}
 use Rattle.cm_model.specs.Sessions.{calls_of, entries_by, is_told, asked, loop_calls, Follows, IsWhole}
 use Rattle.cm_model.specs.declared.entry.Entry.{Entry}
 use Rattle.cm_model.specs.declared.reply.Reply.TheVariants as reply
-use Rattle.trace_laws.specs.Next.{ticket_after, next_of_session, next_of_loop, next_past, next_by, next_of}
+use Rattle.trace_laws.specs.Next.{ticket_after, next_of_session, next_of_loop, next_by, next_of}
 use Rattle.trace_laws.specs.OnTheWay.{BeginsWith, CanFollow, IsOnItsWay}
 use Rattle.trace_laws.proofs.GoesLemmas.{Goes, asked_first, asked_gives, goes_from, told_each, goes_split, goes_join, ticket_past}
 

@@ -1,4 +1,3 @@
-use Rattle.cm_document.specs.declared.document.Document.{Document}
 use Rattle.trace_laws.proofs.SameLineLemmas.{line_stays}
 use Rattle.trace_laws.proofs.lines.an_entry_prints_the_same_however_the_history_goes_on.Goals as goal
 
