@@ -1,2 +1,5 @@
 pub mod LoopCallLemmas
 pub mod SessionStandLemmas
+pub mod NextLemmas
+pub mod LineStepLemmas
+pub mod ReplayLoopLemmas

@@ -1,26 +1,28 @@
 -- What a caller's next call makes of a run: the next entry of that caller, or nothing.
-use Rattle.std.proofs.Common.{◌≡◌, ℕ, zero, suc, ◌+◌, ◌<◌, ◌≤◌, Bool, true, false, List, [], ◌∷◌, ◌++◌, length, drop, slice_set, Option, Some, None, refl, sym, ap, ap₂, subst, ◌∙◌, inl, inr, ◌⊎◌, arith, append-nil}
+use Rattle.std.proofs.Common.{◌≡◌, ℕ, zero, suc, ◌+◌, ◌<◌, ◌≤◌, Bool, true, false, List, [], ◌∷◌, ◌++◌, length, drop, slice_set, Option, Some, None, ltb-true, length-append, refl, sym, ap, ap₂, subst, ◌∙◌, inl, inr, arith}
 use Rattle.std.specs.Prelude.{◌==◌, ◌&&◌, not, nat_lt, slice_get, option_map, position, if◌then◌else◌, IfSome}
 use Rattle.std.specs.List.{AllByRecursion, list_any, position_or_len}
-use Rattle.std.proofs.lemmas.Bool.{cases_Bool, and_parts, true≢false}
+use Rattle.std.proofs.lemmas.Bool.{cases_Bool, eqb-true}
 use Rattle.std.proofs.lemmas.Bool.Decides.{nat_tests}
-use Rattle.std.proofs.lemmas.Option.{cond_some, same_Some, slice_get_past, slice_get_within}
+use Rattle.std.proofs.lemmas.Option.{cond_some, same_Some, slice_get_past}
 use Rattle.iface_names.specs.Names.{same_name}
-use Rattle.cm_document.proofs.ReadingLemmas.{cases_Option}
-use Rattle.cm_document.specs.ScriptLaws.{IsSession, MeetsRules}
+use Rattle.sequence.proofs.ListLemmas.{all_at}
+use Rattle.cm_document.specs.ScriptLaws.{CanBeWritten, IsSession, MeetsRules}
 use Rattle.cm_document.specs.declared.call.Call.{Call}
 use Rattle.cm_document.specs.declared.call.Call.TheVariants.{Load, Configure, Cleanup, Unload, Rate, Send, Switch, Hardware, Told, Await, ListControllers, ListInterfaces, ListComponents, Begin, End, Close}
 use Rattle.cm_document.specs.declared.description.CtlDesc.{CtlDesc}
+use Rattle.cm_document.specs.declared.description.Description.{Description}
 use Rattle.cm_document.specs.declared.document.Document.{Document}
 use Rattle.cm_document.specs.declared.script.SessionText.{SessionText}
 use Rattle.cm_document.specs.declared.script.Turn.TheVariants as turn
 use Rattle.cm_model.proofs.HistoryLemmas.{description_stays, sessions_stay}
+use Rattle.cm_model.proofs.LegalLemmas.{Leads, Leads-step}
 use Rattle.cm_model.proofs.StayLemmas.{IsStep, step-IsStep, effect-SameLoop, boundary-SameLoop}
-use Rattle.cm_model.proofs.WaitingLemmas.{step-enabled}
 use Rattle.cm_model.specs.Commit.{commit}
 use Rattle.cm_model.specs.Console.{unless_refused, place_of}
 use Rattle.cm_model.specs.Cycle.{after_cycle}
-use Rattle.cm_model.specs.Machine.{is_enabled, can_begin, can_end, can_close, load_refusals, reply_of, effect, step, state_after}
+use Rattle.cm_model.specs.Histories.{SameLoop}
+use Rattle.cm_model.specs.Machine.{IsLegal, is_loop, can_close, load_refusals, reply_of, effect, answered, step}
 use Rattle.cm_model.specs.Scheduled.{Session, Advanced, Progress, next_call, after_call, stepped_on, called_on, advance, looped, with_advance, advanced_once, turned, with_entry}
 use Rattle.cm_model.specs.Sessions.{IsConsole, asked, entries_by, loop_calls}
 use Rattle.cm_model.specs.State.{State, boot}
@@ -31,7 +33,7 @@ use Rattle.cm_model.specs.declared.reply.Reply.{Reply}
 use Rattle.cm_model.specs.declared.reply.Reply.TheVariants as reply
 use Rattle.cm_model.specs.declared.reply.Why.TheVariants as why
 use Rattle.desk_turns.specs.Jobs.{loop_call, looped_on}
-use Rattle.trace_laws.proofs.SaidLemmas.{IsSaid}
+use Rattle.trace_laws.proofs.StateTextLemmas.{all_drop}
 use Rattle.trace_laws.specs.Next.{ticket_after, stands_after, next_of_session, next_of_loop, next_by, next_of, state_of, entry_of, next_entry}
 use Rattle.trace_laws.proofs.ThroughLemmas.{other_split, written_none}
 use Rattle.trace_laws.proofs.WayLemmas.{own_split}
@@ -155,10 +157,274 @@ looped_some : (call : Call) (p : Progress) (next : State) (r : Reply) → step p
 unfolding looped
 looped_some call p next r stepped = rw (stepped, looped) refl
 
-long : List Entry → ℕ
-long es = length es
+-- How a caller's next call goes on from a history: it made this entry, which a caller makes next; or nothing.
+pub record HasGone (document : Document) (blanks : Blanks) (history : List Entry) (progress : Progress) (e : Entry) : Type 0 where
+  pub progress_is : progress ≡ progress_at document blanks (history ++ e ∷ [])
+  pub legal : IsLegal document.description blanks (length document.script.sessions) (history ++ e ∷ [])
+  pub looped : LoopStandsAt document blanks (history ++ e ∷ [])
+  pub described : IsDescribed document.description e
 
--- where it is open its next call is the one that the desk makes
-module _ (cycles : ℕ) (s : State) (es : List Entry) (stands : LoopStands cycles s es) (described : s.description.cycles ≡ cycles) where
+abbrev pub GoesSo : Document → Blanks → List Entry → Progress → Option Entry → Type 0
+GoesSo document blanks history progress None = progress ≡ progress_at document blanks history
+GoesSo document blanks history progress (Some e) = HasGone document blanks history progress e
+
+same_progress : (s s' : State) (made : List Entry) (xs xs' : List Session) → s ≡ s' → xs ≡ xs'
+    → ◌≡◌ {A = Progress} (record { state = s; made = made; sessions = xs }) (record { state = s'; made = made; sessions = xs' })
+same_progress s s' made xs xs' e f = rw (e, f) refl
+
+-- ---- The loop's next call
+
+module _ (cycles : ℕ) (s : State) (es : List Entry) (stands : LoopStands cycles s es) (same : s.description.cycles ≡ cycles) where
   calls_made : (aloft closed : Bool) → s.aloft ≡ aloft → s.closed ≡ closed → length es ≡ (s.ended + s.ended) + (one_if aloft + one_if closed)
-  calls_made aloft closed up shut = ap₂ (λ a c. (s.ended + s.ended) + (one_if a + one_if c)) up shut |> (λ same. stands.calls ∙ same)
+  calls_made aloft closed up shut = stands.calls ∙ ap₂ (λ (a : Bool) (c : Bool). (s.ended + s.ended) + (one_if a + one_if c)) up shut
+
+  -- behind the close it has none
+  none_left : s.closed ≡ true → next_of_loop cycles es ≡ None
+  none_left shut =
+      let last = stands.last shut in
+      let calls : length es ≡ (s.ended + s.ended) + (0 + 1) = calls_made false true last.1 shut in
+      let place : length es ≡ (cycles + cycles) + 1 = omega (arith, calls, last.0) in
+      ap (slice_get (loop_calls cycles)) place ∙ none_behind cycles
+
+  -- before it that of the desk
+  one_left : s.closed ≡ false → next_of_loop cycles es ≡ Some (loop_call s)
+  one_left shut = elim (cases_Bool s.aloft) [
+    | inl up ↦
+        let calls : length es ≡ (s.ended + s.ended) + (1 + 0) = calls_made true false up shut in
+        let place : length es ≡ (s.ended + s.ended) + 1 = omega (arith, calls) in
+        rw up (ap (slice_get (loop_calls cycles)) place ∙ end_at cycles s.ended (stands.flying up))
+    | inr down ↦ elim (cases_Bool (nat_lt s.ended s.description.cycles)) [
+        | inl more ↦
+            let calls : length es ≡ (s.ended + s.ended) + (0 + 0) = calls_made false false down shut in
+            let place : length es ≡ s.ended + s.ended = omega (arith, calls) in
+            let less : s.ended < cycles = grind (arith, nat_tests, more, same) in
+            rw (down, more) (ap (slice_get (loop_calls cycles)) place ∙ begin_at cycles s.ended less)
+        | inr none ↦
+            let calls : length es ≡ (s.ended + s.ended) + (0 + 0) = calls_made false false down shut in
+            let past : s.description.cycles ≤ s.ended = grind (arith, nat_tests, none) in
+            let place : length es ≡ cycles + cycles = omega (arith, calls, past, same, stands.within) in
+            rw (down, none) (ap (slice_get (loop_calls cycles)) place ∙ close_at cycles)
+      ]
+  ]
+
+  -- where the loop is closed none of its calls is enabled
+  closed_waits : s.closed ≡ true → (who : ℕ) → step s who (loop_call s) ≡ None
+  unfolding step
+  closed_waits shut who =
+      let last = stands.last shut in
+      let none : nat_lt s.ended s.description.cycles ≡ false = grind (arith, nat_tests, last.0, same) in
+      let cannot : can_close s ≡ false = rw (last.1, shut) refl in
+      rw (last.1, none, cannot) (of (is_loop s who))
+    where
+      of : (b : Bool) → (if b && false then option_map (answered s Close) (reply_of s Close) else None) ≡ None
+      of true = refl
+      of false = refl
+
+  -- a call of the loop leaves it where its entries do
+  loop_on : (e : Entry) (call : Call) (next : State) (r : Reply) → call ≡ loop_call s → s.closed ≡ false → step s s.sessions call ≡ Some (next, r) → LoopStands cycles next (es ++ e ∷ [])
+  loop_on e call next r is shut stepped =
+      let made = step-IsStep s s.sessions call (next, r) stepped in
+      let more : length (es ++ e ∷ []) ≡ length es + 1 = length-append es (e ∷ []) in
+      subst (λ (t : State). LoopStands cycles t (es ++ e ∷ [])) (sym (made.next ∙ ap (λ c. effect s c r) is)) (after more)
+    where
+      after : length (es ++ e ∷ []) ≡ length es + 1 → LoopStands cycles (effect s (loop_call s) r) (es ++ e ∷ [])
+      unfolding after_cycle commit
+      after more = elim (cases_Bool s.aloft) [
+        | inl up ↦
+            let calls : length es ≡ (s.ended + s.ended) + (1 + 0) = calls_made true false up shut in
+            let less = stands.flying up in
+            rw up (record {
+              calls = rw shut (omega (arith, more, calls));
+              within = omega (arith, less);
+              flying = λ no_more. cc;
+              last = λ closed. (let wrong : false ≡ true = sym shut ∙ closed in cc);
+            })
+        | inr down ↦ elim (cases_Bool (nat_lt s.ended s.description.cycles)) [
+            | inl another ↦
+                let calls : length es ≡ (s.ended + s.ended) + (0 + 0) = calls_made false false down shut in
+                let less : s.ended < cycles = grind (arith, nat_tests, another, same) in
+                let stays = boundary-SameLoop s in
+                rw (down, another) (record {
+                  calls = rw (stays.ended, stays.closed, shut) (omega (arith, more, calls));
+                  within = rw stays.ended (omega (arith, less));
+                  flying = λ up. rw stays.ended less;
+                  last = λ closed. (let wrong : false ≡ true = sym shut ∙ (sym stays.closed ∙ closed) in cc);
+                })
+            | inr none ↦
+                let calls : length es ≡ (s.ended + s.ended) + (0 + 0) = calls_made false false down shut in
+                let past : s.description.cycles ≤ s.ended = grind (arith, nat_tests, none) in
+                rw (down, none) (record {
+                  calls = rw down (omega (arith, more, calls));
+                  within = stands.within;
+                  flying = λ up. (let wrong : false ≡ true = sym down ∙ up in cc);
+                  last = λ closed. (omega (arith, past, same, stands.within), down);
+                })
+          ]
+      ]
+
+-- ---- Callers
+
+module _ (document : Document) (blanks : Blanks) (rules : MeetsRules document.script) (history : List Entry)
+    (legal : IsLegal document.description blanks (length document.script.sessions) history) (looped_so : LoopStandsAt document blanks history) where
+  abbrev opening : State
+  opening = boot document.description blanks (length document.script.sessions)
+
+  abbrev now : State
+  now = state_of document blanks history
+
+  many : now.sessions ≡ length document.script.sessions
+  many = sessions_stay history opening
+
+  cycles_same : now.description.cycles ≡ document.description.cycles
+  cycles_same = ap (λ (d : Description). d.cycles) (description_stays history opening)
+
+  leads_on : (who : ℕ) (call : Call) (next : State) (r : Reply) → step now who call ≡ Some (next, r) → Leads opening (history ++ record { who = who; call = call; reply = r } ∷ []) next
+  leads_on who call next r stepped = Leads-step history opening now who call next r (record { legal = legal; ends = refl }) stepped
+
+  entry_described : (who : ℕ) (call : Call) (next : State) (r : Reply) → step now who call ≡ Some (next, r) → IsDescribed document.description (record { who = who; call = call; reply = r })
+  entry_described who call next r stepped =
+      subst (λ (d : Description). IsDescribed d (record { who = who; call = call; reply = r })) (description_stays history opening)
+      (described_entry now who call r (step-IsStep now who call (next, r) stepped).replied)
+
+  -- a session
+  module _ (who : ℕ) (text : SessionText) (at : slice_get document.script.sessions who ≡ Some text) (less : who < length document.script.sessions) (is : IsSession text) where
+    es : List Entry
+    es = entries_by who history
+
+    abbrev stands : Session
+    stands = stands_after text.lines (entries_by who history)
+
+    abbrev advancing : Advanced
+    advancing = record { state = now; made = history; session = stands }
+
+    is_console : (call : Call) → next_call stands.ticket stands.lines ≡ Some call → IsConsole call
+    is_console call next =
+        next_console stands.ticket stands.lines call (all_drop CanBeWritten (length (asked (entries_by who history))) text.lines is.written) next
+
+    session_made : (call : Call) (next : State) (r : Reply) → next_call stands.ticket stands.lines ≡ Some call → step now who call ≡ Some (next, r)
+        → GoesSo document blanks history (with_advance who (progress_at document blanks history) (stepped_on who advancing call (Some (next, r)))) (Some (record { who = who; call = call; reply = r }))
+    session_made call next r its stepped =
+        let e : Entry = record { who = who; call = call; reply = r } in
+        let leads = leads_on who call next r stepped in
+        let n = length document.script.sessions in
+        let made = step-IsStep now who call (next, r) stepped in
+        let stays : SameLoop now next = subst (SameLoop now) (sym made.next) (effect-SameLoop now call r (is_console call its)) in
+        let other : entries_by n (history ++ e ∷ []) ≡ entries_by n history = other_split n history e (differs who n less) in
+        let left : stands_after text.lines (entries_by who history ++ e ∷ []) ≡ after_call stands.ticket stands.lines r =
+        stands_on text.lines (entries_by who history) who call r stands.ticket refl (written_none text.lines is.written) its in
+        let sessions = standing_on 0 document.script.sessions history who text e (after_call stands.ticket stands.lines r) at (omega arith)
+        (subst (λ k. stands_after text.lines (entries_by k history ++ e ∷ []) ≡ after_call stands.ticket stands.lines r) (zero_more who) left) in
+        record {
+          progress_is = same_progress next (state_of document blanks (history ++ e ∷ [])) (history ++ e ∷ []) _ _ (sym leads.ends) (sym sessions);
+          legal = leads.legal;
+          looped =
+              subst (λ (t : State). LoopStands document.description.cycles t (entries_by n (history ++ e ∷ []))) (sym leads.ends)
+              (subst (LoopStands document.description.cycles next) (sym other) (loop_same document.description.cycles now next (entries_by n history) stays looped_so));
+          described = entry_described who call next r stepped;
+        }
+      where
+        zero_more : (k : ℕ) → k ≡ 0 + k
+        zero_more k = omega arith
+
+    by_step : (call : Call) (o : Option (State × Reply)) → next_call stands.ticket stands.lines ≡ Some call → step now who call ≡ o
+        → GoesSo document blanks history (with_advance who (progress_at document blanks history) (stepped_on who advancing call o))
+        (option_map (λ (made : State × Reply). record { who = who; call = call; reply = made.1 }) o)
+    by_step call None its stepped = refl
+    by_step call (Some (next, r)) its stepped = session_made call next r its stepped
+
+    by_call : (o : Option Call) → next_call stands.ticket stands.lines ≡ o
+        → GoesSo document blanks history (with_advance who (progress_at document blanks history) (called_on who advancing o)) (entry_of document blanks history who o)
+    by_call None its = refl
+    by_call (Some call) its = by_step call (step now who call) its refl
+
+    session_goes : GoesSo document blanks history (turned (turn.Step who) (progress_at document blanks history)) (next_entry document blanks history who)
+    unfolding advance
+    session_goes =
+        let stood : slice_get (standing_from 0 document.script.sessions history) who ≡ Some stands =
+        standing_at 0 document.script.sessions history who text at ∙ ap (λ k. Some (stands_after text.lines (entries_by k history))) (zero_less who) in
+        let first : turned (turn.Step who) (progress_at document blanks history) ≡ with_advance who (progress_at document blanks history) (called_on who advancing (next_call stands.ticket stands.lines)) =
+        ap (advanced_once who (progress_at document blanks history)) stood in
+        let second : next_entry document blanks history who ≡ entry_of document blanks history who (next_call stands.ticket stands.lines) =
+        ap (λ (o : Option SessionText). entry_of document blanks history who (next_by document history who o)) at in
+        subst (λ (p : Progress). GoesSo document blanks history p (next_entry document blanks history who)) (sym first)
+        (subst (GoesSo document blanks history (with_advance who (progress_at document blanks history) (called_on who advancing (next_call stands.ticket stands.lines)))) (sym second)
+        (by_call (next_call stands.ticket stands.lines) refl))
+      where
+        zero_less : (k : ℕ) → 0 + k ≡ k
+        zero_less k = omega arith
+
+  -- the loop
+  abbrev n : ℕ
+  n = length document.script.sessions
+
+  loop_made : (next : State) (r : Reply) → now.closed ≡ false → step now now.sessions (loop_call now) ≡ Some (next, r)
+      → HasGone document blanks history (record { state = next; made = with_entry history now.sessions (loop_call now) r; sessions = standing_from 0 document.script.sessions history })
+      (record { who = n; call = loop_call now; reply = r })
+  loop_made next r shut stepped =
+      let e : Entry = record { who = n; call = loop_call now; reply = r } in
+      let own : step now n (loop_call now) ≡ Some (next, r) = ap (λ k. step now k (loop_call now)) (sym many) ∙ stepped in
+      let leads = leads_on n (loop_call now) next r own in
+      let more : entries_by n (history ++ e ∷ []) ≡ entries_by n history ++ e ∷ [] = own_split n history [] e (own_test n) in
+      let sessions = standing_past 0 document.script.sessions history e (λ k less. differs_above n (0 + k) (omega (arith, less))) in
+      record {
+        progress_is =
+            ap (λ k. record { state = next; made = with_entry history k (loop_call now) r; sessions = standing_from 0 document.script.sessions history }) many
+            ∙ same_progress next (state_of document blanks (history ++ e ∷ [])) (history ++ e ∷ []) _ _ (sym leads.ends) (sym sessions);
+        legal = leads.legal;
+        looped =
+            subst (λ (t : State). LoopStands document.description.cycles t (entries_by n (history ++ e ∷ []))) (sym leads.ends)
+            (subst (LoopStands document.description.cycles next) (sym more)
+            (loop_on document.description.cycles now (entries_by n history) looped_so cycles_same e (loop_call now) next r refl shut stepped));
+        described = entry_described n (loop_call now) next r own;
+      }
+
+  loop_by_step : (o : Option (State × Reply)) → now.closed ≡ false → step now now.sessions (loop_call now) ≡ o
+      → GoesSo document blanks history (looped_on (progress_at document blanks history)) (option_map (λ (made : State × Reply). record { who = n; call = loop_call now; reply = made.1 }) o)
+  loop_by_step None shut stepped = looped_none (loop_call now) (progress_at document blanks history) stepped
+  loop_by_step (Some (next, r)) shut stepped =
+      subst (λ (p : Progress). HasGone document blanks history p (record { who = n; call = loop_call now; reply = r }))
+      (sym (looped_some (loop_call now) (progress_at document blanks history) next r stepped)) (loop_made next r shut stepped)
+
+  loop_goes : GoesSo document blanks history (looped_on (progress_at document blanks history)) (entry_of document blanks history n (next_of_loop document.description.cycles (entries_by n history)))
+  loop_goes = elim (cases_Bool now.closed) [
+    | inl shut ↦
+        subst (λ (o : Option Call). GoesSo document blanks history (looped_on (progress_at document blanks history)) (entry_of document blanks history n o))
+        (sym (none_left document.description.cycles now (entries_by n history) looped_so cycles_same shut))
+        (looped_none (loop_call now) (progress_at document blanks history) (closed_waits document.description.cycles now (entries_by n history) looped_so cycles_same shut now.sessions))
+    | inr shut ↦
+        subst (λ (o : Option Call). GoesSo document blanks history (looped_on (progress_at document blanks history)) (entry_of document blanks history n o))
+        (sym (one_left document.description.cycles now (entries_by n history) looped_so cycles_same shut))
+        (subst (λ (o : Option (State × Reply)). GoesSo document blanks history (looped_on (progress_at document blanks history)) (option_map (λ (made : State × Reply). record { who = n; call = loop_call now; reply = made.1 }) o))
+        (ap (λ k. step now k (loop_call now)) many) (loop_by_step (step now now.sessions (loop_call now)) shut refl))
+  ]
+
+  -- A caller that is there goes on so.
+  pub next_goes : (who : ℕ) → who ≤ length document.script.sessions → GoesSo document blanks history (made_next who (progress_at document blanks history)) (next_entry document blanks history who)
+  next_goes who few = elim (cases_Bool (who == now.sessions)) [
+    | inl own ↦
+        let same : who ≡ n = eqb-true who now.sessions own ∙ many in
+        let past : slice_get document.script.sessions n ≡ None = slice_get_past document.script.sessions n (omega arith) in
+        let mine : (n == n) ≡ true = own_test n in
+        let entry : next_entry document blanks history n ≡ entry_of document blanks history n (next_of_loop document.description.cycles (entries_by n history)) =
+        ap (λ (o : Option SessionText). entry_of document blanks history n (next_by document history n o)) past
+        ∙ ap (λ (b : Bool). entry_of document blanks history n (if b then next_of_loop document.description.cycles (entries_by n history) else None)) mine in
+        subst (λ (p : Progress). GoesSo document blanks history p (next_entry document blanks history who)) (sym (chosen own))
+        (subst (λ k. GoesSo document blanks history (looped_on (progress_at document blanks history)) (next_entry document blanks history k)) (sym same)
+        (subst (GoesSo document blanks history (looped_on (progress_at document blanks history))) (sym entry) loop_goes))
+    | inr other ↦
+        let less : who < length document.script.sessions = grind (arith, nat_tests, other, many, few) in
+        let got = slice_get_within_some document.script.sessions who less in
+        subst (λ (p : Progress). GoesSo document blanks history p (next_entry document blanks history who)) (sym (chosen_other other))
+        (session_goes who got.0 got.1 less (all_at IsSession document.script.sessions who got.0 rules.sessions got.1))
+  ]
+    where
+      chosen : (who == now.sessions) ≡ true → made_next who (progress_at document blanks history) ≡ looped_on (progress_at document blanks history)
+      chosen own = ap (λ (b : Bool). if b then looped_on (progress_at document blanks history) else turned (turn.Step who) (progress_at document blanks history)) own
+
+      chosen_other : (who == now.sessions) ≡ false → made_next who (progress_at document blanks history) ≡ turned (turn.Step who) (progress_at document blanks history)
+      chosen_other other = ap (λ (b : Bool). if b then looped_on (progress_at document blanks history) else turned (turn.Step who) (progress_at document blanks history)) other
+
+      slice_get_within_some : (texts : List SessionText) (k : ℕ) → k < length texts → (text : SessionText) × (slice_get texts k ≡ Some text)
+      slice_get_within_some [] k less = absurd (omega (arith, less))
+      slice_get_within_some (t ∷ texts) zero less = (t, refl)
+      slice_get_within_some (t ∷ texts) (suc k) less = slice_get_within_some texts k (omega (arith, less))

@@ -2,6 +2,7 @@
 use Rattle.std.specs.Prelude.{◌≡◌, ℕ, suc, ◌+◌, ◌<◌, ◌≤◌, Bool, true, false, if◌then◌else◌, List, [], ◌∷◌, length}
 use Rattle.cm_document.specs.declared.document.Document.{Document}
 use Rattle.cm_document.specs.declared.script.SessionText.{SessionText}
+use Rattle.cm_model.specs.Machine.{IsLegal}
 use Rattle.cm_model.specs.Scheduled.{Session, Progress}
 use Rattle.cm_model.specs.Sessions.{entries_by}
 use Rattle.cm_model.specs.State.{State, boot}
@@ -48,6 +49,7 @@ LoopStandsAt document blanks history =
 pub record StandsAt (document : Document) (blanks : Blanks) (history : List Entry) (job : JobFacts) : Type 0 where
   pub opening : job.desk.opening ≡ boot document.description blanks (length document.script.sessions)
   pub progress : progress_of job ≡ progress_at document blanks history
+  pub legal : IsLegal document.description blanks (length document.script.sessions) history
   pub looped : LoopStandsAt document blanks history
 
 -- Lines can be made of the next entry behind this history.
