@@ -67,7 +67,7 @@ answered-Answers job blanks bytes w status.ReadFault answered = tt
 answered-Answers job blanks bytes w status.TooLong answered = tt
 answered-Answers job blanks bytes w (status.NotLegal line expected) answered = (bytes, answered)
 
-answer-OfBytes : (job : Answering) (blanks : Blanks) (given : Given) (w : Written) (ended : Status) → WroteAnswer job blanks given w ended → ComesOfBytes ended × IsPlain ended
+pub answer-OfBytes : (job : Answering) (blanks : Blanks) (given : Given) (w : Written) (ended : Status) → WroteAnswer job blanks given w ended → ComesOfBytes ended × IsPlain ended
 answer-OfBytes job blanks given w ended (inl (is, kept)) = rw is (tt, tt)
 answer-OfBytes job blanks given w status.Ok (inr wrote) = (tt, tt)
 answer-OfBytes job blanks given w status.Memory (inr wrote) = (tt, tt)

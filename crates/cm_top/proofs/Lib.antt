@@ -4,3 +4,5 @@ pub mod TopLemmas
 pub mod ReadLemmas
 pub mod AnswerLemmas
 pub mod LiveLemmas
+pub mod CheckLemmas
+pub mod BehindLemmas

@@ -59,6 +59,7 @@ pub struct Behind<'a> {
 }
 
 /// Divides what stands behind the separator of the script at the first separator of a trace.
+#[tactic(auto, using(crate::proofs::BehindLemmas::behind_lines))]
 pub fn divide_behind(bytes: &[u8]) -> Behind<'_>
     ensures script { result.script.now ≡ (behind_of bytes.now).script }
     ensures trace { option_map (λ t. t.now) result.trace ≡ (behind_of bytes.now).trace }

@@ -15,7 +15,7 @@ use Rattle.cm_desk.specs.Desk.{History, now_of, Grows, IsOut, MayLand, IsFlown}
 use Rattle.cm_desk.proofs.BegunLemmas.{may_land}
 use Rattle.rt_flight.specs.Flights.{FlightFacts, IsAloft, IsComputed}
 use Rattle.console_session.specs.Sessions.{left_of}
-use Rattle.desk_turns.specs.Jobs.{JobFacts, progress_of, GoesOn}
+use Rattle.desk_turns.specs.Jobs.{JobFacts, progress_of, GoesOn, loop_call, looped_on}
 use Rattle.cm_model.proofs.HistoryLemmas.{sessions_stay}
 
 -- ---- The loop
@@ -90,3 +90,21 @@ flight_lands h o f is same = subst (λ (k : Option FlightFacts). IfSome k (MayLa
 -- and none is left once it has
 pub flight_gone : (h : History) (o : Option FlightFacts) → o ≡ None → (now_of h).aloft ≡ false → IsFlown h o
 flight_gone h o none down = subst (λ (k : Option FlightFacts). IsFlown h k) (sym none) (record { there = sym down; lands = tt })
+
+-- ---- The loop's next call
+
+-- the loop goes on by its next call
+pub goes_on : (call : Call) (old new : JobFacts) → loop_call (now_of old.desk) ≡ call → GoesOn (looped call) old new → GoesOn looped_on old new
+goes_on call old new is goes = record { opening = goes.opening; moved = goes.moved ∙ ap (λ (c : Call). looped c (progress_of old)) (sym is) }
+
+-- which is the end of the cycle that is aloft,
+pub end_next : (s : State) → s.aloft ≡ true → loop_call s ≡ End s.ended
+end_next s up = rw up refl
+
+-- else the begin of the next one,
+pub begin_next : (s : State) → s.aloft ≡ false → nat_lt s.ended s.description.cycles ≡ true → loop_call s ≡ Begin s.ended
+begin_next s down more = rw (down, more) refl
+
+-- and behind the last the close
+pub close_next : (s : State) → s.aloft ≡ false → nat_lt s.ended s.description.cycles ≡ false → loop_call s ≡ Close
+close_next s down none = rw (down, none) refl
