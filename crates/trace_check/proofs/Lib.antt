@@ -3,3 +3,4 @@ pub mod SessionStandLemmas
 pub mod NextLemmas
 pub mod LineStepLemmas
 pub mod ReplayLoopLemmas
+pub mod WordLemmas

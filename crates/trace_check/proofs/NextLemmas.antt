@@ -2,7 +2,7 @@
 use Rattle.std.proofs.Common.{◌≡◌, ℕ, zero, suc, ◌+◌, ◌<◌, ◌≤◌, Bool, true, false, List, [], ◌∷◌, ◌++◌, length, drop, slice_set, Option, Some, None, ltb-true, length-append, refl, sym, ap, ap₂, subst, ◌∙◌, inl, inr, arith}
 use Rattle.std.specs.Prelude.{◌==◌, ◌&&◌, not, nat_lt, slice_get, option_map, position, if◌then◌else◌, IfSome}
 use Rattle.std.specs.List.{AllByRecursion, list_any, position_or_len}
-use Rattle.std.proofs.lemmas.Bool.{cases_Bool, eqb-true}
+use Rattle.std.proofs.lemmas.Bool.{cases_Bool, eqb-true, le-ltb}
 use Rattle.std.proofs.lemmas.Bool.Decides.{nat_tests}
 use Rattle.std.proofs.lemmas.Option.{cond_some, same_Some, slice_get_past}
 use Rattle.iface_names.specs.Names.{same_name}
@@ -32,6 +32,7 @@ use Rattle.cm_model.specs.declared.entry.Entry.{Entry}
 use Rattle.cm_model.specs.declared.reply.Reply.{Reply}
 use Rattle.cm_model.specs.declared.reply.Reply.TheVariants as reply
 use Rattle.cm_model.specs.declared.reply.Why.TheVariants as why
+use Rattle.desk_turns.proofs.JobLemmas.{begin_next, close_next, end_next}
 use Rattle.desk_turns.specs.Jobs.{loop_call, looped_on}
 use Rattle.trace_laws.proofs.StateTextLemmas.{all_drop}
 use Rattle.trace_laws.specs.Next.{ticket_after, stands_after, next_of_session, next_of_loop, next_by, next_of, state_of, entry_of, next_entry}
@@ -174,6 +175,19 @@ same_progress s s' made xs xs' e f = rw (e, f) refl
 
 -- ---- The loop's next call
 
+cannot_close : (aloft closed : Bool) → closed ≡ true → (not aloft && not closed) ≡ false
+cannot_close true closed shut = refl
+cannot_close false closed shut = ap not shut
+
+close_none : (s : State) (who : ℕ) → can_close s ≡ false → step s who Close ≡ None
+unfolding step
+close_none s who cannot = of (is_loop s who) (can_close s) cannot
+  where
+    of : (b c : Bool) → c ≡ false → (if b && c then option_map (answered s Close) (reply_of s Close) else None) ≡ None
+    of true true cannot = cc
+    of true false cannot = refl
+    of false c cannot = refl
+
 module _ (cycles : ℕ) (s : State) (es : List Entry) (stands : LoopStands cycles s es) (same : s.description.cycles ≡ cycles) where
   calls_made : (aloft closed : Bool) → s.aloft ≡ aloft → s.closed ≡ closed → length es ≡ (s.ended + s.ended) + (one_if aloft + one_if closed)
   calls_made aloft closed up shut = stands.calls ∙ ap₂ (λ (a : Bool) (c : Bool). (s.ended + s.ended) + (one_if a + one_if c)) up shut
@@ -192,75 +206,73 @@ module _ (cycles : ℕ) (s : State) (es : List Entry) (stands : LoopStands cycle
     | inl up ↦
         let calls : length es ≡ (s.ended + s.ended) + (1 + 0) = calls_made true false up shut in
         let place : length es ≡ (s.ended + s.ended) + 1 = omega (arith, calls) in
-        rw up (ap (slice_get (loop_calls cycles)) place ∙ end_at cycles s.ended (stands.flying up))
-    | inr down ↦ elim (cases_Bool (nat_lt s.ended s.description.cycles)) [
-        | inl more ↦
-            let calls : length es ≡ (s.ended + s.ended) + (0 + 0) = calls_made false false down shut in
-            let place : length es ≡ s.ended + s.ended = omega (arith, calls) in
-            let less : s.ended < cycles = grind (arith, nat_tests, more, same) in
-            rw (down, more) (ap (slice_get (loop_calls cycles)) place ∙ begin_at cycles s.ended less)
-        | inr none ↦
-            let calls : length es ≡ (s.ended + s.ended) + (0 + 0) = calls_made false false down shut in
-            let past : s.description.cycles ≤ s.ended = grind (arith, nat_tests, none) in
-            let place : length es ≡ cycles + cycles = omega (arith, calls, past, same, stands.within) in
-            rw (down, none) (ap (slice_get (loop_calls cycles)) place ∙ close_at cycles)
-      ]
+        ap (slice_get (loop_calls cycles)) place ∙ end_at cycles s.ended (stands.flying up) ∙ ap (λ (c : Call). Some c) (sym (end_next s up))
+    | inr down ↦
+        let calls : length es ≡ (s.ended + s.ended) + (0 + 0) = calls_made false false down shut in
+        elim (cases_Bool (nat_lt s.ended s.description.cycles)) [
+          | inl more ↦
+              let within = ltb-true s.ended s.description.cycles more in
+              let place : length es ≡ s.ended + s.ended = omega (arith, calls) in
+              ap (slice_get (loop_calls cycles)) place ∙ begin_at cycles s.ended (omega (arith, within, same)) ∙ ap (λ (c : Call). Some c) (sym (begin_next s down more))
+          | inr none ↦
+              let past : s.description.cycles ≤ s.ended = grind (arith, nat_tests, none) in
+              let place : length es ≡ cycles + cycles = omega (arith, calls, past, same, stands.within) in
+              ap (slice_get (loop_calls cycles)) place ∙ close_at cycles ∙ ap (λ (c : Call). Some c) (sym (close_next s down none))
+        ]
   ]
 
   -- where the loop is closed none of its calls is enabled
   closed_waits : s.closed ≡ true → (who : ℕ) → step s who (loop_call s) ≡ None
-  unfolding step
   closed_waits shut who =
       let last = stands.last shut in
-      let none : nat_lt s.ended s.description.cycles ≡ false = grind (arith, nat_tests, last.0, same) in
-      let cannot : can_close s ≡ false = rw (last.1, shut) refl in
-      rw (last.1, none, cannot) (of (is_loop s who))
-    where
-      of : (b : Bool) → (if b && false then option_map (answered s Close) (reply_of s Close) else None) ≡ None
-      of true = refl
-      of false = refl
+      let none : nat_lt s.ended s.description.cycles ≡ false = le-ltb s.ended s.description.cycles (omega (arith, last.0, same)) in
+      ap (step s who) (close_next s last.1 none) ∙ close_none s who (cannot_close s.aloft s.closed shut)
 
   -- a call of the loop leaves it where its entries do
-  loop_on : (e : Entry) (call : Call) (next : State) (r : Reply) → call ≡ loop_call s → s.closed ≡ false → step s s.sessions call ≡ Some (next, r) → LoopStands cycles next (es ++ e ∷ [])
-  loop_on e call next r is shut stepped =
-      let made = step-IsStep s s.sessions call (next, r) stepped in
+  loop_after : (e : Entry) (r : Reply) → s.closed ≡ false → LoopStands cycles (effect s (loop_call s) r) (es ++ e ∷ [])
+  unfolding after_cycle commit
+  loop_after e r shut =
       let more : length (es ++ e ∷ []) ≡ length es + 1 = length-append es (e ∷ []) in
-      subst (λ (t : State). LoopStands cycles t (es ++ e ∷ [])) (sym (made.next ∙ ap (λ c. effect s c r) is)) (after more)
-    where
-      after : length (es ++ e ∷ []) ≡ length es + 1 → LoopStands cycles (effect s (loop_call s) r) (es ++ e ∷ [])
-      unfolding after_cycle commit
-      after more = elim (cases_Bool s.aloft) [
+      elim (cases_Bool s.aloft) [
         | inl up ↦
             let calls : length es ≡ (s.ended + s.ended) + (1 + 0) = calls_made true false up shut in
             let less = stands.flying up in
-            rw up (record {
-              calls = rw shut (omega (arith, more, calls));
+            let long : length (es ++ e ∷ []) ≡ ((s.ended + 1) + (s.ended + 1)) + (0 + 0) = omega (arith, more, calls) in
+            subst (λ (c : Call). LoopStands cycles (effect s c r) (es ++ e ∷ [])) (sym (end_next s up)) (record {
+              calls = subst (λ (c : Bool). length (es ++ e ∷ []) ≡ ((s.ended + 1) + (s.ended + 1)) + (0 + one_if c)) (sym shut) long;
               within = omega (arith, less);
               flying = λ no_more. cc;
               last = λ closed. (let wrong : false ≡ true = sym shut ∙ closed in cc);
             })
-        | inr down ↦ elim (cases_Bool (nat_lt s.ended s.description.cycles)) [
-            | inl another ↦
-                let calls : length es ≡ (s.ended + s.ended) + (0 + 0) = calls_made false false down shut in
-                let less : s.ended < cycles = grind (arith, nat_tests, another, same) in
-                let stays = boundary-SameLoop s in
-                rw (down, another) (record {
-                  calls = rw (stays.ended, stays.closed, shut) (omega (arith, more, calls));
-                  within = rw stays.ended (omega (arith, less));
-                  flying = λ up. rw stays.ended less;
-                  last = λ closed. (let wrong : false ≡ true = sym shut ∙ (sym stays.closed ∙ closed) in cc);
-                })
-            | inr none ↦
-                let calls : length es ≡ (s.ended + s.ended) + (0 + 0) = calls_made false false down shut in
-                let past : s.description.cycles ≤ s.ended = grind (arith, nat_tests, none) in
-                rw (down, none) (record {
-                  calls = rw down (omega (arith, more, calls));
-                  within = stands.within;
-                  flying = λ up. (let wrong : false ≡ true = sym down ∙ up in cc);
-                  last = λ closed. (omega (arith, past, same, stands.within), down);
-                })
-          ]
+        | inr down ↦
+            let calls : length es ≡ (s.ended + s.ended) + (0 + 0) = calls_made false false down shut in
+            elim (cases_Bool (nat_lt s.ended s.description.cycles)) [
+              | inl another ↦
+                  let within = ltb-true s.ended s.description.cycles another in
+                  let less : s.ended < cycles = omega (arith, within, same) in
+                  let stays = boundary-SameLoop s in
+                  let long : length (es ++ e ∷ []) ≡ (s.ended + s.ended) + (1 + 0) = omega (arith, more, calls) in
+                  subst (λ (c : Call). LoopStands cycles (effect s c r) (es ++ e ∷ [])) (sym (begin_next s down another)) (record {
+                    calls = long ∙ ap₂ (λ (k : ℕ) (c : Bool). (k + k) + (1 + one_if c)) (sym stays.ended) (sym (stays.closed ∙ shut));
+                    within = subst (λ k. k ≤ cycles) (sym stays.ended) stands.within;
+                    flying = λ up. subst (λ k. k < cycles) (sym stays.ended) less;
+                    last = λ closed. (let wrong : false ≡ true = sym shut ∙ (sym stays.closed ∙ closed) in cc);
+                  })
+              | inr none ↦
+                  let past : s.description.cycles ≤ s.ended = grind (arith, nat_tests, none) in
+                  let long : length (es ++ e ∷ []) ≡ (s.ended + s.ended) + (0 + 1) = omega (arith, more, calls) in
+                  subst (λ (c : Call). LoopStands cycles (effect s c r) (es ++ e ∷ [])) (sym (close_next s down none)) (record {
+                    calls = subst (λ (a : Bool). length (es ++ e ∷ []) ≡ (s.ended + s.ended) + (one_if a + 1)) (sym down) long;
+                    within = stands.within;
+                    flying = λ up. (let wrong : false ≡ true = sym down ∙ up in cc);
+                    last = λ closed. (omega (arith, past, same, stands.within), down);
+                  })
+            ]
       ]
+
+  loop_on : (e : Entry) (next : State) (r : Reply) → s.closed ≡ false → step s s.sessions (loop_call s) ≡ Some (next, r) → LoopStands cycles next (es ++ e ∷ [])
+  loop_on e next r shut stepped =
+      subst (λ (t : State). LoopStands cycles t (es ++ e ∷ [])) (sym (step-IsStep s s.sessions (loop_call s) (next, r) stepped).next) (loop_after e r shut)
 
 -- ---- Callers
 
@@ -288,9 +300,6 @@ module _ (document : Document) (blanks : Blanks) (rules : MeetsRules document.sc
 
   -- a session
   module _ (who : ℕ) (text : SessionText) (at : slice_get document.script.sessions who ≡ Some text) (less : who < length document.script.sessions) (is : IsSession text) where
-    es : List Entry
-    es = entries_by who history
-
     abbrev stands : Session
     stands = stands_after text.lines (entries_by who history)
 
@@ -374,7 +383,7 @@ module _ (document : Document) (blanks : Blanks) (rules : MeetsRules document.sc
         looped =
             subst (λ (t : State). LoopStands document.description.cycles t (entries_by n (history ++ e ∷ []))) (sym leads.ends)
             (subst (LoopStands document.description.cycles next) (sym more)
-            (loop_on document.description.cycles now (entries_by n history) looped_so cycles_same e (loop_call now) next r refl shut stepped));
+            (loop_on document.description.cycles now (entries_by n history) looped_so cycles_same e next r shut stepped));
         described = entry_described n (loop_call now) next r own;
       }
 
