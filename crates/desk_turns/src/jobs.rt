@@ -8,7 +8,7 @@ ghost use Rattle.cm_model.specs.Scheduled.{settle, settle_from, start, cycles, f
 ghost use Rattle.cm_model.specs.State.{boot};
 ghost use Rattle.cm_desk.specs.Desk.{IsRight, now_of};
 ghost use Rattle.console_session.specs.Sessions.{AreLines, left_of};
-ghost use Rattle.desk_turns.specs.Jobs.{AreAtFirst, AreSessionsOf, IsSameDesk, at, progress_of};
+ghost use Rattle.desk_turns.specs.Jobs.{AreAtFirst, AreSessionsOf, IsSameDesk, are_through, at, progress_of};
 
 use crate::port::DeskPort;
 use cm_desk::Desk;
@@ -46,7 +46,7 @@ impl<C: Controller> RunningJob<C> {
     ghost use Rattle.cm_model.specs.Machine.{can_begin, can_end, can_close};
     ghost use Rattle.cm_model.specs.Scheduled.{settle_all, looped, with_cycle};
     ghost use Rattle.std.specs.Prelude.{◌&&◌};
-    ghost use Rattle.desk_turns.specs.Jobs.{GoesOn, are_through, looped_on};
+    ghost use Rattle.desk_turns.specs.Jobs.{GoesOn, looped_on};
 
     /// No session has made a line yet.
     #[tactic(auto, unfolding(cm_model::specs::Scheduled::start))]
@@ -190,7 +190,7 @@ impl<C: Controller> RunningJob<C> {
     pub fn is_through(&self) -> bool
         ensures { result ≡ are_through self.now.sessions && (now_of self.now.desk).closed }
     {
-        self.sessions.iter().all(|session| session.ended()) && self.desk.closed()
+        are_ended(self.sessions.as_slice()) && self.desk.closed()
     }
 
     /// The sessions settle, and the cycle of this number begins and ends.
@@ -287,6 +287,13 @@ impl<C: Controller> RunningJob<C> {
         self.cycles_left(alloc, count)?;
         self.finish(alloc)
     }
+}
+
+/// Whether none of these sessions has a call left.
+fn are_ended(sessions: &[Session]) -> bool
+    ensures { result ≡ are_through sessions.now }
+{
+    sessions.iter().all(|session| session.ended())
 }
 
 /// The job `run` over a checked description and a script, made to its end.
