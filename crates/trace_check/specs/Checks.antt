@@ -1,5 +1,5 @@
 -- What a check of a text answers.
-use Rattle.std.specs.Prelude.{◌≡◌, ℕ, List, Option, Some, None, Result, Ok, Err}
+use Rattle.std.specs.Prelude.{◌≡◌, ℕ, List, [], Option, Some, None, Result, Ok, Err}
 use Rattle.cm_document.specs.Lines.{raw_lines}
 use Rattle.cm_document.specs.declared.document.Document.{Document}
 use Rattle.cm_model.specs.declared.blanks.Blanks.{Blanks}

@@ -6,6 +6,7 @@ ghost use Rattle.trace_laws.specs.Next.{caller_named, first_word};
 use cm_document::SessionText;
 
 /// What stands before the first space of a line, or before its line feed if it has no space.
+#[tactic(auto, using(crate::proofs::WordLemmas::first_words))]
 pub fn first_word(line: &[u8]) -> &[u8]
     ensures { result.now ≡ first_word line.now }
 {

@@ -198,9 +198,23 @@ fn bare_copy(alloc: Global, line: &[u8]) -> Result<Seq<u8>, Memory>
     ensures { IfOk result (λ copy. copy ≡ without_last 10 line.now) }
 {
     let mut copy = Vec::new(alloc);
-    match line.split_last() {
-        Some((last, front)) if *last == b'\n' => copy.extend_from_slice(front)?,
-        _ => copy.extend_from_slice(line)?,
-    }
+    copy.extend_from_slice(without_feed(line))?;
     Ok(Seq::from_vec(copy))
+}
+
+/// A line without its line feed, if it has one.
+#[tactic(auto, using(crate::proofs::WordLemmas::ending_lines))]
+fn without_feed(line: &[u8]) -> &[u8]
+    ensures { result.now ≡ without_last 10 line.now }
+{
+    match line.split_last() {
+        Some((last, front)) => {
+            if *last == b'\n' {
+                front
+            } else {
+                line
+            }
+        }
+        None => line,
+    }
 }
