@@ -1,8 +1,9 @@
 //! The check of a stored trace.
 
-ghost use Rattle.std.specs.Prelude.{◌≡◌, ◌<◌, ◌-◌, ◌^◌, length};
+ghost use Rattle.std.specs.Prelude.{◌≡◌, ◌<◌, ◌-◌, ◌^◌, length, nat_lt};
 ghost use Rattle.cm_document.specs.Lines.{raw_lines};
 ghost use Rattle.cm_document.specs.ScriptLaws.{MeetsRules};
+ghost use Rattle.cm_model.specs.Blanks.{total};
 ghost use Rattle.trace_laws.specs.Judged.{judged};
 ghost use Rattle.trace_laws.specs.Stocks.{at_most};
 ghost use Rattle.trace_check.specs.Checks.{Judges, Tells};
@@ -17,9 +18,6 @@ use ctl_trait::Controller;
 use fixed_num::Memory;
 use script_text::first_line;
 use std::alloc::Global;
-
-/// The most blanks of a kind that a check makes: with so many of each, a stock counts its blanks in 32 bits.
-const MOST_BLANKS: u32 = 400_000_000;
 
 /// Whether a text is the trace of a legal, whole history of a document over a stock of these blanks. Else the answer is the first wrong
 /// line, and the line that was to come there. The text is replayed on a desk of its own, line by line, over controllers without boxes: so
@@ -38,12 +36,22 @@ pub fn check_trace(
     ensures tells { Tells (judged (record { description = checked.now; script = script.now }) blanks.now text.now)
         result }
 {
-    let most = lines_in(text);
-    if most > MOST_BLANKS {
+    let counts = at_most(*blanks, lines_in(text));
+    if !are_few(counts) {
         return Err(TraceFault::Memory);
     }
-    let boxes = counted(alloc, at_most(*blanks, most))?;
+    let boxes = counted(alloc, counts)?;
     check_over(alloc, checked, script, Stock::make(boxes), text)
+}
+
+/// Whether a stock can count so many blanks. More would take terabytes.
+fn are_few(counts: Blanks) -> bool
+    ensures { result ≡ nat_lt (total counts) (2 ^ 32) }
+{
+    let chained = counts.forward as u64 + counts.passthrough as u64 + counts.pid as u64;
+    let others = counts.trajectory as u64 + counts.broadcaster as u64 + counts.mock as u64;
+    let shaped = counts.transmission as u64 + counts.differential as u64 + counts.limiter as u64;
+    chained + others + shaped < 1 << 32
 }
 
 /// The check over this stock.
