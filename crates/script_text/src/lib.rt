@@ -5,6 +5,7 @@
 pub use lines::{bare_line, first_line};
 pub use print::print_script;
 pub use reading::{read_script, read_script_with};
+pub use saying::said_by;
 
 mod calls;
 mod grammar;
@@ -16,6 +17,7 @@ mod numbers;
 mod print;
 mod reading;
 mod rules;
+mod saying;
 mod switches;
 mod verbs;
 mod words;
