@@ -1,0 +1,13 @@
+//! A planner of starts: the script that brings exactly the wanted controllers to active, or why there is none. It runs nothing.
+#![tactic(auto)]
+
+pub use fault::SpawnFault;
+pub use spawn::spawn;
+
+mod fault;
+mod fitting;
+mod never;
+mod spans;
+mod spawn;
+mod starting;
+mod wanted;
