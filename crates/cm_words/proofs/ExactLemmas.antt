@@ -15,7 +15,7 @@ use Rattle.cm_words.specs.Accepted.{HasNoOption, IsAround, IsListed, gives_make,
 use Rattle.cm_words.specs.Words.{asked, command, given, job_of, kind_named, make_rule, unless_at_fault}
 use Rattle.cm_words.specs.declared.job.Job.{Job}
 use Rattle.cm_words.specs.declared.job.JobKind.{JobKind}
-use Rattle.cm_words.specs.declared.job.JobKind.TheVariants.{Run, Steps, Live, Upgrade, Check}
+use Rattle.cm_words.specs.declared.job.JobKind.TheVariants.{Run, Steps, Live, Upgrade, Check, Plan}
 use Rattle.cm_words.specs.declared.job.WordsFault.{WordsFault}
 use Rattle.cm_words.specs.declared.job.WordsFault.TheVariants.{Usage}
 
@@ -210,19 +210,20 @@ Names v job = (v ≡ word_for job.kind) × (job.make ≡ None)
 names : (kind : JobKind) (v : Text) (job : Job) → v ≡ word_for kind → job_of (Some kind) None ≡ Ok job → Names v job
 names kind v job is e = (is ∙ ap (λ (r : Result Job WordsFault). word_for (job_in r).kind) e, ap (λ (r : Result Job WordsFault). (job_in r).make) (sym e))
 
-which : (a b d u k : Bool) (v : Text) (job : Job) → (a ≡ true → v ≡ codes "run") → (b ≡ true → v ≡ codes "steps") → (d ≡ true → v ≡ codes "live") → (u ≡ true → v ≡ codes "upgrade") → (k ≡ true → v ≡ codes "check")
-    → job_of (cond a (Some Run) (cond b (Some Steps) (cond d (Some Live) (cond u (Some Upgrade) (cond k (Some Check) None))))) None ≡ Ok job → Names v job
-which true b d u k v job run steps live upgrade check e = names Run v job (run refl) e
-which false true d u k v job run steps live upgrade check e = names Steps v job (steps refl) e
-which false false true u k v job run steps live upgrade check e = names Live v job (live refl) e
-which false false false true k v job run steps live upgrade check e = names Upgrade v job (upgrade refl) e
-which false false false false true v job run steps live upgrade check e = names Check v job (check refl) e
-which false false false false false v job run steps live upgrade check e = cc
+which : (a b d u k l : Bool) (v : Text) (job : Job) → (a ≡ true → v ≡ codes "run") → (b ≡ true → v ≡ codes "steps") → (d ≡ true → v ≡ codes "live") → (u ≡ true → v ≡ codes "upgrade") → (k ≡ true → v ≡ codes "check") → (l ≡ true → v ≡ codes "plan")
+    → job_of (cond a (Some Run) (cond b (Some Steps) (cond d (Some Live) (cond u (Some Upgrade) (cond k (Some Check) (cond l (Some Plan) None)))))) None ≡ Ok job → Names v job
+which true b d u k l v job run steps live upgrade check plan e = names Run v job (run refl) e
+which false true d u k l v job run steps live upgrade check plan e = names Steps v job (steps refl) e
+which false false true u k l v job run steps live upgrade check plan e = names Live v job (live refl) e
+which false false false true k l v job run steps live upgrade check plan e = names Upgrade v job (upgrade refl) e
+which false false false false true l v job run steps live upgrade check plan e = names Check v job (check refl) e
+which false false false false false true v job run steps live upgrade check plan e = names Plan v job (plan refl) e
+which false false false false false false v job run steps live upgrade check plan e = cc
 
 named : (v : Text) (job : Job) → of_given (Some v) None ≡ Ok job → Names v job
 named v job e =
-    which (bytes_eq v (codes "run")) (bytes_eq v (codes "steps")) (bytes_eq v (codes "live")) (bytes_eq v (codes "upgrade")) (bytes_eq v (codes "check")) v job
-    (bytes_eq-Decides v (codes "run")).0 (bytes_eq-Decides v (codes "steps")).0 (bytes_eq-Decides v (codes "live")).0 (bytes_eq-Decides v (codes "upgrade")).0 (bytes_eq-Decides v (codes "check")).0 e
+    which (bytes_eq v (codes "run")) (bytes_eq v (codes "steps")) (bytes_eq v (codes "live")) (bytes_eq v (codes "upgrade")) (bytes_eq v (codes "check")) (bytes_eq v (codes "plan")) v job
+    (bytes_eq-Decides v (codes "run")).0 (bytes_eq-Decides v (codes "steps")).0 (bytes_eq-Decides v (codes "live")).0 (bytes_eq-Decides v (codes "upgrade")).0 (bytes_eq-Decides v (codes "check")).0 (bytes_eq-Decides v (codes "plan")).0 e
 
 -- what is given of words
 abbrev given_of : List Text → Result Job WordsFault

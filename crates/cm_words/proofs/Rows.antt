@@ -7,7 +7,7 @@ use Rattle.cm_words.specs.Accepted.{IsAround, IsListed, word_for}
 use Rattle.cm_words.specs.Words.{asked, given}
 use Rattle.cm_words.specs.declared.job.Job.{Job}
 use Rattle.cm_words.specs.declared.job.JobKind.{JobKind}
-use Rattle.cm_words.specs.declared.job.JobKind.TheVariants.{Run, Steps, Live, Upgrade, Check}
+use Rattle.cm_words.specs.declared.job.JobKind.TheVariants.{Run, Steps, Live, Upgrade, Check, Plan}
 use Rattle.cm_words.specs.declared.job.WordsFault.TheVariants.{Usage}
 
 -- ---- Accepted
@@ -31,6 +31,10 @@ upgrade = refl
 check : asked (codes "check" ∷ []) ≡ Ok (record { kind = Check; make = None })
 unfolding given clap_on_literals
 check = refl
+
+plan : asked (codes "plan" ∷ []) ≡ Ok (record { kind = Plan; make = None })
+unfolding given clap_on_literals
+plan = refl
 
 -- two hyphens end the options
 run_and_hyphens : asked (codes "run" ∷ codes "--" ∷ []) ≡ Ok (record { kind = Run; make = None })
@@ -73,6 +77,14 @@ hyphens_and_check : asked (codes "--" ∷ codes "check" ∷ []) ≡ Ok (record {
 unfolding given clap_on_literals
 hyphens_and_check = refl
 
+plan_and_hyphens : asked (codes "plan" ∷ codes "--" ∷ []) ≡ Ok (record { kind = Plan; make = None })
+unfolding given clap_on_literals
+plan_and_hyphens = refl
+
+hyphens_and_plan : asked (codes "--" ∷ codes "plan" ∷ []) ≡ Ok (record { kind = Plan; make = None })
+unfolding given clap_on_literals
+hyphens_and_plan = refl
+
 -- so the words of each job ask for it
 around_accepted : (kind : JobKind) (words : List Text) → IsAround (word_for kind) words → asked words ≡ Ok (record { kind = kind; make = None })
 around_accepted Run words (inl e) = subst (λ (t : List Text). asked t ≡ Ok (record { kind = Run; make = None })) (sym e) run
@@ -90,6 +102,9 @@ around_accepted Upgrade words (inr (inr e)) = subst (λ (t : List Text). asked t
 around_accepted Check words (inl e) = subst (λ (t : List Text). asked t ≡ Ok (record { kind = Check; make = None })) (sym e) check
 around_accepted Check words (inr (inl e)) = subst (λ (t : List Text). asked t ≡ Ok (record { kind = Check; make = None })) (sym e) hyphens_and_check
 around_accepted Check words (inr (inr e)) = subst (λ (t : List Text). asked t ≡ Ok (record { kind = Check; make = None })) (sym e) check_and_hyphens
+around_accepted Plan words (inl e) = subst (λ (t : List Text). asked t ≡ Ok (record { kind = Plan; make = None })) (sym e) plan
+around_accepted Plan words (inr (inl e)) = subst (λ (t : List Text). asked t ≡ Ok (record { kind = Plan; make = None })) (sym e) hyphens_and_plan
+around_accepted Plan words (inr (inr e)) = subst (λ (t : List Text). asked t ≡ Ok (record { kind = Plan; make = None })) (sym e) plan_and_hyphens
 
 pub listed_accepted : (words : List Text) (job : Job) → IsListed words job → asked words ≡ Ok job
 listed_accepted words job listed =
@@ -141,6 +156,11 @@ making_an_upgrade = refl
 making_a_check : asked (codes "check" ∷ codes "--make" ∷ codes "5" ∷ []) ≡ Err Usage
 unfolding given clap_on_literals
 making_a_check = refl
+
+-- nor does a plan
+making_a_plan : asked (codes "plan" ∷ codes "--make" ∷ codes "5" ∷ []) ≡ Err Usage
+unfolding given clap_on_literals
+making_a_plan = refl
 
 no_words : asked [] ≡ Err Usage
 unfolding given clap_on_literals

@@ -7,7 +7,7 @@ use Rattle.clap.specs.Lexer.{long_of}
 use Rattle.clap.specs.Words.{Text}
 use Rattle.cm_words.specs.declared.job.Job.{Job}
 use Rattle.cm_words.specs.declared.job.JobKind.{JobKind}
-use Rattle.cm_words.specs.declared.job.JobKind.TheVariants.{Run, Steps, Live, Upgrade, Check}
+use Rattle.cm_words.specs.declared.job.JobKind.TheVariants.{Run, Steps, Live, Upgrade, Check, Plan}
 
 -- the word of a job
 abbrev pub word_for : JobKind → Text
@@ -16,6 +16,7 @@ word_for Steps = codes "steps"
 word_for Live = codes "live"
 word_for Upgrade = codes "upgrade"
 word_for Check = codes "check"
+word_for Plan = codes "plan"
 
 -- this word alone, or with two hyphens before it or behind it
 abbrev pub IsAround : Text → List Text → Type 0

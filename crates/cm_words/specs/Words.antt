@@ -9,7 +9,7 @@ use Rattle.clap.specs.Words.{App, Kinds, Rule, Text, fault_of, first_of, matches
 use Rattle.cm_words.specs.declared.job.TheConstants.{MOST_DIGITS_OF_ROUNDS, MOST_ROUNDS}
 use Rattle.cm_words.specs.declared.job.Job.{Job}
 use Rattle.cm_words.specs.declared.job.JobKind.{JobKind}
-use Rattle.cm_words.specs.declared.job.JobKind.TheVariants.{Run, Steps, Live, Upgrade, Check}
+use Rattle.cm_words.specs.declared.job.JobKind.TheVariants.{Run, Steps, Live, Upgrade, Check, Plan}
 use Rattle.cm_words.specs.declared.job.WordsFault.{WordsFault}
 use Rattle.cm_words.specs.declared.job.WordsFault.TheVariants.{Usage}
 
@@ -58,7 +58,8 @@ kind_named word =
     then Some Run
     else if bytes_eq word (codes "steps") then Some Steps else if bytes_eq word (codes "live") then Some Live
     else if bytes_eq word (codes "upgrade") then Some Upgrade
-    else if bytes_eq word (codes "check") then Some Check else None
+    else if bytes_eq word (codes "check") then Some Check
+    else if bytes_eq word (codes "plan") then Some Plan else None
 
 -- a number of rounds that can be asked for
 abbrev pub rounds_within : ℕ → Option ℕ
@@ -80,6 +81,7 @@ making kind (Some rounds) = Ok (record { kind = kind; make = Some rounds })
 abbrev pub can_make : JobKind → Bool
 can_make Upgrade = false
 can_make Check = false
+can_make Plan = false
 can_make _ = true
 
 -- a job of this kind: it reads its document, or with `--make` it makes it

@@ -22,14 +22,16 @@ pub enum JobKind {
     Upgrade,
     /// A stored trace is judged, which stands behind the script.
     Check,
+    /// Nothing runs: a script is written that starts the controllers which the script wants.
+    Plan,
 }
 
 /// What words ask for.
 #[derive(Clone, Copy, Debug, PartialEq, Eq)]
 pub struct Job {
     pub kind: JobKind,
-    /// Of how many rounds the document is made that is run, from 1 to `MOST_ROUNDS`. Without it the document is read. An upgrade and a
-    /// check have none.
+    /// Of how many rounds the document is made that is run, from 1 to `MOST_ROUNDS`. Without it the document is read. An upgrade, a
+    /// check and a plan have none.
     pub make: Option<u32>,
 }
 
@@ -37,7 +39,7 @@ pub struct Job {
 #[derive(Clone, Copy, Debug, PartialEq, Eq, Error)]
 pub enum WordsFault {
     /// They are not accepted.
-    #[error("usage: cm run|steps|live|upgrade|check [--make N]")]
+    #[error("usage: cm run|steps|live|upgrade|check|plan [--make N]")]
     Usage,
     /// Memory ran out.
     #[error("out of memory")]

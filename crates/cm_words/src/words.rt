@@ -98,6 +98,7 @@ fn kind_named(word: &str) -> Option<JobKind>
         "live" => Some(JobKind::Live),
         "upgrade" => Some(JobKind::Upgrade),
         "check" => Some(JobKind::Check),
+        "plan" => Some(JobKind::Plan),
         _ => None,
     }
 }
@@ -120,7 +121,7 @@ fn can_make(kind: JobKind) -> bool
 {
     match kind {
         JobKind::Run | JobKind::Steps | JobKind::Live => true,
-        JobKind::Upgrade | JobKind::Check => false,
+        JobKind::Upgrade | JobKind::Check | JobKind::Plan => false,
     }
 }
 

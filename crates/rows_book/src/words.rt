@@ -82,18 +82,18 @@ run|-- => ok
 --|run => ok
 steps => ok
 --|steps => ok
- => usage: cm run|steps|live|upgrade|check [--make N]
-walk => usage: cm run|steps|live|upgrade|check [--make N]
-run|run => usage: cm run|steps|live|upgrade|check [--make N]
-run|steps => usage: cm run|steps|live|upgrade|check [--make N]
-Run => usage: cm run|steps|live|upgrade|check [--make N]
-run\s => usage: cm run|steps|live|upgrade|check [--make N]
---help => usage: cm run|steps|live|upgrade|check [--make N]
-run|--make => usage: cm run|steps|live|upgrade|check [--make N]
-run|--make| => usage: cm run|steps|live|upgrade|check [--make N]
-run|--make|0 => usage: cm run|steps|live|upgrade|check [--make N]
-run|--make|1001 => usage: cm run|steps|live|upgrade|check [--make N]
-run|--make|1|--make|2 => usage: cm run|steps|live|upgrade|check [--make N]";
+ => usage: cm run|steps|live|upgrade|check|plan [--make N]
+walk => usage: cm run|steps|live|upgrade|check|plan [--make N]
+run|run => usage: cm run|steps|live|upgrade|check|plan [--make N]
+run|steps => usage: cm run|steps|live|upgrade|check|plan [--make N]
+Run => usage: cm run|steps|live|upgrade|check|plan [--make N]
+run\s => usage: cm run|steps|live|upgrade|check|plan [--make N]
+--help => usage: cm run|steps|live|upgrade|check|plan [--make N]
+run|--make => usage: cm run|steps|live|upgrade|check|plan [--make N]
+run|--make| => usage: cm run|steps|live|upgrade|check|plan [--make N]
+run|--make|0 => usage: cm run|steps|live|upgrade|check|plan [--make N]
+run|--make|1001 => usage: cm run|steps|live|upgrade|check|plan [--make N]
+run|--make|1|--make|2 => usage: cm run|steps|live|upgrade|check|plan [--make N]";
 
 /// A document without operators, so that a live run leaves nothing to its threads.
 const ALONE: &str = "version = 1
