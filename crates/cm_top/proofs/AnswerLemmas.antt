@@ -15,7 +15,7 @@ use Rattle.cm_model.specs.declared.blanks.Blanks.{Blanks}
 use Rattle.cm_words.specs.declared.job.Job.{Job}
 use Rattle.cm_words.specs.declared.job.TheConstants.{MOST_ROUNDS}
 use Rattle.cm_words.specs.Words.{asked}
-use Rattle.cm_top.specs.Answering.{Answering, upgrading, checking, accepted_by, IsAnswer, AnsweredWith, Answers, WroteAnswer, DidJob, status_for, status_of_accepted, untraced}
+use Rattle.cm_top.specs.Answering.{Answering, upgrading, checking, planning, accepted_by, IsAnswer, AnsweredWith, Answers, WroteAnswer, DidJob, status_for, status_of_accepted, untraced}
 use Rattle.cm_top.specs.Book.{BookFacts, IsShort, Task, task_of}
 use Rattle.cm_top.specs.Calls.Read.{ReadAs, EndsUnread, Reads, ReadsFrom, MindsSource}
 use Rattle.cm_top.specs.Calls.Run.{SourceFacts, SinkFacts, MindsSink, MindsFaults, RefusesWords, RunsFrom, AnswersFrom, DoesJob, written}
@@ -48,6 +48,7 @@ wrote-AnsweredWith job blanks bytes given w (status.BadScript f) text short acce
 wrote-AnsweredWith job blanks bytes given w status.ReadFault text short accepted is wrote = absurd wrote
 wrote-AnsweredWith job blanks bytes given w status.TooLong text short accepted is wrote = absurd wrote
 wrote-AnsweredWith job blanks bytes given w (status.NotLegal line expected) text short accepted is wrote = absurd wrote
+wrote-AnsweredWith job blanks bytes given w (status.CannotSpawn reason) text short accepted is wrote = absurd wrote
 
 pub answer-AnsweredWith : (job : Answering) (blanks : Blanks) (bytes : List ℕ) (given : Given) (w : Written) (ended : Status) → IsShort bytes → accepted_by job bytes ≡ Ok given
     → WroteAnswer job blanks given w ended → AnsweredWith job blanks bytes w ended
@@ -66,6 +67,7 @@ answered-Answers job blanks bytes w (status.BadScript f) answered = tt
 answered-Answers job blanks bytes w status.ReadFault answered = tt
 answered-Answers job blanks bytes w status.TooLong answered = tt
 answered-Answers job blanks bytes w (status.NotLegal line expected) answered = (bytes, answered)
+answered-Answers job blanks bytes w (status.CannotSpawn reason) answered = (bytes, answered)
 
 pub answer-OfBytes : (job : Answering) (blanks : Blanks) (given : Given) (w : Written) (ended : Status) → WroteAnswer job blanks given w ended → ComesOfBytes ended × IsPlain ended
 answer-OfBytes job blanks given w ended (inl (is, kept)) = rw is (tt, tt)
@@ -78,6 +80,7 @@ answer-OfBytes job blanks given w (status.BadScript f) (inr (text, is, wrote)) =
 answer-OfBytes job blanks given w status.ReadFault (inr (text, is, wrote)) = absurd wrote
 answer-OfBytes job blanks given w status.TooLong (inr (text, is, wrote)) = absurd wrote
 answer-OfBytes job blanks given w (status.NotLegal line expected) (inr (text, is, wrote)) = absurd wrote
+answer-OfBytes job blanks given w (status.CannotSpawn reason) (inr (text, is, wrote)) = absurd wrote
 
 -- bytes that are short enough ask for the status of what they are accepted as
 short_for : (blanks : Blanks) (bytes : List ℕ) → IsShort bytes → status_for upgrading blanks bytes ≡ status_of_accepted upgrading blanks (accepted_by upgrading bytes)
@@ -96,6 +99,7 @@ answered-exact blanks bytes w status.TooLong read write ran rose risen still kep
 answered-exact blanks bytes w status.Memory read write ran rose risen still kept = inr refl
 answered-exact blanks bytes w status.WriteFault read write ran rose risen still kept = absurd (kept (risen refl))
 answered-exact blanks bytes w (status.NotLegal line expected) read write ran rose risen still kept = absurd ran.refuses
+answered-exact blanks bytes w (status.CannotSpawn reason) read write ran rose risen still kept = absurd ran.refuses
 
 -- ---- Of a source
 
@@ -136,6 +140,7 @@ unread-AnsweredWith blanks bytes taken flushed status.TooLong read = read
 unread-AnsweredWith blanks bytes taken flushed status.Memory read = inl (Keeps-refl taken)
 unread-AnsweredWith blanks bytes taken flushed status.WriteFault read = absurd read
 unread-AnsweredWith blanks bytes taken flushed (status.NotLegal line expected) read = absurd read
+unread-AnsweredWith blanks bytes taken flushed (status.CannotSpawn reason) read = absurd read
 
 unread-Answers : (blanks : Blanks) (taken : Option (List ℕ)) (flushed : Option ℕ) (ended : Status) → EndsUnread ended
     → Answers upgrading blanks (record { old = taken; new = taken; flushed = flushed }) ended
@@ -148,6 +153,7 @@ unread-Answers blanks taken flushed status.TooLong unread = tt
 unread-Answers blanks taken flushed status.Memory unread = inl (Keeps-refl taken)
 unread-Answers blanks taken flushed status.WriteFault unread = absurd unread
 unread-Answers blanks taken flushed (status.NotLegal line expected) unread = absurd unread
+unread-Answers blanks taken flushed (status.CannotSpawn reason) unread = absurd unread
 
 unread-AnswersFrom : (blanks : Blanks) (source source' : SourceFacts) (sink : SinkFacts) (ended : Status) → Reads source source' (Err ended)
     → MindsSource source source' (Err ended) → AnswersFrom upgrading blanks source source' sink sink ended None
@@ -166,11 +172,12 @@ unread-AnswersFrom blanks source source' sink ended reads minds =
 
 -- ---- Whichever the job
 
--- an upgrade reads its document; a check is done elsewhere
+-- an upgrade reads its document; a check and a plan are done elsewhere
 abbrev pub ReadsItself : Option Answering → Option ℕ → Type 0
 ReadsItself None make = Unit {0}
 ReadsItself (Some upgrading) make = make ≡ None
 ReadsItself (Some checking) make = ⊥
+ReadsItself (Some planning) make = ⊥
 
 pub did-DoesJob : (answering : Option Answering) (job : Job) (blanks : Blanks) (source source' : SourceFacts) (d : Document) (sink sink' : SinkFacts) (ended : Status) (book : Option BookFacts)
     → ReadsItself answering job.make → IfSome job.make (λ rounds. (1 ≤ rounds) × (rounds ≤ MOST_ROUNDS)) → ReadsFrom job.make source source' (Ok d)
@@ -181,6 +188,7 @@ did-DoesJob None job blanks source source' d sink sink' ended book itself few re
 did-DoesJob (Some upgrading) job blanks source source' d sink sink' ended book itself few reads did told =
     did-AnswersFrom blanks source source' d sink sink' ended book (rw itself at reads) did.0 did.1 told
 did-DoesJob (Some checking) job blanks source source' d sink sink' ended book itself few reads did told = absurd itself
+did-DoesJob (Some planning) job blanks source source' d sink sink' ended book itself few reads did told = absurd itself
 
 pub unread-DoesJob : (answering : Option Answering) (job : Job) (blanks : Blanks) (source source' : SourceFacts) (sink : SinkFacts) (ended : Status)
     → ReadsItself answering job.make → IfSome job.make (λ rounds. (1 ≤ rounds) × (rounds ≤ MOST_ROUNDS)) → ReadsFrom job.make source source' (Err ended)
@@ -188,6 +196,7 @@ pub unread-DoesJob : (answering : Option Answering) (job : Job) (blanks : Blanks
 unread-DoesJob None job blanks source source' sink ended itself few reads minds = unread-RunsFrom job.make (task_of job blanks) blanks source source' sink ended few reads minds
 unread-DoesJob (Some upgrading) job blanks source source' sink ended itself few reads minds = unread-AnswersFrom blanks source source' sink ended (rw itself at reads) minds
 unread-DoesJob (Some checking) job blanks source source' sink ended itself few reads minds = absurd itself
+unread-DoesJob (Some planning) job blanks source source' sink ended itself few reads minds = absurd itself
 
 pub did-MindsFaults : (answering : Option Answering) (task : Task) (blanks : Blanks) (source source' : SourceFacts) (d : Document) (sink sink' : SinkFacts) (ended : Status) (book : Option BookFacts)
     → MindsSource source source' (Ok d) → DidJob answering task d blanks (written sink sink') ended book → MindsSink sink sink' ended → MindsFaults source source' sink sink' ended

@@ -38,6 +38,7 @@ wrote_ends text w (status.BadScript f) wrote = absurd wrote
 wrote_ends text w status.ReadFault wrote = absurd wrote
 wrote_ends text w status.TooLong wrote = absurd wrote
 wrote_ends text w (status.NotLegal line expected) wrote = absurd wrote
+wrote_ends text w (status.CannotSpawn reason) wrote = absurd wrote
 
 -- a trace that is legal is told so
 pub legal_told : (blanks : Blanks) (given : Given) (w : Written) (ended : Status) → IsTold given.document blanks given.trace → judged given.document blanks given.trace ≡ Ok tt
@@ -75,6 +76,7 @@ refused-AnsweredWith blanks bytes given w status.ReadFault short accepted refuse
 refused-AnsweredWith blanks bytes given w status.TooLong short accepted refuses = absurd refuses
 refused-AnsweredWith blanks bytes given w status.Memory short accepted refuses = absurd refuses
 refused-AnsweredWith blanks bytes given w status.WriteFault short accepted refuses = absurd refuses
+refused-AnsweredWith blanks bytes given w (status.CannotSpawn reason) short accepted refuses = absurd refuses
 
 refused_ends : (blanks : Blanks) (given : Given) (ended : Status) → Refuses checking blanks given ended → ComesOfBytes ended × IsPlain ended
 refused_ends blanks given (status.NotLegal line expected) refuses = (tt, tt)
@@ -86,6 +88,7 @@ refused_ends blanks given status.ReadFault refuses = absurd refuses
 refused_ends blanks given status.TooLong refuses = absurd refuses
 refused_ends blanks given status.Memory refuses = absurd refuses
 refused_ends blanks given status.WriteFault refuses = absurd refuses
+refused_ends blanks given (status.CannotSpawn reason) refuses = absurd refuses
 
 -- the status that short bytes ask for is that of what they are accepted as
 short_asks : (blanks : Blanks) (bytes : List ℕ) → IsShort bytes → status_for checking blanks bytes ≡ status_of_accepted checking blanks (accepted_by checking bytes)

@@ -5,4 +5,5 @@ pub mod ReadLemmas
 pub mod AnswerLemmas
 pub mod LiveLemmas
 pub mod CheckLemmas
+pub mod PlanLemmas
 pub mod BehindLemmas

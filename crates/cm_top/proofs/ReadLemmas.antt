@@ -48,6 +48,7 @@ EndedWith-exact task bytes blanks w status.TooLong book read write ran rose rise
 EndedWith-exact task bytes blanks w status.Memory book read write ran rose risen still kept = inr refl
 EndedWith-exact task bytes blanks w status.WriteFault book read write ran rose risen still kept = absurd (kept (risen refl))
 EndedWith-exact task bytes blanks w (status.NotLegal line expected) book read write ran rose risen still kept = absurd ran
+EndedWith-exact task bytes blanks w (status.CannotSpawn reason) book read write ran rose risen still kept = absurd ran
 
 -- a made document goes well, unless the sink fails or memory runs out: it is accepted
 pub made-exact : (task : Task) (rounds : ℕ) (blanks : Blanks) (w : Written) (ended : Status) (book : Option BookFacts) (write : Type 0) → rounds ≤ 1000
@@ -63,6 +64,7 @@ made-exact task rounds blanks w status.TooLong book write few ran comes rose kep
 made-exact task rounds blanks w status.Memory book write few ran comes rose kept = inr refl
 made-exact task rounds blanks w status.WriteFault book write few ran comes rose kept = absurd (kept (rose refl))
 made-exact task rounds blanks w (status.NotLegal line expected) book write few ran comes rose kept = absurd ran
+made-exact task rounds blanks w (status.CannotSpawn reason) book write few ran comes rose kept = absurd ran
 
 -- what was read whole is what the source told
 pub read-EndedWith : (left left' : Option (List ℕ)) (bytes : List ℕ) (P : List ℕ → Type 0) → GivesAll left left' bytes → P bytes → IfSome left P
@@ -85,6 +87,7 @@ read-EndsUnread bytes status.TooLong read = tt
 read-EndsUnread bytes status.Memory read = tt
 read-EndsUnread bytes status.WriteFault read = absurd read
 read-EndsUnread bytes (status.NotLegal line expected) read = absurd read
+read-EndsUnread bytes (status.CannotSpawn reason) read = absurd read
 
 -- A source that was read whole was read as its bytes were.
 pub bytes_Reads : (source source' : SourceFacts) (bytes : List ℕ) (result : Result Document Status) → GivesAll source.left source'.left bytes → ReadsBytes bytes result
@@ -118,6 +121,7 @@ unread-EndedWith task bytes blanks taken flushed status.TooLong read = read
 unread-EndedWith task bytes blanks taken flushed status.Memory read = Keeps-refl taken
 unread-EndedWith task bytes blanks taken flushed status.WriteFault read = absurd read
 unread-EndedWith task bytes blanks taken flushed (status.NotLegal line expected) read = absurd read
+unread-EndedWith task bytes blanks taken flushed (status.CannotSpawn reason) read = absurd read
 
 -- and hands out no book
 unread-HandsOut : (task : Task) (blanks : Blanks) (taken : Option (List ℕ)) (flushed : Option ℕ) (ended : Status) → EndsUnread ended
@@ -131,6 +135,7 @@ unread-HandsOut task blanks taken flushed status.TooLong unread = refl
 unread-HandsOut task blanks taken flushed status.Memory unread = Keeps-refl taken
 unread-HandsOut task blanks taken flushed status.WriteFault unread = absurd unread
 unread-HandsOut task blanks taken flushed (status.NotLegal line expected) unread = absurd unread
+unread-HandsOut task blanks taken flushed (status.CannotSpawn reason) unread = absurd unread
 
 -- what is so where the bytes are known, of whatever bytes
 pub some_known : (known : Option (List ℕ)) (P Q : List ℕ → Type 0) → ((bytes : List ℕ) → P bytes → Q bytes) → IfSome known P → IfSome known Q

@@ -52,6 +52,7 @@ made_by-IsWhole kind.Steps d blanks rules = steps-IsWhole d blanks rules
 made_by-IsWhole kind.Live d blanks rules = tt
 made_by-IsWhole kind.Upgrade d blanks rules = tt
 made_by-IsWhole kind.Check d blanks rules = tt
+made_by-IsWhole kind.Plan d blanks rules = tt
 
 -- A desk that has made this history, which is whole for the document, is done.
 done_with : (made : Histories) (d : Document) (blanks : Blanks) (h : History) (history : List Entry) → IfSome made (λ history_of. history ≡ history_of d)

@@ -14,11 +14,13 @@ use Rattle.cm_document.specs.declared.limits.TheConstants.{LONGEST_DOCUMENT, SEC
 use Rattle.cm_words.specs.declared.job.JobKind.{JobKind}
 use Rattle.cm_words.specs.declared.job.JobKind.TheVariants as kind
 use Rattle.cm_model.specs.declared.blanks.Blanks.{Blanks}
+use Rattle.spawn_plan.specs.declared.fault.SpawnFault.{SpawnFault}
 use Rattle.trace_laws.specs.Judged.{judged}
 use Rattle.trace_laws.specs.Told.{IsTold, IsWrong, WrongLine}
 use Rattle.cm_top.specs.Book.{BookFacts, Task, IsShort}
 use Rattle.cm_top.specs.Status.{Written, Wrote, RanDocument, status_of_document}
 use Rattle.cm_top.specs.Traced.{Given, traced}
+use Rattle.cm_top.specs.Wished.{wished, planned_text}
 use Rattle.cm_top.specs.declared.status.Status.{Status}
 use Rattle.cm_top.specs.declared.status.Status.TheVariants as status
 
@@ -26,32 +28,43 @@ use Rattle.cm_top.specs.declared.status.Status.TheVariants as status
 pub data Answering : Type 0 where
   upgrading : Answering
   checking : Answering
+  planning : Answering
 
 -- the answering of a job that has no book
 abbrev pub answering_of : JobKind → Option Answering
 answering_of kind.Upgrade = Some upgrading
 answering_of kind.Check = Some checking
+answering_of kind.Plan = Some planning
 answering_of _ = None
 
 -- ---- What each promises
 
--- What the bytes are accepted as, or their first fault: a check reads the trace behind the script, too.
+-- a document that is read for a job without a trace
+abbrev pub untraced : Document → Given
+untraced d = record { document = d; trace = [] }
+
+-- What the bytes are accepted as, or their first fault: a check reads the trace behind the script, too, and the script
+-- of a plan is a wish.
 abbrev pub accepted_by : Answering → List ℕ → Result Given DocumentFault
-accepted_by upgrading bytes = document whole_grammar bytes >>= λ d. Ok (record { document = d; trace = [] })
+accepted_by upgrading bytes = document whole_grammar bytes >>= λ d. Ok (untraced d)
 accepted_by checking bytes = traced bytes
+accepted_by planning bytes = wished bytes >>= λ d. Ok (untraced d)
 
 -- Which texts answer what was given, over these blanks. To an upgrade those that are read as its description, with the
--- second version. To a check `legal`, if the trace is that of a legal, whole history of the document.
+-- second version. To a check `legal`, if the trace is that of a legal, whole history of the document. To a plan the
+-- text of the script that starts the wanted controllers.
 abbrev pub IsAnswer : Answering → Blanks → Given → List ℕ → Type 0
 IsAnswer upgrading blanks given text =
     description_in (tree_of text) ≡ Ok (record given.document.description { version = SECOND_VERSION })
 IsAnswer checking blanks given text = IsTold given.document blanks given.trace × (text ≡ codes "legal\n")
+IsAnswer planning blanks given text = planned_text given.document blanks ≡ Ok text
 
 -- Which status refuses what was given. An upgrade refuses nothing. A check refuses a trace that no such history has, at
--- its first wrong line.
+-- its first wrong line. A plan refuses names for which there is no such script, with the first reason.
 abbrev pub Refuses : Answering → Blanks → Given → Status → Type 0
 Refuses checking blanks given (status.NotLegal line expected) =
     IsWrong given.document blanks given.trace (record { line = line; expected = expected })
+Refuses planning blanks given (status.CannotSpawn fault) = planned_text given.document blanks ≡ Err fault
 Refuses _ blanks given _ = ⊥
 
 -- ---- Over known bytes
@@ -96,6 +109,8 @@ AnsweredWith job blanks bytes w status.Memory = Keeps w.old w.new ⊎ IsCutShort
 AnsweredWith job blanks bytes w status.WriteFault = IsCutShort job blanks bytes w
 AnsweredWith job blanks bytes w (status.NotLegal line expected) =
     IsRefused job blanks bytes (status.NotLegal line expected)
+AnsweredWith job blanks bytes w (status.CannotSpawn fault) =
+    IsRefused job blanks bytes (status.CannotSpawn fault)
 
 -- What it wrote by its status, whatever its source tells.
 abbrev pub Answers : Answering → Blanks → Written → Status → Type 0
@@ -104,6 +119,8 @@ Answers job blanks w status.WriteFault = (bytes : List ℕ) × IsCutShort job bl
 Answers job blanks w status.Memory = Keeps w.old w.new ⊎ ((bytes : List ℕ) × IsCutShort job blanks bytes w)
 Answers job blanks w (status.NotLegal line expected) =
     (bytes : List ℕ) × IsRefused job blanks bytes (status.NotLegal line expected)
+Answers job blanks w (status.CannotSpawn fault) =
+    (bytes : List ℕ) × IsRefused job blanks bytes (status.CannotSpawn fault)
 Answers job blanks w _ = Unit {0}
 
 -- ---- The status that bytes ask for
@@ -113,10 +130,17 @@ abbrev pub status_of_judgement : Result (Unit {0}) WrongLine → Status
 status_of_judgement (Ok _) = status.Ok
 status_of_judgement (Err wrong) = status.NotLegal wrong.line wrong.expected
 
--- that of what was given: an upgrade goes well, and a check does if the trace is judged to be one
+-- the status of a plan
+abbrev pub status_of_plan : Result (List ℕ) SpawnFault → Status
+status_of_plan (Ok _) = status.Ok
+status_of_plan (Err fault) = status.CannotSpawn fault
+
+-- that of what was given: an upgrade goes well, a check does if the trace is judged to be one, and a plan if there is a
+-- script
 abbrev pub status_of_given : Answering → Blanks → Given → Status
 status_of_given upgrading blanks given = status.Ok
 status_of_given checking blanks given = status_of_judgement (judged given.document blanks given.trace)
+status_of_given planning blanks given = status_of_plan (planned_text given.document blanks)
 
 -- that of what is accepted, or of its first fault
 abbrev pub status_of_accepted : Answering → Blanks → Result Given DocumentFault → Status
@@ -136,10 +160,6 @@ abbrev pub WroteAnswer : Answering → Blanks → Given → Written → Status �
 WroteAnswer job blanks given w ended =
     ((ended ≡ status.Memory) × Keeps w.old w.new)
     ⊎ ((text : List ℕ) × IsAnswer job blanks given text × Wrote text w ended)
-
--- a document that is read for a job without a trace
-abbrev pub untraced : Document → Given
-untraced d = record { document = d; trace = [] }
 
 -- What a job came to: a run to its book, or an answer without one.
 abbrev pub DidJob : Option Answering → Task → Document → Blanks → Written → Status → Option BookFacts → Type 0

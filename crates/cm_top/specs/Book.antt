@@ -44,6 +44,7 @@ made_by kind.Steps blanks = Some (λ d. scheduled_in_steps d blanks)
 made_by kind.Live blanks = None
 made_by kind.Upgrade blanks = None
 made_by kind.Check blanks = None
+made_by kind.Plan blanks = None
 
 -- one thread runs the job: no other makes its history there
 abbrev pub RunsAlone : JobKind → Type 0

@@ -1,3 +1,4 @@
 pub mod Run
 pub mod Read
 pub mod Check
+pub mod Plan

@@ -15,6 +15,7 @@ use Rattle.cm_document.specs.declared.faults.DocumentFault.{DocumentFault}
 use Rattle.cm_document.specs.declared.faults.DocumentFault.TheVariants as fault
 use Rattle.cm_model.specs.declared.blanks.Blanks.{Blanks}
 use Rattle.cm_top.specs.Book.{BookFacts, Task, IsShort, IsBookOf}
+use Rattle.spawn_plan.specs.declared.fault.SpawnFault.TheVariants as spawn_fault
 use Rattle.cm_top.specs.declared.status.Status.{Status}
 use Rattle.cm_top.specs.declared.status.Status.TheVariants as status
 
@@ -29,6 +30,7 @@ code_of status.TooLong = 6
 code_of status.Memory = 7
 code_of status.WriteFault = 8
 code_of (status.NotLegal _ _) = 9
+code_of (status.CannotSpawn _) = 10
 
 -- What a run has before it and after it: what the sink had taken and has taken, and how much of that is flushed.
 pub record Written : Type 0 where
@@ -73,6 +75,7 @@ EndedWith task bytes blanks w status.TooLong book = LONGEST_DOCUMENT < length by
 EndedWith task bytes blanks w status.Memory book = WantsMemory task bytes blanks w book
 EndedWith task bytes blanks w status.WriteFault book = IsSomeAnd book (Cut task bytes blanks w)
 EndedWith task bytes blanks w (status.NotLegal _ _) book = ⊥
+EndedWith task bytes blanks w (status.CannotSpawn _) book = ⊥
 
 -- What a run handed out and wrote by its status, whatever its source tells. Ok and a write fault come with a book, want
 -- of memory may, and no other status does. A book is that of a run of an accepted document, and the sink has grown by
@@ -115,6 +118,7 @@ IsPlainFault _ = Unit {0}
 abbrev pub IsPlain : Status → Type 0
 IsPlain (status.BadDescription p) = IsPlainFault (fault.Description p)
 IsPlain (status.BadScript f) = IsPlainFault (fault.Script f)
+IsPlain (status.CannotSpawn spawn_fault.Memory) = ⊥
 IsPlain _ = Unit {0}
 
 -- What writing a text came to by the status: all of it taken and flushed, or a front of it.

@@ -66,7 +66,7 @@ fn made<C: Controller>(
     match kind {
         JobKind::Run => Ok(run_job(alloc, checked, script, stock)?.into_desk()),
         JobKind::Steps => Ok(run_in_steps(alloc, checked, script, stock)?.into_desk()),
-        JobKind::Live | JobKind::Upgrade | JobKind::Check => unreachable!(),
+        JobKind::Live | JobKind::Upgrade | JobKind::Check | JobKind::Plan => unreachable!(),
     }
 }
 

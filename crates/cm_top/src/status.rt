@@ -2,6 +2,7 @@
 
 use cm_document::{DescProblem, ScriptFault};
 use sequence::Seq;
+use spawn_plan::SpawnFault;
 use thiserror::Error;
 
 /// How a run ended. Statuses 3 and 4 never carry a want of memory.
@@ -11,7 +12,7 @@ pub enum Status {
     #[error("ok")]
     Ok,
     /// The words are not accepted.
-    #[error("usage: cm run|steps|live|upgrade|check [--make N]")]
+    #[error("usage: cm run|steps|live|upgrade|check|plan [--make N]")]
     BadWords,
     /// The description is not accepted; its first fault.
     #[error("description: {0}")]
@@ -39,6 +40,9 @@ pub enum Status {
         /// The line that was to come there, without its line feed; empty if none was.
         expected: Seq<u8>,
     },
+    /// There is no script that starts the wanted controllers. It never carries a want of memory.
+    #[error("plan: {0}")]
+    CannotSpawn(SpawnFault),
 }
 
 impl Status {
@@ -59,6 +63,7 @@ impl Status {
             Status::Memory => 7,
             Status::WriteFault => 8,
             Status::NotLegal { .. } => 9,
+            Status::CannotSpawn(_) => 10,
         }
     }
 }

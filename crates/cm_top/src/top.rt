@@ -13,6 +13,7 @@ ghost use Rattle.cm_top.specs.Calls.Run.{MindsFaults, MindsSink, RefusesWords, S
 use crate::accepted::run_document;
 use crate::check::check_alone;
 use crate::live::run_document_live;
+use crate::plan::plan_alone;
 use crate::reading::read_job;
 use crate::status::Status;
 use crate::upgrade::upgrade_document;
@@ -31,8 +32,8 @@ use std::thread::Threads;
 /// Reads the source to its end, checks description and script, runs the job over the stock, writes the trace and flushes it, and hands
 /// out the book. With a number of rounds the document is made, nothing is read, and the summary is written. Nothing is written before
 /// the job has run. A live run calls the pace behind each cycle and the gate at its points; other jobs call neither. An upgrade runs
-/// nothing: it writes the description as one of the second version, and hands out no book. Nor does a check, which judges the trace behind
-/// the script.
+/// nothing: it writes the description as one of the second version, and hands out no book. Nor do a check, which judges the trace behind
+/// the script, and a plan, which writes the script that starts the controllers it wants.
 #[tactic(auto, using(crate::proofs::ReadLemmas::untouched_minds_faults))]
 pub fn run<R, S, K, P, G, C>(
     rt: &R,
@@ -67,7 +68,9 @@ where
         Ok(job) => match job.kind {
             JobKind::Live => run_live(rt, alloc, job.make, source, sink, stock, pace, gate),
             JobKind::Run | JobKind::Steps => run_alone(alloc, &job, source, sink, stock),
-            JobKind::Upgrade | JobKind::Check => run_alone(alloc, &job, source, sink, stock),
+            JobKind::Upgrade | JobKind::Check | JobKind::Plan => {
+                run_alone(alloc, &job, source, sink, stock)
+            }
         },
         Err(WordsFault::Usage) => (Status::BadWords, None),
         Err(WordsFault::Memory) => (Status::Memory, None),
@@ -95,13 +98,16 @@ pub fn run_alone<S: Source, K: Sink, C: Controller>(
     if job.kind == JobKind::Check {
         return (check_alone(alloc, source, sink, stock.blanks()), None);
     }
+    if job.kind == JobKind::Plan {
+        return (plan_alone(alloc, source, sink, stock.blanks()), None);
+    }
     match read_job(alloc, job.make, source) {
         Ok(document) => do_job(alloc, job, document, sink, stock),
         Err(status) => (status, None),
     }
 }
 
-/// Does a job that is not live and no check, over an accepted document.
+/// Does a job that is not live, no check and no plan, over an accepted document.
 fn do_job<K: Sink, C: Controller>(
     alloc: Global,
     job: &Job,
@@ -120,7 +126,7 @@ fn do_job<K: Sink, C: Controller>(
     match job.kind {
         JobKind::Upgrade => (upgrade_document(alloc, document, sink), None),
         JobKind::Run | JobKind::Steps => run_document(alloc, *job, document, sink, stock),
-        JobKind::Live | JobKind::Check => unreachable!(),
+        JobKind::Live | JobKind::Check | JobKind::Plan => unreachable!(),
     }
 }
 

@@ -34,6 +34,7 @@ EndsUnread status.Ok = ⊥
 EndsUnread status.BadWords = ⊥
 EndsUnread status.WriteFault = ⊥
 EndsUnread (status.NotLegal _ _) = ⊥
+EndsUnread (status.CannotSpawn _) = ⊥
 EndsUnread _ = Unit {0}
 
 -- Bytes that are short enough were read.

@@ -52,10 +52,11 @@ pub record RefusesWords {S K B : Type 0} (words : List (List ℕ)) (source sourc
   pub nothing_written : asked words ≡ Err Usage → sink' ≡ sink
   pub no_book : asked words ≡ Err Usage → book ≡ None
 
--- A job that one thread does over a document without a trace.
+-- A job that one thread does over any document without a trace.
 abbrev pub ReadsPlainly : JobKind → Type 0
 ReadsPlainly kind.Live = ⊥
 ReadsPlainly kind.Check = ⊥
+ReadsPlainly kind.Plan = ⊥
 ReadsPlainly _ = Unit {0}
 
 -- A job that one thread can do: it is not live, and its document, if it is made, has as many rounds as one can have. An

@@ -1,5 +1,5 @@
 use Rattle.cm_words.specs.declared.job.JobKind.{JobKind}
-use Rattle.cm_words.specs.declared.job.JobKind.TheVariants.{Run, Steps, Live, Upgrade, Check}
+use Rattle.cm_words.specs.declared.job.JobKind.TheVariants.{Run, Steps, Live, Upgrade, Check, Plan}
 use Rattle.cm_words.specs.Words.{can_make}
 use Rattle.std.proofs.Common.{◌≡◌, ℕ, false, Option, None, refl}
 use Rattle.cm_top.specs.Answering.{answering_of}
@@ -9,12 +9,13 @@ use Rattle.cm_top.proofs.ReadLemmas.{reads-Rules, unread-MindsFaults}
 use Rattle.cm_top.proofs.top.run_alone.Goals as goal
 
 -- a job that answers without a book reads its document
-itself : (kind : JobKind) (make : Option ℕ) → (kind ≡ Check → ⊥) → (can_make kind ≡ false → make ≡ None) → ReadsItself (answering_of kind) make
-itself Run make other unmade = tt
-itself Steps make other unmade = tt
-itself Live make other unmade = tt
-itself Upgrade make other unmade = unmade refl
-itself Check make other unmade = absurd (other refl)
+itself : (kind : JobKind) (make : Option ℕ) → (kind ≡ Check → ⊥) → (kind ≡ Plan → ⊥) → (can_make kind ≡ false → make ≡ None) → ReadsItself (answering_of kind) make
+itself Run make other another unmade = tt
+itself Steps make other another unmade = tt
+itself Live make other another unmade = tt
+itself Upgrade make other another unmade = unmade refl
+itself Check make other another unmade = absurd (other refl)
+itself Plan make other another unmade = absurd (another refl)
 
 -- the script of a document that was read meets the rules
 pub do_job-requires-clause-rules : goal.do_job-requires-clause-rules
@@ -23,7 +24,7 @@ do_job-requires-clause-rules g c = reads-Rules _ _ _ _ c.in-Ok.ensures.reads
 -- what is done with it is what the job promises of its source
 pub returns-in-Ok-clause-runs : goal.returns-in-Ok-clause-runs
 returns-in-Ok-clause-runs g c =
-    did-DoesJob (answering_of c.args.job.now.kind) c.args.job.now c.args.stock _ _ _ _ _ _ _ (itself c.args.job.now.kind c.args.job.now.make (λ check. ?) c.requires.unmade) c.requires.rounds
+    did-DoesJob (answering_of c.args.job.now.kind) c.args.job.now c.args.stock _ _ _ _ _ _ _ (itself c.args.job.now.kind c.args.job.now.make (λ check. ?) (λ plan. ?) c.requires.unmade) c.requires.rounds
     c.in-Ok.ensures.reads c.do_job.ensures.did c.do_job.ensures.outside.write_fault
 
 pub returns-in-Ok-clause-outside : goal.returns-in-Ok-clause-outside
@@ -40,7 +41,7 @@ returns-in-Ok-clause-spared g c = record {
 -- without a document it ends with nothing written
 pub returns-in-Err-clause-runs : goal.returns-in-Err-clause-runs
 returns-in-Err-clause-runs g c =
-    unread-DoesJob (answering_of c.args.job.now.kind) c.args.job.now c.args.stock _ _ _ _ (itself c.args.job.now.kind c.args.job.now.make (λ check. ?) c.requires.unmade) c.requires.rounds
+    unread-DoesJob (answering_of c.args.job.now.kind) c.args.job.now c.args.stock _ _ _ _ (itself c.args.job.now.kind c.args.job.now.make (λ check. ?) (λ plan. ?) c.requires.unmade) c.requires.rounds
     c.in-Err.ensures.reads c.in-Err.ensures.outside
 
 pub returns-in-Err-clause-outside : goal.returns-in-Err-clause-outside

@@ -1,0 +1,94 @@
+//! The job `plan`: the script is written that starts the controllers which a document wants.
+
+ghost use Rattle.std.specs.Prelude.{◌≡◌, ◌⊎◌, ◌≤◌, length, None, Ok, Err, MatchResult};
+ghost use Rattle.cm_document.specs.declared.limits.TheConstants.{LONGEST_DOCUMENT};
+ghost use Rattle.cm_top.specs.Answering.{planning};
+ghost use Rattle.cm_top.specs.Calls.Plan.{PlansBytes, PlansDocument};
+ghost use Rattle.cm_top.specs.Calls.Run.{sink_facts, source_facts, written, AnswersFrom, MindsFaults, MindsSink};
+ghost use Rattle.cm_top.specs.Status.{ComesBeforeWriting};
+ghost use Rattle.cm_top.specs.Wished.{planned_text};
+
+use crate::status::Status;
+use crate::upgrade::write;
+use crate::wish::{read_wish, wanted_in};
+use cm_document::{Document, DocumentFault, LONGEST_DOCUMENT};
+use cm_model::Blanks;
+use outside_io::{ReadFault, Sink, Source, read_whole};
+use script_text::print_script;
+use spawn_plan::{SpawnFault, spawn};
+use std::alloc::Global;
+
+/// Plans what the document of a source wants over these blanks: it writes a script, or nothing.
+pub fn plan_alone<S: Source, K: Sink>(
+    alloc: Global,
+    source: &mut S,
+    sink: &mut K,
+    blanks: Blanks,
+) -> Status
+    ensures answers { AnswersFrom planning blanks
+        (source_facts S.left S.faults source.old) (source_facts S.left S.faults source.new)
+        (sink_facts K.taken K.flushed K.faults sink.old) (sink_facts K.taken K.flushed K.faults sink.new)
+        result None }
+    ensures outside { MindsFaults
+        (source_facts S.left S.faults source.old) (source_facts S.left S.faults source.new)
+        (sink_facts K.taken K.flushed K.faults sink.old) (sink_facts K.taken K.flushed K.faults sink.new) result }
+    ensures untouched { ComesBeforeWriting result → sink.new ≡ sink.old }
+{
+    match read_whole(alloc, source, LONGEST_DOCUMENT) {
+        Ok(bytes) => plan_bytes(alloc, bytes.as_slice(), sink, &blanks),
+        Err(ReadFault::Failed) => Status::ReadFault,
+        Err(ReadFault::TooLong) => Status::TooLong,
+        Err(ReadFault::Memory) => Status::Memory,
+    }
+}
+
+/// Plans what the document wants that these bytes are.
+fn plan_bytes<K: Sink>(alloc: Global, bytes: &[u8], sink: &mut K, blanks: &Blanks) -> Status
+    requires { length bytes.now ≤ LONGEST_DOCUMENT }
+    ensures plans { PlansBytes blanks.now bytes.now
+        (written (sink_facts K.taken K.flushed K.faults sink.old) (sink_facts K.taken K.flushed K.faults sink.new))
+        result }
+    ensures outside { MindsSink (sink_facts K.taken K.flushed K.faults sink.old)
+        (sink_facts K.taken K.flushed K.faults sink.new) result }
+    ensures untouched { ComesBeforeWriting result → sink.new ≡ sink.old }
+{
+    match read_wish(alloc, bytes) {
+        Ok(document) => plan_document(alloc, &document, sink, blanks),
+        Err(DocumentFault::Description(problem)) => Status::BadDescription(problem),
+        Err(DocumentFault::Script(fault)) => Status::BadScript(fault),
+        Err(DocumentFault::Memory) => Status::Memory,
+    }
+}
+
+/// Plans what an accepted document wants.
+fn plan_document<K: Sink>(
+    alloc: Global,
+    document: &Document,
+    sink: &mut K,
+    blanks: &Blanks,
+) -> Status
+    ensures planned { PlansDocument blanks.now document.now
+        (written (sink_facts K.taken K.flushed K.faults sink.old) (sink_facts K.taken K.flushed K.faults sink.new))
+        result }
+    ensures outside { MindsSink (sink_facts K.taken K.flushed K.faults sink.old)
+        (sink_facts K.taken K.flushed K.faults sink.new) result }
+    ensures untouched { ComesBeforeWriting result → sink.new ≡ sink.old }
+{
+    match planned_text(alloc, document, blanks) {
+        Ok(text) => write(sink, text.as_slice()),
+        Err(SpawnFault::Memory) => Status::Memory,
+        Err(fault) => Status::CannotSpawn(fault),
+    }
+}
+
+/// The text of the script that starts them, or why there is none.
+#[tactic(auto, unfolding(cm_top::specs::Wished::planned_text))]
+fn planned_text(alloc: Global, document: &Document, blanks: &Blanks) -> Result<Vec<u8>, SpawnFault>
+    ensures { MatchResult result (λ text. planned_text document.now blanks.now ≡ Ok text.items)
+        (λ fault. (fault ≡ SpawnFault.Memory) ⊎ (planned_text document.now blanks.now ≡ Err fault)) }
+{
+    let wanted = wanted_in(alloc, &document.script)?;
+    let script = spawn(alloc, &document.description, blanks, wanted.as_slice())?;
+    let text = print_script(alloc, &script)?;
+    Ok(text)
+}
