@@ -1,11 +1,13 @@
 //! What the program tells of each status: the number that it ends with, and the line on standard error, with `Ok` none.
 
 use cm_document::{CheckFault, DescFault, DescProblem, ScriptFault, Text, What};
+use cm_model::Cause;
 use cm_program::report;
 use cm_top::Status;
 use iface_names::{IfaceName, Name};
 use pages_cases::pages::hold_told;
-use sequence::Seq;
+use sequence::{Boxed, Seq};
+use spawn_plan::SpawnFault;
 use std::alloc::Global;
 use std::cell::RefCell;
 use std::fmt::Display;
@@ -56,7 +58,7 @@ pub fn end(alloc: Global, status: &Status) -> Result<String, Fail> {
 /// How each status below ends, in their order.
 const ENDS: &str = "\
 0
-2 cm: usage: cm run|steps|live|upgrade|check [--make N]
+2 cm: usage: cm run|steps|live|upgrade|check|plan [--make N]
 3 cm: description: not_toml
 3 cm: description: bad_key controller[0].rate
 3 cm: description: bad_value component[12].joint[3].command[1]
@@ -81,6 +83,12 @@ const ENDS: &str = "\
 7 cm: out of memory
 8 cm: write fault
 9 cm: trace: line 12
+10 cm: plan: not_described fwd
+10 cm: plan: twice fwd
+10 cm: plan: no_blank fwd
+10 cm: plan: refuses_config fwd
+10 cm: plan: never fwd missing_follower pid/j1/position
+10 cm: plan: no_cycle
 ";
 
 #[test]
@@ -178,7 +186,8 @@ fn push_outside(alloc: Global, ends: &mut String) -> Result<(), Fail> {
     push_end(alloc, ends, Status::TooLong)?;
     push_end(alloc, ends, Status::Memory)?;
     push_end(alloc, ends, Status::WriteFault)?;
-    push_end(alloc, ends, not_legal(alloc))
+    push_end(alloc, ends, not_legal(alloc))?;
+    push_plans(alloc, ends)
 }
 
 /// A stored trace that goes wrong.
@@ -187,6 +196,23 @@ fn not_legal(alloc: Global) -> Status {
         line: 12,
         expected: Seq::new(alloc),
     }
+}
+
+/// What speaks against a plan.
+fn push_plans(alloc: Global, ends: &mut String) -> Result<(), Fail> {
+    let fwd = Name::read(alloc, b"fwd")?;
+    let interface = IfaceName::read(alloc, b"pid/j1/position")?;
+    let cause = Cause::MissingFollower(Boxed::new(alloc, interface)?);
+    push_plan(alloc, ends, SpawnFault::NotDescribed(fwd.clone()?))?;
+    push_plan(alloc, ends, SpawnFault::Twice(fwd.clone()?))?;
+    push_plan(alloc, ends, SpawnFault::NoBlank(fwd.clone()?))?;
+    push_plan(alloc, ends, SpawnFault::RefusesConfig(fwd.clone()?))?;
+    push_plan(alloc, ends, SpawnFault::Never(fwd, cause))?;
+    push_plan(alloc, ends, SpawnFault::NoCycle)
+}
+
+fn push_plan(alloc: Global, ends: &mut String, fault: SpawnFault) -> Result<(), Fail> {
+    push_end(alloc, ends, Status::CannotSpawn(fault))
 }
 
 fn text(alloc: Global, text: &str) -> Result<Text, Fail> {
