@@ -14,7 +14,7 @@ ANSWERS = (
     ("run", "examples/switch.cm", "examples/switch.cm.stdout", 1),
     ("draw", "examples/failures.cm", "docs/pictures/failures.svg", 0),
 )
-COMMANDS = ("cm", "try", "draw", "test")
+COMMANDS = ("cm", "try", "draw", "spawn", "test")
 LINES_OF_HELP = 12
 
 

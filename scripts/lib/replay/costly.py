@@ -110,6 +110,20 @@ def documents_of_mocks():
         controller("mock", "not_ready = ["), "1,", "]\n" + END + "session a\nload x\n" + "configure x\n" * 9_999)
 
 
+def documents_of_plans():
+    """Wanted controllers that can start in no cycle, or in one of the last: the lists are looked through for it."""
+    wish = "session a\nswitch strict +x\n"
+    long_run = with_cycles(100_000, HEAD)
+    yield "plans of a mock that lists cycles", filled(
+        with_cycles(100_000, controller("mock", "not_ready = [")), lambda i: f"{i % 99_999},", "]\n" + END + wish)
+    yield "plans beside a component that lists failures", filled(
+        long_run + COMPONENT + "fail_read = [", lambda i: f"{99_999 - i % 90_000},",
+        "]\n" + JOINT.format("j") + 'state = ["effort"]\n[[controller]]\nname = "x"\ntype = "mock"\nreads = ["j/effort"]\n' + END + wish)
+    mocks = "".join(f'[[controller]]\nname = "{it}"\ntype = "mock"\nnot_ready = [{",".join(str(k) for k in range(at, 100_000, 52))}]\n'
+                    for at, it in enumerate(LETTERS))
+    yield "plans of 32 mocks that list cycles", long_run + mocks + END + f"session a\nswitch strict {' '.join(f'+{it}' for it in LETTERS[:32])}\n"
+
+
 def documents_of_lists():
     kinds = '["position", "velocity", "effort"]'
     lists = f"state = {kinds}\ncommand = {kinds}\n"

@@ -15,7 +15,8 @@ import tempfile
 
 from . import programs
 from .costly import (
-    documents, documents_of_fallbacks, documents_of_lists, documents_of_mocks, documents_of_requests, documents_of_small_tables)
+    documents, documents_of_fallbacks, documents_of_lists, documents_of_mocks, documents_of_plans, documents_of_requests,
+    documents_of_small_tables)
 
 SECONDS = 1.0
 # How many times a document's bytes its reading may take, beside 32 MiB; if its tables are many and small; if its script asks for lists.
@@ -29,12 +30,12 @@ def options(parser):
     programs.options(parser)
 
 
-def run(program, text):
-    """Returns status, standard error, processor seconds and peak memory in bytes of the program's process on this document."""
+def run(program, job, text):
+    """Returns status, standard error, processor seconds and peak memory in bytes of the program's process for this job and document."""
     with tempfile.TemporaryFile() as source, tempfile.TemporaryFile() as errors, open(os.devnull, "w") as nothing:
         source.write(text.encode())
         source.seek(0)
-        child = subprocess.Popen([program, "run"], stdin=source, stdout=nothing, stderr=errors)
+        child = subprocess.Popen([program, job], stdin=source, stdout=nothing, stderr=errors)
         _, status, usage = os.wait4(child.pid, 0)
         errors.seek(0)
         return os.waitstatus_to_exitcode(status), errors.read().decode(), usage.ru_utime + usage.ru_stime, usage.ru_maxrss * 1024
@@ -42,7 +43,7 @@ def run(program, text):
 
 def is_dear(program, name, text, times, seconds_allowed):
     """Runs the program on the document, prints its line, and returns whether it took more than it may."""
-    status, line, seconds, peak = run(program, text)
+    status, line, seconds, peak = run(program, "plan" if name.startswith("plans") else "run", text)
     most = 32 * 2**20 + times * len(text)
     dear = seconds >= seconds_allowed or peak > most
     shown = line.strip() if len(line) < 60 else f"{line[:40]}.. ({len(line):,} characters)"
@@ -54,7 +55,7 @@ def is_dear(program, name, text, times, seconds_allowed):
 def main(asked):
     program, wanted = programs.program(asked), set(asked.names)
     # One document at a time, since what is held here would count as the program's.
-    makers = (documents(), documents_of_requests(), documents_of_mocks(), documents_of_fallbacks())
+    makers = (documents(), documents_of_requests(), documents_of_mocks(), documents_of_fallbacks(), documents_of_plans())
     usual = ((name, text, TIMES, SECONDS) for maker in makers for name, text in maker)
     small_tables = ((name, text, TIMES_IN_SMALL_TABLES, 3 * SECONDS) for name, text in documents_of_small_tables())
     lists = ((name, text, TIMES_IN_LISTS, SECONDS) for name, text in documents_of_lists())
