@@ -13,6 +13,7 @@ pub record Passed (bytes : List ℕ) (lines : ℕ) (rest : List ℕ) : Type 0 wh
   pub before : List ℕ
   pub whole : bytes ≡ before ++ rest
   pub few : lines ≤ length before
+  pub counted : length (raw_lines bytes) ≡ lines + length (raw_lines rest)
   pub parts : parts_of_lines (raw_lines bytes) ≡ parts_after before lines (parts_of_lines (raw_lines rest))
 
 -- nothing was passed yet
@@ -20,7 +21,7 @@ pub Passed_none : (bytes : List ℕ) → Passed bytes 0 bytes
 Passed_none bytes =
     let parts = parts_of_lines (raw_lines bytes) in
     let none : 0 + parts.lines ≡ parts.lines = omega arith in
-    record { before = []; whole = refl; few = omega arith; parts = rw none refl }
+    record { before = []; whole = refl; few = omega arith; counted = omega arith; parts = rw none refl }
 
 -- the parts of a text whose first line is no separator
 parts_past : (line : List ℕ) (lines : List (List ℕ)) → is_separator line ≡ false → parts_of_lines (line ∷ lines) ≡ parts_after line 1 (parts_of_lines lines)
@@ -36,6 +37,7 @@ Passed_more bytes lines rest line more p cut whole shorter other = record {
   before = p.before ++ line;
   whole = p.whole ∙ ap (λ r. p.before ++ r) whole ∙ sym (append_assoc p.before line more);
   few = omega (arith, p.few, length-append p.before line, length-append line more, ap length whole);
+  counted = omega (arith, p.counted, ap (λ (l : List (List ℕ)). length l) cut);
   parts = p.parts ∙ ap (λ r. parts_after p.before lines (parts_of_lines r)) cut ∙ ap (parts_after p.before lines) (parts_past line (raw_lines more) other) ∙ parts_after_twice p.before line lines (parts_of_lines (raw_lines more));
 }
 
@@ -52,5 +54,10 @@ pub parts_without_separator : (bytes : List ℕ) (lines : ℕ) (rest : List ℕ)
 unfolding parts_of
 parts_without_separator bytes lines [] p none = p.parts ∙ rw (p.whole) (rw (append-nil, add-zero) refl)
 parts_without_separator bytes lines (b ∷ bs) p none = absurd (omega arith)
+
+-- and all lines were passed
+pub counted_all : (bytes : List ℕ) (lines : ℕ) (rest : List ℕ) → Passed bytes lines rest → length rest ≡ 0 → length (raw_lines bytes) ≡ lines
+counted_all bytes lines [] p none = omega (arith, p.counted)
+counted_all bytes lines (b ∷ bs) p none = absurd (omega (arith, none))
 
 pub ruleset dividing = (Passed_none, Passed_more)

@@ -1,16 +1,17 @@
 //! The document that some bytes are: description and script, each accepted or told by its first fault.
 
-ghost use Rattle.std.specs.Prelude.{◌≡◌, ◌≢◌, ◌+◌, ◌<◌, ◌≤◌, ◌^◌, length, option_map, unwrap_or, None, Some, Ok, Err, IfErr, MatchResult};
+ghost use Rattle.std.specs.Prelude.{◌≡◌, ◌≢◌, ◌+◌, ◌<◌, ◌≤◌, ◌^◌, length, option_map, unwrap_or, Ok, Err, IfOk, IfErr, MatchResult};
 ghost use Rattle.sequence.specs.Answers.{Answers};
 ghost use Rattle.cm_document.specs.declared.limits.TheConstants.{LONGEST_DOCUMENT};
 ghost use Rattle.cm_document.specs.Reading.{fault_as};
 ghost use Rattle.cm_document.specs.Document.{accepted_description, accepted_script, document_of, document};
 ghost use Rattle.cm_document.specs.Grammars.{whole_grammar};
+ghost use Rattle.cm_document.specs.ScriptLaws.{MeetsRules};
 ghost use Rattle.cm_document.specs.Valid.{valid, IsDescribed};
 ghost use Rattle.cm_top.specs.Status.{IsPlainFault};
 ghost use Rattle.cm_top.specs.Traced.{traced};
 
-use crate::parts::{Behind, divide, divide_behind};
+use crate::parts::{divide, divide_twice};
 use cm_document::{
     CheckFault, Checked, DescFault, DescProblem, Description, Document, DocumentFault, Script,
     ScriptFault,
@@ -52,53 +53,24 @@ pub fn read_traced(alloc: Global, bytes: &[u8]) -> Result<Traced<'_>, DocumentFa
         (λ t. traced bytes.now ≡ Ok (record { document = t.document; trace = t.trace.now }))
         (λ fault. (fault ≢ DocumentFault.Memory) → traced bytes.now ≡ Err fault) }
     ensures plain { IfErr result IsPlainFault }
+    ensures rules { IfOk result (λ t. MeetsRules t.document.script) }
+    ensures fits { IfOk result (λ t. length t.trace.now ≤ length bytes.now) }
 {
-    let parts = divide(bytes);
-    let behind = match parts.script {
-        Some(text) => Some(divide_behind(text)),
-        None => None,
-    };
-    let described = description(alloc, parts.description)?;
-    let script = script(alloc, parts.lines, script_of(behind))?;
-    let Some(
-        Behind {
-            trace: Some(trace),
-            ..
-        },
-    ) = behind
-    else {
+    let thirds = divide_twice(bytes);
+    let description = description(alloc, thirds.description)?;
+    let script = script(alloc, thirds.lines, thirds.script)?;
+    let Some(trace) = thirds.trace else {
         return Err(DocumentFault::Script(ScriptFault::BadLine(
-            lines_of(parts.lines, behind) as u32 + 1,
+            thirds.all_lines as u32 + 1,
         )));
     };
     Ok(Traced {
         document: Document {
-            description: described,
+            description,
             script,
         },
         trace,
     })
-}
-
-/// The script of what stands behind its separator.
-fn script_of(behind: Option<Behind<'_>>) -> Option<&[u8]>
-    ensures { option_map (λ t. t.now) result ≡ option_map (λ b. b.script.now) behind }
-{
-    match behind {
-        Some(behind) => Some(behind.script),
-        None => None,
-    }
-}
-
-/// How many lines a document has that has so many before the separator of its script, and no trace.
-fn lines_of(before: usize, behind: Option<Behind<'_>>) -> usize
-    requires { before + unwrap_or (option_map (λ b. b.lines) behind) 0 + 1 < 2 ^ 32 }
-    ensures { result ≡ elim behind [ None ↦ before | Some b ↦ before + 1 + b.lines ] }
-{
-    match behind {
-        Some(behind) => before + 1 + behind.lines,
-        None => before,
-    }
 }
 
 /// The description in its text: read, and then checked; or its first fault.

@@ -2,7 +2,7 @@
 
 ghost use Rattle.std.specs.Prelude.{◌≡◌, ◌+◌, ◌≤◌, length, None, option_map, unwrap_or};
 ghost use Rattle.cm_document.specs.Lines.{is_separator, parts_of, raw_lines};
-ghost use Rattle.cm_top.specs.Traced.{behind_of, is_trace_separator};
+ghost use Rattle.cm_top.specs.Traced.{behind_of, is_trace_separator, trace_in, without_trace};
 
 use script_text::{bare_line, first_line};
 
@@ -24,6 +24,8 @@ pub fn divide(bytes: &[u8]) -> Divided<'_>
     ensures lines { result.lines ≡ (parts_of bytes.now).lines }
     ensures script { option_map (λ t. t.now) result.script ≡ (parts_of bytes.now).script }
     ensures fits { result.lines + unwrap_or (option_map (λ t. length t.now) result.script) 0 ≤ length bytes.now }
+    ensures counted { length (raw_lines bytes.now)
+        ≡ result.lines + unwrap_or (option_map (λ t. 1 + length (raw_lines t.now)) result.script) 0 }
 {
     let mut lines = 0;
     let mut rest = bytes;
@@ -64,6 +66,7 @@ pub fn divide_behind(bytes: &[u8]) -> Behind<'_>
     ensures script { result.script.now ≡ (behind_of bytes.now).script }
     ensures trace { option_map (λ t. t.now) result.trace ≡ (behind_of bytes.now).trace }
     ensures lines { result.trace ≡ None → result.lines ≡ length (raw_lines bytes.now) }
+    ensures few { result.lines ≤ length (raw_lines bytes.now) }
     ensures fits { length result.script.now + unwrap_or (option_map (λ t. length t.now) result.trace) 0
         ≤ length bytes.now }
 {
@@ -86,6 +89,55 @@ pub fn divide_behind(bytes: &[u8]) -> Behind<'_>
         script: bytes,
         lines,
         trace: None,
+    }
+}
+
+/// A document divided at both separators, none of it copied.
+#[derive(Clone, Copy, Debug)]
+pub struct Thirds<'a> {
+    /// The bytes before the separator of the script; all of them if there is none.
+    pub description: &'a [u8],
+    /// How many lines the description is.
+    pub lines: usize,
+    /// The bytes behind it, up to the separator of the trace, if it stands.
+    pub script: Option<&'a [u8]>,
+    /// The bytes behind that, if it stands.
+    pub trace: Option<&'a [u8]>,
+    /// How many lines the document is without a trace.
+    pub all_lines: usize,
+}
+
+/// Divides a document at the separator of its script, and what stands behind it at that of its trace.
+#[tactic(auto, using(cm_document::proofs::LineLemmas::raw_lines_within))]
+pub fn divide_twice(bytes: &[u8]) -> Thirds<'_>
+    ensures description { result.description.now ≡ (parts_of bytes.now).description }
+    ensures lines { result.lines ≡ (parts_of bytes.now).lines }
+    ensures script { option_map (λ t. t.now) result.script ≡ (without_trace (parts_of bytes.now)).script }
+    ensures trace { option_map (λ t. t.now) result.trace ≡ trace_in (parts_of bytes.now) }
+    ensures counted { result.trace ≡ None → result.all_lines ≡ length (raw_lines bytes.now) }
+    ensures fits { result.lines + unwrap_or (option_map (λ t. length t.now) result.script) 0 ≤ length bytes.now }
+    ensures trace_fits { unwrap_or (option_map (λ t. length t.now) result.trace) 0 ≤ length bytes.now }
+    ensures few { result.all_lines ≤ length bytes.now }
+{
+    let parts = divide(bytes);
+    match parts.script {
+        Some(text) => {
+            let behind = divide_behind(text);
+            Thirds {
+                description: parts.description,
+                lines: parts.lines,
+                script: Some(behind.script),
+                trace: behind.trace,
+                all_lines: parts.lines + 1 + behind.lines,
+            }
+        }
+        None => Thirds {
+            description: parts.description,
+            lines: parts.lines,
+            script: None,
+            trace: None,
+            all_lines: parts.lines,
+        },
     }
 }
 

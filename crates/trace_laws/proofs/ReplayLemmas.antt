@@ -132,7 +132,7 @@ module _ (document : Document) (blanks : Blanks) (rules : MeetsRules document.sc
           (told, subst (λ (x : Entry). entry_line document history x ≡ line) is ((bytes_eq-Decides (entry_line document history f) line).0 same))
       either false other told = cc
 
-  caller_few : (name : List ℕ) (who : ℕ) → caller_named document.script.sessions name ≡ Some who → who ≤ length document.script.sessions
+  pub caller_few : (name : List ℕ) (who : ℕ) → caller_named document.script.sessions name ≡ Some who → who ≤ length document.script.sessions
   caller_few name who named = either (same_name name (codes "loop")) named
     where
       either : (b : Bool) → (if b then Some (length document.script.sessions) else position (λ s. same_name name s.name) document.script.sessions) ≡ Some who → who ≤ length document.script.sessions

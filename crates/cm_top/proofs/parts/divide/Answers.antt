@@ -1,5 +1,5 @@
-use Rattle.std.proofs.Common.{◌≡◌, refl, sym, ◌∙◌, length, arith, rules, length-append, ap}
-use Rattle.cm_top.proofs.PartsLemmas.{parts_at_separator, parts_without_separator}
+use Rattle.std.proofs.Common.{◌≡◌, ℕ, List, refl, sym, ◌∙◌, length, arith, rules, length-append, ap}
+use Rattle.cm_top.proofs.PartsLemmas.{counted_all, parts_at_separator, parts_without_separator}
 use Rattle.cm_top.proofs.parts.divide.Goals as goal
 
 -- at the separator
@@ -12,6 +12,7 @@ returns-then-separates c =
       lines = rw e refl;
       script = rw e refl;
       fits = omega (arith, ap length passed.whole, length-append passed.before c.loop-rest.rest.now);
+      counted = omega (arith, passed.counted, ap (λ (l : List (List ℕ)). length l) c.first_line.ensures.cut);
     }
 
 -- at the end
@@ -25,4 +26,5 @@ returns c =
       lines = rw e refl;
       script = rw e refl;
       fits = omega (arith, ap length passed.whole, length-append passed.before c.loop-rest.rest.now);
+      counted = omega (arith, counted_all c.args.bytes.now c.loop-rest.lines c.loop-rest.rest.now passed none);
     }
