@@ -154,9 +154,9 @@ checked-AnswersFrom blanks source source' bytes sink sink' ended whole checks mi
       (λ still kept. elim checks.by_bytes [
         | inl is ↦ inl is
         | inr other ↦ elim other [
-            | inl memory ↦ inr memory
-            | inr failed ↦ absurd (kept (told-Rose status.WriteFault ended sink.faults sink'.faults minds.write_fault failed))
-          ]
+          | inl memory ↦ inr memory
+          | inr failed ↦ absurd (kept (told-Rose status.WriteFault ended sink.faults sink'.faults minds.write_fault failed))
+        ]
       ]);
 }
 

@@ -60,9 +60,7 @@ pub fn read_traced(alloc: Global, bytes: &[u8]) -> Result<Traced<'_>, DocumentFa
     let description = description(alloc, thirds.description)?;
     let script = script(alloc, thirds.lines, thirds.script)?;
     let Some(trace) = thirds.trace else {
-        return Err(DocumentFault::Script(ScriptFault::BadLine(
-            thirds.all_lines as u32 + 1,
-        )));
+        return Err(DocumentFault::Script(ScriptFault::BadLine(thirds.all_lines as u32 + 1)));
     };
     Ok(Traced {
         document: Document {

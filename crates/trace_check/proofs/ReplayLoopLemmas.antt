@@ -82,7 +82,7 @@ module _ (document : Document) (blanks : Blanks) (text : List ℕ) where
   ]
 
   abbrev before_line : List Entry → List (List ℕ) → Option Entry → List Entry
-  before_line history lines o = elim o [ | None ↦ history | Some e ↦ told_before document blanks (history ++ e ∷ []) lines ]
+  before_line history lines o = elim o [ None ↦ history | Some e ↦ told_before document blanks (history ++ e ∷ []) lines ]
 
   -- the entries of a job that stands behind a history
   made_is : (history : List Entry) (job : JobFacts) → StandsAt document blanks history job → job.desk.made ≡ history

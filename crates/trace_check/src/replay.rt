@@ -208,13 +208,7 @@ fn without_feed(line: &[u8]) -> &[u8]
     ensures { result.now ≡ without_last 10 line.now }
 {
     match line.split_last() {
-        Some((last, front)) => {
-            if *last == b'\n' {
-                front
-            } else {
-                line
-            }
-        }
+        Some((last, front)) => { if *last == b'\n' { front } else { line } }
         None => line,
     }
 }
