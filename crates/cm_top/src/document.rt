@@ -53,8 +53,8 @@ pub fn read_traced(alloc: Global, bytes: &[u8]) -> Result<Traced<'_>, DocumentFa
         (λ t. traced bytes.now ≡ Ok (record { document = t.document; trace = t.trace.now }))
         (λ fault. (fault ≢ DocumentFault.Memory) → traced bytes.now ≡ Err fault) }
     ensures plain { IfErr result IsPlainFault }
-    ensures rules { IfOk result (λ t. MeetsRules t.document.script) }
-    ensures fits { IfOk result (λ t. length t.trace.now ≤ length bytes.now) }
+    ensures keeps { IfOk result
+        (λ t. MeetsRules t.document.script × (length t.trace.now ≤ length bytes.now)) }
 {
     let thirds = divide_twice(bytes);
     let description = description(alloc, thirds.description)?;

@@ -2,7 +2,8 @@
 
 ghost use Rattle.std.specs.Prelude.{◌≡◌, ◌+◌, ◌≤◌, length, None, option_map, unwrap_or};
 ghost use Rattle.cm_document.specs.Lines.{is_separator, parts_of, raw_lines};
-ghost use Rattle.cm_top.specs.Traced.{behind_of, is_trace_separator, trace_in, without_trace};
+ghost use Rattle.cm_top.specs.Calls.Parts.{DividesTwice};
+ghost use Rattle.cm_top.specs.Traced.{behind_of, is_trace_separator};
 
 use script_text::{bare_line, first_line};
 
@@ -23,9 +24,9 @@ pub fn divide(bytes: &[u8]) -> Divided<'_>
     ensures description { result.description.now ≡ (parts_of bytes.now).description }
     ensures lines { result.lines ≡ (parts_of bytes.now).lines }
     ensures script { option_map (λ t. t.now) result.script ≡ (parts_of bytes.now).script }
-    ensures fits { result.lines + unwrap_or (option_map (λ t. length t.now) result.script) 0 ≤ length bytes.now }
-    ensures counted { length (raw_lines bytes.now)
-        ≡ result.lines + unwrap_or (option_map (λ t. 1 + length (raw_lines t.now)) result.script) 0 }
+    ensures sizes { (result.lines + unwrap_or (option_map (λ t. length t.now) result.script) 0 ≤ length bytes.now)
+        × (length (raw_lines bytes.now)
+        ≡ result.lines + unwrap_or (option_map (λ t. 1 + length (raw_lines t.now)) result.script) 0) }
 {
     let mut lines = 0;
     let mut rest = bytes;
@@ -65,8 +66,8 @@ pub struct Behind<'a> {
 pub fn divide_behind(bytes: &[u8]) -> Behind<'_>
     ensures script { result.script.now ≡ (behind_of bytes.now).script }
     ensures trace { option_map (λ t. t.now) result.trace ≡ (behind_of bytes.now).trace }
-    ensures lines { result.trace ≡ None → result.lines ≡ length (raw_lines bytes.now) }
-    ensures few { result.lines ≤ length (raw_lines bytes.now) }
+    ensures lines { (result.trace ≡ None → result.lines ≡ length (raw_lines bytes.now))
+        × (result.lines ≤ length (raw_lines bytes.now)) }
     ensures fits { length result.script.now + unwrap_or (option_map (λ t. length t.now) result.trace) 0
         ≤ length bytes.now }
 {
@@ -110,14 +111,8 @@ pub struct Thirds<'a> {
 /// Divides a document at the separator of its script, and what stands behind it at that of its trace.
 #[tactic(auto, using(cm_document::proofs::LineLemmas::raw_lines_within))]
 pub fn divide_twice(bytes: &[u8]) -> Thirds<'_>
-    ensures description { result.description.now ≡ (parts_of bytes.now).description }
-    ensures lines { result.lines ≡ (parts_of bytes.now).lines }
-    ensures script { option_map (λ t. t.now) result.script ≡ (without_trace (parts_of bytes.now)).script }
-    ensures trace { option_map (λ t. t.now) result.trace ≡ trace_in (parts_of bytes.now) }
-    ensures counted { result.trace ≡ None → result.all_lines ≡ length (raw_lines bytes.now) }
-    ensures fits { result.lines + unwrap_or (option_map (λ t. length t.now) result.script) 0 ≤ length bytes.now }
-    ensures trace_fits { unwrap_or (option_map (λ t. length t.now) result.trace) 0 ≤ length bytes.now }
-    ensures few { result.all_lines ≤ length bytes.now }
+    ensures { DividesTwice bytes.now result.description.now result.lines (option_map (λ t. t.now) result.script)
+        (option_map (λ t. t.now) result.trace) result.all_lines }
 {
     let parts = divide(bytes);
     match parts.script {

@@ -11,8 +11,7 @@ returns-then-separates c =
       description = rw e c.split_at.ensures.front;
       lines = rw e refl;
       script = rw e refl;
-      fits = omega (arith, ap length passed.whole, length-append passed.before c.loop-rest.rest.now);
-      counted = omega (arith, passed.counted, ap (λ (l : List (List ℕ)). length l) c.first_line.ensures.cut);
+      sizes = (omega (arith, ap length passed.whole, length-append passed.before c.loop-rest.rest.now), omega (arith, passed.counted, ap (λ (l : List (List ℕ)). length l) c.first_line.ensures.cut));
     }
 
 -- at the end
@@ -25,6 +24,5 @@ returns c =
       description = rw e refl;
       lines = rw e refl;
       script = rw e refl;
-      fits = omega (arith, ap length passed.whole, length-append passed.before c.loop-rest.rest.now);
-      counted = omega (arith, counted_all c.args.bytes.now c.loop-rest.lines c.loop-rest.rest.now passed none);
+      sizes = (omega (arith, ap length passed.whole, length-append passed.before c.loop-rest.rest.now), omega (arith, counted_all c.args.bytes.now c.loop-rest.lines c.loop-rest.rest.now passed none));
     }

@@ -11,8 +11,7 @@ returns-then-separates_trace c =
     record {
       script = rw e c.split_at.ensures.front;
       trace = rw e refl;
-      lines = λ none. cc;
-      few = omega (arith, passed.counted);
+      lines = (λ none. cc, omega (arith, passed.counted));
       fits = omega (arith, ap length passed.whole, length-append passed.before c.loop-rest.rest.now);
     }
 
@@ -25,7 +24,6 @@ returns c =
     record {
       script = rw e refl;
       trace = rw e refl;
-      lines = λ it. counted_all c.args.bytes.now c.loop-rest.lines c.loop-rest.rest.now passed none;
-      few = omega (arith, passed.counted);
+      lines = (λ it. counted_all c.args.bytes.now c.loop-rest.lines c.loop-rest.rest.now passed none, omega (arith, passed.counted));
       fits = omega (arith, ap length passed.whole, length-append passed.before c.loop-rest.rest.now);
     }
