@@ -13,8 +13,9 @@ in_first (x ∷ xs) ys zero less = refl
 in_first (x ∷ xs) ys (suc i) less = in_first xs ys i (omega (arith, less))
 
 behind_first : (xs ys : List Call) (j : ℕ) → slice_get (xs ++ ys) (length xs + j) ≡ slice_get ys j
-behind_first [] ys j = refl
-behind_first (x ∷ xs) ys j = behind_first xs ys j
+behind_first [] ys j = let none : 0 + j ≡ j = omega arith in ap (slice_get ys) none
+behind_first (x ∷ xs) ys j =
+    let one : suc (length xs) + j ≡ suc (length xs + j) = omega arith in ap (slice_get (x ∷ (xs ++ ys))) one ∙ behind_first xs ys j
 
 cycles_long : (n : ℕ) → length (cycle_calls n) ≡ n + n
 cycles_long zero = refl
@@ -26,32 +27,32 @@ cycles_long (suc n) =
 -- the begin and the end of a cycle of the first n
 begin_in : (n k : ℕ) → k < n → slice_get (cycle_calls n) (k + k) ≡ Some (Begin k)
 begin_in zero k less = absurd (omega (arith, less))
-begin_in (suc n) k less = either (last_or_before n k less)
+begin_in (suc n) k less = either (λ before. begin_in n k before) (last_or_before n k less)
   where
     last_or_before : (n k : ℕ) → k < suc n → (k < n) ⊎ (n ≡ k)
     last_or_before n k less = omega (arith, less)
 
-    either : ((k < n) ⊎ (n ≡ k)) → slice_get (cycle_calls (suc n)) (k + k) ≡ Some (Begin k)
-    either (inl before) =
+    either : (k < n → slice_get (cycle_calls n) (k + k) ≡ Some (Begin k)) → ((k < n) ⊎ (n ≡ k)) → slice_get (cycle_calls (suc n)) (k + k) ≡ Some (Begin k)
+    either rest (inl before) =
         let long = cycles_long n in
-        in_first (cycle_calls n) (Begin n ∷ End n ∷ []) (k + k) (omega (arith, before, long)) ∙ begin_in n k before
-    either (inr same) =
+        in_first (cycle_calls n) (Begin n ∷ End n ∷ []) (k + k) (omega (arith, before, long)) ∙ rest before
+    either rest (inr same) =
         let long = cycles_long n in
         let place : k + k ≡ length (cycle_calls n) + 0 = omega (arith, same, long) in
         ap (slice_get (cycle_calls (suc n))) place ∙ behind_first (cycle_calls n) (Begin n ∷ End n ∷ []) 0 ∙ ap (λ m. Some (Begin m)) same
 
 end_in : (n k : ℕ) → k < n → slice_get (cycle_calls n) ((k + k) + 1) ≡ Some (End k)
 end_in zero k less = absurd (omega (arith, less))
-end_in (suc n) k less = either (last_or_before n k less)
+end_in (suc n) k less = either (λ before. end_in n k before) (last_or_before n k less)
   where
     last_or_before : (n k : ℕ) → k < suc n → (k < n) ⊎ (n ≡ k)
     last_or_before n k less = omega (arith, less)
 
-    either : ((k < n) ⊎ (n ≡ k)) → slice_get (cycle_calls (suc n)) ((k + k) + 1) ≡ Some (End k)
-    either (inl before) =
+    either : (k < n → slice_get (cycle_calls n) ((k + k) + 1) ≡ Some (End k)) → ((k < n) ⊎ (n ≡ k)) → slice_get (cycle_calls (suc n)) ((k + k) + 1) ≡ Some (End k)
+    either rest (inl before) =
         let long = cycles_long n in
-        in_first (cycle_calls n) (Begin n ∷ End n ∷ []) ((k + k) + 1) (omega (arith, before, long)) ∙ end_in n k before
-    either (inr same) =
+        in_first (cycle_calls n) (Begin n ∷ End n ∷ []) ((k + k) + 1) (omega (arith, before, long)) ∙ rest before
+    either rest (inr same) =
         let long = cycles_long n in
         let place : (k + k) + 1 ≡ length (cycle_calls n) + 1 = omega (arith, same, long) in
         ap (slice_get (cycle_calls (suc n))) place ∙ behind_first (cycle_calls n) (Begin n ∷ End n ∷ []) 1 ∙ ap (λ m. Some (End m)) same

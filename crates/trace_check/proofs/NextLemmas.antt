@@ -193,7 +193,7 @@ module _ (cycles : ℕ) (s : State) (es : List Entry) (stands : LoopStands cycle
   calls_made aloft closed up shut = stands.calls ∙ ap₂ (λ (a : Bool) (c : Bool). (s.ended + s.ended) + (one_if a + one_if c)) up shut
 
   -- behind the close it has none
-  none_left : s.closed ≡ true → next_of_loop cycles es ≡ None
+  pub none_left : s.closed ≡ true → next_of_loop cycles es ≡ None
   none_left shut =
       let last = stands.last shut in
       let calls : length es ≡ (s.ended + s.ended) + (0 + 1) = calls_made false true last.1 shut in
@@ -201,7 +201,7 @@ module _ (cycles : ℕ) (s : State) (es : List Entry) (stands : LoopStands cycle
       ap (slice_get (loop_calls cycles)) place ∙ none_behind cycles
 
   -- before it that of the desk
-  one_left : s.closed ≡ false → next_of_loop cycles es ≡ Some (loop_call s)
+  pub one_left : s.closed ≡ false → next_of_loop cycles es ≡ Some (loop_call s)
   one_left shut = elim (cases_Bool s.aloft) [
     | inl up ↦
         let calls : length es ≡ (s.ended + s.ended) + (1 + 0) = calls_made true false up shut in
