@@ -24,14 +24,21 @@ cycles_long (suc n) =
     let more : length (cycle_calls n ++ (Begin n ∷ End n ∷ [])) ≡ length (cycle_calls n) + 2 = length-append (cycle_calls n) (Begin n ∷ End n ∷ []) in
     omega (arith, before, more)
 
+-- a number below the next one is below this one, or this one
+last_or_before : (n k : ℕ) → k < suc n → (k < n) ⊎ (n ≡ k)
+last_or_before zero zero less = inr refl
+last_or_before zero (suc k) less = absurd (omega (arith, less))
+last_or_before (suc n) zero less = inl (omega arith)
+last_or_before (suc n) (suc k) less = elim (last_or_before n k (omega (arith, less))) [
+  | inl before ↦ inl (omega (arith, before))
+  | inr same ↦ inr (ap suc same)
+]
+
 -- the begin and the end of a cycle of the first n
 begin_in : (n k : ℕ) → k < n → slice_get (cycle_calls n) (k + k) ≡ Some (Begin k)
 begin_in zero k less = absurd (omega (arith, less))
 begin_in (suc n) k less = either (λ before. begin_in n k before) (last_or_before n k less)
   where
-    last_or_before : (n k : ℕ) → k < suc n → (k < n) ⊎ (n ≡ k)
-    last_or_before n k less = omega (arith, less)
-
     either : (k < n → slice_get (cycle_calls n) (k + k) ≡ Some (Begin k)) → ((k < n) ⊎ (n ≡ k)) → slice_get (cycle_calls (suc n)) (k + k) ≡ Some (Begin k)
     either rest (inl before) =
         let long = cycles_long n in
@@ -45,9 +52,6 @@ end_in : (n k : ℕ) → k < n → slice_get (cycle_calls n) ((k + k) + 1) ≡ S
 end_in zero k less = absurd (omega (arith, less))
 end_in (suc n) k less = either (λ before. end_in n k before) (last_or_before n k less)
   where
-    last_or_before : (n k : ℕ) → k < suc n → (k < n) ⊎ (n ≡ k)
-    last_or_before n k less = omega (arith, less)
-
     either : (k < n → slice_get (cycle_calls n) ((k + k) + 1) ≡ Some (End k)) → ((k < n) ⊎ (n ≡ k)) → slice_get (cycle_calls (suc n)) ((k + k) + 1) ≡ Some (End k)
     either rest (inl before) =
         let long = cycles_long n in

@@ -108,7 +108,7 @@ any_within : (test : CtlDesc → Bool) (cs : List CtlDesc) → position_or_len t
 any_within test [] less = absurd (omega (arith, less))
 any_within test (c ∷ cs) less = elim (cases_Bool (test c)) [
   | inl passes ↦ rw passes refl
-  | inr fails ↦ let later : suc (position_or_len test cs) < suc (length cs) = rw fails at less in rw fails (any_within test cs (omega (arith, later)))
+  | inr fails ↦ let later : 1 + position_or_len test cs < suc (length cs) = rw fails at less in rw fails (any_within test cs (omega (arith, later)))
 ]
 
 described_entry : (s : State) (who : ℕ) (call : Call) (r : Reply) → reply_of s call ≡ Some r → IsDescribed s.description (record { who = who; call = call; reply = r })

@@ -1,4 +1,5 @@
 -- Where a session stands after one entry more of it.
+use native.Mathlib.Numerals.{unary_clauses}
 use Rattle.std.proofs.Common.{◌≡◌, ℕ, zero, suc, ◌+◌, List, [], ◌∷◌, ◌++◌, length, drop, Bool, true, false, Option, Some, None, refl, sym, ap, ap₂, subst, ◌∙◌, arith, append-nil, length-append}
 use Rattle.std.specs.Prelude.{not, filter, if◌then◌else◌}
 use Rattle.std.specs.List.{AllByRecursion}
@@ -17,8 +18,8 @@ use Rattle.trace_laws.specs.Next.{stands_after, ticket_after}
 -- one line less is left behind one more that was made
 drop_more : (n : ℕ) (lines : List Call) → drop 1 (drop n lines) ≡ drop (n + 1) lines
 drop_more zero lines = refl
-drop_more (suc n) [] = refl
-drop_more (suc n) (line ∷ lines) = drop_more n lines
+drop_more (suc n) [] = simp unary_clauses refl
+drop_more (suc n) (line ∷ lines) = simp unary_clauses (simp unary_clauses at (drop_more n lines))
 
 same_session : (lines lines' : List Call) (ticket ticket' : Option ℕ) → lines ≡ lines' → ticket ≡ ticket'
     → ◌≡◌ {A = Session} (record { lines = lines; ticket = ticket }) (record { lines = lines'; ticket = ticket' })

@@ -1,5 +1,5 @@
 -- Words and ends of lines.
-use Rattle.std.proofs.Common.{◌≡◌, ℕ, zero, suc, ◌≤◌, Bool, true, false, List, [], ◌∷◌, ◌++◌, length, take, Option, Some, None, refl, sym, ap, subst, ◌∙◌, inl, inr, arith}
+use Rattle.std.proofs.Common.{◌≡◌, ℕ, zero, suc, ◌+◌, ◌≤◌, Bool, true, false, List, [], ◌∷◌, ◌++◌, length, take, Option, Some, None, refl, sym, ap, subst, ◌∙◌, inl, inr, arith}
 use Rattle.std.specs.Prelude.{◌==◌, ◌||◌, nat_lt, position, if◌then◌else◌, IfSome}
 use Rattle.std.specs.List.{list_any, position_or_len}
 use Rattle.std.proofs.lemmas.Bool.{cases_Bool, ne_eqb}
@@ -23,12 +23,15 @@ use Rattle.trace_check.specs.Steps.{IsDescribed}
 abbrev pub ends_word : ℕ → Bool
 ends_word b = b == 32 || b == 10
 
+take_one_more : (n b : ℕ) (bs : List ℕ) → take (1 + n) (b ∷ bs) ≡ b ∷ take n bs
+take_one_more n b bs = let one : 1 + n ≡ suc n = omega arith in ap (λ k. take k (b ∷ bs)) one
+
 -- it is what stands before the first byte that ends it
 first_taken : (line : List ℕ) → first_word line ≡ take (position_or_len ends_word line) line
 first_taken [] = refl
 first_taken (b ∷ bs) = elim (cases_Bool (ends_word b)) [
   | inl ends ↦ rw ends refl
-  | inr inside ↦ rw inside (ap (λ (l : List ℕ). b ∷ l) (first_taken bs))
+  | inr inside ↦ rw inside (ap (λ (l : List ℕ). b ∷ l) (first_taken bs) ∙ sym (take_one_more (position_or_len ends_word bs) b bs))
 ]
 
 pub first_word_cut : (line : List ℕ) (end : ℕ) → position ends_word line ≡ Some end → first_word line ≡ take end line
