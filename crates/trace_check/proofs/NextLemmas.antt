@@ -2,7 +2,7 @@
 use Rattle.std.proofs.Common.{◌≡◌, ℕ, zero, suc, ◌+◌, ◌<◌, ◌≤◌, Bool, true, false, List, [], ◌∷◌, ◌++◌, length, drop, slice_set, Option, Some, None, ltb-true, length-append, refl, sym, ap, ap₂, subst, ◌∙◌, inl, inr, arith}
 use Rattle.std.specs.Prelude.{◌==◌, ◌&&◌, not, nat_lt, slice_get, option_map, position, if◌then◌else◌, IfSome}
 use Rattle.std.specs.List.{AllByRecursion, list_any, position_or_len}
-use Rattle.std.proofs.lemmas.Bool.{cases_Bool, eqb-true, le-ltb}
+use Rattle.std.proofs.lemmas.Bool.{cases_Bool, eqb-true, le-ltb, ne_eqb}
 use Rattle.std.proofs.lemmas.Bool.Decides.{nat_tests}
 use Rattle.std.proofs.lemmas.Option.{cond_some, same_Some, slice_get_past}
 use Rattle.iface_names.specs.Names.{same_name}
@@ -33,7 +33,7 @@ use Rattle.cm_model.specs.declared.reply.Reply.{Reply}
 use Rattle.cm_model.specs.declared.reply.Reply.TheVariants as reply
 use Rattle.cm_model.specs.declared.reply.Why.TheVariants as why
 use Rattle.desk_turns.proofs.JobLemmas.{begin_next, close_next, end_next}
-use Rattle.desk_turns.specs.Jobs.{loop_call, looped_on}
+use Rattle.desk_turns.specs.Jobs.{JobFacts, GoesOn, progress_of, loop_call, looped_on}
 use Rattle.trace_laws.proofs.StateTextLemmas.{all_drop}
 use Rattle.trace_laws.specs.Next.{ticket_after, stands_after, next_of_session, next_of_loop, next_by, next_of, state_of, entry_of, next_entry}
 use Rattle.trace_laws.proofs.ThroughLemmas.{other_split, written_none}
@@ -437,3 +437,25 @@ module _ (document : Document) (blanks : Blanks) (rules : MeetsRules document.sc
       slice_get_within_some [] k less = absurd (omega (arith, less))
       slice_get_within_some (t ∷ texts) zero less = (t, refl)
       slice_get_within_some (t ∷ texts) (suc k) less = slice_get_within_some texts k (omega (arith, less))
+
+-- ---- Whose call it is
+
+-- the loop's call, if it is asked for the number behind the sessions
+pub goes_by_loop : (who : ℕ) (old new : JobFacts) → who ≡ old.desk.opening.sessions → GoesOn looped_on old new → GoesOn (made_next who) old new
+goes_by_loop who old new is goes =
+    let stays : (progress_of old).state.sessions ≡ old.desk.opening.sessions = sessions_stay old.desk.made old.desk.opening in
+    let test : (who == (progress_of old).state.sessions) ≡ true = grind (arith, nat_tests, is, stays) in
+    record {
+      opening = goes.opening;
+      moved = goes.moved ∙ sym (ap (λ (b : Bool). if b then looped_on (progress_of old) else turned (turn.Step who) (progress_of old)) test);
+    }
+
+-- else a session's
+pub goes_by_turn : (who : ℕ) (old new : JobFacts) → (who ≡ old.desk.opening.sessions → ⊥) → GoesOn (turned (turn.Step who)) old new → GoesOn (made_next who) old new
+goes_by_turn who old new is_not goes =
+    let stays : (progress_of old).state.sessions ≡ old.desk.opening.sessions = sessions_stay old.desk.made old.desk.opening in
+    let test : (who == (progress_of old).state.sessions) ≡ false = ne_eqb who (progress_of old).state.sessions (λ e. is_not (e ∙ stays)) in
+    record {
+      opening = goes.opening;
+      moved = goes.moved ∙ sym (ap (λ (b : Bool). if b then looped_on (progress_of old) else turned (turn.Step who) (progress_of old)) test);
+    }

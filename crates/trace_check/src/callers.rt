@@ -1,6 +1,7 @@
 //! Whom a line names.
 
-ghost use Rattle.std.specs.Prelude.{◌≡◌, ◌<◌, ◌^◌, length};
+ghost use Rattle.std.specs.Prelude.{◌≡◌, ◌<◌, ◌^◌, ◌==◌, ◌||◌, length, position, IfSome};
+ghost use Rattle.iface_names.specs.Names.{same_name};
 ghost use Rattle.trace_laws.specs.Next.{caller_named, first_word};
 
 use cm_document::SessionText;
@@ -10,10 +11,19 @@ use cm_document::SessionText;
 pub fn first_word(line: &[u8]) -> &[u8]
     ensures { result.now ≡ first_word line.now }
 {
-    match line.iter().position(|byte| *byte == b' ' || *byte == b'\n') {
+    match end_of_word(line) {
         Some(end) => &line[..end],
         None => line,
     }
+}
+
+/// Where the first space or line feed of a line stands.
+fn end_of_word(line: &[u8]) -> Option<usize>
+    ensures at { result ≡ position (λ b. b == 32 || b == 10) line.now }
+    ensures within { IfSome result (λ end. end < length line.now) }
+{
+    line.iter()
+        .position(|byte| *byte == b' ' || *byte == b'\n')
 }
 
 /// The number of the caller of this name: that of a session, or behind them that of the loop.
@@ -24,11 +34,18 @@ pub fn caller_named(sessions: &[SessionText], name: &[u8]) -> Option<u32>
     if name == b"loop".as_slice() {
         return Some(sessions.len() as u32);
     }
-    match sessions
-        .iter()
-        .position(|session| name == session.name.bytes())
-    {
+    match session_named(sessions, name) {
         Some(who) => Some(who as u32),
         None => None,
     }
+}
+
+/// Which of these sessions has this name.
+fn session_named(sessions: &[SessionText], name: &[u8]) -> Option<usize>
+    ensures at { result ≡ position (λ s. same_name name.now s.name) sessions.now }
+    ensures within { IfSome result (λ who. who < length sessions.now) }
+{
+    sessions
+        .iter()
+        .position(|session| name == session.name.bytes())
 }

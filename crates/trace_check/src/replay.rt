@@ -1,11 +1,12 @@
 //! The lines of a text, replayed one after another on a desk.
 
-ghost use Rattle.std.specs.Prelude.{◌≡◌, ◌+◌, ◌-◌, ◌<◌, ◌^◌, [], length, IfOk};
+ghost use Rattle.std.specs.Prelude.{◌≡◌, ◌+◌, ◌-◌, ◌<◌, ◌^◌, [], length, IfOk, OnOk};
 ghost use Rattle.cm_document.specs.Lines.{without_last};
 ghost use Rattle.cm_document.specs.ScriptLaws.{MeetsRules};
 ghost use Rattle.trace_check.specs.Checks.{HasReplayed};
 ghost use Rattle.trace_check.specs.Standing.{StandsAt, KnowsNames};
-ghost use Rattle.trace_check.specs.Steps.{HasMadeNext, HasReplayedLine, HasReplayedLines};
+ghost use Rattle.desk_turns.specs.Jobs.{GoesOn};
+ghost use Rattle.trace_check.specs.Steps.{HasMadeNext, HasReplayedLine, HasReplayedLines, made_next};
 
 use crate::callers::{caller_named, first_word};
 use crate::fault::WrongLine;
@@ -185,12 +186,25 @@ fn make_next<C: Controller>(
     ensures { IfOk result (λ made. HasMadeNext made who job.old job.new) }
 {
     let before = job.desk().history().len();
+    advance(alloc, job, who)?;
+    Ok(job.desk().history().len() > before)
+}
+
+/// The caller of this number makes its next call, if it has one that is enabled: a session its line, the loop its call.
+#[tactic(auto, using(crate::proofs::NextLemmas::goes_by_loop, crate::proofs::NextLemmas::goes_by_turn))]
+fn advance<C: Controller>(
+    alloc: Global,
+    job: &mut RunningJob<C>,
+    who: u32,
+) -> Result<(), Memory>
+    ensures { OnOk result (GoesOn (made_next who) job.old job.new) }
+{
     if who == job.desk().sessions() {
         job.go_on(alloc)?;
-    } else {
-        job.turn(alloc, &Turn::Step(who))?;
+        return Ok(());
     }
-    Ok(job.desk().history().len() > before)
+    job.turn(alloc, &Turn::Step(who))?;
+    Ok(())
 }
 
 /// A line once more, without its line feed.
