@@ -1,11 +1,12 @@
 -- What one line makes of a replay.
-use Rattle.std.proofs.Common.{◌≡◌, ℕ, ◌+◌, ◌<◌, ◌≤◌, Bool, true, false, List, [], ◌∷◌, ◌++◌, length, take, map, Option, Some, None, refl, sym, ap, ap₂, subst, ◌∙◌, arith, append-nil, length-append}
-use Rattle.std.specs.Prelude.{nat_lt, nat_eq, if◌then◌else◌, filter_map}
+use Rattle.std.proofs.Common.{◌≡◌, ℕ, suc, ◌+◌, ◌<◌, ◌≤◌, Bool, true, false, List, [], ◌∷◌, ◌++◌, length, take, map, Option, Some, None, refl, sym, ap, ap₂, subst, ◌∙◌, arith, append-nil, length-append}
+use Rattle.std.specs.Prelude.{◌-◌, nat_lt, nat_eq, slice_get, if◌then◌else◌, filter_map}
 use Rattle.std.specs.Cmp.Lexicographic.{pointwise}
 use Rattle.std.specs.List.{cons_option}
 use Rattle.std.specs.Option.{option_map_or}
 use Rattle.std.proofs.lemmas.Bool.Decides.{nat_tests}
 use Rattle.std.proofs.lemmas.List.{take_all, take_at}
+use Rattle.std.proofs.lemmas.Option.{same_Some}
 use Rattle.std.proofs.lemmas.List.Elements.{filter_map-append}
 use Rattle.cm_document.specs.Lines.{without_last}
 use Rattle.cm_document.specs.ScriptLaws.{MeetsRules}
@@ -31,7 +32,7 @@ use Rattle.trace_check.proofs.NextLemmas.{HasGone, GoesSo, next_goes}
 
 first_standing : (first : ℕ) (texts : List SessionText) → map (λ (text : SessionText). record { lines = text.lines; ticket = None }) texts ≡ standing_from first texts []
 first_standing first [] = refl
-first_standing first (t ∷ texts) = ap (λ (xs : List Session). record { lines = t.lines; ticket = None } ∷ xs) (first_standing (first + 1) texts)
+first_standing first (t ∷ texts) = ap (λ (xs : List Session). record { lines = t.lines; ticket = None } ∷ xs) (first_standing (suc first) texts)
 
 pub stands_first : (document : Document) (blanks : Blanks) (job : JobFacts) → job.desk.opening ≡ boot document.description blanks (length document.script.sessions)
     → progress_of job ≡ start document blanks → StandsAt document blanks [] job
@@ -79,7 +80,9 @@ module _ (document : Document) (blanks : Blanks) (rules : MeetsRules document.sc
             none = λ it. (let wrong : true ≡ false = sym is_made ∙ it in cc);
             some = λ it. (
               e,
-              (next, (record { opening = turn.moved.opening ∙ stands.opening; progress = moved ∙ goes.progress_is; legal = goes.legal; looped = goes.looped }, goes.described)),
+              next,
+              record { opening = turn.moved.opening ∙ stands.opening; progress = moved ∙ goes.progress_is; legal = goes.legal; looped = goes.looped },
+              goes.described,
             );
           }
 
@@ -149,3 +152,68 @@ pub line_made : (document : Document) (history : List Entry) (e : Entry) (lines 
     → (with_line (with_load lines e) e).line ≡ entry_line document history e
 line_made document history e lines knows =
     let more = knows_more document history e lines knows in ap₂ (λ (sessions : List SessionText) names. line_text sessions names e) more.sessions more.names
+
+-- ---- What a call comes to
+
+last_of : (history : List Entry) (e : Entry) → slice_get (history ++ e ∷ []) (length history) ≡ Some e
+last_of [] e = refl
+last_of (x ∷ xs) e = last_of xs e
+
+-- the last of some entries and one more is that one
+last_is : (history made : List Entry) (e x : Entry) → made ≡ history ++ e ∷ [] → Some x ≡ slice_get made (length made - 1) → x ≡ e
+last_is history made e x whole last =
+    let long : length made ≡ length history + 1 = ap length whole ∙ length-append history (e ∷ []) in
+    let at : length made - 1 ≡ length history = omega (arith, long) in
+    same_Some x e (last ∙ ap₂ slice_get whole at ∙ last_of history e)
+
+module _ (document : Document) (blanks : Blanks) (who : ℕ) (old new : JobFacts) (x : Entry) where
+  -- the entry that was made
+  abbrev pub WasMade : Type 0
+  WasMade = (e : Entry) × (next_entry document blanks old.desk.made who ≡ Some e) × StandsAt document blanks (old.desk.made ++ e ∷ []) new × IsDescribed document.description e
+
+  -- it stands last in the history
+  abbrev pub IsLast : Type 0
+  IsLast = Some x ≡ slice_get new.desk.made (length new.desk.made - 1)
+
+  is_it : (e : Entry) → StandsAt document blanks (old.desk.made ++ e ∷ []) new → IsLast → x ≡ e
+  is_it e stands last = last_is old.desk.made new.desk.made e x (ap (λ (p : Progress). p.made) stands.progress) last
+
+  -- what it loads is described
+  pub described_last : WasMade → IsLast → IsDescribed document.description x
+  described_last (e, next, stands, described) last = subst (IsDescribed document.description) (sym (is_it e stands last)) described
+
+  module _ (line : List ℕ) (lines lines' : LinesFacts) (named : caller_named document.script.sessions (first_word line) ≡ Some who) (knows : KnowsNames document old.desk.made lines)
+      (is_made : lines' ≡ with_line (with_load lines x) x) where
+    its_line : (e : Entry) → x ≡ e → lines'.line ≡ entry_line document old.desk.made e
+    its_line e same =
+        ap (λ (l : LinesFacts). l.line) is_made ∙ ap (λ (y : Entry). (with_line (with_load lines y) y).line) same ∙ line_made document old.desk.made e lines knows
+
+    known : (e : Entry) → x ≡ e → KnowsNames document (old.desk.made ++ e ∷ []) lines'
+    known e same =
+        subst (KnowsNames document (old.desk.made ++ e ∷ [])) (sym (is_made ∙ ap (λ (y : Entry). with_line (with_load lines y) y) same)) (knows_more document old.desk.made e lines knows)
+
+    -- its line came
+    pub line_told : WasMade → IsLast → pointwise nat_eq lines'.line line ≡ true
+        → (e : Entry) × (told_by document blanks old.desk.made line ≡ Some e) × StandsAt document blanks (old.desk.made ++ e ∷ []) new × KnowsNames document (old.desk.made ++ e ∷ []) lines'
+    line_told (e, next, stands, described) last came =
+        let same = is_it e stands last in
+        let entry = named_next document blanks old.desk.made line who (Some e) named next in
+        (
+          e,
+          told_same document blanks old.desk.made line e entry (ap (λ (l : List ℕ). pointwise nat_eq l line) (sym (its_line e same)) ∙ came),
+          stands,
+          known e same,
+        )
+
+    -- another line came
+    pub line_other : WasMade → IsLast → pointwise nat_eq lines'.line line ≡ false
+        → (told_by document blanks old.desk.made line ≡ None) × (without_last 10 lines'.line ≡ expected_at document blanks old.desk.made line)
+        × (take (length old.desk.made) new.desk.made ≡ old.desk.made)
+    line_other (e, next, stands, described) last other =
+        let same = is_it e stands last in
+        let entry = named_next document blanks old.desk.made line who (Some e) named next in
+        (
+          told_other document blanks old.desk.made line e entry (ap (λ (l : List ℕ). pointwise nat_eq l line) (sym (its_line e same)) ∙ other),
+          ap (without_last 10) (its_line e same) ∙ expected_other document blanks old.desk.made line e entry,
+          taken_front old.desk.made new.desk.made e (ap (λ (p : Progress). p.made) stands.progress),
+        )
