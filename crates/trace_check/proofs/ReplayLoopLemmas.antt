@@ -1,7 +1,7 @@
 -- What all lines make of a replay, one after another.
 use Rattle.std.proofs.Common.{◌≡◌, ℕ, zero, suc, ◌+◌, ◌<◌, ◌≤◌, Bool, true, false, List, [], ◌∷◌, ◌++◌, length, take, map, Option, Some, None, refl, sym, ap, ap₂, subst, ◌∙◌, inl, inr, arith, length-append}
-use Rattle.std.specs.Prelude.{◌&&◌, if◌then◌else◌, is_none, Result, Ok, Err}
-use Rattle.std.proofs.lemmas.Bool.{cases_Bool}
+use Rattle.std.specs.Prelude.{◌==◌, ◌&&◌, if◌then◌else◌, is_none, Result, Ok, Err}
+use Rattle.std.proofs.lemmas.Bool.{cases_Bool, eqb-true}
 use Rattle.std.proofs.lemmas.List.{take_all}
 use Rattle.cm_desk.specs.Desk.{now_of}
 use Rattle.cm_document.specs.Lines.{raw_lines}
@@ -30,6 +30,11 @@ use Rattle.trace_check.proofs.NextLemmas.{none_left, one_left}
 
 abbrev as_judgement : Result (Unit {0}) told.WrongLine → Result (Unit {0}) told.WrongLine
 as_judgement judgement = judgement
+
+-- what has no byte is empty
+pub nothing_left : (rest : List ℕ) → (length rest == 0) ≡ true → rest ≡ []
+nothing_left [] none = refl
+nothing_left (b ∷ bs) none = let long : suc (length bs) ≡ 0 = eqb-true (suc (length bs)) 0 none in absurd (omega (arith, long))
 
 -- so many that are taken are there
 taken_within : (k : ℕ) (xs : List Entry) → length (take k xs) ≡ k → k ≤ length xs
