@@ -197,8 +197,7 @@ module _ (document : Document) (blanks : Blanks) (who : ℕ) (old new : JobFacts
         → (e : Entry) × (told_by document blanks old.desk.made line ≡ Some e) × StandsAt document blanks (old.desk.made ++ e ∷ []) new × KnowsNames document (old.desk.made ++ e ∷ []) lines'
     line_told (e, next, stands, described) last came =
         let same = is_it e stands last in
-        let entry = named_next document blanks old.desk.made line who (Some e) named next in
-        (
+        let entry = named_next document blanks old.desk.made line who (Some e) named next in (
           e,
           told_same document blanks old.desk.made line e entry (ap (λ (l : List ℕ). pointwise nat_eq l line) (sym (its_line e same)) ∙ came),
           stands,
@@ -211,8 +210,7 @@ module _ (document : Document) (blanks : Blanks) (who : ℕ) (old new : JobFacts
         × (take (length old.desk.made) new.desk.made ≡ old.desk.made)
     line_other (e, next, stands, described) last other =
         let same = is_it e stands last in
-        let entry = named_next document blanks old.desk.made line who (Some e) named next in
-        (
+        let entry = named_next document blanks old.desk.made line who (Some e) named next in (
           told_other document blanks old.desk.made line e entry (ap (λ (l : List ℕ). pointwise nat_eq l line) (sym (its_line e same)) ∙ other),
           ap (without_last 10) (its_line e same) ∙ expected_other document blanks old.desk.made line e entry,
           taken_front old.desk.made new.desk.made e (ap (λ (p : Progress). p.made) stands.progress),

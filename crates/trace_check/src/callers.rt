@@ -22,8 +22,7 @@ fn end_of_word(line: &[u8]) -> Option<usize>
     ensures at { result ≡ position (λ b. b == 32 || b == 10) line.now }
     ensures within { IfSome result (λ end. end < length line.now) }
 {
-    line.iter()
-        .position(|byte| *byte == b' ' || *byte == b'\n')
+    line.iter().position(|byte| *byte == b' ' || *byte == b'\n')
 }
 
 /// The number of the caller of this name: that of a session, or behind them that of the loop.

@@ -192,11 +192,7 @@ fn make_next<C: Controller>(
 
 /// The caller of this number makes its next call, if it has one that is enabled: a session its line, the loop its call.
 #[tactic(auto, using(crate::proofs::NextLemmas::goes_by_loop, crate::proofs::NextLemmas::goes_by_turn))]
-fn advance<C: Controller>(
-    alloc: Global,
-    job: &mut RunningJob<C>,
-    who: u32,
-) -> Result<(), Memory>
+fn advance<C: Controller>(alloc: Global, job: &mut RunningJob<C>, who: u32) -> Result<(), Memory>
     ensures { OnOk result (GoesOn (made_next who) job.old job.new) }
 {
     if who == job.desk().sessions() {

@@ -21,8 +21,7 @@ returns-then-not-branch g c =
     let turned = has_turned document blanks c.requires.rules c.in-Some.who few c.in_ok-make_next.field-0 c.args.job.now c.make_next.new.job c.requires.stands c.in_ok-make_next.ensures in
     let none = turned.none c.if-not-branch.true in
     let history = c.args.job.now.desk.made in
-    let unnamed = named_next document blanks history line c.in-Some.who None named none.0 in
-    (
+    let unnamed = named_next document blanks history line c.in-Some.who None named none.0 in (
       told_none document blanks history line unnamed,
       c.new-then-not-branch.ensures ∙ expected_none document blanks history line unnamed,
       taken_same history c.make_next.new.job.desk.made none.1,
