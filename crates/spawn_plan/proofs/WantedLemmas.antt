@@ -23,7 +23,7 @@ use Rattle.spawn_plan.specs.Wanted.{place_in, places_after, places_in}
 use Rattle.spawn_plan.specs.declared.fault.SpawnFault.{SpawnFault}
 use Rattle.spawn_plan.specs.declared.fault.SpawnFault.TheVariants as fault
 
-same_Ok : {A : Type 0} (x y : A) → ◌≡◌ {A = Result A SpawnFault} (Ok x) (Ok y) → x ≡ y
+pub same_Ok : {A : Type 0} (x y : A) → ◌≡◌ {A = Result A SpawnFault} (Ok x) (Ok y) → x ≡ y
 same_Ok x y same = cc
 
 -- ---- Places of names
