@@ -1,9 +1,10 @@
 //! `Checked`: a description that was read and in which no fault stands.
 
-ghost use Rattle.std.specs.Prelude.{◌≡◌};
+ghost use Rattle.std.specs.Prelude.{◌≡◌, IfOk};
 ghost use Rattle.cm_document.specs.Valid.{IsValid};
 
 use crate::description::Description;
+use std::alloc::AllocError;
 use std::marker::Model;
 
 /// A description in which no fault stands, and which some text of TOML describes. Contracts see the description.
@@ -40,6 +41,15 @@ impl Checked {
         ensures valid { IsValid self.now }
     {
         &self.description
+    }
+
+    /// A copy, which is held as well.
+    pub fn copy(&self) -> Result<Checked, AllocError>
+        ensures { IfOk result (λ copy. copy ≡ self.now) }
+    {
+        Ok(Checked {
+            description: self.description.clone()?,
+        })
     }
 
     /// The description, no longer held.
