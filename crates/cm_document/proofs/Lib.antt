@@ -14,6 +14,7 @@ pub mod PickLemmas
 pub mod PlaceLemmas
 pub mod RouteLemmas
 pub mod ChainLemmas
+pub mod CopyLemmas
 mod Rows
 mod DescribedRows
 mod ValidRows
