@@ -14,7 +14,9 @@ from pathlib import Path
 from ..ros2_control import packages
 from ..tool import Tally
 from ..tree import TOP
-from . import programs
+from . import programs, upgrades
+from .plans import active
+from .traces import SEPARATOR, with_trace
 
 FOLDER = "examples/ros2_control"
 CONVERTER = "scripts/from_ros2_control"
@@ -34,6 +36,33 @@ def compared(name, made, writes):
         return f"{name} is not there"
     differs = programs.first_difference(path.read_bytes(), made)
     return f"{name} differs, from line {differs[0]} on" if differs else None
+
+
+def upgrade_fault(program, document):
+    """What is wrong with a document whose description is upgraded, or None."""
+    return upgrades.tried(document, program, ["run"])[1]
+
+
+def check_fault(program, document):
+    """What is wrong with how the trace of a document is judged, or None."""
+    trace = programs.ran([program, "run"], document)[1]
+    status, judged, said = programs.ran([program, "check"], with_trace(document, trace))
+    return None if (status, judged, said) == (0, b"legal\n", b"") else f"status {status}: {said.decode()}"
+
+
+def plan_fault(program, document):
+    """What is wrong with the planned start of what a document's script switches on first, or None."""
+    description, _, script = document.partition(SEPARATOR)
+    switch = next(line for line in script.split(b"\n") if line.startswith(b"switch strict"))
+    status, planned, said = programs.ran([program, "plan"], description + SEPARATOR + b"session spawner\n" + switch + b"\n")
+    if status:
+        return f"status {status}: {said.decode()}"
+    printed = programs.ran([program, "run"], description + SEPARATOR + planned + b"list controllers\n")[1]
+    wanted, there = {word[1:] for word in switch.decode().split()[2:]}, active(printed, "spawner")
+    return None if there == wanted else f"active are {there}"
+
+
+JOBS = {"upgrade": upgrade_fault, "check": check_fault, "plan": plan_fault}
 
 
 class Robots:
@@ -62,6 +91,8 @@ class Robots:
         self.compare(f"{base}.cm", status, said, (f"{base}.cm.stdout", text))
         status, text, said = programs.ran([self.drawer], document)
         self.compare(f"{base}.svg", status, said, (f"{base}.svg", text))
+        for job, fault in JOBS.items():
+            self.tally.tell(f"{base}.cm, {job}", fault(self.program, document))
 
 
 class Change:
