@@ -4,13 +4,14 @@ Each NAME.cm of examples/ and scripts/cases without a trace is upgraded, and its
 of the old one, as `scripts/replay examples` does, and must print the same. One that is refused must be refused so by `upgrade`, too. A live run prints
 another trace each time, so those documents are run by `run`. The description must end with a line feed, hold no separator, and be
 printed again as it is. So are the documents at all limits of `scripts/replay limits` upgraded, and random documents, if another
-implementation is named that makes them.
+implementation is named that makes them. One that would be longer than a document may be, upgraded, is passed over.
 Prints a line a document, but of random ones for those alone that fail, and last `N passed, M failed`. The exit status is 1 if one failed.
 """
 
 import functools
 import os
 import sys
+from collections import Counter
 from concurrent.futures import ProcessPoolExecutor
 from pathlib import Path
 
@@ -20,10 +21,12 @@ from .examples import EXAMPLES, LIVE, words_of
 from .limits import FEW, VERSIONS, Limits
 from .memory import CASES
 from .other import JUDGED, judge
+from .traces import LONGEST
 
 SEPARATOR = b"--- script ---"
 RUNS = (["run"], ["steps"], [LIVE])
 LIMIT = 60  # seconds
+RAN, REFUSED, TOO_LONG = "that run", "that are refused", "that are too long when they are upgraded"
 AT_ONCE = 400  # random documents, before it is looked whether there are enough
 
 
@@ -47,19 +50,21 @@ def answer(program, words, document):
 
 
 def tried(document, program, words):
-    """Upgrades a document. Returns whether it runs, and what is wrong with its upgrade, or None."""
+    """Upgrades a document. Returns which kind of document it is, and what is wrong with its upgrade, or None."""
     words = ["run"] if words == [LIVE] else words
     status, printed, told = answer(program, ["upgrade"], document)
     wanted = answer(program, words, document)
     if status != 0:
         is_refused = (status, printed, told) == wanted and status in (3, 4)
-        return False, None if is_refused else f"status and line are: {status} {told!r}"
+        return REFUSED, None if is_refused else f"status and line are: {status} {told!r}"
     if not printed.endswith(b"\n") or SEPARATOR in printed.split(b"\n"):
-        return True, "the description ends without a line feed, or has a separator"
+        return RAN, "the description ends without a line feed, or has a separator"
     again = printed + split(document)[1]
+    if len(again) > LONGEST:
+        return TOO_LONG, None
     if answer(program, ["upgrade"], again)[1] != printed:
-        return True, "it is printed in another way when it is upgraded again"
-    return True, None if answer(program, words, again) == wanted else "the upgraded document does not print the same"
+        return RAN, "it is printed in another way when it is upgraded again"
+    return RAN, None if answer(program, words, again) == wanted else "the upgraded document does not print the same"
 
 
 def tried_at_random(program, folder, seed):
@@ -71,17 +76,17 @@ def tried_at_random(program, folder, seed):
 
 
 def random_documents(asked, program, tally):
-    """Upgrades as many random documents as run, and says how many of those between them are refused."""
-    one, seed, ran, refused = functools.partial(tried_at_random, program, asked.other), 1, 0, 0
+    """Upgrades as many random documents as run, and says how many of the others stand between them."""
+    one, seed, counts = functools.partial(tried_at_random, program, asked.other), 1, Counter()
     with ProcessPoolExecutor(asked.jobs) as pool:
-        while ran < asked.count:
+        while counts[RAN] < asked.count:
             seeds = range(seed, seed + AT_ONCE)
             for number, came in zip(seeds, pool.map(one, seeds, chunksize=8)):
                 if came and came[1]:
                     tally.tell(f"random document {number}", came[1])
-                ran, refused = ran + bool(came and came[0]), refused + bool(came and not came[0])
+                counts.update([came[0]] if came else [])
             seed += AT_ONCE
-    tally.tell(f"{ran:,} random documents that run, and {refused:,} that are refused")
+    tally.tell(f"random documents: {', '.join(f'{counts[kind]:,} {kind}' for kind in (RAN, REFUSED, TOO_LONG))}")
 
 
 def main(asked):
@@ -91,8 +96,8 @@ def main(asked):
         if "--make" not in words and "check" not in words:
             tally.tell(document.name, tried(document.read_bytes(), program, words)[1])
     for version in VERSIONS:
-        runs, why = tried(Limits(version).document("run", FEW)[0], program, ["run"])
-        tally.tell(f"the document at all limits of version {version}", why or (None if runs else "it is refused"))
+        kind, why = tried(Limits(version).document("run", FEW)[0], program, ["run"])
+        tally.tell(f"the document at all limits of version {version}", why or (None if kind == RAN else f"it is one of those {kind}"))
     if judge(asked.other):
         random_documents(asked, program, tally)
     else:
