@@ -99,7 +99,7 @@ fn with_line_ends(alloc: Global, text: &str) -> Result<String, Fail> {
 
 /// A text whose lines that ended with `\` go on in the next, and in which `<3..6 * PIECE>` stood for the piece three times:
 /// for the numbers 3, 4 and 5. In it `#` stands for the number and `#'` for the next one. The same holds of round
-/// brackets, also inside a piece.
+/// brackets, also inside a piece. Brackets without a ` * ` stand as they are.
 pub fn expanded(alloc: Global, text: &str) -> Result<String, Fail> {
     let lines = text.replace(alloc, "\\\n", "")?;
     let inside = repeated(alloc, lines.as_str(), '(', ')')?;
@@ -111,22 +111,24 @@ fn repeated(alloc: Global, text: &str, open: char, close: char) -> Result<String
     let mut parts = text.split(open);
     whole.push_str(parts.next().unwrap_or(""))?;
     for part in parts {
-        push_part(&mut whole, part, close)?;
+        push_part(&mut whole, part, open, close)?;
     }
     Ok(whole)
 }
 
 /// Appends what begins behind an open bracket, and goes on behind its close.
-fn push_part(whole: &mut String, part: &str, close: char) -> Result<(), Fail> {
-    let (repetition, rest) = part.split_once(close).ok_or("an open bracket")?;
-    push_repetition(whole, repetition)?;
+fn push_part(whole: &mut String, part: &str, open: char, close: char) -> Result<(), Fail> {
+    let (inside, rest) = part.split_once(close).ok_or("an open bracket")?;
+    match inside.split_once(" * ") {
+        Some((range, piece)) => push_repetition(whole, range, piece)?,
+        None => write!(whole, "{open}{inside}{close}")?,
+    }
     whole.push_str(rest)?;
     Ok(())
 }
 
-/// Appends what stands between two brackets.
-fn push_repetition(whole: &mut String, repetition: &str) -> Result<(), Fail> {
-    let (range, piece) = halves(repetition, " * ")?;
+/// Appends a piece once for each number of a range.
+fn push_repetition(whole: &mut String, range: &str, piece: &str) -> Result<(), Fail> {
     let (first, end) = halves(range, "..")?;
     for number in first.parse()?..end.parse()? {
         push_piece(whole, piece, number)?;
