@@ -7,6 +7,8 @@ Prints how many sets were planned, and last `N passed, M failed`. The exit statu
 """
 
 import itertools
+import os
+from concurrent.futures import ThreadPoolExecutor
 from pathlib import Path
 
 from ..tool import Tally
@@ -59,8 +61,8 @@ def active(printed, session):
 
 def active_after(program, script):
     """Which controllers are active behind the lines of a script, or none if its run is refused."""
-    status, printed, _ = programs.ran([program, "run"], document(script + "list controllers\n"))
-    return active(printed, script.split()[1]) if status == 0 else None
+    came = programs.came([program, "run"], document(script + "list controllers\n"))
+    return active(came.printed, script.split()[1]) if came.status == 0 else None
 
 
 def tried(wanted):
@@ -92,8 +94,10 @@ def reason(program, disagreement, wanted):
 
 def main(asked):
     program, disagreement, tally = programs.program(asked), judge(asked.other), Tally(tells_all=False)
-    for count in range(MOST + 1):
-        for wanted in itertools.combinations(NAMES, count):
-            for order in {wanted, wanted[::-1]}:
-                tally.tell(" ".join(order) or "nobody", reason(program, disagreement, order))
+    sets = [wanted for count in range(MOST + 1) for wanted in itertools.combinations(NAMES, count)]
+    orders = [order for wanted in sets for order in sorted({wanted, wanted[::-1]})]
+    with ThreadPoolExecutor(os.cpu_count()) as pool:
+        reasons = pool.map(lambda order: reason(program, disagreement, order), orders)
+        for order, why in zip(orders, reasons):
+            tally.tell(" ".join(order) or "nobody", why)
     return tally.end()
