@@ -4,3 +4,4 @@ pub mod NextLemmas
 pub mod LineStepLemmas
 pub mod ReplayLoopLemmas
 pub mod WordLemmas
+pub mod CheckLemmas

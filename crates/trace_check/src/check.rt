@@ -41,6 +41,8 @@ pub fn check_trace(
         return Err(TraceFault::Memory);
     }
     let boxes = counted(alloc, counts)?;
+    // Its contract says that the description is valid.
+    checked.description();
     check_over(alloc, checked, script, Stock::make(boxes), text)
 }
 

@@ -83,7 +83,7 @@ pub fn replay_over<C: Controller>(
     ensures { IfOk result
         (HasReplayed (record { description = checked.now; script = script.now }) stock text.now) }
 {
-    let mut job = RunningJob::start(alloc, copy_of(checked)?, script, stock)?;
+    let mut job = RunningJob::start(alloc, checked.copy()?, script, stock)?;
     match replay_lines(alloc, checked, script, &mut job, text) {
         Ok((told, wrong)) => Ok(Replayed { job, told, wrong }),
         Err(Memory) => {
@@ -91,13 +91,6 @@ pub fn replay_over<C: Controller>(
             Err(Memory)
         }
     }
-}
-
-/// A checked description once more, for the desk.
-fn copy_of(checked: &Checked) -> Result<Checked, Memory>
-    ensures { IfOk result (λ copy. copy ≡ checked.now) }
-{
-    Ok(Checked::hold(checked.description().clone()?))
 }
 
 /// Replays the lines of a text on a job that has not begun: how many lines told an entry, and the first wrong one.
