@@ -1,5 +1,5 @@
 -- From what a job did with a document to what it promises.
-use Rattle.std.proofs.Common.{◌≡◌, ℕ, ◌≤◌, List, [], length, Option, Some, None, Ok, true, false, refl, ap, inl, inr, ◌⊎◌, arith}
+use Rattle.std.proofs.Common.{◌≡◌, ℕ, ◌≤◌, List, [], length, Option, Some, None, Ok, true, false, refl, sym, ap, inl, inr, ◌⊎◌, arith}
 use Rattle.std.specs.Prelude.{IfSome, Result, Err, nat_lt}
 use Rattle.std.proofs.lemmas.Bool.Decides.{nat_tests}
 use Rattle.std.proofs.KnownBytes.{Keeps-refl}
@@ -13,12 +13,13 @@ use Rattle.cm_document.specs.declared.faults.DocumentFault.{DocumentFault}
 use Rattle.cm_document.specs.declared.faults.DocumentFault.TheVariants as fault
 use Rattle.cm_model.specs.declared.blanks.Blanks.{Blanks}
 use Rattle.cm_words.specs.declared.job.Job.{Job}
+use Rattle.cm_words.specs.declared.job.JobKind.{JobKind}
 use Rattle.cm_words.specs.declared.job.TheConstants.{MOST_ROUNDS}
 use Rattle.cm_words.specs.Words.{asked}
-use Rattle.cm_top.specs.Answering.{Answering, upgrading, checking, planning, accepted_by, IsAnswer, AnsweredWith, Answers, WroteAnswer, DidJob, status_for, status_of_accepted, untraced}
+use Rattle.cm_top.specs.Answering.{Answering, upgrading, checking, planning, accepted_by, IsAnswer, AnsweredWith, Answers, WroteAnswer, DidJob, answering_of, status_for, status_of_accepted, untraced}
 use Rattle.cm_top.specs.Book.{BookFacts, IsShort, Task, task_of}
 use Rattle.cm_top.specs.Calls.Read.{ReadAs, EndsUnread, Reads, ReadsFrom, MindsSource}
-use Rattle.cm_top.specs.Calls.Run.{SourceFacts, SinkFacts, MindsSink, MindsFaults, RefusesWords, RunsFrom, AnswersFrom, DoesJob, written}
+use Rattle.cm_top.specs.Calls.Run.{SourceFacts, SinkFacts, MindsSink, MindsFaults, RefusesWords, RunsFrom, AnswersFrom, DoesJob, SparesAlone, written}
 use Rattle.cm_top.specs.Status.{Written, Wrote, ComesOfBytes, ComesBeforeWriting, IsPlain}
 use Rattle.cm_top.specs.Traced.{Given}
 use Rattle.cm_top.specs.declared.status.Status.{Status}
@@ -197,6 +198,21 @@ unread-DoesJob None job blanks source source' sink ended itself few reads minds 
 unread-DoesJob (Some upgrading) job blanks source source' sink ended itself few reads minds = unread-AnswersFrom blanks source source' sink ended (rw itself at reads) minds
 unread-DoesJob (Some checking) job blanks source source' sink ended itself few reads minds = absurd itself
 unread-DoesJob (Some planning) job blanks source source' sink ended itself few reads minds = absurd itself
+
+-- a check and a plan answer over the blanks of their stock
+pub answers-DoesJob : (answering : Answering) (job : Job) (kind : JobKind) (blanks counted : Blanks) (source source' : SourceFacts) (sink sink' : SinkFacts) (ended : Status) (book : Option BookFacts)
+    → answering_of kind ≡ Some answering → counted ≡ blanks → AnswersFrom answering counted source source' sink sink' ended book
+    → DoesJob (answering_of kind) job blanks source source' sink sink' ended book
+answers-DoesJob answering job kind blanks counted source source' sink sink' ended book is same answers = rw (is, sym same) answers
+
+unread_by : {S : Type 0} (make : Option ℕ) (source source' : S) → make ≡ None → IfSome make (λ _. source' ≡ source)
+unread_by None source source' none = tt
+unread_by (Some rounds) source source' none = cc
+
+-- and make no document
+pub answers-SparesAlone : {S K : Type 0} (job : Job) (ended : Status) (source source' : S) (sink sink' : K) → job.make ≡ None → (ComesBeforeWriting ended → sink' ≡ sink)
+    → SparesAlone job ended source source' sink sink'
+answers-SparesAlone job ended source source' sink sink' none untouched = record { unread = unread_by job.make source source' none; untouched = untouched }
 
 pub did-MindsFaults : (answering : Option Answering) (task : Task) (blanks : Blanks) (source source' : SourceFacts) (d : Document) (sink sink' : SinkFacts) (ended : Status) (book : Option BookFacts)
     → MindsSource source source' (Ok d) → DidJob answering task d blanks (written sink sink') ended book → MindsSink sink sink' ended → MindsFaults source source' sink sink' ended

@@ -5,7 +5,7 @@ use Rattle.std.specs.Io.KnownBytes.{Keeps}
 use Rattle.std.proofs.lemmas.Bool.Decides.{nat_tests}
 use Rattle.std.proofs.KnownBytes.{Keeps-refl}
 use Rattle.outside_io.specs.Bytes.{GivesAll, IsLonger}
-use Rattle.outside_io.specs.Faults.{IsToldAs, Rose}
+use Rattle.outside_io.specs.Faults.{IsToldAs, Rose, one_more}
 use Rattle.cm_document.specs.declared.document.Document.{Document}
 use Rattle.cm_document.specs.declared.faults.DescProblem.{DescProblem}
 use Rattle.cm_document.specs.declared.faults.DocumentFault.TheVariants as fault
@@ -170,6 +170,9 @@ longer_known None n longer = tt
 longer_known (Some bytes) n longer = longer
 
 -- one that failed
+pub failed_Rose : (before now : ℕ) → now ≡ one_more before → Rose before now
+failed_Rose before now counted = rw counted (omega arith)
+
 pub failed-AnswersFrom : (blanks : Blanks) (source source' : SourceFacts) (sink : SinkFacts) → Rose source.faults source'.faults → AnswersFrom checking blanks source source' sink sink status.ReadFault None
 failed-AnswersFrom blanks source source' sink rose = record {
   no_book = refl;

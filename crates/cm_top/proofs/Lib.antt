@@ -4,6 +4,7 @@ pub mod TopLemmas
 pub mod ReadLemmas
 pub mod AnswerLemmas
 pub mod LiveLemmas
+pub mod TracedLemmas
 pub mod CheckLemmas
 pub mod PlanLemmas
 pub mod BehindLemmas

@@ -95,15 +95,13 @@ pub fn run_alone<S: Source, K: Sink, C: Controller>(
         (sink_facts K.taken K.flushed K.faults sink.old) (sink_facts K.taken K.flushed K.faults sink.new) result.0 }
     ensures spared { SparesAlone job.now result.0 source.old source.new sink.old sink.new }
 {
-    if job.kind == JobKind::Check {
-        return (check_alone(alloc, source, sink, stock.blanks()), None);
-    }
-    if job.kind == JobKind::Plan {
-        return (plan_alone(alloc, source, sink, stock.blanks()), None);
-    }
-    match read_job(alloc, job.make, source) {
-        Ok(document) => do_job(alloc, job, document, sink, stock),
-        Err(status) => (status, None),
+    match job.kind {
+        JobKind::Check => (check_alone(alloc, source, sink, stock.blanks()), None),
+        JobKind::Plan => (plan_alone(alloc, source, sink, stock.blanks()), None),
+        _ => match read_job(alloc, job.make, source) {
+            Ok(document) => do_job(alloc, job, document, sink, stock),
+            Err(status) => (status, None),
+        },
     }
 }
 

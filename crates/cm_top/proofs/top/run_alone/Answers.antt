@@ -1,21 +1,52 @@
 use Rattle.cm_words.specs.declared.job.JobKind.{JobKind}
 use Rattle.cm_words.specs.declared.job.JobKind.TheVariants.{Run, Steps, Live, Upgrade, Check, Plan}
 use Rattle.cm_words.specs.Words.{can_make}
-use Rattle.std.proofs.Common.{◌≡◌, ℕ, false, Option, None, refl}
-use Rattle.cm_top.specs.Answering.{answering_of}
+use Rattle.std.proofs.Common.{◌≡◌, ◌≢◌, ℕ, false, Option, None, refl, ap}
+use Rattle.cm_top.specs.Answering.{answering_of, checking, planning}
 use Rattle.cm_top.specs.Book.{task_of}
-use Rattle.cm_top.proofs.AnswerLemmas.{ReadsItself, did-DoesJob, did-MindsFaults, did-late, unread-DoesJob}
+use Rattle.cm_top.specs.Calls.Run.{ReadsPlainly}
+use Rattle.cm_top.proofs.AnswerLemmas.{ReadsItself, answers-DoesJob, answers-SparesAlone, did-DoesJob, did-MindsFaults, did-late, unread-DoesJob}
 use Rattle.cm_top.proofs.ReadLemmas.{reads-Rules, unread-MindsFaults}
 use Rattle.cm_top.proofs.top.run_alone.Goals as goal
 
--- a job that answers without a book reads its document
-itself : (kind : JobKind) (make : Option ℕ) → (kind ≡ Check → ⊥) → (kind ≡ Plan → ⊥) → (can_make kind ≡ false → make ≡ None) → ReadsItself (answering_of kind) make
+-- a check and a plan answer without a book, and make no document
+pub returns-in-Check-clause-runs : goal.returns-in-Check-clause-runs
+returns-in-Check-clause-runs g c =
+    answers-DoesJob checking c.args.job.now c.args.job.now.kind c.args.stock c.blanks.result _ _ _ _ c.check_alone.result None (ap answering_of c.in-Check.is) c.blanks.ensures
+    c.check_alone.ensures.answers
+
+pub returns-in-Check-clause-spared : goal.returns-in-Check-clause-spared
+returns-in-Check-clause-spared g c =
+    answers-SparesAlone c.args.job.now c.check_alone.result _ _ _ _ (c.requires.unmade (ap can_make c.in-Check.is)) c.check_alone.ensures.untouched
+
+pub returns-in-Plan-clause-runs : goal.returns-in-Plan-clause-runs
+returns-in-Plan-clause-runs g c =
+    answers-DoesJob planning c.args.job.now c.args.job.now.kind c.args.stock c.blanks-in-Plan.result _ _ _ _ c.plan_alone.result None (ap answering_of c.in-Plan.is) c.blanks-in-Plan.ensures
+    c.plan_alone.ensures.answers
+
+pub returns-in-Plan-clause-spared : goal.returns-in-Plan-clause-spared
+returns-in-Plan-clause-spared g c =
+    answers-SparesAlone c.args.job.now c.plan_alone.result _ _ _ _ (c.requires.unmade (ap can_make c.in-Plan.is)) c.plan_alone.ensures.untouched
+
+-- another job reads its document plainly; one that answers without a book reads it itself
+plainly : (kind : JobKind) → kind ≢ Live → kind ≢ Check → kind ≢ Plan → ReadsPlainly kind
+plainly Run alone other another = tt
+plainly Steps alone other another = tt
+plainly Live alone other another = absurd (alone refl)
+plainly Upgrade alone other another = tt
+plainly Check alone other another = absurd (other refl)
+plainly Plan alone other another = absurd (another refl)
+
+itself : (kind : JobKind) (make : Option ℕ) → kind ≢ Check → kind ≢ Plan → (can_make kind ≡ false → make ≡ None) → ReadsItself (answering_of kind) make
 itself Run make other another unmade = tt
 itself Steps make other another unmade = tt
 itself Live make other another unmade = tt
 itself Upgrade make other another unmade = unmade refl
 itself Check make other another unmade = absurd (other refl)
 itself Plan make other another unmade = absurd (another refl)
+
+pub do_job-requires-clause-plain : goal.do_job-requires-clause-plain
+do_job-requires-clause-plain g c = plainly c.args.job.now.kind c.requires.alone c.in_default.not-Check c.in_default.not-Plan
 
 -- the script of a document that was read meets the rules
 pub do_job-requires-clause-rules : goal.do_job-requires-clause-rules
@@ -24,8 +55,8 @@ do_job-requires-clause-rules g c = reads-Rules _ _ _ _ c.in-Ok.ensures.reads
 -- what is done with it is what the job promises of its source
 pub returns-in-Ok-clause-runs : goal.returns-in-Ok-clause-runs
 returns-in-Ok-clause-runs g c =
-    did-DoesJob (answering_of c.args.job.now.kind) c.args.job.now c.args.stock _ _ _ _ _ _ _ (itself c.args.job.now.kind c.args.job.now.make (λ check. ?) (λ plan. ?) c.requires.unmade) c.requires.rounds
-    c.in-Ok.ensures.reads c.do_job.ensures.did c.do_job.ensures.outside.write_fault
+    did-DoesJob (answering_of c.args.job.now.kind) c.args.job.now c.args.stock _ _ _ _ _ _ _ (itself c.args.job.now.kind c.args.job.now.make c.in_default.not-Check c.in_default.not-Plan c.requires.unmade)
+    c.requires.rounds c.in-Ok.ensures.reads c.do_job.ensures.did c.do_job.ensures.outside.write_fault
 
 pub returns-in-Ok-clause-outside : goal.returns-in-Ok-clause-outside
 returns-in-Ok-clause-outside g c =
@@ -41,8 +72,8 @@ returns-in-Ok-clause-spared g c = record {
 -- without a document it ends with nothing written
 pub returns-in-Err-clause-runs : goal.returns-in-Err-clause-runs
 returns-in-Err-clause-runs g c =
-    unread-DoesJob (answering_of c.args.job.now.kind) c.args.job.now c.args.stock _ _ _ _ (itself c.args.job.now.kind c.args.job.now.make (λ check. ?) (λ plan. ?) c.requires.unmade) c.requires.rounds
-    c.in-Err.ensures.reads c.in-Err.ensures.outside
+    unread-DoesJob (answering_of c.args.job.now.kind) c.args.job.now c.args.stock _ _ _ _ (itself c.args.job.now.kind c.args.job.now.make c.in_default.not-Check c.in_default.not-Plan c.requires.unmade)
+    c.requires.rounds c.in-Err.ensures.reads c.in-Err.ensures.outside
 
 pub returns-in-Err-clause-outside : goal.returns-in-Err-clause-outside
 returns-in-Err-clause-outside g c = unread-MindsFaults c.args.job.now.make _ _ _ _ c.in-Err.ensures.reads c.in-Err.ensures.outside
