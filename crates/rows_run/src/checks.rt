@@ -60,7 +60,7 @@ impl Teller for Checked {
 }
 
 /// A wrong line, with what was to come there.
-fn told_wrong(alloc: Global, line: u32, expected: &[u8]) -> Result<String, Fail> {
+pub fn told_wrong(alloc: Global, line: u32, expected: &[u8]) -> Result<String, Fail> {
     if expected.is_empty() {
         return Ok(format!(in alloc; "line {line}, nothing expected")?);
     }

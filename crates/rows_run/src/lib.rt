@@ -18,6 +18,8 @@ mod kinds;
 #[cfg(test)]
 mod largest;
 #[cfg(test)]
+mod long_traces;
+#[cfg(test)]
 mod operators;
 #[cfg(test)]
 mod pages;
