@@ -46,7 +46,7 @@ pub struct Traced<'a> {
 }
 
 /// The document with its trace that these bytes are, or its first fault. The fault of a trace that is missing comes last.
-#[tactic(auto, unfolding(cm_document::specs::Document::document_of, cm_top::specs::Traced::traced))]
+#[tactic(auto, unfolding(cm_document::specs::Document::document_of, crate::specs::Traced::traced))]
 pub fn read_traced(alloc: Global, bytes: &[u8]) -> Result<Traced<'_>, DocumentFault>
     requires { length bytes.now ≤ LONGEST_DOCUMENT }
     ensures reads { MatchResult result

@@ -82,7 +82,7 @@ fn plan_document<K: Sink>(
 }
 
 /// The text of the script that starts them, or why there is none.
-#[tactic(auto, unfolding(cm_top::specs::Wished::planned_text))]
+#[tactic(auto, unfolding(crate::specs::Wished::planned_text))]
 fn planned_text(alloc: Global, document: &Document, blanks: &Blanks) -> Result<Vec<u8>, SpawnFault>
     ensures { MatchResult result (λ text. planned_text document.now blanks.now ≡ Ok text.items)
         (λ fault. (fault ≡ SpawnFault.Memory) ⊎ (planned_text document.now blanks.now ≡ Err fault)) }

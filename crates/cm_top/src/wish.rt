@@ -33,7 +33,7 @@ enum Stage {
 }
 
 /// The document that these bytes are for a plan, or its first fault: what breaks a script of a plan counts behind all else.
-#[tactic(auto, unfolding(cm_top::specs::Wished::wished), using(crate::proofs::PlainLemmas::plain_faults))]
+#[tactic(auto, unfolding(crate::specs::Wished::wished), using(crate::proofs::PlainLemmas::plain_faults))]
 pub fn read_wish(alloc: Global, bytes: &[u8]) -> Result<Document, DocumentFault>
     requires { length bytes.now ≤ LONGEST_DOCUMENT }
     ensures reads { Answers DocumentFault.Memory (wished bytes.now) result }

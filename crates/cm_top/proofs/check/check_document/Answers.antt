@@ -6,7 +6,7 @@ use Rattle.cm_top.proofs.check.check_document.Goals as goal
 -- a legal trace is told so
 pub returns-in-Ok-clause-checked : goal.returns-in-Ok-clause-checked
 returns-in-Ok-clause-checked g c =
-    legal_told _ _ _ c.write.result c.in-Ok.ensures.judges c.in-Ok.ensures.tells (rw c.as_slice.ensures.value at c.write.ensures.wrote)
+    legal_told _ _ _ c.write.result c.in-Ok.ensures.judges c.in-Ok.ensures.tells (rw c.as_slice.ensures at c.write.ensures.wrote)
 
 pub returns-in-Ok-clause-untouched : goal.returns-in-Ok-clause-untouched
 returns-in-Ok-clause-untouched g c = λ before.

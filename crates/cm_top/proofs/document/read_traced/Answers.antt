@@ -12,11 +12,11 @@ script-requires c =
 -- the first fault is told
 pub returns-in_err-description-clause-reads : goal.returns-in_err-description-clause-reads
 returns-in_err-description-clause-reads c =
-    traced_description _ _ _ _ _ _ c.divide_twice-thirds.ensures c.in_err-description.field-0 c.in_err-description.ensures.reads
+    traced_description _ _ _ _ _ _ c.divide_twice-thirds.ensures c.in_err-description.field-0.0 c.in_err-description.ensures.reads
 
 pub returns-in_err-script-clause-reads : goal.returns-in_err-script-clause-reads
 returns-in_err-script-clause-reads c =
-    traced_script _ _ _ _ _ _ c.divide_twice-thirds.ensures c.in_ok-description.description c.in_err-script.field-0 c.in_ok-description.ensures.reads c.in_err-script.ensures.reads
+    traced_script _ _ _ _ _ _ c.divide_twice-thirds.ensures c.in_ok-description.description c.in_err-script.field-0.0 c.in_ok-description.ensures.reads c.in_err-script.ensures.reads
 
 pub returns-in_default-clause-reads : goal.returns-in_default-clause-reads
 returns-in_default-clause-reads c = λ other.
