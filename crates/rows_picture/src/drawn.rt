@@ -131,7 +131,7 @@ fn in_words(alloc: Global, text: &str, in_stock: u32) -> Result<String, Fail> {
 }
 
 /// The document that these bytes are.
-fn read(alloc: Global, bytes: &[u8]) -> Result<Document, Fail> {
+pub fn read(alloc: Global, bytes: &[u8]) -> Result<Document, Fail> {
     if bytes.len() > LONGEST_DOCUMENT {
         return Err(Fail::new("the document is too long"));
     }

@@ -6,4 +6,6 @@ mod drawn;
 #[cfg(test)]
 mod titles;
 #[cfg(test)]
+mod traces;
+#[cfg(test)]
 mod whys;

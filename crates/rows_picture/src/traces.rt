@@ -1,0 +1,76 @@
+//! Where a stored trace goes wrong, in words: it is told before what went wrong in the run up to there.
+
+use crate::drawn::read;
+use draw_page::{WrongTrace, trace_whys_of};
+use pages_cases::pages::hold_told;
+use pages_runs::books::history_of;
+use pages_runs::runs::{IN_STOCK, without_end};
+use std::alloc::Global;
+use std::test::Fail;
+
+#[test]
+fn a_wrong_line_is_told_with_the_one_that_was_to_come(rt: HostRuntime) -> Result<(), Fail> {
+    let alloc = rt.alloc();
+    let came = b"loop begin 0: none".as_slice();
+    let expected = b"a load mk: ok 0".as_slice();
+    hold_wrong(alloc, 1, came, expected, IN_ITS_PLACE)?;
+    let nothing = b"".as_slice();
+    let close = b"loop close: none".as_slice();
+    hold_wrong(alloc, 7, nothing, close, BEHIND_THE_LAST)?;
+    hold_wrong(alloc, 2, b"a\xff\tb".as_slice(), nothing, OF_NOBODY)
+}
+
+/// Fails where other words are told of a trace that goes wrong so.
+fn hold_wrong(
+    alloc: Global,
+    line: u32,
+    came: &[u8],
+    expected: &[u8],
+    want: &str,
+) -> Result<(), Fail> {
+    let document = read(alloc, DOCUMENT.as_bytes())?;
+    let history = history_of(alloc, DOCUMENT, IN_STOCK)?;
+    let wrong = WrongTrace {
+        line,
+        came,
+        expected,
+    };
+    let told = trace_whys_of(
+        alloc,
+        document.description.description(),
+        &document.script,
+        history.as_slice(),
+        Some(wrong),
+    )?;
+    let told = without_end(alloc, told.as_str())?;
+    hold_told(alloc, "a trace", told.as_str(), want)
+}
+
+const DOCUMENT: &str = r#"version = 1
+update_rate = 100
+cycles = 1
+[[controller]]
+name = "mk"
+type = "mock"
+--- script ---
+session a
+load mk
+"#;
+
+const IN_ITS_PLACE: &str = "\
+the trace goes wrong at its line 1, and is drawn as far as it is legal
+    came: loop begin 0: none
+    to come: a load mk: ok 0
+Nothing was refused, left out or stopped, and nothing failed.";
+
+const BEHIND_THE_LAST: &str = "\
+the trace goes wrong at its line 7, and is drawn as far as it is legal
+    came: nothing
+    to come: loop close: none
+Nothing was refused, left out or stopped, and nothing failed.";
+
+const OF_NOBODY: &str = "\
+the trace goes wrong at its line 2, and is drawn as far as it is legal
+    came: a??b
+    to come: no line of this caller
+Nothing was refused, left out or stopped, and nothing failed.";
