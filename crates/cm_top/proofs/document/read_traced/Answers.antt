@@ -1,5 +1,6 @@
 use Rattle.std.proofs.Common.{length, ap, arith}
 use Rattle.std.specs.Prelude.{option_map}
+use Rattle.std.proofs.lemmas.Result.{err_from_is_err_and}
 use Rattle.cm_top.proofs.TopLemmas.{traced-Rules}
 use Rattle.cm_top.proofs.TracedLemmas.{traced_whole, traced_without, traced_description, traced_script, trace_within, length_of}
 use Rattle.cm_top.proofs.document.read_traced.Goals as goal
@@ -12,11 +13,14 @@ script-requires c =
 -- the first fault is told
 pub returns-in_err-description-clause-reads : goal.returns-in_err-description-clause-reads
 returns-in_err-description-clause-reads c =
-    traced_description _ _ _ _ _ _ c.divide_twice-thirds.ensures c.in_err-description.field-0.0 c.in_err-description.ensures.reads
+    let p = err_from_is_err_and c.from_residual.result c.from_residual.ensures.1 in
+    rw (p.1, p.2) (traced_description _ _ _ _ _ _ c.divide_twice-thirds.ensures c.in_err-description.field-0.0 c.in_err-description.ensures.reads)
 
 pub returns-in_err-script-clause-reads : goal.returns-in_err-script-clause-reads
 returns-in_err-script-clause-reads c =
-    traced_script _ _ _ _ _ _ c.divide_twice-thirds.ensures c.in_ok-description.description c.in_err-script.field-0.0 c.in_ok-description.ensures.reads c.in_err-script.ensures.reads
+    let given = c.from_residual-in_err-script in
+    let p = err_from_is_err_and given.result given.ensures.1 in
+    rw (p.1, p.2) (traced_script _ _ _ _ _ _ c.divide_twice-thirds.ensures c.in_ok-description.description c.in_err-script.field-0.0 c.in_ok-description.ensures.reads c.in_err-script.ensures.reads)
 
 pub returns-in_default-clause-reads : goal.returns-in_default-clause-reads
 returns-in_default-clause-reads c = λ other.

@@ -13,8 +13,3 @@ pub returns-in-Run-clause-words : goal.returns-in-Run-clause-words
 returns-in-Run-clause-words g c =
     accepted-RefusesWords _ _ _ _ _ _ _ c.in-Ok.job c.in-Ok.ensures.answer
     (job-never_words (answering_of c.in-Ok.job.kind) c.in-Ok.job c.args.stock _ _ _ _ _ _ c.run_alone.ensures.runs)
-
-pub returns-in-Upgrade-clause-words : goal.returns-in-Upgrade-clause-words
-returns-in-Upgrade-clause-words g c =
-    accepted-RefusesWords _ _ _ _ _ _ _ c.in-Ok.job c.in-Ok.ensures.answer
-    (job-never_words (answering_of c.in-Ok.job.kind) c.in-Ok.job c.args.stock _ _ _ _ _ _ c.run_alone-in-Upgrade.ensures.runs)
