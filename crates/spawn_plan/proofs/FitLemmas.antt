@@ -1,10 +1,9 @@
 -- The first cycle that fits is the first within the spans of all components that are used, and that no controller lists.
 use Rattle.std.proofs.Common.{◌≡◌, ℕ, zero, suc, ◌+◌, ◌<◌, ◌≤◌, Bool, true, false, List, [], ◌∷◌, length, map, Option, Some, None, inl, inr, refl, sym, ◌∙◌, ap, ap₂, subst, arith, true≢false, ltb-true, lt-ltb, get_or, cond}
-use Rattle.std.specs.Prelude.{nat_lt, not, ◌&&◌, ◌||◌, find, position, slice_get, replicate, filter_map}
+use Rattle.std.specs.Prelude.{nat_lt, not, ◌&&◌, ◌||◌, find, position, slice_get, filter_map}
 use Rattle.std.specs.List.{All, Contains, list_any, list_all, position_or_len, range_with_len}
 use Rattle.std.specs.Option.{option_map_or}
 use Rattle.std.proofs.lemmas.Bool.{cases_lt, and_parts, and_from, or_parts, or_from, not-true, not-false, not_from_false, false_from_ne_true}
-use Rattle.std.proofs.lemmas.List.{get_or-replicate}
 use Rattle.std.proofs.lemmas.List.Elements.{All-contains}
 use Rattle.std.proofs.lemmas.List.Folds.{list_any-append}
 use Rattle.std.proofs.lemmas.List.Quantifiers.{position-Some}
@@ -234,7 +233,3 @@ module _ (d : Description) (places : List ℕ) (within : All (λ place. place < 
   pub first_fit_is : position (λ mark. not mark) marks ≡ first_fit d places
   unfolding first_fit
   first_fit_is = by_marks (position (λ mark. not mark) marks) refl
-
--- nothing is marked at first
-pub set_of-none : (n k : ℕ) → k < n → set_of (replicate n false) k ≡ false
-set_of-none n k below = get_or-replicate n k false false

@@ -2,12 +2,12 @@
 #![tactic(auto)]
 
 pub use fault::SpawnFault;
-pub use spawn::spawn;
+pub use plan::spawn;
 
 mod fault;
 mod fitting;
 mod never;
+mod plan;
 mod spans;
-mod spawn;
 mod starting;
 mod wanted;

@@ -1,6 +1,6 @@
 //! How long the components are there that controllers use, if no controller is active.
 
-ghost use Rattle.std.specs.Prelude.{◌≡◌, ◌<◌, if◌then◌else◌, nat_lt, length, map, option_copied, All, IfOk};
+ghost use Rattle.std.specs.Prelude.{◌≡◌, ◌<◌, if◌then◌else◌, nat_lt, length, map, All, IfOk};
 ghost use Rattle.std.specs.Option.{option_map_or};
 ghost use Rattle.chain_order.specs.Links.{linked};
 ghost use Rattle.cm_model.specs.Components.{is_available};
@@ -97,18 +97,17 @@ fn least_span(spans: &[u64], most: u64, components: &[usize]) -> u64
 {
     let mut least = most;
     for component in components {
-        least = lowered(least, spans.get(*component));
+        least = lowered(least, spans.get(*component).copied());
     }
     least
 }
 
 /// The less of the two, if there are two.
-fn lowered(least: u64, span: Option<&u64>) -> u64
-    ensures { result ≡ option_map_or (λ span. if nat_lt span least then span else least)
-        (option_copied span) least }
+fn lowered(least: u64, span: Option<u64>) -> u64
+    ensures { result ≡ option_map_or (λ span. if nat_lt span least then span else least) span least }
 {
     match span {
-        Some(span) if *span < least => *span,
+        Some(span) if span < least => span,
         _ => least,
     }
 }
