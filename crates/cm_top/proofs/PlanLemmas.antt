@@ -78,6 +78,11 @@ memory_told blanks d w kept = record { answered = inl (inl (refl, kept)); by_pla
 
 -- ---- Of bytes
 
+-- a fault that does not tell of memory is the one that was looked for
+pub told_fault : {A : Type 0} (expected : Result A DocumentFault) (e : DocumentFault) → (e ≡ fault.Memory → ⊥) → (e ≡ fault.Memory) ⊎ (expected ≡ Err e) → expected ≡ Err e
+told_fault expected e other (inl memory) = absurd (other memory)
+told_fault expected e other (inr is) = is
+
 -- they are accepted as the document that they wish with, or refused
 wish_taken : (bytes : List ℕ) (d : Document) → wished bytes ≡ Ok d → accepted_by planning bytes ≡ Ok (untraced d)
 wish_taken bytes d is = ap (λ (r : Result Document DocumentFault). r >>= λ d. Ok (untraced d)) is

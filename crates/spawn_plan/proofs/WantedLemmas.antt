@@ -1,10 +1,10 @@
 -- The places of wanted names, and what is seen of them at best.
 use Rattle.std.proofs.Common.{◌≡◌, ℕ, suc, ◌<◌, ◌≤◌, Bool, true, false, List, [], ◌∷◌, ◌++◌, length, Option, Some, None, inl, inr, refl, sym, ◌∙◌, ap, subst, true≢false}
 use Rattle.std.specs.Prelude.{◌==◌, eqb, if◌then◌else◌, Result, Ok, Err}
-use Rattle.std.specs.List.{Contains, IsDistinct, list_any}
+use Rattle.std.specs.List.{All, Contains, IsDistinct, list_any}
 use Rattle.std.proofs.lemmas.Cmp.{nat_eq_equiv}
 use Rattle.std.proofs.lemmas.Bool.{eqb-true, eq-eqb, false_from_ne_true}
-use Rattle.std.proofs.lemmas.List.Elements.{Contains-push, Contains-push_cases, Contains-append_left}
+use Rattle.std.proofs.lemmas.List.Elements.{All-nil, All-cons, Contains-push, Contains-push_cases, Contains-append_left}
 use Rattle.std.proofs.lemmas.List.Quantifiers.{position-Some}
 use Rattle.std.proofs.lemmas.Map.Keys.{IsDistinct-push}
 use Rattle.std.proofs.lemmas.Map.Steps.{length-le_from_distinct_below}
@@ -18,7 +18,7 @@ use Rattle.cm_model.specs.Scene.{Scene, controllers_in, described, loaded_of}
 use Rattle.cm_model.specs.declared.seen.Seen.{Seen}
 use Rattle.switch_plan.proofs.CauseLemmas.{same_names, name_itself}
 use Rattle.switch_plan.proofs.ElementLemmas.{none_inside, here, later, first_or_later, any_from, some_of, found, not_found}
-use Rattle.spawn_plan.specs.Never.{ready_from, best_scene}
+use Rattle.spawn_plan.specs.Never.{ready_at, ready_from, best_scene}
 use Rattle.spawn_plan.specs.Wanted.{place_in, places_after, places_in}
 use Rattle.spawn_plan.specs.declared.fault.SpawnFault.{SpawnFault}
 use Rattle.spawn_plan.specs.declared.fault.SpawnFault.TheVariants as fault
@@ -125,6 +125,10 @@ module _ (cs : List CtlDesc) where
   unfolding IsDistinct
   wanted_distinct wanted places is once = distinct_from [] wanted [] places is once (λ q has. absurd (none_inside q has)) tt
 
+  -- each is one of a controller,
+  pub placed_within : (wanted : List (List ℕ)) (places : List ℕ) (p : ℕ) → places_in cs wanted ≡ Ok places → Contains places p → p < length cs
+  placed_within wanted places p is inside = let named = name_of_place wanted places p is inside in place_within named.0 p named.2
+
   -- and so there are no more of them than controllers.
   pub wanted_few : (wanted : List (List ℕ)) (places : List ℕ) → places_in cs wanted ≡ Ok places → repeated_after same_name [] wanted ≡ None → length places ≤ length cs
   wanted_few wanted places is once =
@@ -152,6 +156,13 @@ seen_at serial (place ∷ places) p inside =
       | inl same ↦ (_, here _ (ready_from (suc serial) places), same)
       | inr after ↦ (let r = seen_at (suc serial) places p after in (r.0, later _ (ready_from (suc serial) places) r.0 r.1, r.2))
     ]
+
+-- and each place is within what all these places are
+pub seen_within : (n serial : ℕ) (places : List ℕ) → ((p : ℕ) → Contains places p → p < n) → All (λ (l : Seen). l.place < n) (ready_from serial places)
+seen_within n serial [] each = All-nil (λ (l : Seen). l.place < n)
+seen_within n serial (place ∷ places) each =
+    All-cons (λ (l : Seen). l.place < n) (ready_at serial place) (ready_from (suc serial) places) (each place (here place places))
+    (seen_within n (suc serial) places (λ p inside. each p (later place places p inside)))
 
 -- A scene in which exactly the controllers at these places are loaded, each inactive.
 pub record HasWanted (scene : Scene) (places : List ℕ) : Type 0 where

@@ -18,7 +18,7 @@ use switch_plan::Relations;
 
 /// The script that brings exactly the wanted controllers to active, over a stock of these blanks, with the first cycle in which they can
 /// start; or the first reason why there is none. It takes time in proportion to the description, and runs nothing.
-#[tactic(auto, unfolding(spawn_plan::specs::Plan::spawned))]
+#[tactic(auto, unfolding(crate::specs::Plan::spawned))]
 pub fn spawn(
     alloc: Global,
     checked: &Checked,
