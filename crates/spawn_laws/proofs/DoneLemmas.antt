@@ -201,7 +201,7 @@ module _ (wanted : List (List ℕ)) (places : List ℕ) (k : ℕ) (t : State) (w
   after = record (commit t to again) { outcomes = t.outcomes ++ outcome.Done [] ∷ [] }
 
   boundary_is : boundary t ≡ after
-  unfolding all_concluded
+  unfolding all_concluded commit
   boundary_is =
       ap (λ names. all_concluded (after_standing_in t names) (waiting (after_standing_in t names))) w.fallbacks
       ∙ ap (all_concluded t) waits_is

@@ -26,6 +26,7 @@ use Rattle.cm_model.specs.declared.entry.Entry.{Entry}
 use Rattle.cm_model.specs.declared.fault_kind.FaultKind.{FaultKind}
 use Rattle.cm_model.specs.declared.fault_kind.FaultKind.TheVariants as fault_kind
 use Rattle.cm_model.specs.declared.member.Member.{Member}
+use Rattle.cm_model.specs.declared.reply.Reply.{Reply}
 use Rattle.cm_model.specs.declared.seen.Seen.{Seen}
 use Rattle.cm_model.proofs.HistoryLemmas.{description_stays}
 use Rattle.cm_model.proofs.LegalLemmas.{step_of}
@@ -107,7 +108,7 @@ pub steady_after : (history : List Entry) (s : State) → IsValid s.description 
 steady_after [] s valid steady legal = steady
 steady_after (e ∷ history) s valid steady legal =
     let first = step_of (step s e.who e.call) e.reply (λ each. LegalFrom each history) legal in
-    let made = (first.0, e.reply) in
+    let made : State × Reply = (first.0, e.reply) in
     rw (first.1, state_after)
     (steady_after history first.0 (subst IsValid (sym (step-Stands s e.who e.call made first.1).description) valid) (step_steady s e.who e.call made valid steady first.1) first.2)
 

@@ -118,6 +118,12 @@ module _ (d : Description) where
       ap (λ ls. newly_loaded serial q (at q) ∷ ls)
       (loaded_more (serial + 1) ps p ∙ ap (λ n. loaded_from (serial + 1) ps ++ newly_loaded n p (at p) ∷ []) same)
 
+  -- and so the next from the first on
+  loaded_next : (ps : List ℕ) (p : ℕ) → loaded_from 0 (ps ++ p ∷ []) ≡ loaded_from 0 ps ++ newly_loaded (length ps) p (at p) ∷ []
+  loaded_next ps p =
+      let same : 0 + length ps ≡ length ps = omega arith in
+      loaded_more 0 ps p ∙ ap (λ n. loaded_from 0 ps ++ newly_loaded n p (at p) ∷ []) same
+
   -- the places of these
   pub places_loaded : (serial : ℕ) (ps : List ℕ) → map (λ (l : Loaded). l.place) (loaded_from serial ps) ≡ ps
   places_loaded serial [] = refl
@@ -152,7 +158,7 @@ module _ (d : Description) where
         ap (λ o. Some (unless_refused (load_refusals before o) (reply.Serial (length found)))) named
         ∙ ap (λ r. Some r) (none_of_three (is_loaded_at before p) (is_sold_out_at before p) why.NotDescribed why.Loaded why.StockEmpty (reply.Serial (length found)) (any_place 0 found p ∙ apart) sold) in
         let many : length found + 1 ≡ length (found ++ p ∷ []) = sym (length-append found (p ∷ [])) in
-        let serials : loaded_from 0 found ++ newly_loaded (length found) p (at p) ∷ [] ≡ loaded_from 0 (found ++ p ∷ []) = sym (loaded_more 0 found p) in
+        let serials : loaded_from 0 found ++ newly_loaded (length found) p (at p) ∷ [] ≡ loaded_from 0 (found ++ p ∷ []) = sym (loaded_next found p) in
         let left_so : with_loaded before (place_of before name) ≡ with_these less (length (found ++ p ∷ [])) (loaded_from 0 (found ++ p ∷ [])) =
         ap (with_loaded before) named ∙ ap (with_controller before p) (described_there p within) ∙ ap₂ (λ n ls. with_these less n ls) many serials in
         step_to before _ 0 (Load name) (reply.Serial (length found)) refl replied left_so
@@ -267,7 +273,7 @@ module _ (d : Description) where
       let stepped = configure_step blanks loads (length found) (loaded_from 0 found) (loaded_from (length found + 1) rest) name p placed.0 (any_place 0 found p ∙ not_before found p rest distinct) parts.0 in
       let next : half_ready (loaded_from 0 found ++ newly_loaded (length found) p (at p) ∷ []) (loaded_from (length found + 1) rest)
       ≡ half_ready (loaded_from 0 (found ++ p ∷ [])) (loaded_from (length (found ++ p ∷ [])) rest) =
-      ap₂ (λ done n. half_ready done (loaded_from n rest)) (sym (loaded_more 0 found p)) (sym many) in (
+      ap₂ (λ done n. half_ready done (loaded_from n rest)) (sym (loaded_next found p)) (sym many) in (
         _ ∷ r.0,
         (
           with_these blanks loads (half_ready (loaded_from 0 (found ++ p ∷ [])) (loaded_from (length (found ++ p ∷ [])) rest)),

@@ -1,8 +1,8 @@
 -- The scheduled history of a planned script: it starts exactly the wanted controllers.
-use Rattle.std.proofs.Common.{◌≡◌, ℕ, zero, suc, ◌+◌, ◌<◌, Bool, true, false, List, [], ◌∷◌, ◌++◌, length, map, Option, Some, None, inl, inr, refl, sym, ◌∙◌, ap, ap₂, subst, append_assoc, append-nil, arith, lt-ltb}
+use Rattle.std.proofs.Common.{◌≡◌, ℕ, zero, suc, ◌+◌, ◌<◌, Bool, true, false, List, [], ◌∷◌, ◌++◌, length, map, Option, Some, None, inl, inr, refl, sym, ◌∙◌, ap, ap₂, subst, append_assoc, append-nil, arith, lt-ltb, ltb-true}
 use Rattle.std.specs.Prelude.{◌||◌, not, eqb, nat_lt, nat_le, drop, if◌then◌else◌, Result, Ok, Err}
 use Rattle.std.specs.List.{AllByRecursion, Contains, IsDistinct, range_with_len}
-use Rattle.std.proofs.lemmas.Bool.{and_from, and_right, or_from}
+use Rattle.std.proofs.lemmas.Bool.{and_from, and_right, or_from, false_from_ne_true}
 use Rattle.cm_document.specs.Reading.{◌>>=◌}
 use Rattle.cm_document.specs.Valid.{IsValid, repeated_after}
 use Rattle.iface_names.specs.Names.{same_name}
@@ -218,7 +218,7 @@ module _ (d : Description) (blanks : Blanks) (name : List ℕ) (names : List (Li
   -- the session settles through them
   settles_first : settle 0 (standing from [] lines None) ≡ settle 0 (standing prepared first_entries awaits None)
   settles_first =
-      ap (λ cs. settle 0 (standing from [] cs None)) (sym (append_assoc (map Load wanted) (map Configure wanted) awaits))
+      ap (λ cs. settle 0 (standing from [] cs None)) (append_assoc (map Load wanted ++ map Configure wanted) (waiting_for k) (asking ∷ []))
       ∙ settle_on (map Load wanted ++ map Configure wanted) awaits from prepared [] first_entries prepares
 
   still : AllByRecursion (λ (l : Loaded). is_active l ≡ false) ls
@@ -281,12 +281,12 @@ module _ (d : Description) (blanks : Blanks) (name : List ℕ) (names : List (Li
   -- ---- The switch is asked for
 
   -- The sessions have settled before the cycle, and the switch waits.
-  record IsAsked : Type 0 where
-    state : State
-    made : List Entry
-    before : IsBefore d ls k state
-    leads : Leads from made (record state { requests = request.Switch (wish wanted) ∷ [] })
-    at : settle_all (cycles k opening) ≡ point (record state { requests = request.Switch (wish wanted) ∷ [] }) made [] (Some 0)
+  pub record IsAsked : Type 0 where
+    pub state : State
+    pub made : List Entry
+    pub before : IsBefore d ls k state
+    pub leads : Leads from made (record state { requests = request.Switch (wish wanted) ∷ [] })
+    pub at : settle_all (cycles k opening) ≡ point (record state { requests = request.Switch (wish wanted) ∷ [] }) made [] (Some 0)
 
   module _ (s : State) (made : List Entry) (is : IsBefore d ls k s) (leads : Leads from made s) where
     abbrev asked : State
@@ -324,8 +324,7 @@ module _ (d : Description) (blanks : Blanks) (name : List ℕ) (names : List (Li
       step_to s s 0 (Await (suc m)) reply.Done (and_from (is_session s 0) (is_reached s (suc m)) known there) refl refl
     where
       not_below : (n : ℕ) → nat_lt n n ≡ false
-      not_below zero = refl
-      not_below (suc n) = not_below n
+      not_below n = false_from_ne_true (nat_lt n n) (λ less. omega (arith, ltb-true n n less))
 
   asked_at : (c : ℕ) → k ≡ c → k < d.cycles → IsAsked
   asked_at zero now within =

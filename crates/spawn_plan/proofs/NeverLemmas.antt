@@ -166,11 +166,11 @@ module _ (d : Description) (places : List ℕ) where
 
 -- ---- The plan
 
-told : (scene : Scene) (o : Option Dropped) (dropped : List Dropped) (set again : Places)
-    → not_refused (planned scene (unless_because o (done dropped set again))).outcome
+told : (found : Scene) (o : Option Dropped) (dropped : List Dropped) (to again : Places)
+    → not_refused (planned found (unless_because o (done dropped to again))).outcome
     ≡ elim o [ None ↦ Ok tt | Some because ↦ Err (fault.Never because.name because.cause) ]
-told scene None dropped set again = refl
-told scene (Some because) dropped set again = refl
+told found None dropped to again = refl
+told found (Some because) dropped to again = refl
 
 -- A strict switch of all of them comes to what counts of them as a set.
 pub strict_is : (scene : Scene) (wanted : List (List ℕ)) (places : List ℕ) → places_in (controllers_in scene) wanted ≡ Ok places → HasWanted scene places → repeated_after same_name [] wanted ≡ None

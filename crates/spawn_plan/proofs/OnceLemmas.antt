@@ -17,8 +17,8 @@ once_none wanted once = told_once (repeated_after same_name [] wanted) once
 
 -- and the other way
 pub none_once : (wanted : List (List ℕ)) → repeated_after same_name [] wanted ≡ None → each_once wanted ≡ Ok tt
-none_once wanted none = rw none refl
+none_once wanted none = rw (none, each_once) refl
 
 -- a name that stands twice is told
 pub some_twice : (wanted : List (List ℕ)) (name : List ℕ) → repeated_after same_name [] wanted ≡ Some name → each_once wanted ≡ Err (fault.Twice name)
-some_twice wanted name some = rw some refl
+some_twice wanted name some = rw (some, each_once) refl

@@ -1,6 +1,6 @@
 //! The first cycle in which wanted controllers can start together.
 
-ghost use Rattle.std.specs.Prelude.{◌≡◌, ℕ, ◌<◌, ◌||◌, not, length, position, All, IfOk};
+ghost use Rattle.std.specs.Prelude.{◌≡◌, ℕ, ◌<◌, false, ◌||◌, not, length, position, replicate, All, IfOk};
 ghost use Rattle.cm_model.specs.Components.{is_listed};
 ghost use Rattle.cm_model.specs.Order.{set_of};
 ghost use Rattle.sequence.specs.Answers.{Answers};
@@ -50,9 +50,16 @@ fn first_fit(
     let description = checked.description();
     let components = description.components.as_slice();
     let span = common_span(alloc, components, relations, places, description.cycles)?;
-    let mut unready = vec![in alloc; false; span as usize]?;
+    let mut unready = no_marks(alloc, span)?;
     mark_all(&mut unready, description.controllers.as_slice(), places);
     Ok(first_unmarked(&unready))
+}
+
+/// So many cycles, none of which is marked.
+fn no_marks(alloc: Global, count: u64) -> Result<Vec<bool>, Memory>
+    ensures { IfOk result (λ marks. marks.items ≡ replicate count false) }
+{
+    Ok(vec![in alloc; false; count as usize]?)
 }
 
 /// Marks the cycles in which one of these controllers is not ready.
@@ -95,8 +102,15 @@ fn unready_in(params: &Params) -> &[u64]
 fn first_unmarked(marks: &[bool]) -> Option<u64>
     ensures { result ≡ position (λ mark. not mark) marks.now }
 {
-    match marks.iter().position(|mark| !*mark) {
+    match unmarked(marks) {
         Some(cycle) => Some(cycle as u64),
         None => None,
     }
+}
+
+/// Where the first stands.
+fn unmarked(marks: &[bool]) -> Option<usize>
+    ensures { result ≡ position (λ mark. not mark) marks.now }
+{
+    marks.iter().position(|mark| !*mark)
 }

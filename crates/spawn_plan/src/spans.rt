@@ -1,6 +1,6 @@
 //! How long the components are there that controllers use, if no controller is active.
 
-ghost use Rattle.std.specs.Prelude.{◌≡◌, ◌<◌, if◌then◌else◌, nat_lt, length, map, All, IfOk};
+ghost use Rattle.std.specs.Prelude.{◌≡◌, ◌<◌, if◌then◌else◌, nat_lt, length, map, slice_get, All, IfOk};
 ghost use Rattle.std.specs.Option.{option_map_or};
 ghost use Rattle.chain_order.specs.Links.{linked};
 ghost use Rattle.cm_model.specs.Components.{is_available};
@@ -97,9 +97,16 @@ fn least_span(spans: &[u64], most: u64, components: &[usize]) -> u64
 {
     let mut least = most;
     for component in components {
-        least = lowered(least, spans.get(*component).copied());
+        least = lowered(least, span_at(spans, *component));
     }
     least
+}
+
+/// The span of the component at this place.
+fn span_at(spans: &[u64], component: usize) -> Option<u64>
+    ensures { result ≡ slice_get spans.now component }
+{
+    spans.get(component).copied()
 }
 
 /// The less of the two, if there are two.

@@ -6,5 +6,5 @@ use Rattle.spawn_plan.proofs.spans.least_of_rows.Given as goal
 -- the rest lowers what the first ones left
 abbrev pub invariant-loop-place : goal.invariant-loop-place
 invariant-loop-place l =
-    least_of_rows l.spans l.least (map (linked l.relations.now.components) (drop l.place-index l.places))
-    ≡ least_of_rows l.spans l.count (map (linked l.relations.now.components) l.places)
+    least_of_rows l.spans l.least (map (linked l.relations.components) (drop l.place-index l.places))
+    ≡ least_of_rows l.spans l.count (map (linked l.relations.components) l.places)
