@@ -1,6 +1,6 @@
 -- What one line makes of a replay.
-use Rattle.std.proofs.Common.{◌≡◌, ℕ, suc, ◌+◌, ◌<◌, ◌≤◌, Bool, true, false, List, [], ◌∷◌, ◌++◌, length, take, map, Option, Some, None, refl, sym, ap, ap₂, subst, ◌∙◌, arith, append-nil, length-append}
-use Rattle.std.specs.Prelude.{◌-◌, nat_lt, nat_eq, slice_get, if◌then◌else◌, filter_map}
+use Rattle.std.proofs.Common.{◌≡◌, ℕ, suc, ◌+◌, ◌≤◌, Bool, true, false, List, [], ◌∷◌, ◌++◌, length, take, map, Option, Some, None, refl, sym, ap, ap₂, subst, ◌∙◌, arith, append-nil, length-append}
+use Rattle.std.specs.Prelude.{◌-◌, nat_lt, nat_eq, slice_get, if◌then◌else◌}
 use Rattle.std.specs.Cmp.Lexicographic.{pointwise}
 use Rattle.std.specs.List.{cons_option}
 use Rattle.std.specs.Option.{option_map_or}
@@ -13,20 +13,18 @@ use Rattle.cm_document.specs.ScriptLaws.{MeetsRules}
 use Rattle.cm_document.specs.declared.description.Description.{Description}
 use Rattle.cm_document.specs.declared.document.Document.{Document}
 use Rattle.cm_document.specs.declared.script.SessionText.{SessionText}
-use Rattle.cm_model.specs.Machine.{IsLegal}
 use Rattle.cm_model.specs.Scheduled.{Session, Progress, start}
-use Rattle.cm_model.specs.Sessions.{entries_by}
 use Rattle.cm_model.specs.State.{boot}
 use Rattle.cm_model.specs.Trace.{loaded_by, names_of, names_in, line_text}
 use Rattle.cm_model.specs.declared.blanks.Blanks.{Blanks}
 use Rattle.cm_model.specs.declared.entry.Entry.{Entry}
-use Rattle.desk_turns.specs.Jobs.{JobFacts, progress_of, GoesOn}
+use Rattle.desk_turns.specs.Jobs.{JobFacts, progress_of}
 use Rattle.trace_laws.specs.Judged.{if_it_prints, told_by}
-use Rattle.trace_laws.specs.Next.{stands_after, caller_named, first_word, next_entry, entry_by, entry_named, entry_line, expected_at}
-use Rattle.trace_text.specs.OneByOne.{LinesFacts, with_name, with_controller, with_line}
-use Rattle.trace_check.specs.Standing.{standing_from, progress_at, LoopStands, StandsAt, KnowsNames}
-use Rattle.trace_check.specs.Steps.{IsDescribed, made_next, HasMadeNext, named_by, with_load, HasReplayedLine}
-use Rattle.trace_check.proofs.NextLemmas.{HasGone, GoesSo, next_goes}
+use Rattle.trace_laws.specs.Next.{caller_named, first_word, next_entry, entry_by, entry_named, entry_line, expected_at}
+use Rattle.trace_text.specs.OneByOne.{LinesFacts, with_name, with_line}
+use Rattle.trace_check.specs.Standing.{standing_from, progress_at, StandsAt, KnowsNames}
+use Rattle.trace_check.specs.Steps.{IsDescribed, made_next, HasMadeNext, named_by, with_load}
+use Rattle.trace_check.proofs.NextLemmas.{GoesSo, next_goes}
 
 -- ---- Before the first line
 

@@ -1,6 +1,6 @@
 -- What a caller's next call makes of a run: the next entry of that caller, or nothing.
-use Rattle.std.proofs.Common.{◌≡◌, ℕ, zero, suc, ◌+◌, ◌<◌, ◌≤◌, Bool, true, false, List, [], ◌∷◌, ◌++◌, length, drop, slice_set, Option, Some, None, ltb-true, length-append, refl, sym, ap, ap₂, subst, ◌∙◌, inl, inr, arith}
-use Rattle.std.specs.Prelude.{◌==◌, ◌&&◌, not, nat_lt, slice_get, option_map, position, if◌then◌else◌, IfSome}
+use Rattle.std.proofs.Common.{◌≡◌, ℕ, zero, suc, ◌+◌, ◌<◌, ◌≤◌, Bool, true, false, List, [], ◌∷◌, ◌++◌, length, slice_set, Option, Some, None, ltb-true, length-append, refl, sym, ap, ap₂, subst, ◌∙◌, inl, inr, arith}
+use Rattle.std.specs.Prelude.{◌==◌, ◌&&◌, not, nat_lt, slice_get, option_map, if◌then◌else◌}
 use Rattle.std.specs.List.{AllByRecursion, list_any, position_or_len}
 use Rattle.std.proofs.lemmas.Bool.{cases_Bool, eqb-true, le-ltb, ne_eqb}
 use Rattle.std.proofs.lemmas.Bool.Decides.{nat_tests}
@@ -9,7 +9,7 @@ use Rattle.iface_names.specs.Names.{same_name}
 use Rattle.sequence.proofs.ListLemmas.{all_at}
 use Rattle.cm_document.specs.ScriptLaws.{CanBeWritten, IsSession, MeetsRules}
 use Rattle.cm_document.specs.declared.call.Call.{Call}
-use Rattle.cm_document.specs.declared.call.Call.TheVariants.{Load, Configure, Cleanup, Unload, Rate, Send, Switch, Hardware, Told, Await, ListControllers, ListInterfaces, ListComponents, Begin, End, Close}
+use Rattle.cm_document.specs.declared.call.Call.TheVariants.{Load, Told, Begin, End, Close}
 use Rattle.cm_document.specs.declared.description.CtlDesc.{CtlDesc}
 use Rattle.cm_document.specs.declared.description.Description.{Description}
 use Rattle.cm_document.specs.declared.document.Document.{Document}
@@ -17,7 +17,7 @@ use Rattle.cm_document.specs.declared.script.SessionText.{SessionText}
 use Rattle.cm_document.specs.declared.script.Turn.TheVariants as turn
 use Rattle.cm_model.proofs.HistoryLemmas.{description_stays, sessions_stay}
 use Rattle.cm_model.proofs.LegalLemmas.{Leads, Leads-step}
-use Rattle.cm_model.proofs.StayLemmas.{IsStep, step-IsStep, effect-SameLoop, boundary-SameLoop}
+use Rattle.cm_model.proofs.StayLemmas.{step-IsStep, effect-SameLoop, boundary-SameLoop}
 use Rattle.cm_model.specs.Commit.{commit}
 use Rattle.cm_model.specs.Console.{unless_refused, place_of}
 use Rattle.cm_model.specs.Cycle.{after_cycle}
@@ -26,7 +26,6 @@ use Rattle.cm_model.specs.Machine.{IsLegal, is_loop, can_close, load_refusals, r
 use Rattle.cm_model.specs.Scheduled.{Session, Advanced, Progress, next_call, after_call, stepped_on, called_on, advance, looped, with_advance, advanced_once, turned, with_entry}
 use Rattle.cm_model.specs.Sessions.{IsConsole, asked, entries_by, loop_calls}
 use Rattle.cm_model.specs.State.{State, boot}
-use Rattle.cm_model.specs.Trace.{loaded_by}
 use Rattle.cm_model.specs.declared.blanks.Blanks.{Blanks}
 use Rattle.cm_model.specs.declared.entry.Entry.{Entry}
 use Rattle.cm_model.specs.declared.reply.Reply.{Reply}
@@ -35,7 +34,7 @@ use Rattle.cm_model.specs.declared.reply.Why.TheVariants as why
 use Rattle.desk_turns.proofs.JobLemmas.{begin_next, close_next, end_next}
 use Rattle.desk_turns.specs.Jobs.{JobFacts, GoesOn, progress_of, loop_call, looped_on}
 use Rattle.trace_laws.proofs.StateTextLemmas.{all_drop}
-use Rattle.trace_laws.specs.Next.{ticket_after, stands_after, next_of_session, next_of_loop, next_by, next_of, state_of, entry_of, next_entry}
+use Rattle.trace_laws.specs.Next.{stands_after, next_of_loop, next_by, state_of, entry_of, next_entry}
 use Rattle.trace_laws.proofs.ThroughLemmas.{other_split, written_none}
 use Rattle.trace_laws.proofs.WayLemmas.{own_split}
 use Rattle.trace_check.specs.Standing.{standing_from, progress_at, one_if, LoopStands, LoopStandsAt}

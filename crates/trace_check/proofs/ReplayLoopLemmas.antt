@@ -16,15 +16,14 @@ use Rattle.cm_model.specs.Sessions.{entries_by}
 use Rattle.cm_model.specs.State.{State, boot}
 use Rattle.cm_model.specs.declared.blanks.Blanks.{Blanks}
 use Rattle.cm_model.specs.declared.entry.Entry.{Entry}
-use Rattle.console_session.specs.Sessions.{SessionState, left_of, next_of}
+use Rattle.console_session.specs.Sessions.{SessionState, left_of}
 use Rattle.desk_turns.proofs.NumberLemmas.{heads, tails}
-use Rattle.desk_turns.specs.Jobs.{JobFacts, progress_of, are_through}
+use Rattle.desk_turns.specs.Jobs.{JobFacts, are_through}
 use Rattle.trace_laws.specs.Judged.{told_by, replayed, told_before, sessions_are_through, is_through, through_behind, judged}
 use Rattle.trace_laws.specs.Next.{next_of_loop, state_of, expected_at}
 use Rattle.trace_laws.specs.Told as told
-use Rattle.trace_check.specs.Checks.{judged_by}
-use Rattle.trace_check.specs.Standing.{standing_from, progress_at, LoopStands, StandsAt, KnowsNames}
-use Rattle.trace_check.specs.Steps.{HasReplayedLine, HasReplayedLines}
+use Rattle.trace_check.specs.Standing.{standing_from, LoopStands, StandsAt}
+use Rattle.trace_check.specs.Steps.{HasReplayedLines}
 use Rattle.trace_check.specs.declared.fault.WrongLine.{WrongLine}
 use Rattle.trace_check.proofs.NextLemmas.{none_left, one_left}
 

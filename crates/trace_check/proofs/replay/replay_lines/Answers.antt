@@ -1,4 +1,4 @@
-use Rattle.std.proofs.Common.{◌≡◌, ◌+◌, ◌∷◌, ◌++◌, [], List, Some, None, Option, ap, subst, sym, ◌∙◌}
+use Rattle.std.proofs.Common.{◌≡◌, ◌∷◌, ◌++◌, [], List, Some, None, ap, subst, sym, ◌∙◌}
 use Rattle.cm_document.specs.declared.document.Document.{Document}
 use Rattle.cm_model.specs.declared.entry.Entry.{Entry}
 use Rattle.trace_check.specs.Standing.{KnowsNames}
