@@ -55,7 +55,7 @@ def tried(document, program, words):
     status, printed, told = answer(program, ["upgrade"], document)
     wanted = answer(program, words, document)
     if status != 0:
-        is_refused = (status, printed, told) == wanted and status in (3, 4)
+        is_refused = (status, printed, told) == wanted and status in (3, 4, 6)
         return REFUSED, None if is_refused else f"status and line are: {status} {told!r}"
     if not printed.endswith(b"\n") or SEPARATOR in printed.split(b"\n"):
         return RAN, "the description ends without a line feed, or has a separator"
