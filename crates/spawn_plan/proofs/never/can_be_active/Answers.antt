@@ -1,4 +1,4 @@
-use Rattle.std.proofs.Common.{◌≡◌, ◌<◌, ◌^◌, List, length, map, sym, ◌∙◌, ap, ap₂, subst, arith}
+use Rattle.std.proofs.Common.{◌<◌, ◌^◌, List, length, map, sym, ◌∙◌, ap, ap₂, subst, arith}
 use Rattle.std.specs.List.{All}
 use Rattle.sequence.specs.Answers.{Answers}
 use Rattle.cm_document.specs.declared.description.Description.{Description}
@@ -6,7 +6,6 @@ use Rattle.cm_document.specs.declared.life.Life.{Life}
 use Rattle.cm_document.specs.declared.life.Life.TheVariants.{Active}
 use Rattle.cm_document.proofs.ValidParts.{few_controllers}
 use Rattle.cm_model.specs.BestEffort.{plan_of}
-use Rattle.cm_model.specs.Scene.{Scene}
 use Rattle.cm_model.specs.declared.planned.Planned.{Planned}
 use Rattle.cm_model.specs.declared.seen.Seen.{Seen}
 use Rattle.spawn_plan.specs.Outcomes.{not_refused}

@@ -1,4 +1,4 @@
-use Rattle.std.proofs.Common.{◌≡◌, ℕ, List, Some, inr, sym, ◌∙◌, ap}
+use Rattle.std.proofs.Common.{ℕ, List, Some, inr, sym, ◌∙◌, ap}
 use Rattle.spawn_plan.proofs.OnceLemmas.{none_once, some_twice}
 use Rattle.spawn_plan.proofs.wanted.each_once.Goals as goal
 
