@@ -5,8 +5,8 @@ their order: it has to print the same lines, up to the close of the loop. (It go
 session has to have made the calls that it makes in the job `run`, in their order. The job `check` judges the whole trace, and so does
 another implementation, if one is named.
 
-The documents are made here: four sessions list, send, wait and switch beside 300 cycles. Every other one comes from the maker of the other
-implementation, if one is named. Last it says how many different traces the documents gave, and how many lines of sessions came while a
+The documents are the examples that run and have no schedule, and others that are made here: four sessions list, send, wait and switch beside
+300 cycles. Every other one of these comes from the maker of the other implementation, if one is named. Last it says how many different traces the documents gave, and how many lines of sessions came while a
 cycle was aloft. The exit status is 1 if a trace is wrong or a run hangs, and if no document gave a second trace.
 """
 
@@ -20,6 +20,7 @@ import re
 import sys
 from pathlib import Path
 
+from ..tree import TOP
 from . import programs
 from .other import JUDGED, STAGE, judge
 from .traces import LONGEST, SEPARATOR, aloft, before_close, calls_of, scheduled, with_trace
@@ -30,9 +31,9 @@ MOST_TURNS = 10_000  # calls and turns of a script
 
 
 def options(parser):
-    parser.add_argument("--runs", type=int, default=200, help="how many in all, 200 if it is not said")
-    parser.add_argument("--times", type=int, default=5, help="how often a document is run, 5 if it is not said")
-    parser.add_argument("--first", type=int, default=1, help="the seed of the first document")
+    parser.add_argument("--runs", type=int, default=1000, help="how many in all, 1,000 if it is not said")
+    parser.add_argument("--times", type=int, default=4, help="how often a document is run, 4 if it is not said")
+    parser.add_argument("--first", type=int, default=1, help="the seed of the first document that is made")
     parser.add_argument("--processors", type=int, help="on so many processors alone")
     parser.add_argument("--other", type=Path, metavar="FOLDER", help="of another implementation, which judges and makes documents too")
     programs.options(parser)
@@ -68,21 +69,38 @@ def call(by, names):
     ])
 
 
+def can_be_run_live(program, document):
+    """Whether a document is accepted, runs and has no schedule."""
+    script = document.split(SEPARATOR, 1)[1:]
+    has_schedule = script and re.search(rb"(?m)^\s*schedule", script[0])
+    return bool(script) and not has_schedule and programs.came([program, "run"], document, LIMIT).status == 0
+
+
+def examples(program):
+    for path in sorted((TOP / "examples").glob("*.cm")):
+        document = path.read_bytes()
+        if can_be_run_live(program, document):
+            yield f"examples/{path.name}", document
+
+
 def documents_of_other(program, first):
-    """Documents of the other implementation's maker that run, and have no schedule, from this seed on."""
+    """Documents of the other implementation's maker from this seed on."""
     from cm_oracle.gen import case
     for seed in itertools.count(first):
         document = case(STAGE, seed).document
-        script = document.split(SEPARATOR, 1)[1:]
-        if script and not re.search(rb"(?m)^\s*schedule", script[0]) and programs.came([program, "run"], document, LIMIT).status == 0:
+        if can_be_run_live(program, document):
             yield f"random document {seed}", document
 
 
-def documents(asked, program):
-    """Gives of each document its name and its bytes."""
+def made_documents(asked, program):
     others = documents_of_other(program, asked.first) if judge(asked.other) else None
-    for number in range(asked.first, asked.first + max(1, asked.runs // asked.times)):
+    for number in itertools.count(asked.first):
         yield next(others) if others and number % 2 else (f"made document {number}", made(number))
+
+
+def documents(asked, program):
+    """Gives of each document its name and its bytes: the examples first."""
+    return itertools.islice(itertools.chain(examples(program), made_documents(asked, program)), max(1, asked.runs // asked.times))
 
 
 # ---- How a trace is judged
