@@ -1,13 +1,13 @@
 -- The scheduled history of a planned script: it starts exactly the wanted controllers.
 use Rattle.std.proofs.Common.{◌≡◌, ℕ, zero, suc, ◌+◌, ◌<◌, Bool, true, false, List, [], ◌∷◌, ◌++◌, length, map, Option, Some, None, inl, inr, refl, sym, ◌∙◌, ap, ap₂, subst, append_assoc, append-nil, arith, lt-ltb, ltb-true}
-use Rattle.std.specs.Prelude.{◌||◌, not, eqb, nat_lt, nat_le, drop, if◌then◌else◌, Result, Ok, Err}
+use Rattle.std.specs.Prelude.{◌||◌, not, eqb, nat_lt, nat_le, drop, Result, Ok, Err}
 use Rattle.std.specs.List.{AllByRecursion, Contains, IsDistinct, range_with_len}
 use Rattle.std.proofs.lemmas.Bool.{and_from, and_right, or_from, false_from_ne_true}
 use Rattle.cm_document.specs.Reading.{◌>>=◌}
 use Rattle.cm_document.specs.Valid.{IsValid, repeated_after}
 use Rattle.iface_names.specs.Names.{same_name}
 use Rattle.cm_document.specs.declared.call.Call.{Call}
-use Rattle.cm_document.specs.declared.call.Call.TheVariants.{Load, Configure, Switch, Told, Await, Begin, End}
+use Rattle.cm_document.specs.declared.call.Call.TheVariants.{Load, Configure, Told, Await, Begin, End}
 use Rattle.cm_document.specs.declared.description.Description.{Description}
 use Rattle.cm_document.specs.declared.script.Script.{Script}
 use Rattle.cm_model.specs.Boundary.{is_full, begin_effect, begin_reply}

@@ -1,6 +1,6 @@
 -- Wanted controllers that nothing speaks against for good can run together, and so nothing speaks against their switch once they can start.
 use Rattle.std.proofs.Common.{◌≡◌, ℕ, true, false, List, [], ◌∷◌, Option, None, inr, sym, ◌∙◌, ap, subst}
-use Rattle.std.specs.Prelude.{◌==◌, ◌&&◌, not, if◌then◌else◌, option_map}
+use Rattle.std.specs.Prelude.{◌==◌, ◌&&◌, not, option_map}
 use Rattle.std.specs.List.{Contains, list_any}
 use Rattle.std.proofs.lemmas.Bool.{and_parts, and_from, and_right, not-true, not_from_true, eqb-true, eq-eqb, true≢false, false_from_ne_true}
 use Rattle.cm_document.specs.declared.description.Description.{Description}
