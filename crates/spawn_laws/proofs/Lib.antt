@@ -1,6 +1,8 @@
 pub mod NeverLemmas
 pub mod GoLemmas
 pub mod PrepareLemmas
+pub mod PlannedLemmas
+pub mod WrittenLemmas
 pub mod BeforeLemmas
 pub mod TogetherLemmas
 pub mod DoneLemmas

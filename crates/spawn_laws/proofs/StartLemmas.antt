@@ -1,11 +1,9 @@
 -- The scheduled history of a planned script: it starts exactly the wanted controllers.
-use Rattle.std.proofs.Common.{◌≡◌, ℕ, zero, suc, ◌+◌, ◌<◌, Bool, true, false, List, [], ◌∷◌, ◌++◌, length, map, Option, Some, None, inl, inr, refl, sym, ◌∙◌, ap, ap₂, subst, append_assoc, append-nil, arith, lt-ltb, ltb-true}
-use Rattle.std.specs.Prelude.{◌||◌, not, eqb, nat_lt, nat_le, drop, Result, Ok, Err}
-use Rattle.std.specs.List.{AllByRecursion, Contains, IsDistinct, range_with_len}
+use Rattle.std.proofs.Common.{◌≡◌, ℕ, zero, suc, ◌<◌, Bool, true, false, List, [], ◌∷◌, ◌++◌, length, map, Some, None, refl, sym, ◌∙◌, ap, ap₂, subst, append_assoc, append-nil, arith, lt-ltb, ltb-true}
+use Rattle.std.specs.Prelude.{◌||◌, not, eqb, nat_lt, nat_le, drop, Ok}
+use Rattle.std.specs.List.{AllByRecursion, IsDistinct}
 use Rattle.std.proofs.lemmas.Bool.{and_from, and_right, or_from, false_from_ne_true}
-use Rattle.cm_document.specs.Reading.{◌>>=◌}
-use Rattle.cm_document.specs.Valid.{IsValid, repeated_after}
-use Rattle.iface_names.specs.Names.{same_name}
+use Rattle.cm_document.specs.Valid.{IsValid}
 use Rattle.cm_document.specs.declared.call.Call.{Call}
 use Rattle.cm_document.specs.declared.call.Call.TheVariants.{Load, Configure, Told, Await, Begin, End}
 use Rattle.cm_document.specs.declared.description.Description.{Description}
@@ -24,100 +22,24 @@ use Rattle.cm_model.specs.declared.reply.Why.{Why}
 use Rattle.cm_model.specs.declared.reply.Why.TheVariants as why
 use Rattle.cm_model.specs.declared.request.Request.{Request}
 use Rattle.cm_model.specs.declared.request.Request.TheVariants as request
-use Rattle.cm_model.specs.declared.cause.Dropped.{Dropped}
 use Rattle.cm_model.specs.declared.cause.Outcome.{Outcome}
 use Rattle.cm_model.specs.Order.{controller_at}
 use Rattle.cm_model.specs.Sound.{decisions_in}
 use Rattle.cm_model.proofs.LegalLemmas.{Leads, Leads-step}
 use Rattle.sound_laws.proofs.BootLemmas.{boot_steady}
-use Rattle.switch_plan.proofs.ElementLemmas.{none_inside, first_or_later, found}
-use Rattle.spawn_plan.specs.Fitting.{life_by, fits, first_fit, start_of}
-use Rattle.spawn_plan.specs.Never.{never, can_be_active}
-use Rattle.spawn_plan.specs.Plan.{start_together, spawned}
+use Rattle.spawn_plan.specs.Fitting.{life_by, fits, first_fit}
+use Rattle.spawn_plan.specs.Never.{never}
+use Rattle.spawn_plan.specs.Plan.{spawned}
 use Rattle.spawn_plan.specs.Starting.{waiting_for, starting_all, start_lines, starting}
-use Rattle.spawn_plan.specs.Wanted.{places_in, each_once, have_blanks, can_be_configured}
-use Rattle.spawn_plan.specs.declared.fault.SpawnFault.{SpawnFault}
-use Rattle.spawn_plan.specs.declared.fault.SpawnFault.TheVariants as fault
-use Rattle.spawn_plan.proofs.OnceLemmas.{once_none}
+use Rattle.spawn_plan.specs.Wanted.{places_in}
 use Rattle.spawn_plan.proofs.WantedLemmas.{wanted_distinct}
 use Rattle.spawn_laws.proofs.BeforeLemmas.{IsBefore, begins, flown_on}
 use Rattle.spawn_laws.proofs.DoneLemmas.{AreReady, Waits, wish, tells, are_active}
 use Rattle.spawn_laws.proofs.GoLemmas.{step_to, step_unless, Goes, standing, point, stands, settle_one, settle_on, goes_append, goes_leads, settle_all_to, looped_on, Grows, looped_grows, cycles_grow, finish_grows}
 use Rattle.spawn_laws.proofs.NeverLemmas.{steady_after}
+use Rattle.spawn_laws.proofs.PlannedLemmas.{IsPlanned, planned_parts, start_parts, first_parts}
 use Rattle.spawn_laws.proofs.PrepareLemmas.{ArePlaced, are_placed, loaded_from, places_loaded, with_these, ready, loads_go, configures_go}
 use Rattle.spawn_laws.specs.Starts.{StartsThem}
-
--- ---- The parts of a plan
-
--- a step of a plan, and what follows
-step_parts : {A B : Type 0} (r : Result A SpawnFault) (f : A → Result B SpawnFault) (y : B) → (r >>= f) ≡ Ok y → (x : A) × (r ≡ Ok x) × (f x ≡ Ok y)
-step_parts (Ok x) f y is = (x, refl, is)
-step_parts (Err e) f y is = cc
-
-never_none : (o : Option Dropped) → ◌≡◌ {A = Result (Unit {0}) SpawnFault} (elim o [ None ↦ Ok tt | Some because ↦ Err (fault.Never because.name because.cause) ]) (Ok tt) → o ≡ None
-never_none None is = refl
-never_none (Some because) is = cc
-
-cycle_some : (o : Option ℕ) (k : ℕ) → ◌≡◌ {A = Result ℕ SpawnFault} (elim o [ None ↦ Err fault.NoCycle | Some cycle ↦ Ok cycle ]) (Ok k) → o ≡ Some k
-cycle_some None k is = cc
-cycle_some (Some n) k is = let same : n ≡ k = cc in ap (λ (m : ℕ). Some m) same
-
--- What a plan rests on.
-pub record IsPlanned (d : Description) (blanks : Blanks) (name : List ℕ) (names : List (List ℕ)) (script : Script) : Type 0 where
-  pub places : List ℕ
-  pub cycle : ℕ
-  pub placed : places_in d.controllers (name ∷ names) ≡ Ok places
-  pub once : repeated_after same_name [] (name ∷ names) ≡ None
-  pub blanks_left : have_blanks d.controllers blanks places ≡ Ok tt
-  pub taken : can_be_configured d.controllers places ≡ Ok tt
-  pub possible : never d places ≡ None
-  pub least : first_fit d places ≡ Some cycle
-  pub script_is : script ≡ starting (name ∷ names) cycle
-
--- some are wanted, so they have some places
-start_parts : (d : Description) (name : List ℕ) (names : List (List ℕ)) (places : List ℕ) (k : ℕ) → ArePlaced d.controllers (name ∷ names) places → start_of d places ≡ Ok k → first_fit d places ≡ Some k
-start_parts d name names [] k placed starts = absurd placed
-start_parts d name names (p ∷ places) k placed starts = cycle_some (first_fit d (p ∷ places)) k starts
-
-planned_parts : (d : Description) (blanks : Blanks) (name : List ℕ) (names : List (List ℕ)) (script : Script) → spawned d blanks (name ∷ names) ≡ Ok script → IsPlanned d blanks name names script
-unfolding spawned
-planned_parts d blanks name names script is =
-    let wanted = name ∷ names in
-    let a = step_parts (places_in d.controllers wanted) _ script is in
-    let b = step_parts (each_once wanted) _ script a.2 in
-    let c = step_parts (have_blanks d.controllers blanks a.0) _ script b.2 in
-    let e = step_parts (can_be_configured d.controllers a.0) _ script c.2 in
-    let f = step_parts (start_together d a.0) _ script e.2 in
-    let g = step_parts (can_be_active d a.0) (λ _. start_of d a.0) f.0 f.1 in
-    let same : starting wanted f.0 ≡ script = cc in
-    record {
-      places = a.0;
-      cycle = f.0;
-      placed = a.1;
-      once = once_none wanted b.1;
-      blanks_left = c.1;
-      taken = e.1;
-      possible = never_none (never d a.0) g.1;
-      least = start_parts d name names a.0 f.0 (are_placed d.controllers wanted a.0 a.1) g.2;
-      script_is = sym same;
-    }
-
--- ---- The first cycle that fits
-
-in_range : (first count k : ℕ) → Contains (range_with_len first count) k → k < first + count
-in_range first zero k inside = absurd (none_inside k inside)
-in_range first (suc count) k inside =
-    elim (first_or_later first (range_with_len (first + 1) count) k inside) [
-      | inl same ↦ omega (arith, same)
-      | inr after ↦ (let less = in_range (first + 1) count k after in omega (arith, less))
-    ]
-
-first_parts : (d : Description) (places : List ℕ) (k : ℕ) → first_fit d places ≡ Some k → (k < d.cycles) × (fits d places k ≡ true)
-unfolding first_fit
-first_parts d places k least =
-    let r = found (fits d places) (range_with_len 0 d.cycles) k least in
-    let less : k < 0 + d.cycles = in_range 0 d.cycles k r.0 in
-    (omega (arith, less), r.1)
 
 -- ---- Who is ready
 
@@ -144,7 +66,7 @@ allowed false false y z ticket first second = refl
 allowed true full y z ticket first second = cc
 allowed false true y z ticket first second = cc
 
-module _ (d : Description) (blanks : Blanks) (name : List ℕ) (names : List (List ℕ)) (script : Script) (valid : IsValid d) (plan : IsPlanned d blanks name names script) where
+module _ (d : Description) (blanks : Blanks) (name : List ℕ) (names : List (List ℕ)) (script : Script) (valid : IsValid d) (plan : IsPlanned d blanks (name ∷ names) script) where
   abbrev wanted : List (List ℕ)
   wanted = name ∷ names
 
@@ -177,6 +99,9 @@ module _ (d : Description) (blanks : Blanks) (name : List ℕ) (names : List (Li
 
   placed : ArePlaced d.controllers wanted places
   placed = are_placed d.controllers wanted places plan.placed
+
+  pub first_fits : first_fit d places ≡ Some k
+  first_fits = start_parts d name names places k placed plan.begins
 
   distinct : IsDistinct eqb places
   distinct = wanted_distinct d.controllers wanted places plan.placed plan.once
@@ -416,7 +341,7 @@ module _ (d : Description) (blanks : Blanks) (name : List ℕ) (names : List (Li
       places = places;
       described = plan.placed;
       cycle = k;
-      least = plan.least;
+      least = first_fits;
       before = it.made;
       begin = begin;
       after = all_grown.0;
@@ -431,6 +356,6 @@ module _ (d : Description) (blanks : Blanks) (name : List ℕ) (names : List (Li
 pub started_by : (d : Description) (blanks : Blanks) (wanted : List (List ℕ)) (script : Script) → IsValid d → 0 < length wanted → spawned d blanks wanted ≡ Ok script → StartsThem d blanks wanted script
 started_by d blanks [] script valid some is = absurd (omega (arith, some))
 started_by d blanks (name ∷ names) script valid some is =
-    let plan = planned_parts d blanks name names script is in
-    let first = first_parts d plan.places plan.cycle plan.least in
+    let plan = planned_parts d blanks (name ∷ names) script is in
+    let first = first_parts d plan.places plan.cycle (first_fits d blanks name names script valid plan) in
     starts d blanks name names script valid plan (asked_at d blanks name names script valid plan plan.cycle refl first.0) first.0 first.1

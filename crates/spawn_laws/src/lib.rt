@@ -3,3 +3,4 @@
 
 pub mod nevers;
 pub mod starts;
+pub mod written;
