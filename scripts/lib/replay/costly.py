@@ -124,6 +124,19 @@ def documents_of_plans():
     yield "plans of 32 mocks that list cycles", long_run + mocks + END + f"session a\nswitch strict {' '.join(f'+{it}' for it in LETTERS[:32])}\n"
 
 
+def documents_of_checks():
+    """Stored traces as long as fit: of cycles in which nothing happens, legal and wrong at the end, and of calls that load nothing."""
+    cycles = 23_000
+    lines = "".join(f"loop begin {k}: none\nloop end {k}: none\n" for k in range(cycles))
+    quiet = with_cycles(cycles, HEAD) + END + "--- trace ---\n" + lines
+    yield "checks of a long trace", quiet + "loop close: none\n"
+    yield "checks of a long trace that ends early", quiet
+    calls = 9_000
+    line = f"load {LONG}"
+    waits = HEAD + END + "session a\n" + calls * f"{line}\n" + "--- trace ---\n"
+    yield "checks of many calls", waits + filled("", f"a {line}: not_described\n", bytes_=LONGEST - len(waits))
+
+
 def documents_of_lists():
     kinds = '["position", "velocity", "effort"]'
     lists = f"state = {kinds}\ncommand = {kinds}\n"

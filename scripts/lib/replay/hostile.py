@@ -15,14 +15,16 @@ import tempfile
 
 from . import programs
 from .costly import (
-    documents, documents_of_fallbacks, documents_of_lists, documents_of_mocks, documents_of_plans, documents_of_requests,
-    documents_of_small_tables)
+    documents, documents_of_checks, documents_of_fallbacks, documents_of_lists, documents_of_mocks, documents_of_plans,
+    documents_of_requests, documents_of_small_tables)
 
 SECONDS = 1.0
 # How many times a document's bytes its reading may take, beside 32 MiB; if its tables are many and small; if its script asks for lists.
 TIMES = 64
 TIMES_IN_SMALL_TABLES = 640
 TIMES_IN_LISTS = 320
+# The jobs of documents whose names begin so; `run` of all others.
+JOBS = {"plans": "plan", "checks": "check"}
 
 
 def options(parser):
@@ -43,7 +45,7 @@ def run(program, job, text):
 
 def is_dear(program, name, text, times, seconds_allowed):
     """Runs the program on the document, prints its line, and returns whether it took more than it may."""
-    status, line, seconds, peak = run(program, "plan" if name.startswith("plans") else "run", text)
+    status, line, seconds, peak = run(program, JOBS.get(name.split()[0], "run"), text)
     most = 32 * 2**20 + times * len(text)
     dear = seconds >= seconds_allowed or peak > most
     shown = line.strip() if len(line) < 60 else f"{line[:40]}.. ({len(line):,} characters)"
@@ -55,7 +57,7 @@ def is_dear(program, name, text, times, seconds_allowed):
 def main(asked):
     program, wanted = programs.program(asked), set(asked.names)
     # One document at a time, since what is held here would count as the program's.
-    makers = (documents(), documents_of_requests(), documents_of_mocks(), documents_of_fallbacks(), documents_of_plans())
+    makers = (documents(), documents_of_requests(), documents_of_mocks(), documents_of_fallbacks(), documents_of_plans(), documents_of_checks())
     usual = ((name, text, TIMES, SECONDS) for maker in makers for name, text in maker)
     small_tables = ((name, text, TIMES_IN_SMALL_TABLES, 3 * SECONDS) for name, text in documents_of_small_tables())
     lists = ((name, text, TIMES_IN_LISTS, SECONDS) for name, text in documents_of_lists())
