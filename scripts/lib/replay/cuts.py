@@ -3,7 +3,7 @@
 - The first document of scripts/cases, cut behind each of its lines, and within the first: docs/FAULTS.md has a row for each cut.
 - The schedule of ten turns, cut behind each turn: the run goes well, and cut behind the sixth it prints what stands here.
 - Each document of examples/ and scripts/cases, cut behind each byte. Cut within the description it is refused. Cut behind the separator it
-  goes well, or its last line is refused if it is not whole.
+  goes well, or its last line is refused if it is not whole. A document with a trace goes wrong where it ends, or where the whole one does.
 
 If another implementation is named, its answer is compared too, byte by byte: of the cuts behind a byte one of STRIDE, by turns from document
 to document, and each that is behind a line. With `--whole` all are compared. No run is to take a tenth of a second of the processor.
@@ -25,7 +25,7 @@ from .memory import CASES
 from .other import JUDGED, judge
 
 PAGE = TOP / "docs/FAULTS.md"
-SEPARATOR = b"--- script ---"
+SEPARATOR, TRACE = b"--- script ---", b"--- trace ---"
 STRIDE = 7
 SECONDS = 0.1
 TURNS = 10
@@ -116,6 +116,22 @@ def wrong_by_rules(cut, refused, came):
     return None if is_so else f"only {of_last[0]!r} can be told"
 
 
+def wrong_with_trace(cut, refused, came):
+    """The same of a document with a trace, which the job `check` judges. A script that was cut lacks the trace. Behind that the trace goes
+    wrong where it ends, or where the whole one does."""
+    lines, ends = cut.splitlines(), cut.endswith(b"\n")
+    if SEPARATOR not in lines:
+        return wrong_by_rules(cut, b"", came)
+    if TRACE not in lines:
+        wanted = (4, {b"cm: script: bad_line %d\n" % line for line in range(len(lines) + ends, len(lines) + 2)})
+    else:
+        line = max(1, len(lines) - lines.index(TRACE) - 1 + ends)
+        whole = int(refused.split()[-1]) if refused else line
+        wanted = (9, {b"cm: trace: line %d\n" % min(line, whole)})
+    is_so = came.status == wanted[0] and came.told in wanted[1] and not came.printed
+    return None if is_so else f"status {wanted[0]} and one of {wanted[1]} is to come"
+
+
 def tried(program, other, is_whole, numbered):
     """Runs all cuts of a document, and gives how many there are, and what is wrong with each that is."""
     number, document = numbered
@@ -123,7 +139,7 @@ def tried(program, other, is_whole, numbered):
     refused = programs.came([program, *words], text).told
     for left in range(len(text)):
         came = programs.came([program, *words], text[:left])
-        why = wrong_by_rules(text[:left], refused, came)
+        why = (wrong_with_trace if words == ["check"] else wrong_by_rules)(text[:left], refused, came)
         if not why and came.seconds >= SECONDS:
             why = "it takes too long"
         if not why and judge(other) and (is_whole or is_compared(number, text, left)):
