@@ -48,14 +48,25 @@ struct Upgraded;
 
 impl Teller for Upgraded {
     fn told(&self, alloc: Global, text: &str) -> Result<String, Fail> {
-        let mut sink = ample_sink(alloc)?;
-        let status = UPGRADE.run_into(alloc, text, &mut sink)?;
-        if status != Status::Ok {
+        let Some(described) = upgraded_description(alloc, text)? else {
             return UPGRADE.told(alloc, text);
-        }
+        };
         let (_, script) = halves(text, SEPARATOR)?;
-        let described = joined(alloc, str::from_utf8(sink.bytes())?, SEPARATOR)?;
         let again = joined(alloc, described.as_str(), script)?;
         OF_PROGRAM.told(alloc, again.as_str())
     }
+}
+
+/// The upgraded description, with the line behind it; None if the document is refused.
+fn upgraded_description(alloc: Global, text: &str) -> Result<Option<String>, Fail> {
+    let mut sink = ample_sink(alloc)?;
+    if !is_ok(UPGRADE.run_into(alloc, text, &mut sink)?) {
+        return Ok(None);
+    }
+    let described = joined(alloc, str::from_utf8(sink.bytes())?, SEPARATOR)?;
+    Ok(Some(described))
+}
+
+fn is_ok(status: Status) -> bool {
+    status == Status::Ok
 }
