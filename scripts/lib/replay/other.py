@@ -3,9 +3,9 @@
 import functools
 import sys
 
-STAGE = "r16"  # of the documents that it makes, and of the jobs that it is told of: the program has no later job
+STAGE = "r16"  # of the documents that it makes
 JUDGED = "r18"  # what it is told that a document may have: every kind of controller
-PLANNED = "r19"  # and that plans are asked for
+PLANNED = "r19"  # and that plans are asked for: the program has no later job
 
 
 @functools.cache

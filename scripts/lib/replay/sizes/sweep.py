@@ -17,7 +17,7 @@ from concurrent.futures import ProcessPoolExecutor
 from pathlib import Path
 
 from .. import programs
-from ..other import JUDGED, STAGE, judge
+from ..other import JUDGED, PLANNED, judge
 from .parts import without_row
 from .table import table
 
@@ -57,7 +57,7 @@ def tried(program, other, document):
     disagreement = judge(other)
     is_compared = disagreement is not None and len(made.text) <= COMPARED_BYTES and made.cycles <= COMPARED_CYCLES
     if not wrong and is_compared:
-        stage = STAGE if STATUSES["usage"] == status else JUDGED
+        stage = PLANNED if STATUSES["usage"] == status else JUDGED
         wrong = disagreement(made.text.encode(), list(made.words), stage, status, output, line)
     return f"{what}, {size:,}", wrong, is_compared
 
