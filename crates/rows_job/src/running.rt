@@ -113,11 +113,20 @@ fn run_over<R: Threads + Wait + Sync, C: Controller + Send>(
     let mut sink = ample_sink(alloc)?;
     let words = [String::from_str(alloc, "live")?];
     let ended = run_held(rt, alloc, &words, &mut source, &mut sink, blanks, order);
-    let told = format!(in alloc; "{}\n{}", ended.status, str::from_utf8(sink.bytes())?)?;
+    all_told(alloc, ended, sink.bytes())
+}
+
+/// What is told of a run that ended so, and printed these bytes.
+fn all_told(alloc: Global, ended: Ended, printed: &[u8]) -> Result<Ran, Fail> {
     Ok(Ran {
-        told: String::from_str(alloc, told.trim_end())?,
+        told: told(alloc, &ended.status, printed)?,
         pauses: ended.pauses,
     })
+}
+
+fn told(alloc: Global, status: &Status, printed: &[u8]) -> Result<String, Fail> {
+    let told = format!(in alloc; "{}\n{}", status, str::from_utf8(printed)?)?;
+    Ok(String::from_str(alloc, told.trim_end())?)
 }
 
 /// How a run ended, and how often it called its pace.
