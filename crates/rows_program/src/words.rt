@@ -70,13 +70,18 @@ fn hold_row<R>(rt: &R, alloc: Global, row: &str) -> Result<(), Fail>
 where
     R: Threads + Wait + Sync + AllocGlobal,
 {
-    let (given, want) = halves(row, " => ")?;
+    let (given, _) = halves(row, " => ")?;
     let mut sink = MemSink::make(alloc, 1000, 100, vec![in alloc]?)?;
     let status = status_of(rt, alloc, given, &mut sink)?;
-    let end = end(alloc, &status)?;
+    hold_end(alloc, row, &status, sink.bytes())
+}
+
+/// Fails where a run that ended so, and printed these bytes, is not what a row says.
+fn hold_end(alloc: Global, row: &str, status: &Status, bytes: &[u8]) -> Result<(), Fail> {
+    let (given, want) = halves(row, " => ")?;
+    let end = end(alloc, status)?;
     hold_told(alloc, row, end.as_str(), want)?;
-    let told = str::from_utf8(sink.bytes())?;
-    hold_told(alloc, row, told, printed(given, &status))
+    hold_told(alloc, row, str::from_utf8(bytes)?, printed(given, status))
 }
 
 /// How a run by these words ends, over the least document.
