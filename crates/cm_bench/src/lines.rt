@@ -186,7 +186,7 @@ fn plain_numbers(text: &mut Vec<u8>, numbers: &[Fx]) -> Result<(), Memory>
     Ok(())
 }
 
-/// Appends a space and a number's text, as `push_number` of `trace_text` does.
+/// Appends a space and a number's text.
 fn plain_number(text: &mut Vec<u8>, number: Fx) -> Result<(), Memory>
     ensures { OnOk result (text.new.items ≡ text.old.items ++ codes " " ++ spelled number) }
 {

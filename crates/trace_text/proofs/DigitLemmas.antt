@@ -1,7 +1,6 @@
--- The text of a number with one digit before the point.
-use Rattle.std.proofs.Common.{◌≡◌, ℕ, ◌+◌, ◌/◌, ◌%◌, ◌<◌, List, [], ◌∷◌, ◌++◌, refl, ap, ◌∙◌, append_assoc, arith}
-use Rattle.std.specs.Prelude.{ℤ, codes, nat_abs}
-use Rattle.std.proofs.lemmas.Fmt.{decimal_digit}
+-- The text of a number, part by part.
+use Rattle.std.proofs.Common.{◌≡◌, ℕ, ◌+◌, ◌/◌, ◌%◌, ◌<◌, List, [], ◌∷◌, ◌++◌, sym, ap, append_assoc, arith}
+use Rattle.std.specs.Prelude.{ℤ, codes, decimal, nat_abs}
 use Rattle.fixed_num.specs.Text.{spelled, sign_text, six_digits}
 use Rattle.fixed_num.proofs.SpellingLemmas.{six_digits_are}
 
@@ -17,21 +16,7 @@ six_by_pairs d small =
     let g : d % 100 % 10 ≡ d % 10 = omega arith in
     rw (a, b, c, e, f, g) (six_digits_are d small)
 
--- what is put down one after another is put down together
-pub together : (text : List ℕ) (a p q r s u v : ℕ)
-    → ((((text ++ a ∷ []) ++ 46 ∷ []) ++ p ∷ q ∷ []) ++ r ∷ s ∷ []) ++ u ∷ v ∷ [] ≡ (text ++ a ∷ 46 ∷ []) ++ (p ∷ q ∷ r ∷ s ∷ u ∷ v ∷ [])
-together [] a p q r s u v = refl
-together (b ∷ text) a p q r s u v = ap (λ l. b ∷ l) (together text a p q r s u v)
-
--- three lists behind a text are one list behind it
-pub regrouped : (text s p q : List ℕ) → ((text ++ s) ++ p) ++ q ≡ text ++ ((s ++ p) ++ q)
-regrouped [] s p q = refl
-regrouped (b ∷ text) s p q = ap (λ l. b ∷ l) (regrouped text s p q)
-
--- the text of fewer than ten units
-pub short_text : (n : ℤ) → nat_abs n < 10000000
-    → spelled n ≡ sign_text n ++ (48 + nat_abs n / 1000000) ∷ codes "." ++ six_digits (nat_abs n % 1000000)
+-- a space, the sign, the units, and the point with six decimals
+pub spelled_in_parts : (n : ℤ) → (((32 ∷ []) ++ sign_text n) ++ decimal (nat_abs n / 1000000)) ++ (46 ∷ six_digits (nat_abs n % 1000000)) ≡ codes " " ++ spelled n
 unfolding spelled
-short_text n small =
-    ap (λ ds. sign_text n ++ ds ++ codes "." ++ six_digits (nat_abs n % 1000000)) (decimal_digit (nat_abs n / 1000000) (omega arith))
-    ∙ ap (λ l. l ++ six_digits (nat_abs n % 1000000)) (append_assoc (sign_text n) ((48 + nat_abs n / 1000000) ∷ []) (codes "."))
+spelled_in_parts n = ap (λ l. 32 ∷ l) (sym (append_assoc (sign_text n ++ decimal (nat_abs n / 1000000)) (46 ∷ []) (six_digits (nat_abs n % 1000000))))

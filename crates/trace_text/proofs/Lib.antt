@@ -1,3 +1,4 @@
+pub mod PlaceLemmas
 pub mod DigitLemmas
 pub mod HeadLemmas
 pub mod NameLemmas

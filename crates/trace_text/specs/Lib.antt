@@ -4,3 +4,4 @@ pub mod Replies
 pub mod Heads
 pub mod Quiet
 pub mod OneByOne
+pub mod Placed

@@ -5,11 +5,13 @@
 pub use one_by_one::Lines;
 pub use trace::{OutFault, write_trace};
 
-mod bytes;
 mod interfaces;
 mod items;
+mod line;
 mod names;
+mod numbers;
 mod one_by_one;
+mod place;
 mod quiet;
 mod records;
 mod trace;

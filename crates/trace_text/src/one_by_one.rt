@@ -4,6 +4,7 @@ ghost use Rattle.std.specs.Prelude.{◌≡◌, [], IfOk, OnOk};
 ghost use Rattle.cm_model.specs.Trace.{names_in};
 ghost use Rattle.trace_text.specs.OneByOne.{with_controller, with_line};
 
+use crate::line::LineText;
 use crate::names::Names;
 use crate::trace::make_line;
 use cm_document::{Checked, Script, SessionText};
@@ -19,7 +20,7 @@ use std::marker::Model;
 pub struct Lines<'a> {
     sessions: &'a [SessionText],
     names: Names<'a>,
-    line: Vec<u8>,
+    line: LineText,
     words: String,
 }
 
@@ -28,7 +29,7 @@ impl<'a> Model for Lines<'a> {
 
     ghost Value = { LinesFacts };
 
-    ghost view = { λ s. record { sessions = s.sessions.now; names = s.names; line = s.line.items } };
+    ghost view = { λ s. record { sessions = s.sessions.now; names = s.names; line = s.line } };
 }
 
 impl<'a> Lines<'a> {
@@ -44,7 +45,7 @@ impl<'a> Lines<'a> {
         Ok(Lines {
             sessions: script.sessions.as_slice(),
             names: Names::before_loads(alloc, checked.description())?,
-            line: Vec::new(alloc),
+            line: LineText::none(alloc),
             words: String::new(alloc),
         })
     }

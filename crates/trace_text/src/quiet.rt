@@ -6,7 +6,7 @@ ghost use Rattle.cm_document.specs.CallText.{call_text};
 ghost use Rattle.cm_storage.specs.Kept.{call_of};
 ghost use Rattle.trace_text.specs.Quiet.{quiet_text, DifferAtPair, IsNextWith};
 
-use crate::bytes::{push_counted, push_word};
+use crate::line::LineText;
 use cm_storage::CycleCall;
 use fixed_num::Memory;
 use std::alloc::Global;
@@ -18,7 +18,7 @@ const QUIET_END: &str = ": none\n";
 /// The line of a begin or an end of which there is nothing to tell, kept for the next one of its kind. Contracts see its bytes.
 #[derive(Drop)]
 pub(crate) struct QuietLine {
-    bytes: Vec<u8>,
+    text: LineText,
     /// The call that it tells, where it is whole.
     told: Option<CycleCall>,
 }
@@ -29,16 +29,16 @@ impl Model for QuietLine {
 
     ghost Value = { List ℕ };
 
-    ghost view = { λ line. line.bytes.items };
+    ghost view = { λ line. line.text };
 
-    ghost invariant = { λ line. IfSome line.told (λ call. line.bytes.items ≡ quiet_text call) };
+    ghost invariant = { λ line. IfSome line.told (λ call. line.text ≡ quiet_text call) };
 }
 
 impl QuietLine {
     /// No line yet.
     pub(crate) fn none(alloc: Global) -> QuietLine {
         QuietLine {
-            bytes: Vec::new(alloc),
+            text: LineText::none(alloc),
             told: None,
         }
     }
@@ -47,7 +47,7 @@ impl QuietLine {
     pub(crate) fn as_slice(&self) -> &[u8]
         ensures { result.now ≡ self.now }
     {
-        self.bytes.as_slice()
+        self.text.as_slice()
     }
 
     /// Makes it the line of this call.
@@ -55,12 +55,12 @@ impl QuietLine {
         ensures { OnOk result (self.new ≡ quiet_text call) }
     {
         if let Some(pair) = other_digits(self.told, call) {
-            put_digits(&mut self.bytes, pair);
+            put_digits(&mut self.text, pair);
             self.told = Some(call);
             return Ok(());
         }
         self.told = None;
-        make_quiet(&mut self.bytes, call)?;
+        make_quiet(&mut self.text, call)?;
         self.told = Some(call);
         Ok(())
     }
@@ -90,32 +90,32 @@ fn next_digits(last: u64, number: u64) -> Option<u8>
 }
 
 /// Puts two other digits before the end of a line.
-fn put_digits(line: &mut Vec<u8>, pair: u8)
-    requires { 9 ≤ length line.old.items }
-    ensures { line.new.items
-        ≡ slice_set (slice_set line.old.items (length line.old.items - 9) (48 + pair / 10))
-        (length line.old.items - 8) (48 + pair % 10) }
+fn put_digits(line: &mut LineText, pair: u8)
+    requires { 9 ≤ length line.old }
+    ensures { line.new
+        ≡ slice_set (slice_set line.old (length line.old - 9) (48 + pair / 10))
+        (length line.old - 8) (48 + pair % 10) }
 {
     let end = line.len() - QUIET_END.len();
-    line[end - 2] = b'0' + pair / 10;
-    line[end - 1] = b'0' + pair % 10;
+    line.set(end - 2, b'0' + pair / 10);
+    line.set(end - 1, b'0' + pair % 10);
 }
 
 /// Makes the line of a call of which there is nothing to tell.
-fn make_quiet(line: &mut Vec<u8>, call: CycleCall) -> Result<(), Memory>
-    ensures { OnOk result (line.new.items ≡ quiet_text call) }
+fn make_quiet(line: &mut LineText, call: CycleCall) -> Result<(), Memory>
+    ensures { OnOk result (line.new ≡ quiet_text call) }
 {
     line.clear();
     push_turn(line, call)?;
-    push_word(line, QUIET_END)
+    line.push_word(QUIET_END)
 }
 
 /// Appends the loop's begin or end of a cycle.
-pub(crate) fn push_turn(line: &mut Vec<u8>, call: CycleCall) -> Result<(), Memory>
-    ensures { OnOk result (line.new.items ≡ line.old.items ++ codes "loop " ++ call_text (call_of call)) }
+pub(crate) fn push_turn(line: &mut LineText, call: CycleCall) -> Result<(), Memory>
+    ensures { OnOk result (line.new ≡ line.old ++ codes "loop " ++ call_text (call_of call)) }
 {
     match call {
-        CycleCall::Begin(cycle) => push_counted(line, "loop begin ", cycle),
-        CycleCall::End(cycle) => push_counted(line, "loop end ", cycle),
+        CycleCall::Begin(cycle) => line.push_counted("loop begin ", cycle),
+        CycleCall::End(cycle) => line.push_counted("loop end ", cycle),
     }
 }

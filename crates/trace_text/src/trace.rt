@@ -11,8 +11,8 @@ ghost use Rattle.cm_model.specs.Trace.{caller_text, line_text, reply_text, trace
 ghost use Rattle.trace_text.specs.Quiet.{quiet_text};
 ghost use Rattle.trace_text.specs.Replies.{head_text, rest_text};
 
-use crate::bytes::push_word;
 use crate::items::push_in_words;
+use crate::line::LineText;
 use crate::names::Names;
 use crate::quiet::{QuietLine, push_turn};
 use crate::records::push_record;
@@ -80,35 +80,35 @@ fn cycle_of_loop(sessions: &[SessionText], entry: &Entry) -> Option<CycleCall>
 /// Appends what stands before the reply in the line of an entry. Two lines of each cycle begin with the loop's call, which prints in two
 /// pieces.
 fn push_head(
-    line: &mut Vec<u8>,
+    line: &mut LineText,
     words: &mut String,
     sessions: &[SessionText],
     entry: &Entry,
 ) -> Result<(), Memory>
-    ensures { OnOk result (line.new.items ≡ line.old.items ++ head_text sessions.now entry.now) }
+    ensures { OnOk result (line.new ≡ line.old ++ head_text sessions.now entry.now) }
 {
     if let Some(call) = cycle_of_loop(sessions, entry) {
         return push_turn(line, call);
     }
-    push_word(line, caller(sessions, entry.who))?;
-    push_word(line, " ")?;
+    line.push_word(caller(sessions, entry.who))?;
+    line.push_word(" ")?;
     words.clear();
     entry.call.push_to(words)?;
-    push_word(line, words.as_str())
+    line.push_word(words.as_str())
 }
 
 /// Appends what stands behind the head of a line, with its end.
 fn push_rest(
-    line: &mut Vec<u8>,
+    line: &mut LineText,
     words: &mut String,
     names: &Names<'_>,
     reply: &Reply,
 ) -> Result<(), Memory>
-    ensures { OnOk result (line.new.items ≡ line.old.items ++ rest_text names.now reply.now) }
+    ensures { OnOk result (line.new ≡ line.old ++ rest_text names.now reply.now) }
 {
-    push_word(line, ": ")?;
+    line.push_word(": ")?;
     push_reply(line, words, names, reply)?;
-    push_word(line, "\n")
+    line.push_word("\n")
 }
 
 /// Whether a begin decided nothing, or an end has nothing to tell: in most runs that is so in most cycles.
@@ -125,19 +125,19 @@ fn has_no_item(reply: &Reply) -> bool
 
 /// Appends a reply: the record of a cycle as bytes, any other in words.
 fn push_reply(
-    line: &mut Vec<u8>,
+    line: &mut LineText,
     words: &mut String,
     names: &Names<'_>,
     reply: &Reply,
 ) -> Result<(), Memory>
-    ensures { OnOk result (line.new.items ≡ line.old.items ++ reply_text names.now reply.now) }
+    ensures { OnOk result (line.new ≡ line.old ++ reply_text names.now reply.now) }
 {
     if let Reply::Cycle(record) = reply {
         return push_record(line, names, record);
     }
     words.clear();
     push_in_words(words, names, reply)?;
-    push_word(line, words.as_str())
+    line.push_word(words.as_str())
 }
 
 /// The call of a cycle that an entry of the loop has, where there is nothing to tell of it.
@@ -159,7 +159,7 @@ struct Room {
     /// Of an end of which there is nothing to tell.
     end: QuietLine,
     /// Of any entry.
-    line: Vec<u8>,
+    line: LineText,
     /// What is told in words.
     words: String,
 }
@@ -170,7 +170,7 @@ impl Room {
         Room {
             begin: QuietLine::none(alloc),
             end: QuietLine::none(alloc),
-            line: Vec::new(alloc),
+            line: LineText::none(alloc),
             words: String::new(alloc),
         }
     }
@@ -186,13 +186,13 @@ impl Room {
 
 /// Makes the line of an entry. Both are only room: what stood there is gone.
 pub(crate) fn make_line(
-    line: &mut Vec<u8>,
+    line: &mut LineText,
     words: &mut String,
     sessions: &[SessionText],
     names: &Names<'_>,
     entry: &Entry,
 ) -> Result<(), Memory>
-    ensures { OnOk result (line.new.items ≡ line_text sessions.now names.now entry.now) }
+    ensures { OnOk result (line.new ≡ line_text sessions.now names.now entry.now) }
 {
     line.clear();
     push_head(line, words, sessions, entry)?;
