@@ -7,3 +7,4 @@ pub mod LineLemmas
 pub mod NoneLemmas
 pub mod QuietLemmas
 pub mod PieceLemmas
+pub mod StandingLemmas

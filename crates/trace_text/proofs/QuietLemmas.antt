@@ -22,57 +22,57 @@ last_digits n many fits =
     let ones : n % 100 % 10 ≡ n % 10 = omega arith in
     rw (tens, ones, decimal_step n (omega arith) fits, decimal_step (n / 10) (omega arith) (omega arith), append_assoc, front)
 
--- digits between a word and the end of a line, the last two apart
-two_apart : (word front digits : List ℕ) (a b : ℕ) → digits ≡ front ++ (a ∷ b ∷ []) → (word ++ digits) ++ quiet_end ≡ (word ++ front) ++ (a ∷ b ∷ quiet_end)
-two_apart word front digits a b e =
-    ap (λ l. (word ++ l) ++ quiet_end) e
-    ∙ ap (λ l. l ++ quiet_end) (sym (append_assoc word front (a ∷ b ∷ [])))
-    ∙ append_assoc (word ++ front) (a ∷ b ∷ []) quiet_end
+-- digits between a word and what stands behind it, the last two apart
+two_apart : (tail word front digits : List ℕ) (a b : ℕ) → digits ≡ front ++ (a ∷ b ∷ []) → (word ++ digits) ++ tail ≡ (word ++ front) ++ (a ∷ b ∷ tail)
+two_apart tail word front digits a b e =
+    ap (λ l. (word ++ l) ++ tail) e
+    ∙ ap (λ l. l ++ tail) (sym (append_assoc word front (a ∷ b ∷ [])))
+    ∙ append_assoc (word ++ front) (a ∷ b ∷ []) tail
 
 -- the lines of two numbers with the same digits before the last two
-same_front : (word front : List ℕ) (last number pair : ℕ) → pair ≡ number % 100
+same_front : (tail word front : List ℕ) (last number pair : ℕ) → pair ≡ number % 100
     → decimal last ≡ front ++ ((48 + last % 100 / 10) ∷ (48 + last % 100 % 10) ∷ [])
     → decimal number ≡ front ++ ((48 + number % 100 / 10) ∷ (48 + number % 100 % 10) ∷ [])
-    → DifferAtPair ((word ++ decimal last) ++ quiet_end) ((word ++ decimal number) ++ quiet_end) pair
-same_front word front last number pair is before now = record {
+    → DifferAtPair tail ((word ++ decimal last) ++ tail) ((word ++ decimal number) ++ tail) pair
+same_front tail word front last number pair is before now = record {
   front = word ++ front;
   tens = 48 + last % 100 / 10;
   ones = 48 + last % 100 % 10;
-  was = two_apart word front (decimal last) _ _ before;
-  is = rw is (two_apart word front (decimal number) _ _ now);
+  was = two_apart tail word front (decimal last) _ _ before;
+  is = rw is (two_apart tail word front (decimal number) _ _ now);
 }
 
 -- the line of the next number
-next_line : (word : List ℕ) (last number pair : ℕ) → number < 2 ^ 64 → IsNextWith last number pair
-    → DifferAtPair ((word ++ decimal last) ++ quiet_end) ((word ++ decimal number) ++ quiet_end) pair
-next_line word last number pair fits told =
+pub next_line : (tail word : List ℕ) (last number pair : ℕ) → number < 2 ^ 64 → IsNextWith last number pair
+    → DifferAtPair tail ((word ++ decimal last) ++ tail) ((word ++ decimal number) ++ tail) pair
+next_line tail word last number pair fits told =
     elim (cases_lt number 100) [
       | inl few ↦
-          same_front word [] last number pair told.is
+          same_front tail word [] last number pair told.is
           (two_digits last told.many (omega (arith, few, told.next)))
           (two_digits number (omega (arith, told.many, told.next)) few)
       | inr many ↦
           let before : 100 ≤ last = omega (arith, many, told.next, told.within, told.is) in
           let same : last / 100 ≡ number / 100 = omega (arith, told.next, told.within, told.is) in
-          same_front word (decimal (number / 100)) last number pair told.is
+          same_front tail word (decimal (number / 100)) last number pair told.is
           (rw (← same) (last_digits last before (omega (arith, fits, told.next))))
           (last_digits number many fits)
     ]
 
 -- the same where it is told whether there are such digits
-pub next_differs : (word : List ℕ) (last number : ℕ) (pair : Option ℕ) → number < 2 ^ 64 → IfSome pair (λ p. IsNextWith last number p)
-    → IfSome pair (λ p. DifferAtPair ((word ++ decimal last) ++ quiet_end) ((word ++ decimal number) ++ quiet_end) p)
-next_differs word last number None fits told = told
-next_differs word last number (Some p) fits told = next_line word last number p fits told
+pub next_differs : (tail word : List ℕ) (last number : ℕ) (pair : Option ℕ) → number < 2 ^ 64 → IfSome pair (λ p. IsNextWith last number p)
+    → IfSome pair (λ p. DifferAtPair tail ((word ++ decimal last) ++ tail) ((word ++ decimal number) ++ tail) p)
+next_differs tail word last number None fits told = told
+next_differs tail word last number (Some p) fits told = next_line tail word last number p fits told
 
 -- the place behind the first of two
-set_second : (front behind : List ℕ) (a old b : ℕ) → slice_set (front ++ (a ∷ old ∷ behind)) (length front + 1) b ≡ front ++ (a ∷ b ∷ behind)
+pub set_second : (front behind : List ℕ) (a old b : ℕ) → slice_set (front ++ (a ∷ old ∷ behind)) (length front + 1) b ≡ front ++ (a ∷ b ∷ behind)
 set_second front behind a old b =
     rw (← append_assoc front (a ∷ []) (old ∷ behind), ← append_assoc front (a ∷ []) (b ∷ behind), ← length-append front (a ∷ []))
     (set-append_seam (front ++ (a ∷ [])) old behind b)
 
 -- the two digits are put at their places
-put_at_pair : (before now : List ℕ) (pair : ℕ) → DifferAtPair before now pair
+put_at_pair : (before now : List ℕ) (pair : ℕ) → DifferAtPair quiet_end before now pair
     → slice_set (slice_set before (length before - 9) (48 + pair / 10)) (length before - 8) (48 + pair % 10) ≡ now
 put_at_pair before now pair differ =
     let a = 48 + pair / 10 in
@@ -85,7 +85,7 @@ put_at_pair before now pair differ =
 
 -- so the line that stands there becomes the other one
 pub renewed : (told : Option CycleCall) (line now : List ℕ) (pair : ℕ) → IfSome told (λ before. line ≡ quiet_text before)
-    → IsSomeAnd told (λ before. DifferAtPair (quiet_text before) now pair)
+    → IsSomeAnd told (λ before. DifferAtPair quiet_end (quiet_text before) now pair)
     → slice_set (slice_set line (length line - 9) (48 + pair / 10)) (length line - 8) (48 + pair % 10) ≡ now
 renewed None line now pair stands differ = absurd differ
 renewed (Some before) line now pair stands differ = rw stands (put_at_pair (quiet_text before) now pair differ)

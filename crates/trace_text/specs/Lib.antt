@@ -5,3 +5,5 @@ pub mod Heads
 pub mod Quiet
 pub mod OneByOne
 pub mod Placed
+pub mod Standing
+pub mod Rooms

@@ -12,13 +12,13 @@ quiet_end = codes ": none\n"
 abbrev pub quiet_text : CycleCall → List ℕ
 quiet_text call = codes "loop " ++ call_text (call_of call) ++ quiet_end
 
--- two such lines are the same but for the last two digits of the number, and in the second these are the pair
-pub record DifferAtPair (before now : List ℕ) (pair : ℕ) : Type 0 where
+-- two lines with this end are the same but for the two digits before it, and in the second these are the pair
+pub record DifferAtPair (tail before now : List ℕ) (pair : ℕ) : Type 0 where
   pub front : List ℕ
   pub tens : ℕ
   pub ones : ℕ
-  pub was : before ≡ front ++ (tens ∷ ones ∷ quiet_end)
-  pub is : now ≡ front ++ ((48 + pair / 10) ∷ (48 + pair % 10) ∷ quiet_end)
+  pub was : before ≡ front ++ (tens ∷ ones ∷ tail)
+  pub is : now ≡ front ++ ((48 + pair / 10) ∷ (48 + pair % 10) ∷ tail)
 
 -- a number is the one after another of two digits or more, and only its last two digits differ: this pair
 pub record IsNextWith (last number pair : ℕ) : Type 0 where

@@ -14,4 +14,5 @@ mod one_by_one;
 mod place;
 mod quiet;
 mod records;
+mod standing;
 mod trace;

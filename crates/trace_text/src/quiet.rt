@@ -4,7 +4,7 @@
 ghost use Rattle.std.specs.Prelude.{◌≡◌, ◌+◌, ◌-◌, ◌/◌, ◌%◌, ◌≤◌, ◌++◌, codes, length, slice_set, IfSome, IsSomeAnd, OnOk};
 ghost use Rattle.cm_document.specs.CallText.{call_text};
 ghost use Rattle.cm_storage.specs.Kept.{call_of};
-ghost use Rattle.trace_text.specs.Quiet.{quiet_text, DifferAtPair, IsNextWith};
+ghost use Rattle.trace_text.specs.Quiet.{quiet_end, quiet_text, DifferAtPair, IsNextWith};
 
 use crate::line::LineText;
 use cm_storage::CycleCall;
@@ -69,7 +69,8 @@ impl QuietLine {
 /// The last two digits of this call's number, where its line is that of the call before but for these.
 fn other_digits(told: Option<CycleCall>, call: CycleCall) -> Option<u8>
     ensures { IfSome result
-        (λ pair. IsSomeAnd told (λ before. DifferAtPair (quiet_text before) (quiet_text call) pair)) }
+        (λ pair.
+        IsSomeAnd told (λ before. DifferAtPair quiet_end (quiet_text before) (quiet_text call) pair)) }
 {
     match (told?, call) {
         (CycleCall::Begin(last), CycleCall::Begin(cycle)) => next_digits(last, cycle),
@@ -79,7 +80,7 @@ fn other_digits(told: Option<CycleCall>, call: CycleCall) -> Option<u8>
 }
 
 /// The last two digits of a number, where it is the next one and the digits before these stay.
-fn next_digits(last: u64, number: u64) -> Option<u8>
+pub(crate) fn next_digits(last: u64, number: u64) -> Option<u8>
     ensures { IfSome result (λ pair. IsNextWith last number pair) }
 {
     let pair = number % 100;

@@ -1,7 +1,7 @@
 //! How the record of a cycle prints in a trace: its items, joined by `; `. Nearly all bytes of a long trace are such, so they are put down
 //! as bytes, without a formatter and without a look at whether they are text.
 
-ghost use Rattle.std.specs.Prelude.{◌≡◌, ◌++◌, map, codes, OnOk, IfOk};
+ghost use Rattle.std.specs.Prelude.{◌≡◌, ◌<◌, ◌++◌, length, map, codes, OnOk, IfOk};
 ghost use Rattle.cm_storage.specs.Rans.{ran_of};
 ghost use Rattle.cm_model.specs.Items.{nth_name, ran_text, failed_text, body_text, body_texts, stop_text, record_items};
 ghost use Rattle.cm_model.specs.Trace.{joined};
@@ -141,6 +141,19 @@ fn push_bodies(
         started = true;
     }
     Ok(started)
+}
+
+/// Appends bodies, of which there are some, joined by `; `: the items of a record that tells nothing else.
+pub(crate) fn push_some_bodies(
+    text: &mut LineText,
+    names: &Names<'_>,
+    bodies: &[BodyState],
+) -> Result<(), Memory>
+    requires { 0 < length bodies.now }
+    ensures { OnOk result (text.new ≡ text.old ++ joined (body_texts names.now 0 bodies.now)) }
+{
+    push_bodies(text, names, false, bodies)?;
+    Ok(())
 }
 
 fn push_body(

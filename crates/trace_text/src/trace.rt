@@ -1,6 +1,6 @@
 //! The trace of a history, a line a piece.
 
-ghost use Rattle.std.specs.Prelude.{◌≡◌, ◌++◌, true, codes, flat_map, Err, IfOk, IfSome, OnOk, OnErr};
+ghost use Rattle.std.specs.Prelude.{◌≡◌, ◌<◌, [], ◌++◌, true, length, codes, flat_map, Err, IfOk, IfSome, OnOk, OnErr};
 ghost use Rattle.std.specs.Io.KnownBytes.{Appends};
 ghost use Rattle.outside_io.specs.Bytes.{AppendsPrefix};
 ghost use Rattle.outside_io.specs.Faults.{HasCause, IsToldAs};
@@ -10,16 +10,19 @@ ghost use Rattle.cm_storage.specs.Kept.{call_of};
 ghost use Rattle.cm_model.specs.Trace.{caller_text, line_text, reply_text, trace};
 ghost use Rattle.trace_text.specs.Quiet.{quiet_text};
 ghost use Rattle.trace_text.specs.Replies.{head_text, rest_text};
+ghost use Rattle.trace_text.specs.Rooms.{text_in, TellsBodies};
+ghost use Rattle.trace_text.specs.Standing.{bodies_of, standing_text};
 
 use crate::items::push_in_words;
 use crate::line::LineText;
 use crate::names::Names;
 use crate::quiet::{QuietLine, push_turn};
 use crate::records::push_record;
+use crate::standing::StandingLine;
 use cm_document::{Checked, Script, SessionText};
 use cm_model::{Entry, Reply};
-use cm_storage::CycleCall;
-use fixed_num::Memory;
+use cm_storage::{CycleCall, CycleRecord};
+use fixed_num::{BodyState, Memory};
 use outside_io::{Failed, Sink, write_whole};
 use std::alloc::Global;
 use thiserror::Error;
@@ -151,35 +154,124 @@ fn quiet_call(sessions: &[SessionText], entry: &Entry) -> Option<CycleCall>
     cycle_of_loop(sessions, entry)
 }
 
+/// The cycle of an entry of the loop that is an end of which bodies alone are told.
+#[tactic(auto, using(crate::proofs::StandingLemmas::bodies_alone))]
+fn standing_cycle(sessions: &[SessionText], entry: &Entry) -> Option<u64>
+    ensures line { IfSome result (λ cycle. (names : Told)
+        → line_text sessions.now names entry.now ≡ standing_text names cycle (bodies_of entry.now.reply)) }
+    ensures some { IfSome result (λ cycle. 0 < length (bodies_of entry.now.reply)) }
+{
+    if !tells_bodies_alone(&entry.reply) {
+        return None;
+    }
+    match cycle_of_loop(sessions, entry)? {
+        CycleCall::Begin(_) => None,
+        CycleCall::End(cycle) => Some(cycle),
+    }
+}
+
+/// Whether a reply is a record that tells bodies alone, and some.
+fn tells_bodies_alone(reply: &Reply) -> bool
+    ensures { result ≡ true → TellsBodies reply.now }
+{
+    let Reply::Cycle(record) = reply else {
+        return false;
+    };
+    if !record.failed().is_empty() || !record.stops().is_empty() {
+        return false;
+    }
+    has_nobody_run(record) && !record.bodies().is_empty()
+}
+
+/// Whether no controller was updated.
+fn has_nobody_run(record: &CycleRecord) -> bool
+    ensures { result ≡ true → record.now.ran ≡ [] }
+{
+    let mut rans = record.ran();
+    match rans.next() {
+        Some(_) => false,
+        None => true,
+    }
+}
+
+/// The bodies that a reply tells.
+fn bodies_of(reply: &Reply) -> &[BodyState]
+    ensures { result.now ≡ bodies_of reply.now }
+{
+    match reply {
+        Reply::Cycle(record) => record.bodies(),
+        _ => &[],
+    }
+}
+
 /// Where lines are made, each in the room of one before it.
 #[derive(Drop)]
-struct Room {
+struct Room<'n, 'd> {
     /// Of a begin of which there is nothing to tell.
     begin: QuietLine,
     /// Of an end of which there is nothing to tell.
     end: QuietLine,
+    /// Of an end of which bodies alone are told.
+    standing: StandingLine<'n, 'd>,
     /// Of any entry.
     line: LineText,
     /// What is told in words.
     words: String,
 }
 
-impl Room {
-    /// Room for no byte yet.
-    fn none(alloc: Global) -> Room {
+/// Which line of the room was made last.
+#[derive(Clone, Copy, Debug)]
+enum Made {
+    /// That of a begin of which there is nothing to tell.
+    Begin,
+    /// That of an end of which there is nothing to tell.
+    End,
+    /// That of an end of which bodies alone are told.
+    Standing,
+    /// That of any entry.
+    Line,
+}
+
+impl<'n, 'd> Room<'n, 'd> {
+    /// Room for no byte yet, for lines that are told with these names.
+    fn none(alloc: Global, names: &'n Names<'d>) -> Room<'n, 'd>
+        ensures { result.standing.names ≡ names.now }
+    {
         Room {
             begin: QuietLine::none(alloc),
             end: QuietLine::none(alloc),
+            standing: StandingLine::none(alloc, names),
             line: LineText::none(alloc),
             words: String::new(alloc),
         }
     }
 
-    /// The line of a begin or an end of a cycle of which there is nothing to tell.
-    fn quiet(&mut self, call: CycleCall) -> &mut QuietLine {
+    /// The line that was made.
+    fn text(&self, made: Made) -> &[u8]
+        ensures { result.now ≡ text_in self.now made }
+    {
+        match made {
+            Made::Begin => self.begin.as_slice(),
+            Made::End => self.end.as_slice(),
+            Made::Standing => self.standing.as_slice(),
+            Made::Line => self.line.as_slice(),
+        }
+    }
+
+    /// Makes the line of a begin or an end of a cycle of which there is nothing to tell.
+    fn tell_quiet(&mut self, call: CycleCall) -> Result<Made, Memory>
+        ensures made { IfOk result (λ made. text_in self.new made ≡ quiet_text call) }
+        ensures names { self.new.standing.names ≡ self.old.standing.names }
+    {
         match call {
-            CycleCall::Begin(_) => &mut self.begin,
-            CycleCall::End(_) => &mut self.end,
+            CycleCall::Begin(_) => {
+                self.begin.tell(call)?;
+                Ok(Made::Begin)
+            }
+            CycleCall::End(_) => {
+                self.end.tell(call)?;
+                Ok(Made::End)
+            }
         }
     }
 }
@@ -199,22 +291,22 @@ pub(crate) fn make_line(
     push_rest(line, words, names, &entry.reply)
 }
 
-/// The line of an entry, made in this room.
-fn line_in<'a>(
-    room: &'a mut Room,
-    sessions: &[SessionText],
-    names: &Names<'_>,
-    entry: &Entry,
-) -> Result<&'a [u8], Memory>
-    ensures { IfOk result (λ line. line.now ≡ line_text sessions.now names.now entry.now) }
+/// Makes the line of an entry in this room.
+fn make_in(room: &mut Room<'_, '_>, sessions: &[SessionText], entry: &Entry) -> Result<Made, Memory>
+    ensures made { IfOk result
+        (λ made. text_in room.new made ≡ line_text sessions.now room.old.standing.names entry.now) }
+    ensures names { room.new.standing.names ≡ room.old.standing.names }
 {
     if let Some(call) = quiet_call(sessions, entry) {
-        let line = room.quiet(call);
-        line.tell(call)?;
-        return Ok(line.as_slice());
+        return room.tell_quiet(call);
     }
+    if let Some(cycle) = standing_cycle(sessions, entry) {
+        room.standing.tell(cycle, bodies_of(&entry.reply))?;
+        return Ok(Made::Standing);
+    }
+    let names = room.standing.names();
     make_line(&mut room.line, &mut room.words, sessions, names, entry)?;
-    Ok(room.line.as_slice())
+    Ok(Made::Line)
 }
 
 /// Writes a line as one piece, and again what the sink did not take of it, which is seldom a byte. To call it would take as long as what it
@@ -236,19 +328,19 @@ fn write_piece<K: Sink>(sink: &mut K, line: &[u8]) -> Result<(), Failed>
 /// Writes the line of an entry.
 fn write_line<K: Sink>(
     sink: &mut K,
-    room: &mut Room,
+    room: &mut Room<'_, '_>,
     sessions: &[SessionText],
-    names: &Names<'_>,
     entry: &Entry,
 ) -> Result<(), OutFault>
-    ensures ok { OnOk result
-        (Appends (K.taken sink.old) (K.taken sink.new) (line_text sessions.now names.now entry.now)) }
-    ensures err { OnErr result
-        (AppendsPrefix (K.taken sink.old) (K.taken sink.new) (line_text sessions.now names.now entry.now)) }
-    ensures flushed { K.flushed sink.new ≡ K.flushed sink.old }
+    ensures ok { OnOk result (Appends (K.taken sink.old) (K.taken sink.new)
+        (line_text sessions.now room.old.standing.names entry.now)) }
+    ensures err { OnErr result (AppendsPrefix (K.taken sink.old) (K.taken sink.new)
+        (line_text sessions.now room.old.standing.names entry.now)) }
+    ensures stays { (K.flushed sink.new ≡ K.flushed sink.old) × (room.new.standing.names ≡ room.old.standing.names) }
     ensures fault { IsToldAs (Err OutFault.Failed) result (K.faults sink.old) (K.faults sink.new) }
 {
-    let line = line_in(room, sessions, names, entry)?;
+    let made = make_in(room, sessions, entry)?;
+    let line = room.text(made);
     write_piece(sink, line)?;
     Ok(())
 }
@@ -269,9 +361,9 @@ fn write_lines<K: Sink>(
     ensures flushed { K.flushed sink.new ≡ K.flushed sink.old }
     ensures fault { IsToldAs (Err OutFault.Failed) result (K.faults sink.old) (K.faults sink.new) }
 {
-    let mut room = Room::none(alloc);
+    let mut room = Room::none(alloc, names);
     for entry in history {
-        write_line(sink, &mut room, sessions, names, entry)?;
+        write_line(sink, &mut room, sessions, entry)?;
     }
     Ok(())
 }

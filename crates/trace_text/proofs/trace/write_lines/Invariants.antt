@@ -10,4 +10,5 @@ invariant-loop-entry g l = record {
   so_far : Appends (g.K.Sink.taken l.fn.sink) (g.K.Sink.taken l.sink) (flat_map (line_text l.sessions l.names) (take l.entry-index l.history));
   flushed : g.K.Sink.flushed l.sink ≡ g.K.Sink.flushed l.fn.sink;
   uncounted : g.K.Sink.faults l.sink ≡ g.K.Sink.faults l.fn.sink;
+  names : l.room.standing.names ≡ l.names;
 }
