@@ -87,7 +87,8 @@ where
     Ok(run_over(rt, words, source, sink, blanks))
 }
 
-/// Runs the words over a stock of these blanks, so many of each kind, and drops the book.
+/// Runs the words over a stock of these blanks, so many of each kind. The history is left to the system, which takes it back at once when
+/// the program ends: to free each entry would take as long as a tenth of a run.
 fn run_over<R, S, K, C>(
     rt: &R,
     words: &[String],
@@ -109,7 +110,7 @@ where
 {
     let stock = Stock::make(blanks);
     let alloc = rt.alloc();
-    let (status, _) = run(
+    let (status, book) = run(
         rt,
         alloc,
         words,
@@ -119,5 +120,8 @@ where
         &mut YieldPace,
         &OpenGate,
     );
+    if let Some(book) = book {
+        let _left = book.history.leak();
+    }
     status
 }
