@@ -6,6 +6,7 @@ use Rattle.std.specs.List.{AllByRecursion, list_any, position_or_len}
 use Rattle.std.specs.Option.{option_or}
 use Rattle.std.proofs.lemmas.Bool.{cases_eq, cases_lt, eqb-true, eq-eqb, ne_eqb, lt-ltb}
 use Rattle.std.proofs.lemmas.List.{get_or-set_same, get_or-set_other, get_or_past}
+use Rattle.std.proofs.lemmas.Option.{slice_get-map}
 use Rattle.std.proofs.lemmas.List.Elements.{recursion_from_All, All-weaker}
 use Rattle.std.proofs.lemmas.List.Folds.{list_any_none}
 use Rattle.cm_document.specs.declared.description.CtlDesc.{CtlDesc}
@@ -136,6 +137,10 @@ pub stands_at : (ls : List Loaded) (serial : ℕ) → is_listed (serials_of ls) 
 stands_at ls serial has =
     let at = stands ls serial has in
     rw (lt-ltb (position_or_len (λ (l : Loaded). l.serial == serial) ls) (length ls) at.within) at.there
+
+-- at a place stands who is found there
+pub stands_there : (ls : List Loaded) (i serial : ℕ) (l : Loaded) → slice_get ls i ≡ Some l → l.serial ≡ serial → slice_get (serials_of ls) i ≡ Some serial
+stands_there ls i serial l at same = slice_get-map (λ (x : Loaded). x.serial) ls i ∙ ap (option_map (λ (x : Loaded). x.serial)) at ∙ ap Some same
 
 -- ---- Who is active
 

@@ -179,12 +179,36 @@ fn index_all<C: Controller>(run: &mut Vec<u32>, order: &[Member], slots: &[Slot<
 }
 
 /// Where the controller of this serial stands among the loaded ones.
+#[tactic(auto, using(crate::proofs::ActiveSetLemmas::stands_there))]
 fn index_of<C: Controller>(slots: &[Slot<C>], serial: u32) -> u32
     requires loaded { is_listed (serials_of slots.now) serial ≡ true }
     requires few { length slots.now < 2 ^ 32 }
     ensures { slice_get (serials_of slots.now) result ≡ Some serial }
 {
+    let index = near(slots, serial);
+    if let Some(slot) = slots.get(index) {
+        if slot.serial() == serial {
+            return index as u32;
+        }
+    }
     position_of(slots, serial).unwrap_or(0) as u32
+}
+
+/// Where the controller of this serial stands if those of loaded ones rise. They do; who asks looks whether it stands there.
+fn near<C: Controller>(slots: &[Slot<C>], serial: u32) -> usize
+    ensures { result ≤ length slots.now }
+{
+    let mut low = 0;
+    let mut high = slots.len();
+    while low < high {
+        let middle = low + (high - low) / 2;
+        if slots[middle].serial() < serial {
+            low = middle + 1;
+        } else {
+            high = middle;
+        }
+    }
+    low
 }
 
 /// The place of the controller of this serial among these, where it is one of them.
