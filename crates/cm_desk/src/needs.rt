@@ -1,9 +1,9 @@
 //! The memory that a cycle takes when it goes aloft.
 
-ghost use Rattle.std.specs.Prelude.{◌≡◌, ◌+◌, ◌≤◌, ◌<◌, [], true, length, sum_by, vec_capacity, IfOk, OnOk, IfSome, IsSomeAnd, All};
+ghost use Rattle.std.specs.Prelude.{◌≡◌, ◌+◌, ◌≤◌, ◌<◌, [], true, length, sum_by, vec_len, vec_capacity, IfOk, OnOk, IfSome, IsSomeAnd, All};
 ghost use Rattle.cm_places.specs.Placed.{placed_of};
 ghost use Rattle.rt_flight.specs.Flights.{TellsNothing};
-ghost use Rattle.rt_flight.specs.Workspaces.{HasRows};
+ghost use Rattle.rt_flight.specs.Workspaces.{HasRows, IsFitted};
 ghost use Rattle.cm_desk.specs.CycleNeeds.{AreKept, AreWorkspacesFor, AreWorkspaces, AreNeeds, CanPrepare, CanPrepareFrom, HasRoom, HaveNeeds, IsRefitted, IsRun, IsSilent, IsSizeOf, IsWorkspaceFor, outs_at, numbers_at};
 
 use crate::resources::CycleBuffers;
@@ -43,7 +43,7 @@ pub(crate) struct HardwareSize {
 }
 
 /// What a cycle takes in which these controllers are active, of so many that are loaded: these workspaces where they are theirs, and else
-/// all of it new.
+/// those on the shelf that are, and new ones.
 pub(crate) fn needs_for(
     alloc: Global,
     checked: &Checked,
@@ -52,6 +52,7 @@ pub(crate) fn needs_for(
     order: &[Member],
     loaded: usize,
     workspaces: Vec<Workspace>,
+    shelf: &mut Vec<Workspace>,
     members: Vec<Member>,
 ) -> Result<CycleNeeds, Memory>
     requires robot { CanPrepare checked.now places.now size order.now }
@@ -60,7 +61,7 @@ pub(crate) fn needs_for(
 {
     let mut workspaces = workspaces;
     let mut members = members;
-    fit_workspaces(alloc, places, order, &mut workspaces, &mut members)?;
+    fit_workspaces(alloc, places, order, &mut workspaces, shelf, &mut members)?;
     Ok(CycleNeeds {
         workspaces,
         order: members,
@@ -101,6 +102,7 @@ pub(crate) fn prepare(
         &context.robot.places,
         order,
         &mut buffers.workspaces,
+        &mut buffers.shelf,
         &mut context.order,
     )?;
     context.erred.reserve(order.len())?;
@@ -117,12 +119,13 @@ pub(crate) fn prepare(
 }
 
 /// The workspaces are those of these controllers, and it is known who they are: those that are there, where the same flew
-/// last, and else new ones.
+/// last, and else others.
 fn fit_workspaces(
     alloc: Global,
     places: &CtlPlaces,
     order: &[Member],
     workspaces: &mut Vec<Workspace>,
+    shelf: &mut Vec<Workspace>,
     members: &mut Vec<Member>,
 ) -> Result<(), Memory>
     requires rows { All (λ m. HasRows places.now m.place) order.now }
@@ -133,17 +136,18 @@ fn fit_workspaces(
     if are_workspaces_of(workspaces, order) {
         return Ok(());
     }
-    renew_workspaces(alloc, places, order, workspaces, members)
+    renew_workspaces(alloc, places, order, workspaces, shelf, members)
 }
 
-/// The workspaces are new ones of these controllers, and it is known who they are. It stands apart, because few cycles
-/// need it.
+/// The workspaces are others, of these controllers, and it is known who they are. Those that were there are put on the
+/// shelf. It stands apart, because few cycles need it.
 #[inline(never)]
 fn renew_workspaces(
     alloc: Global,
     places: &CtlPlaces,
     order: &[Member],
     workspaces: &mut Vec<Workspace>,
+    shelf: &mut Vec<Workspace>,
     members: &mut Vec<Member>,
 ) -> Result<(), Memory>
     requires rows { All (λ m. HasRows places.now m.place) order.now }
@@ -151,27 +155,81 @@ fn renew_workspaces(
     ensures run { OnOk result (IsRun places.now order.now workspaces.new.items members.new.items) }
     ensures kept { AreKept places.now workspaces.new.items members.new.items }
 {
-    let others = new_workspaces(alloc, places, order)?;
+    shelf.reserve(workspaces.len())?;
+    put_away(shelf, workspaces);
+    members.clear();
+    let others = workspaces_for(alloc, places, order, shelf)?;
     let who = copy_of(alloc, order)?;
     *workspaces = others;
     *members = who;
     Ok(())
 }
 
-/// New workspaces for these controllers.
-fn new_workspaces(
+/// Workspaces come to the shelf, the first one last: it is looked for from its end. There is room: the call takes no memory.
+fn put_away(shelf: &mut Vec<Workspace>, workspaces: &mut Vec<Workspace>)
+    requires { vec_len shelf.old + vec_len workspaces.old ≤ vec_capacity shelf.old }
+    ensures { workspaces.new.items ≡ [] }
+{
+    while let Some(workspace) = workspaces.pop() {
+        shelf.push_reserved(workspace);
+    }
+}
+
+/// Workspaces for these controllers: those of the shelf that are theirs, and else new ones.
+fn workspaces_for(
     alloc: Global,
     places: &CtlPlaces,
     order: &[Member],
+    shelf: &mut Vec<Workspace>,
 ) -> Result<Vec<Workspace>, Memory>
     requires { All (λ m. HasRows places.now m.place) order.now }
     ensures { IfOk result (λ all. AreWorkspaces places.now order.now all.items) }
 {
     let mut workspaces = Vec::with_capacity(alloc, order.len())?;
     for member in order {
-        workspaces.push(Workspace::make(alloc, *member, 1, places)?)?;
+        workspaces.push(workspace_for(alloc, places, *member, shelf)?)?;
     }
     Ok(workspaces)
+}
+
+/// The workspace of this controller: one of the shelf that was at its place, and else a new one.
+#[tactic(auto, using(rt_flight::proofs::FitLemmas::fitted_from))]
+fn workspace_for(
+    alloc: Global,
+    places: &CtlPlaces,
+    member: Member,
+    shelf: &mut Vec<Workspace>,
+) -> Result<Workspace, Memory>
+    requires { HasRows places.now member.place }
+    ensures stands { IfOk result (IsWorkspaceFor member) }
+    ensures fitted { IfOk result (IsFitted places.now) }
+{
+    if let Some(kept) = taken(shelf, member.place) {
+        if kept.place() == member.place && kept.is_fitted(places) {
+            return Ok(kept.renumbered(member.serial));
+        }
+    }
+    Workspace::make(alloc, member, 1, places)
+}
+
+/// The last workspace of the shelf that was at this place, taken from it.
+fn taken(shelf: &mut Vec<Workspace>, place: u32) -> Option<Workspace> {
+    let index = last_at(shelf, place)?;
+    Some(shelf.swap_remove(index))
+}
+
+/// Where the last workspace stands that was at this place.
+fn last_at(shelf: &[Workspace], place: u32) -> Option<usize>
+    ensures { IfSome result (λ index. index < length shelf.now) }
+{
+    let mut index = shelf.len();
+    while index > 0 {
+        index -= 1;
+        if shelf[index].place() == place {
+            return Some(index);
+        }
+    }
+    None
 }
 
 /// Whether these are the workspaces of these controllers.

@@ -67,6 +67,8 @@ pub(crate) struct CycleResources {
 pub(crate) struct CycleBuffers {
     /// The workspaces of those that flew last; none while a cycle is aloft.
     pub(crate) workspaces: Vec<Workspace>,
+    /// Workspaces of controllers that do not fly, for when they fly again.
+    pub(crate) shelf: Vec<Workspace>,
     /// Room for the mail that goes aloft.
     pub(crate) mails: Vec<MailAloft>,
 }
@@ -79,6 +81,7 @@ impl CycleBuffers {
     {
         CycleBuffers {
             workspaces: Vec::new(alloc),
+            shelf: Vec::new(alloc),
             mails: Vec::new(alloc),
         }
     }
@@ -220,6 +223,7 @@ impl CycleResources {
             order,
             loaded,
             workspaces,
+            &mut self.buffers.shelf,
             members,
         );
         self.put_back(idle_context);

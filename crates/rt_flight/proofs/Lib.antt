@@ -1,3 +1,4 @@
+pub mod FitLemmas
 pub mod CellLemmas
 pub mod TurnLemmas
 pub mod LayerLemmas

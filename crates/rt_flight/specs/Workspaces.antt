@@ -43,6 +43,13 @@ pub record IsFitted (placed : Placed) (s : WorkspaceFacts) : Type 0 where
   pub references : length s.references ≡ length (linked placed.references s.place)
   pub outs : length s.outs ≡ length (linked placed.claims s.place)
 
+-- whether it has
+abbrev pub is_fitted : Placed → WorkspaceFacts → Bool
+is_fitted placed s =
+    (length s.states == length (linked placed.reads s.place)
+    && length s.references == length (linked placed.references s.place))
+    && length s.outs == length (linked placed.claims s.place)
+
 -- the rows of the described controller at this place are there
 pub record HasRows (placed : Placed) (place : ℕ) : Type 0 where
   pub reads : place < length placed.reads

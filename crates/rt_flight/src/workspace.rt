@@ -1,12 +1,12 @@
 //! Where a controller stands while it is updated.
 
-ghost use Rattle.std.specs.Prelude.{◌≡◌, [], ◌∷◌, ◌++◌, ◌<◌, if◌then◌else◌, length, IfOk, All};
+ghost use Rattle.std.specs.Prelude.{◌≡◌, [], ◌∷◌, ◌++◌, ◌<◌, ◌&&◌, if◌then◌else◌, length, IfOk, All};
 ghost use Rattle.cm_model.specs.Claims.{number_in};
 ghost use Rattle.chain_order.specs.Links.{linked};
 ghost use Rattle.cm_slots.specs.Lives.{CanBeStepped};
 ghost use Rattle.cm_slots.specs.Connections.{numbers_at, held_at};
 ghost use Rattle.cm_slots.specs.Updates.{put_on};
-ghost use Rattle.rt_flight.specs.Workspaces.{gathered, step_from, told_of, HasRows, IsConnectedTo};
+ghost use Rattle.rt_flight.specs.Workspaces.{gathered, is_fitted, step_from, told_of, HasRows, IsConnectedTo};
 ghost use Rattle.rt_flight.specs.Calls.Workspaces.{IsMadeFor, TakesStep, CanTellOf, LeavesRoom};
 
 use crate::running::Running;
@@ -75,6 +75,24 @@ impl Workspace {
         ensures { result ≡ record self { divisor = divisor } }
     {
         Workspace { divisor, ..self }
+    }
+
+    /// The same workspace, of another load of its controller.
+    pub fn renumbered(self, serial: u32) -> Workspace
+        ensures { result ≡ record self { serial = serial } }
+    {
+        Workspace { serial, ..self }
+    }
+
+    /// Whether it has just the room that its controller needs. What stands in it counts for nothing: it is read anew before an update.
+    pub fn is_fitted(&self, places: &CtlPlaces) -> bool
+        requires { HasRows places.now self.now.place }
+        ensures { result ≡ is_fitted places.now self.now }
+    {
+        let read = self.states.len() == places.reads(self.place).len();
+        let referred = self.references.len() == places.references(self.place).len();
+        let claimed = self.outs.len() == places.claims(self.place).len();
+        are_all(read, referred, claimed)
     }
 
     /// The number of its load.
@@ -154,6 +172,13 @@ impl Workspace {
         let numbers = published(publishes, self.states.as_slice());
         ran.push(self.serial, done, outs, numbers);
     }
+}
+
+/// Whether all three are so.
+fn are_all(one: bool, two: bool, three: bool) -> bool
+    ensures { result ≡ ((one && two) && three) }
+{
+    one && two && three
 }
 
 /// The outputs of an update; none after an error.

@@ -1,6 +1,6 @@
 use Rattle.std.proofs.Common.{take}
 use Rattle.cm_desk.specs.CycleNeeds.{AreWorkspaces}
-use Rattle.cm_desk.proofs.needs.new_workspaces.Given as goal
+use Rattle.cm_desk.proofs.needs.workspaces_for.Given as goal
 
 -- those so far are theirs
 abbrev pub invariant-loop-member : goal.invariant-loop-member
