@@ -21,16 +21,22 @@ use std::alloc::Global;
 use std::marker::Model;
 
 /// Where a controller stands while it is updated: the number of its load, its place in the description, in how many cycles it is updated
-/// once, and its own room for what it reads, for its references and for what it gives out. It stays when the box leaves. Contracts see it
-/// as `WorkspaceFacts`.
+/// once, and its own room for what it reads, for its references and for what it gives out. It stays when the box leaves. The room stands
+/// behind one pointer, because a workspace moves to its cell and back in each cycle. Contracts see it as `WorkspaceFacts`.
 #[derive(Debug, Drop)]
 pub struct Workspace {
     pub(crate) serial: u32,
     pub(crate) place: u32,
     pub(crate) divisor: u32,
-    pub(crate) states: Vec<Fx>,
-    pub(crate) references: Vec<Value>,
-    pub(crate) outs: Vec<Value>,
+    values: Box<Values>,
+}
+
+/// What is read for a controller, and what it gives out.
+#[derive(Debug, Drop)]
+struct Values {
+    states: Vec<Fx>,
+    references: Vec<Value>,
+    outs: Vec<Value>,
 }
 
 impl Model for Workspace {
@@ -42,9 +48,9 @@ impl Model for Workspace {
       serial = s.serial;
       place = s.place;
       divisor = s.divisor;
-      states = s.states.items;
-      references = s.references.items;
-      outs = s.outs.items;
+      states = s.values.value.states.items;
+      references = s.values.value.references.items;
+      outs = s.values.value.outs.items;
     } };
 }
 
@@ -60,13 +66,16 @@ impl Workspace {
         ensures { IfOk result (IsMadeFor member divisor places.now) }
     {
         let place = member.place;
+        let values = Values {
+            states: vec![in alloc; Fx::ZERO; places.reads(place).len()]?,
+            references: vec![in alloc; Value::Unset; places.references(place).len()]?,
+            outs: vec![in alloc; Value::Unset; places.claims(place).len()]?,
+        };
         Ok(Workspace {
             serial: member.serial,
             place,
             divisor,
-            states: vec![in alloc; Fx::ZERO; places.reads(place).len()]?,
-            references: vec![in alloc; Value::Unset; places.references(place).len()]?,
-            outs: vec![in alloc; Value::Unset; places.claims(place).len()]?,
+            values: Box::new(alloc, values)?,
         })
     }
 
@@ -89,9 +98,9 @@ impl Workspace {
         requires { HasRows places.now self.now.place }
         ensures { result ≡ is_fitted places.now self.now }
     {
-        let read = self.states.len() == places.reads(self.place).len();
-        let referred = self.references.len() == places.references(self.place).len();
-        let claimed = self.outs.len() == places.claims(self.place).len();
+        let read = self.values.states.len() == places.reads(self.place).len();
+        let referred = self.values.references.len() == places.references(self.place).len();
+        let claimed = self.values.outs.len() == places.claims(self.place).len();
         are_all(read, referred, claimed)
     }
 
@@ -114,11 +123,12 @@ impl Workspace {
         requires { IsConnectedTo places.now (length hardware.now.loans) self.old }
         ensures { self.new ≡ gathered places.now hardware.now.loans self.old }
     {
-        read_numbers(hardware, places.reads(self.place), &mut self.states);
+        let values = &mut *self.values;
+        read_numbers(hardware, places.reads(self.place), &mut values.states);
         read_values(
             hardware,
             places.references(self.place),
-            &mut self.references,
+            &mut values.references,
         );
     }
 
@@ -135,12 +145,13 @@ impl Workspace {
         ensures step { TakesStep (step_from running.old tick self.old mail) running.old.kind self.old.states
             self.old.outs self.new.outs running.new result }
     {
+        let values = &mut *self.values;
         running.update(
             tick,
-            self.states.as_slice(),
-            self.references.as_slice(),
+            values.states.as_slice(),
+            values.references.as_slice(),
             mail,
-            self.outs.as_mut_slice(),
+            values.outs.as_mut_slice(),
         )
     }
 
@@ -156,7 +167,10 @@ impl Workspace {
         ensures places { length hardware.new.loans ≡ length hardware.old.loans }
     {
         match done {
-            Done::Ok => put_all(hardware, places.claims(self.place), self.outs.as_slice()),
+            Done::Ok => {
+                let outs = self.values.outs.as_slice();
+                put_all(hardware, places.claims(self.place), outs);
+            }
             Done::Error => {}
         }
     }
@@ -168,8 +182,8 @@ impl Workspace {
         ensures left { LeavesRoom (length self.now.outs) (if publishes then length self.now.states else 0)
             ran.old ran.new }
     {
-        let outs = told(done, self.outs.as_slice());
-        let numbers = published(publishes, self.states.as_slice());
+        let outs = told(done, self.values.outs.as_slice());
+        let numbers = published(publishes, self.values.states.as_slice());
         ran.push(self.serial, done, outs, numbers);
     }
 }
