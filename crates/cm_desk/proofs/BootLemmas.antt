@@ -74,7 +74,7 @@ pub lines_at_start : (d : Description) (w : Wired) (l : Lists) → ((blanks : Bl
 lines_at_start d w l starts room =
     let is = starts no_blanks 0 in record {
       components = omega (arith, room.components, ap length is.wired.components, length-map w.components (λ (m : Mounted). m.hardware.description));
-      interfaces = omega (arith, room.interfaces, loans_count (boot d no_blanks 0) w is);
+      loans = omega (arith, room.loans, loans_count (boot d no_blanks 0) w is);
     }
 
 -- and there is as much to tell as is described

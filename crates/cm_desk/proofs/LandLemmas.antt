@@ -71,7 +71,7 @@ who_stood (c ∷ cs) = ap (λ (ms : List Member). member_in c ∷ ms) (who_stood
 lines_of : (s : State) (w : Wired) (l : Lists) → IsMoved s w → HasLinesFor w l → HasLines s.description l
 lines_of s w l is lines = record {
   components = omega (arith, components_of s w.components is.lent.wired, lines.components);
-  interfaces = omega (arith, board_moved s w is, lines.interfaces);
+  loans = omega (arith, board_moved s w is, lines.loans);
 }
 
 -- what its contrary holds of does not

@@ -1,5 +1,5 @@
 -- A cycle takes off: its flight is that of the state.
-use Rattle.std.proofs.Common.{◌≡◌, ℕ, suc, ◌<◌, ◌≤◌, Bool, true, false, List, [], ◌∷◌, ◌++◌, length, map, vec_capacity, Option, Some, None, refl, sym, ap, ap₂, subst, ◌∙◌, arith}
+use Rattle.std.proofs.Common.{◌≡◌, ℕ, suc, ◌<◌, ◌≤◌, Bool, true, false, List, [], ◌∷◌, ◌++◌, length, map, vec_len, vec_capacity, Option, Some, None, refl, sym, ap, ap₂, subst, ◌∙◌, arith}
 use Rattle.std.specs.Prelude.{◌==◌, is_some, slice_get, filter_map, IsSomeAnd}
 use Rattle.std.specs.List.{All, AllByRecursion, IsDistinct}
 use Rattle.std.proofs.lemmas.List.{length-map}
@@ -66,12 +66,12 @@ use Rattle.cm_desk.proofs.TimeLemmas.{timely}
 pub lines_for : (s : State) (w : Wired) (l : Lists) → IsHardwareOf s w → HasLines s.description l → HasLinesFor w l
 lines_for s w l is room = record {
   components = omega (arith, room.components, ap length is.wired.components, length-map w.components (λ (m : Mounted). m.hardware.description));
-  interfaces = omega (arith, room.interfaces, loans_count s w is);
+  loans = omega (arith, room.loans, loans_count s w is);
 }
 
 pub lines_stay : (s : State) (before after : Lists) → HasLines s.description before
-    → (vec_capacity after.components ≡ vec_capacity before.components) × (vec_capacity after.interfaces ≡ vec_capacity before.interfaces) → HasLines s.description after
-lines_stay s before after room same = record { components = omega (arith, room.components, same.0); interfaces = omega (arith, room.interfaces, same.1) }
+    → (vec_capacity after.components ≡ vec_capacity before.components) × (vec_len after.loans ≡ vec_len before.loans) → HasLines s.description after
+lines_stay s before after room same = record { components = omega (arith, room.components, same.0); loans = omega (arith, room.loans, same.1) }
 
 -- ---- Those that stand at indices
 

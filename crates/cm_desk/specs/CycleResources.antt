@@ -1,6 +1,6 @@
 -- What a cycle works on, at home or aloft.
 use Rattle.std.specs.Prelude.{◌≡◌, ℕ, ◌≤◌, ◌==◌, Bool, true, false, not, List, [], length, map, flat_map, find}
-use Rattle.std.specs.Prelude.{slice_get, vec_capacity, is_some, Box}
+use Rattle.std.specs.Prelude.{slice_get, vec_len, vec_capacity, is_some, Box}
 use Rattle.std.specs.Prelude.{Option, None, Some, option_map, unwrap_or, IfSome, IsSomeAnd}
 use Rattle.std.specs.List.{AllByRecursion}
 use Rattle.std.specs.Option.{option_map_or}
@@ -102,7 +102,7 @@ pub record IsIdle (g : Robot) (e : Ending) (room : Lists) (k : CycleContext) : T
 -- there is room for the lists of a description
 pub record HasLines (d : Description) (l : Lists) : Type 0 where
   pub components : length d.components ≤ vec_capacity l.components
-  pub interfaces : length (interfaces_of d) ≤ vec_capacity l.interfaces
+  pub loans : vec_len l.loans ≡ length (interfaces_of d)
 
 -- What works in a cycle is at home, and so it is.
 abbrev pub IsAtHome : CycleResources → Type 0
@@ -197,7 +197,7 @@ pub record HasSentOut (before after : CycleResources) (h : Box CycleContext Glob
   pub resources : after ≡ record before { idle_context = None; lists = after.lists; told = after.told }
   pub shown : Shows before.robot.value.hardware after.lists
   pub components : vec_capacity after.lists.components ≡ vec_capacity before.lists.components
-  pub interfaces : vec_capacity after.lists.interfaces ≡ vec_capacity before.lists.interfaces
+  pub loans : vec_len after.lists.loans ≡ vec_len before.lists.loans
 
 -- This is at home, where the lists that it wrote down are told, which are those of its hardware where nothing failed;
 -- those of before are room for the next; it has the places of those whose update failed; and no mail is aloft.

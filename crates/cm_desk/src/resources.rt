@@ -1,6 +1,6 @@
 //! What a cycle works on, at home or aloft.
 
-ghost use Rattle.std.specs.Prelude.{◌≡◌, ℕ, ◌<◌, ◌≤◌, ◌==◌, List, [], true, false, not, None, Some, length, map, find, option_map, vec_capacity, IfOk, OnOk, IfSome};
+ghost use Rattle.std.specs.Prelude.{◌≡◌, ℕ, ◌<◌, ◌≤◌, ◌==◌, List, [], true, false, not, None, Some, length, map, find, option_map, vec_len, vec_capacity, IfOk, OnOk, IfSome};
 ghost use Rattle.joint_body.specs.declared.TheConstants.{LONGEST_STEP};
 ghost use Rattle.cm_document.specs.declared.description.Description.{Description};
 ghost use Rattle.cm_model.specs.Cycle.{period};
@@ -142,6 +142,7 @@ impl CycleResources {
     }
 
     /// The list of interfaces, likewise.
+    #[tactic(auto, using(cm_hardware::proofs::ListLemmas::shown_interfaces))]
     pub(crate) fn interface_lines(&self, alloc: Global) -> Result<Seq<IfaceLine>, Memory>
         requires { IsListing self.now }
         ensures { IfOk result
@@ -149,7 +150,7 @@ impl CycleResources {
     {
         match &self.idle_context {
             Some(idle_context) => idle_context.robot.hardware.interface_lines(alloc),
-            None => Ok(Seq::from_vec(self.lists.interfaces.clone()?)),
+            None => self.lists.interface_lines(alloc),
         }
     }
 
@@ -438,7 +439,7 @@ fn show_once(told: bool, hardware: &ResourceManager, lists: &mut Lists)
     requires told { told ≡ true → Shows hardware.now lists.old }
     ensures shown { Shows hardware.now lists.new }
     ensures room { (vec_capacity lists.new.components ≡ vec_capacity lists.old.components)
-        × (vec_capacity lists.new.interfaces ≡ vec_capacity lists.old.interfaces) }
+        × (vec_len lists.new.loans ≡ vec_len lists.old.loans) }
 {
     if !told {
         hardware.show(lists);

@@ -8,6 +8,8 @@ use Rattle.cm_model.specs.State.{State, owner, available, interface_line, interf
 use Rattle.cm_model.specs.Values.{InterfaceValue}
 use Rattle.loan_board.specs.declared.board.Loan.{Loan}
 use Rattle.cm_hardware.specs.Holding.{IsHardwareOf}
+use Rattle.cm_hardware.specs.Shown.{Shows}
+use Rattle.cm_hardware.specs.declared.lists.Lists.{Lists}
 use Rattle.cm_hardware.specs.Listed.{held, with_hardware, loan_lines_from}
 use Rattle.cm_hardware.specs.Wiring.{Mounted, Wired, loan_of}
 
@@ -43,6 +45,10 @@ lines_from s place (v ∷ vs) = ap (λ lines. interface_line s place v ∷ lines
 
 pub interfaces_agree : (s : State) (w : Wired) → IsHardwareOf s w → loan_lines_from 0 w.loans ≡ interface_lines s
 interfaces_agree s w is = ap (loan_lines_from 0) is.loans ∙ lines_from s 0 s.values
+
+-- so are those of lists that show it
+pub shown_interfaces : (s : State) (w : Wired) (l : Lists) → Shows w l → IsHardwareOf s w → loan_lines_from 0 l.loans.items ≡ interface_lines s
+shown_interfaces s w l shows is = ap (loan_lines_from 0) shows.loans ∙ interfaces_agree s w is
 
 pub components_agree : (s : State) (w : Wired) → IsHardwareOf s w → component_lines_from 0 (map (λ (m : Mounted). m.hardware.life) w.components) ≡ component_lines s
 components_agree s w is = ap (component_lines_from 0) (sym is.wired.lives)

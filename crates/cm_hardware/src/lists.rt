@@ -1,6 +1,6 @@
 //! The lists of components and of interfaces.
 
-ghost use Rattle.std.specs.Prelude.{◌≡◌, ◌<◌, ◌≤◌, ◌^◌, map, length, vec_capacity, IfOk};
+ghost use Rattle.std.specs.Prelude.{◌≡◌, ◌<◌, ◌≤◌, ◌^◌, map, length, vec_len, vec_capacity, IfOk};
 ghost use Rattle.cm_model.specs.State.{State, component_lines_from, component_lines, interface_lines};
 ghost use Rattle.cm_hardware.specs.Holding.{IsHardwareOf};
 ghost use Rattle.cm_hardware.specs.Listed.{loan_lines_from};
@@ -10,7 +10,7 @@ use crate::hardware::Unit;
 use crate::manager::ResourceManager;
 use cm_model::{CompLine, IfaceLine};
 use fixed_num::Memory;
-use loan_board::Board;
+use loan_board::Loan;
 use sequence::Seq;
 use std::alloc::Global;
 
@@ -19,8 +19,22 @@ use std::alloc::Global;
 pub struct Lists {
     /// A line for each component, by place.
     pub components: Vec<CompLine>,
-    /// A line for each interface, by place.
-    pub interfaces: Vec<IfaceLine>,
+    /// What the board kept of each interface, by place: the lines of interfaces are made of it when somebody asks.
+    pub loans: Vec<Loan>,
+}
+
+impl Lists {
+    /// The list of interfaces, as it was written down. No board is longer than a word counts; of a longer list there would be no room.
+    pub fn interface_lines(&self, alloc: Global) -> Result<Seq<IfaceLine>, Memory>
+        ensures { IfOk result (λ lines. lines ≡ loan_lines_from 0 self.now.loans.items) }
+    {
+        if self.loans.len() > u32::MAX as usize {
+            return Err(Memory);
+        }
+        let mut lines = Vec::with_capacity(alloc, self.loans.len())?;
+        show_loans(self.loans.as_slice(), &mut lines);
+        Ok(Seq::from_vec(lines))
+    }
 }
 
 impl ResourceManager {
@@ -30,7 +44,7 @@ impl ResourceManager {
     {
         Ok(Lists {
             components: Vec::with_capacity(alloc, self.units.len())?,
-            interfaces: Vec::with_capacity(alloc, self.board.loans().len())?,
+            loans: Vec::from_slice(alloc, self.board.loans())?,
         })
     }
 
@@ -40,10 +54,10 @@ impl ResourceManager {
         requires { HasLinesFor self.now lists.old }
         ensures shown { Shows self.now lists.new }
         ensures room { (vec_capacity lists.new.components ≡ vec_capacity lists.old.components)
-            × (vec_capacity lists.new.interfaces ≡ vec_capacity lists.old.interfaces) }
+            × (vec_len lists.new.loans ≡ vec_len lists.old.loans) }
     {
         show_units(&self.units, &mut lists.components);
-        show_board(&self.board, &mut lists.interfaces);
+        lists.loans.copy_from_slice(self.board.loans());
     }
 
     /// The list of components, by place: the lifecycle state of each.
@@ -61,8 +75,9 @@ impl ResourceManager {
     pub fn interface_lines(&self, alloc: Global) -> Result<Seq<IfaceLine>, Memory>
         ensures { IfOk result (λ lines. (s : State) → IsHardwareOf s self.now → lines ≡ interface_lines s) }
     {
+        self.board.len();
         let mut lines = Vec::with_capacity(alloc, self.board.loans().len())?;
-        show_board(&self.board, &mut lines);
+        show_loans(self.board.loans(), &mut lines);
         Ok(Seq::from_vec(lines))
     }
 }
@@ -84,14 +99,14 @@ fn show_units(units: &[Unit], lines: &mut Vec<CompLine>)
 }
 
 /// A line for each place of a board, in this room.
-fn show_board(board: &Board, lines: &mut Vec<IfaceLine>)
-    requires { length board.now ≤ vec_capacity lines.old }
-    ensures lines { lines.new.items ≡ loan_lines_from 0 board.now }
+fn show_loans(loans: &[Loan], lines: &mut Vec<IfaceLine>)
+    requires few { length loans.now < 2 ^ 32 }
+    requires room { length loans.now ≤ vec_capacity lines.old }
+    ensures lines { lines.new.items ≡ loan_lines_from 0 loans.now }
     ensures capacity { vec_capacity lines.new ≡ vec_capacity lines.old }
 {
-    board.len();
     lines.clear();
-    for (place, loan) in board.loans().iter().enumerate() {
+    for (place, loan) in loans.iter().enumerate() {
         lines.push_reserved(IfaceLine {
             value: loan.value,
             place: place as u32,

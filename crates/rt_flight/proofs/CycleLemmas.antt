@@ -1,6 +1,6 @@
 -- That a flight makes the cycle of the state from which it began.
 use Rattle.std.proofs.Common.{◌≡◌, ℕ, Bool, true, false, List, [], ◌∷◌, ◌++◌, length, map, Some, refl, sym, ap, ap₂, subst, ◌∙◌, arith}
-use Rattle.std.specs.Prelude.{◌==◌, ◌&&◌, if◌then◌else◌, vec_capacity}
+use Rattle.std.specs.Prelude.{◌==◌, ◌&&◌, if◌then◌else◌, vec_len, vec_capacity}
 use Rattle.std.specs.List.{AllByRecursion}
 use Rattle.std.proofs.lemmas.Bool.{and_from, eq-eqb}
 use Rattle.std.proofs.lemmas.List.{append-nil, length-map}
@@ -248,12 +248,12 @@ lines_after s number cells cells' g g' serials r l over has lines =
     let count' : length g'.hardware.components ≡ length s.description.components = components_of (landed s (cycle s)) g'.hardware.components has.hardware.lent.wired in
     let board : length g.hardware.loans ≡ length (interfaces_of s.description) = board_of s g.hardware over.hardware in
     let board' : length g'.hardware.loans ≡ length (interfaces_of s.description) = board_moved (landed s (cycle s)) g'.hardware has.hardware in
-    record { components = omega (arith, count, count', lines.components); interfaces = omega (arith, board, board', lines.interfaces) }
+    record { components = omega (arith, count, count', lines.components); loans = omega (arith, board, board', lines.loans) }
 
 -- and in lists with as much room
 pub lines_in : (w : Wired) (l l' : Lists) → HasLinesFor w l
-    → (vec_capacity l'.components ≡ vec_capacity l.components) × (vec_capacity l'.interfaces ≡ vec_capacity l.interfaces) → HasLinesFor w l'
-lines_in w l l' lines same = record { components = omega (arith, same.0, lines.components); interfaces = omega (arith, same.1, lines.interfaces) }
+    → (vec_capacity l'.components ≡ vec_capacity l.components) × (vec_len l'.loans ≡ vec_len l.loans) → HasLinesFor w l'
+lines_in w l l' lines same = record { components = omega (arith, same.0, lines.components); loans = omega (arith, same.1, lines.loans) }
 
 -- so all that a flight keeps is kept once the cycle is made
 pub equipped_after : (cells cells' : List CellFacts) (members : List Member) (g g' : Robot) (r made : RecordRoom) (before ending : Ending) (l l' : Lists) (capacity most : ℕ)

@@ -87,7 +87,7 @@ returns-clause-off g c = λ s is.
       mails = ap (λ (b : CycleResources). b.mails.value.items) c.send_out.ensures.resources ∙ rw (c.of.ensures) (mails_so s _ _ _ _ _ _ _ _ is c.send_off.new.mails.items (c.send_off.ensures.mails s (sym is.number)));
       none_stands = ap (λ (b : CycleResources). b.buffers.workspaces.items) c.send_out.ensures.resources ∙ c.fill_cells.ensures.workspaces.empty;
       stands = omega (arith, ap (λ (b : CycleResources). vec_capacity b.buffers.workspaces) c.send_out.ensures.resources, c.fill_cells.ensures.workspaces.room, stands_room s _ _ _ _ _ _ _ _ is, c.args.resources.now.buffers.workspaces.ok.0);
-      lines = lines_stay s _ c.send_out.new.self.lists is.lines (c.send_out.ensures.components, c.send_out.ensures.interfaces);
+      lines = lines_stay s _ c.send_out.new.self.lists is.lines (c.send_out.ensures.components, c.send_out.ensures.loans);
       shown = c.send_out.ensures.shown;
       flight = rw (c.take_off.ensures) (record { over = rw (cells, c.send_out.ensures.robot) (aloft_over s _ _ _ _ _ _ _ _ is); not_yet = refl });
     }
