@@ -96,7 +96,7 @@ fn life_after(life: Life, started: bool, stopped: bool) -> Life
 pub(crate) fn running(alloc: Global, loaded: &[Seen]) -> Result<Vec<Member>, Memory>
     ensures { IfOk result (λ list. list.items ≡ map member (filter (λ l. is_running l.life) loaded.now)) }
 {
-    let mut list = Vec::new(alloc);
+    let mut list = Vec::with_capacity(alloc, loaded.len())?;
     for seen in loaded {
         if is_running(seen.life) {
             list.push(member(seen))?;

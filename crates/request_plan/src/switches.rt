@@ -124,7 +124,7 @@ fn of_serials(alloc: Global, loaded: &[Seen], serials: &[u32]) -> Result<Vec<Mem
     ensures { IfOk result (λ list. list.items
         ≡ map member (filter (λ l. is_listed serials.now l.serial) loaded.now)) }
 {
-    let mut list = Vec::new(alloc);
+    let mut list = Vec::with_capacity(alloc, serials.len())?;
     for seen in loaded {
         if is_listed(serials, seen.serial) {
             list.push(member(seen))?;
@@ -151,7 +151,7 @@ fn chained_in(
     ensures { IfOk result (λ chained. chained
         ≡ each_below (is_chained_in checked.now.controllers (set_of set.now)) (length leaders.now)) }
 {
-    let mut flags = Vec::new(alloc);
+    let mut flags = Vec::with_capacity(alloc, leaders.len() as usize)?;
     for place in 0..leaders.len() {
         flags.push(is_chained(leaders, set, place))?;
     }

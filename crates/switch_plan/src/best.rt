@@ -109,7 +109,7 @@ fn stays_besides(alloc: Global, setting: &Setting, staying: &PlaceSet) -> Result
         ≡ each_below (stays_more (set_scene setting.now) (set_of staying.now))
         (length (controllers_in (set_scene setting.now)))) }
 {
-    let mut flags = Vec::new(alloc);
+    let mut flags = Vec::with_capacity(alloc, setting.leaders.len() as usize)?;
     for place in 0..setting.leaders.len() {
         flags.push(stays_more(setting, staying, place))?;
     }

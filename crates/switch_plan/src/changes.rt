@@ -86,7 +86,7 @@ fn stopped(alloc: Global, change: &Change) -> Result<Vec<Member>, Memory>
         (λ l. is_stopped (change_scene change.now) (after change.now) (again change.now) l.place)
         (change_scene change.now).loaded)) }
 {
-    let mut list = Vec::new(alloc);
+    let mut list = Vec::with_capacity(alloc, change.setting.view.loaded.len())?;
     for seen in change.setting.view.loaded {
         if is_stopped(change, seen.place) {
             list.push(member(seen))?;
@@ -103,7 +103,7 @@ fn started(alloc: Global, change: &Change) -> Result<Vec<Member>, Memory>
         (λ l. is_started (change_scene change.now) (after change.now) (again change.now) l.place)
         (change_scene change.now).loaded)) }
 {
-    let mut list = Vec::new(alloc);
+    let mut list = Vec::with_capacity(alloc, change.setting.view.loaded.len())?;
     for seen in change.setting.view.loaded {
         if is_started(change, seen.place) {
             list.push(member(seen))?;

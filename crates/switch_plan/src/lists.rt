@@ -123,7 +123,7 @@ pub fn look_through(
     ensures { IfOk result (IsListed (scene_of view.now)
         (list_fault (scene_of view.now) (option_map (λ set. set.now) leaving.entry)) picks.now) }
 {
-    let mut members = Vec::new(alloc);
+    let mut members = Vec::with_capacity(alloc, picks.len().min(view.loaded.len()))?;
     let mut met = PlaceSet::none(alloc, controllers(view).len())?;
     for (index, pick) in picks.iter().enumerate() {
         let name = match pick {
@@ -157,7 +157,7 @@ pub fn sifted(
     ensures dropped { OnOk result (dropped.new.items ≡ dropped.old.items
         ++ faulty (list_fault (scene_of view.now) (option_map (λ set. set.now) leaving.entry)) [] picks.now) }
 {
-    let mut list = Vec::new(alloc);
+    let mut list = Vec::with_capacity(alloc, picks.len().min(view.loaded.len()))?;
     let mut met = PlaceSet::none(alloc, controllers(view).len())?;
     for (index, pick) in picks.iter().enumerate() {
         let name = match pick {

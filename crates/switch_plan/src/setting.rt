@@ -46,7 +46,7 @@ fn running(alloc: Global, view: &View) -> Result<Vec<Member>, Memory>
     ensures list { IfOk result (λ list. list.items
         ≡ map member (filter (λ l. is_running l.life) view.now.loaded.now)) }
 {
-    let mut list = Vec::new(alloc);
+    let mut list = Vec::with_capacity(alloc, view.loaded.len())?;
     for seen in view.loaded {
         if is_running(seen.life) {
             list.push(member(seen))?;
@@ -61,7 +61,7 @@ fn members(alloc: Global, view: &View, set: &PlaceSet) -> Result<Vec<Member>, Me
     ensures within { IfOk result (λ list. HavePlaces (scene_of view.now) list.items) }
     ensures members { IfOk result (λ list. list.items ≡ members (scene_of view.now) (set_of set.now)) }
 {
-    let mut list = Vec::new(alloc);
+    let mut list = Vec::with_capacity(alloc, view.loaded.len())?;
     for seen in view.loaded {
         if set.has(seen.place) {
             list.push(member(seen))?;
