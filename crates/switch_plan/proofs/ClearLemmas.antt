@@ -12,7 +12,7 @@ use Rattle.cm_document.specs.Links.{is_among, refs_of, exporter}
 use Rattle.cm_document.specs.declared.description.CtlDesc.{CtlDesc}
 use Rattle.cm_model.specs.Order.{Places, nobody, controller_at, precedes_at}
 use Rattle.cm_model.specs.Scene.{Scene, controllers_in, described, claims_at, is_ready, order}
-use Rattle.cm_model.specs.Faults.{first_of, cause_if, is_missing, component_with, is_unavailable, conflict_over, is_beside, is_mode_taken, joint_name, fault_of_kind}
+use Rattle.cm_model.specs.Faults.{first_of, cause_if, is_missing, component_with, is_unavailable, conflict_over, is_beside, is_mode_taken, joint_name, fault_of_kind, fault}
 use Rattle.cm_model.specs.Switches.{with_name, counted, counted_of, first_member_fault}
 use Rattle.cm_model.specs.declared.cause.Cause.{Cause}
 use Rattle.cm_model.specs.declared.cause.Cause.TheVariants as cause
@@ -156,6 +156,19 @@ module _ (scene : Scene) (set on : Places) (p : ℕ) (here : p < length (control
       let both : (not other && (not (on p) || start)) ≡ true = ap (λ b. not b || (not other && (not (on p) || start))) (sym is) ∙ clear in
       let parts = and_parts (not other) (not (on p) || start) both in
       of_kind loaded (not-true other parts.0) (λ named. ap (λ b. not b || start) (sym named) ∙ parts.1) kind
+
+-- where all that a controller precedes are members and it could start, it has no fault
+module _ (scene : Scene) (set on : Places) (p : ℕ) (here : p < length (controllers_in scene)) (loaded : All (λ l. l.place < length (controllers_in scene)) scene.loaded)
+    (followed : list_any (λ q. not (set q)) (linked (relations_of scene.description).followers p) ≡ false) (may : may_start scene (relations_of scene.description) set p ≡ true) where
+  each_clear : (kind : FaultKind) → fault_of_kind scene set on kind p ≡ None
+  each_clear fault_kind.Follower = follower-clear scene set on p here followed
+  each_clear fault_kind.Availability = no_component-down scene set on p here (may_start_parts scene set on p here may).1.0
+  each_clear fault_kind.Conflict = conflict-clear scene set on p here loaded (may_start_parts scene set on p here may).0
+  each_clear fault_kind.Mode = mode-clear scene set on p here loaded (may_start_parts scene set on p here may).0
+  each_clear fault_kind.Readiness = ready scene set on p here (may_start_parts scene set on p here may).1.1
+
+  pub fault-clear : fault scene set on p ≡ None
+  fault-clear = first_of-all (λ kind. fault_of_kind scene set on kind p) FAULT_KINDS (λ kind listed. each_clear kind)
 
 -- and where that is seen of each loaded controller, no fault counts
 pub none_counts : (scene : Scene) (set on : Places) → All (λ l. l.place < length (controllers_in scene)) scene.loaded

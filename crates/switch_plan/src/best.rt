@@ -1,8 +1,9 @@
 //! Switches of which is done what can be done.
 
-ghost use Rattle.std.specs.Prelude.{◌≡◌, ◌<◌, ◌++◌, ◌&&◌, ◌||◌, length, find, filter_map, option_map, IfOk, OnOk, All};
+ghost use Rattle.std.specs.Prelude.{◌≡◌, ◌<◌, ◌++◌, ◌&&◌, ◌||◌, length, find, filter_map, option_map, None, IsTrue, IfOk, OnOk, All};
 ghost use Rattle.cm_document.specs.Links.{refs_of};
-ghost use Rattle.cm_model.specs.Order.{set_of};
+ghost use Rattle.cm_model.specs.Faults.{fault};
+ghost use Rattle.cm_model.specs.Order.{Places, set_of};
 ghost use Rattle.cm_model.specs.Scene.{controllers_in, claims_at, is_claimed_by};
 ghost use Rattle.cm_model.specs.Switches.{planned};
 ghost use Rattle.cm_model.specs.BestEffort.{Joined, stays, stays_more, kept_drop, by_height, join, joining, best_leaving, best_asked, best};
@@ -12,6 +13,7 @@ ghost use Rattle.switch_plan.specs.View.{scene_of, IsPlace, HavePlaces, HasFlags
 ghost use Rattle.switch_plan.specs.Settings.{set_scene, IsSetting};
 
 use crate::changes::{Change, done};
+use crate::clear::may_join;
 use crate::faults::{Proposal, fault};
 use crate::interfaces::claims;
 use crate::lists::sifted;
@@ -263,7 +265,8 @@ fn by_height(alloc: Global, setting: &Setting, coming: &[Member]) -> Result<Vec<
     Ok(ordered)
 }
 
-/// One more where it has no fault beside those that are active by then; else it is dropped.
+/// One more where it has no fault beside those that are active by then; else it is dropped. Where the relations show at once that it has
+/// none, no order is worked out.
 fn join(
     alloc: Global,
     setting: &Setting,
@@ -279,6 +282,9 @@ fn join(
         (record { set = set_of set; dropped = dropped.old.items }) member.now) }
 {
     let tried = set.with(alloc, member.place)?;
+    if is_seen_free(setting, &tried, member.place) {
+        return Ok(tried);
+    }
     let members = order(alloc, setting, &tried)?;
     let proposal = Proposal {
         alloc,
@@ -293,4 +299,16 @@ fn join(
     let name = described(&setting.view, member.place).name.clone()?;
     dropped.push(Dropped { name, cause })?;
     Ok(set)
+}
+
+/// Whether the relations are known and show at once that a controller has no fault in a set.
+fn is_seen_free(setting: &Setting, set: &PlaceSet, place: u32) -> bool
+    requires setting { IsSetting setting.now }
+    requires within { IsPlace (set_scene setting.now) place }
+    ensures { IsTrue result → (on : Places) → fault (set_scene setting.now) (set_of set.now) on place ≡ None }
+{
+    match setting.relations {
+        Some(relations) => may_join(&setting.view, relations, set, place),
+        None => false,
+    }
 }

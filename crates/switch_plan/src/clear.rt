@@ -1,8 +1,10 @@
 //! Sets of controllers that have no fault, as their relations show at once.
 
-ghost use Rattle.std.specs.Prelude.{◌≡◌, ◌<◌, not, length, None, IsTrue};
+ghost use Rattle.std.specs.Prelude.{◌≡◌, ◌<◌, not, ◌&&◌, length, None, IsTrue};
 ghost use Rattle.std.specs.List.{list_any};
-ghost use Rattle.cm_model.specs.Order.{set_of};
+ghost use Rattle.chain_order.specs.Links.{linked};
+ghost use Rattle.cm_model.specs.Faults.{fault};
+ghost use Rattle.cm_model.specs.Order.{Places, set_of};
 ghost use Rattle.cm_model.specs.Switches.{first_member_fault};
 ghost use Rattle.switch_plan.specs.View.{scene_of, IsView, IsPlace};
 ghost use Rattle.switch_plan.specs.Relations.{relations_of, is_down, may_start, is_clear};
@@ -52,6 +54,30 @@ fn is_clear(view: &View, relations: &Relations, set: &PlaceSet, on: &PlaceSet, p
         false
     } else {
         !on.has(place) || may_start(view, relations, set, place)
+    }
+}
+
+/// Whether it is seen at once that a controller has no fault in a set, whichever controllers are to be activated.
+pub fn may_join(view: &View, relations: &Relations, set: &PlaceSet, place: u32) -> bool
+    requires view { IsView view.now }
+    requires relations { relations.now ≡ relations_of view.now.checked.now }
+    requires within { IsPlace (scene_of view.now) place }
+    ensures { IsTrue result → (on : Places) → fault (scene_of view.now) (set_of set.now) on place ≡ None }
+{
+    starts_led(view, relations, set, place)
+}
+
+/// Whether all that a controller precedes are members, and it could start beside them.
+fn starts_led(view: &View, relations: &Relations, set: &PlaceSet, place: u32) -> bool
+    requires relations { relations.now ≡ relations_of view.now.checked.now }
+    requires within { IsPlace (scene_of view.now) place }
+    ensures { result ≡ (not (list_any (λ q. not (set_of set.now q)) (linked relations.now.followers place))
+        && may_start (scene_of view.now) relations.now (set_of set.now) place) }
+{
+    if has_other(set, relations.followers(place)) {
+        false
+    } else {
+        may_start(view, relations, set, place)
     }
 }
 

@@ -9,6 +9,12 @@ use Rattle.switch_plan.specs.Settings.{set_scene}
 use Rattle.switch_plan.proofs.JoinLemmas.{join-none, join-some}
 use Rattle.switch_plan.proofs.best.join.Goals as goal
 
+-- nothing speaks against it, as the relations show
+pub returns-then-is_seen_free-clause-joined : goal.returns-then-is_seen_free-clause-joined
+returns-then-is_seen_free-clause-joined c =
+    sym (join-none (set_scene c.args.setting.now) (set_of c.args.on.now) (set_of c.args.set) (set_of c.in_ok-tried.tried) c.args.dropped.now.items c.args.member.now
+    c.in_ok-tried.ensures.set (c.is_seen_free.ensures c.if-is_seen_free.true (set_of c.args.on.now)))
+
 pub returns-in_default-clause-joined : goal.returns-in_default-clause-joined
 returns-in_default-clause-joined c =
     sym (join-none (set_scene c.args.setting.now) (set_of c.args.on.now) (set_of c.args.set) (set_of c.in_ok-tried.tried) c.args.dropped.now.items c.args.member.now
