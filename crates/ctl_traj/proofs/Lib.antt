@@ -1,2 +1,3 @@
 pub mod SegmentLemmas
+pub mod ComeLemmas
 pub mod BetweenLemmas

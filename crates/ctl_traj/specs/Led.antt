@@ -1,7 +1,7 @@
 -- What a trajectory keeps, seen as the data of a controller.
-use Rattle.std.specs.Prelude.{◌≡◌, ℕ, ◌-◌, ◌==◌, ℤ, Bool, true, false, if◌then◌else◌, List, [], length, Option, Some}
-use Rattle.std.specs.Prelude.{None}
-use Rattle.std.specs.List.{list_all}
+use Rattle.std.specs.Prelude.{◌≡◌, ℕ, zero, suc, ◌-◌, ◌≤◌, ◌==◌, ℤ, Bool, true, false, if◌then◌else◌, List, [], ◌∷◌}
+use Rattle.std.specs.Prelude.{length, take, Option, Some, None}
+use Rattle.std.specs.List.{AllByRecursion, list_all}
 use Rattle.cm_document.specs.declared.call.Point2.{Point2}
 use Rattle.cm_document.specs.declared.description.CtlKind.TheVariants as kind
 use Rattle.cm_document.specs.declared.description.Params.TheVariants as params
@@ -29,6 +29,22 @@ all_have count points = list_all (λ p. length p.values == count) points
 pub record IsWay (hold from : List ℤ) (points : List Point2) : Type 0 where
   pub begun : length from ≡ length hold
   pub fit : all_have (length hold) points ≡ true
+
+-- so many points are there, and by this time the time of each has come
+pub record HaveCome (t : ℕ) (points : List Point2) (count : ℕ) : Type 0 where
+  pub within : count ≤ length points
+  pub each : AllByRecursion (λ p. p.at_us ≤ t) (take count points)
+
+-- when the way behind so many points begins, and where: at the last of them, or at the start
+abbrev pub since_after : ℕ → ℕ → List Point2 → ℕ
+since_after start zero points = start
+since_after start (suc k) [] = start
+since_after start (suc k) (p ∷ points) = since_after p.at_us k points
+
+abbrev pub begin_after : List ℤ → ℕ → List Point2 → List ℤ
+begin_after from zero points = from
+begin_after from (suc k) [] = from
+begin_after from (suc k) (p ∷ points) = begin_after p.values k points
 
 -- its running part, while it runs
 abbrev pub running_of : Way → Option RunData

@@ -33,10 +33,14 @@ struct Way {
     fresh: bool,
     start_us: u64,
     runs: bool,
+    /// Of so many points the times had come at the last update,
+    come: usize,
+    /// which was so long after the start. Nothing but speed rests on both.
+    seen_us: u64,
 }
 
 impl Model for Way {
-    ghost use Rattle.ctl_traj.specs.Led.{Way, IsWay};
+    ghost use Rattle.ctl_traj.specs.Led.{Way, IsWay, HaveCome};
 
     ghost Value = { Way };
 
@@ -49,7 +53,8 @@ impl Model for Way {
       runs = w.runs;
     } };
 
-    ghost invariant = { λ w. IsWay w.hold.items w.from.items w.points.items };
+    ghost invariant = { λ w. IsWay w.hold.items w.from.items w.points.items
+        × HaveCome w.seen_us w.points.items w.come };
 }
 
 impl TrajCtl {
@@ -124,6 +129,8 @@ impl Way {
             fresh: false,
             start_us: 0,
             runs: false,
+            come: 0,
+            seen_us: 0,
         })
     }
 
@@ -138,6 +145,7 @@ impl Way {
         self.fresh = false;
         self.start_us = 0;
         self.runs = true;
+        self.come = 0;
     }
 
     /// These are its points now, and fresh.
@@ -147,9 +155,11 @@ impl Way {
     {
         self.points = points.into_vec();
         self.fresh = true;
+        self.come = 0;
     }
 
     /// Begins with its points where they are fresh, and goes on.
+    #[tactic(auto, using(crate::proofs::ComeLemmas::still_come))]
     fn update(&mut self, time_us: u64, states: &[Fx], outs: &mut [Value])
         requires read { length states.now ≡ length self.old.hold }
         requires claimed { length outs.old ≡ length self.old.hold }
@@ -161,12 +171,9 @@ impl Way {
             self.start_us = time_us;
             self.fresh = false;
         }
-        lead(
-            time_us.saturating_sub(self.start_us),
-            &self.hold,
-            &self.from,
-            &self.points,
-            outs,
-        );
+        let t = time_us.saturating_sub(self.start_us);
+        let come = if self.seen_us <= t { self.come } else { 0 };
+        self.come = lead(t, &self.hold, &self.from, &self.points, come, outs);
+        self.seen_us = t;
     }
 }
