@@ -1,6 +1,6 @@
 """Answers: how many instructions does a cycle take, and has that grown? As docs/SPEED.md has it.
 
-It counts the instructions of the built program by `valgrind --tool=callgrind`, over four jobs, each with few cycles and with more, and
+It counts the instructions of the built program by `valgrind --tool=callgrind`, over six jobs, each with few cycles and with more, and
 prints what a cycle more takes: reading and start are in both, and go. A count does not move with the load of the machine, as a time does;
 what it leaves out is what the system does, above all memory that is touched for the first time.
 
@@ -8,9 +8,11 @@ what it leaves out is what the system does, above all memory that is touched for
 - idle: one joint that stands, and no controller.
 - full: 32 joints and 64 controllers: 31 chains of a trajectory over a pid, all of which move, a forward, and a broadcaster of 96 states.
 - switches: 16 chains of three controllers, and in each cycle a request that stops, starts or restarts some of them.
+- lists: 32 controllers that are loaded and listed; what is counted is a list more.
+- made: `run --make`, a round more of which is ten cycles.
 
-Beside each stands what the page has. The exit status is 1 if a job takes more than that by over a tenth; the page is then to say why, or
-the program to be mended.
+Beside each stands what the page has. The exit status is 1 if a job takes more than that by over a twentieth; the page is then to say why,
+or the program to be mended.
 """
 
 import re
@@ -23,10 +25,12 @@ from ..tree import TOP
 
 options = programs.options
 PAGE = TOP / "docs/SPEED.md"
-WORSE = 1.1  # times what the page has
+WORSE = 1.05  # times what the page has
 POINTS = 16  # of each trajectory
 CHAINS = 31
 SWITCHED = 16  # chains that are switched
+LOADED = 32  # controllers that are listed
+CYCLES_OF_A_ROUND = 10  # of a made document
 
 
 def head(rate, cycles):
@@ -101,15 +105,31 @@ def request(k, turn):
     )[turn]
 
 
-# Each with few cycles and with more. The requests of `switches` come in rounds of 64.
-JOBS = {"bare": (bare, 1_000, 11_000), "idle": (idle, 1_000, 11_000), "full": (full, 200, 1_200), "switches": (switches, 65, 385)}
+def lists(count):
+    mocks = [f"mock_{k}" for k in range(LOADED)]
+    described = "".join(controller(name, "mock") for name in mocks)
+    loads = [f"load {name}\n" for name in mocks]
+    return head(100, 1) + described + script([], loads + ["list controllers\n"] * count)
+
+
+def made(cycles):
+    """No document: that many cycles are made."""
+    return cycles // CYCLES_OF_A_ROUND
+
+
+# Each with few cycles and with more, or few lists and more. The requests of `switches` come in rounds of 64.
+JOBS = {
+    "bare": (bare, 1_000, 11_000), "idle": (idle, 1_000, 11_000), "full": (full, 200, 1_200), "switches": (switches, 65, 385),
+    "lists": (lists, 500, 2_500), "made": (made, 500, 2_500),
+}
 
 
 def counted(program, document):
-    """The instructions of a run over the document."""
-    counter = ["valgrind", "--tool=callgrind", "--callgrind-out-file=/dev/null", program, "run"]
+    """The instructions of a run over the document, or of so many made rounds."""
+    words = ["run"] if isinstance(document, str) else ["run", "--make", str(document)]
+    counter = ["valgrind", "--tool=callgrind", "--callgrind-out-file=/dev/null", program, *words]
     with tempfile.TemporaryFile("w+") as given:
-        given.write(document)
+        given.write(document if isinstance(document, str) else "")
         given.seek(0)
         ran = subprocess.run(counter, stdin=given, stdout=subprocess.DEVNULL, stderr=subprocess.PIPE, text=True)
     found = re.search(r"Collected : (\d+)", ran.stderr)
@@ -125,7 +145,7 @@ def on_page(job):
 
 def main(asked):
     program, worse = programs.program(asked), []
-    print("| Job | Instructions a cycle | On the page |\n|---|---|---|")
+    print("| Job | Instructions a cycle, a list | On the page |\n|---|---|---|")
     for job, (document, few, more) in JOBS.items():
         each = (counted(program, document(more)) - counted(program, document(few))) / (more - few)
         known = on_page(job)
