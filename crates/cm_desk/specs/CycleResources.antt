@@ -221,6 +221,24 @@ pub record HasForgotten (before after : CycleResources) : Type 0 where
   pub home : IsAtHome after
   pub none_erred : after.erred.value.items ≡ []
 
+-- At start the hardware is that of the state at boot, whatever its blanks and sessions, with what is worked out of the
+-- description.
+pub record IsRobotAtStart (d : Description) (g : Robot) : Type 0 where
+  pub hardware : (blanks : Blanks) (sessions : ℕ) → IsHardwareOf (boot d blanks sessions) g.hardware
+  pub placed : g.places ≡ placed_of d
+  pub related : g.relations ≡ relations_of d
+  pub timed : g.period_us ≡ period d
+
+-- This works in cycles at start, with these sets of the end: nobody flew yet, no update failed, there is room for the
+-- lists of the hardware, and none to tell.
+pub record IsContextAtStart (d : Description) (sets : Ending) (k : CycleContext) : Type 0 where
+  pub robot : IsRobotAtStart d k.robot
+  pub ending : k.ending ≡ sets
+  pub lines : HasLinesFor k.robot.hardware k.lists
+  pub order : k.order.items ≡ []
+  pub erred : k.erred.items ≡ []
+  pub told : k.room ≡ None
+
 -- At start the hardware is that of the state at boot, whatever its blanks and sessions, and all is at home.
 pub record IsAtStart (d : Description) (b : CycleResources) : Type 0 where
   pub hardware : (blanks : Blanks) (sessions : ℕ) → IsHardwareOf (boot d blanks sessions) b.robot.value.hardware

@@ -1,15 +1,13 @@
 //! What a cycle works on, at home or aloft.
 
 ghost use Rattle.std.specs.Prelude.{◌≡◌, ℕ, ◌<◌, ◌≤◌, ◌==◌, List, [], true, false, not, None, Some, length, map, find, option_map, vec_len, vec_capacity, IfOk, OnOk, IfSome};
-ghost use Rattle.joint_body.specs.declared.TheConstants.{LONGEST_STEP};
 ghost use Rattle.cm_document.specs.declared.description.Description.{Description};
-ghost use Rattle.cm_model.specs.Cycle.{period};
 ghost use Rattle.cm_model.specs.State.{State, component_lines, interface_lines};
 ghost use Rattle.cm_model.specs.declared.member.Member.{Member};
 ghost use Rattle.cm_hardware.specs.Holding.{IsHardwareOf, MovesComponent};
 ghost use Rattle.cm_hardware.specs.Shown.{HasLinesFor, Shows};
 ghost use Rattle.stop_plan.specs.Ending.{HasFlags};
-ghost use Rattle.cm_desk.specs.CycleResources.{place_among, IsAtHome, IsAtStart, IsHome, IsIdle, IsListing, IsMadeReady, IsRewired, IsPrepared, CanBePrepared, CanBePreparedAtHome, CanSendOut, HasSentOut, HasForgotten, HasTakenBack};
+ghost use Rattle.cm_desk.specs.CycleResources.{place_among, IsAtHome, IsAtStart, IsHome, IsListing, IsMadeReady, IsRewired, IsPrepared, CanBePrepared, CanBePreparedAtHome, CanSendOut, HasSentOut, HasForgotten, HasTakenBack};
 ghost use Rattle.cm_desk.specs.CycleNeeds.{AreNeeds};
 ghost use Rattle.rt_flight.specs.Flights.{TellsNothing};
 ghost use Rattle.cm_desk.specs.Works.{CanSwitch, HasSwitched, KeepsRest};
@@ -17,10 +15,10 @@ ghost use Rattle.cm_desk.specs.Works.{CanSwitch, HasSwitched, KeepsRest};
 use crate::active_set::ActiveSet;
 use crate::commits::commit;
 use crate::needs::{CycleNeeds, HardwareSize, empty, needs_for, prepare};
+use crate::start::context_at_start;
 use cm_document::{Checked, Life};
 use cm_hardware::{Lists, ResourceManager};
-use cm_model::{CompLine, IfaceLine, Member, SECOND_US};
-use cm_places::CtlPlaces;
+use cm_model::{CompLine, IfaceLine, Member};
 use cm_slots::{MailAloft, Room, Slots};
 use ctl_trait::Controller;
 use fixed_num::Memory;
@@ -31,7 +29,6 @@ use sequence::Seq;
 use std::alloc::Global;
 use std::snapshot::Snapshot;
 use stop_plan::Ending;
-use switch_plan::Relations;
 
 /// What a cycle works on, and what it needs besides. What works in it leaves with it; the rest stays here.
 #[derive(Drop)]
@@ -97,21 +94,14 @@ impl CycleResources {
         requires { HasFlags (length checked.now.controllers) ending }
         ensures { IfOk result (IsAtStart checked.now) }
     {
-        let hardware = ResourceManager::make(alloc, checked)?;
+        let room = Room::make(alloc)?;
+        let context = context_at_start(alloc, checked, ending)?;
+        let hardware = &context.robot.hardware;
         let lists = hardware.room_for_lists(alloc)?;
-        let next_lists = hardware.room_for_lists(alloc)?;
         let size = HardwareSize {
             failures: hardware.most_failures(),
             joints: hardware.joints(),
         };
-        let robot = Robot {
-            hardware,
-            places: CtlPlaces::of(alloc, checked)?,
-            relations: Relations::of(alloc, checked)?,
-            period_us: period_us(checked),
-        };
-        let room = Room::make(alloc)?;
-        let context = Box::new(alloc, idle(alloc, robot, ending, next_lists))?;
         let buffers = CycleBuffers::none(alloc);
         Ok(CycleResources {
             robot: Snapshot::of(&context.robot),
@@ -416,23 +406,6 @@ fn place_of(members: &[Member], serial: u32) -> Option<u32>
     Some(member.place)
 }
 
-/// What works in a cycle, before the first one.
-fn idle(alloc: Global, robot: Robot, ending: Ending, lists: Lists) -> CycleContext
-    ensures { IsIdle robot ending lists result }
-{
-    CycleContext {
-        robot,
-        ending,
-        lists,
-        order: Vec::new(alloc),
-        erred: Vec::new(alloc),
-        has_failed: false,
-        room: None,
-        record: None,
-        left_over: None,
-    }
-}
-
 /// The lists are those of this hardware: they are told, where they are not yet. It takes no memory.
 fn show_once(told: bool, hardware: &ResourceManager, lists: &mut Lists)
     requires lines { HasLinesFor hardware.now lists.old }
@@ -444,14 +417,4 @@ fn show_once(told: bool, hardware: &ResourceManager, lists: &mut Lists)
     if !told {
         hardware.show(lists);
     }
-}
-
-/// The time from one cycle to the next, in microseconds.
-#[tactic(auto, using(hw_component::proofs::MakingLemmas::valid_period, cm_document::proofs::ValidParts::described_rate_is_some))]
-fn period_us(checked: &Checked) -> u32
-    ensures period { result ≡ period checked.now }
-    ensures some_time { 1 ≤ result }
-    ensures no_longer { result ≤ LONGEST_STEP }
-{
-    SECOND_US / checked.description().update_rate
 }
