@@ -7,7 +7,7 @@ use Rattle.cm_model.specs.declared.member.Member.{Member}
 use Rattle.cm_places.specs.Placed.{Placed}
 use Rattle.rt_flight.specs.declared.context.CycleContext.{CycleContext}
 use Rattle.rt_flight.specs.declared.robot.Robot.{Robot}
-use Rattle.cm_desk.specs.CycleResources.{IsHome, IsMadeReady}
+use Rattle.cm_desk.specs.CycleResources.{IsAtHome, IsHome, IsMadeReady}
 use Rattle.cm_desk.specs.CycleNeeds.{AreKept, AreNeeds, IsRefitted}
 use Rattle.cm_desk.specs.declared.resources.CycleResources.{CycleResources}
 use Rattle.cm_desk.specs.declared.resources.CycleBuffers.{CycleBuffers}
@@ -50,6 +50,10 @@ module _ (b left b' : CycleResources) (k r : Box CycleContext Global) (h : Cycle
         resources = back ∙ ap (λ (x : CycleResources). record x { idle_context = Some r; members = b'.members; buffers = buffers }) away
             ∙ ap₂ (λ (o : Option (Box CycleContext Global)) (s : CycleBuffers). record b { idle_context = o; members = b'.members; buffers = s }) (sym idle_context) (sym buffers_are);
       }
+
+-- What is at home, with what was left over, is ready as it stands.
+pub ready_already : (b : CycleResources) → IsAtHome b → AreKept b.robot.value.places b.buffers.workspaces.items b.members.value.items → IsMadeReady b b
+ready_already b home kept = record { kept = kept; home = home; resources = refl }
 
 -- new needs come to it, where no update failed,
 pub refit_new : (d : Description) (placed : Placed) (order : List Member) (loaded : ℕ) (new : CycleNeeds) (k : CycleContext) → AreNeeds d placed order loaded new → k.erred.items ≡ []

@@ -9,16 +9,17 @@ ghost use Rattle.cm_model.specs.Steady.{IsSteady};
 ghost use Rattle.cm_model.specs.declared.request.Request.{Request};
 ghost use Rattle.request_plan.specs.Acts.{IsSwitchOf, IsMoveOf};
 ghost use Rattle.request_plan.specs.Plans.{IsPlanOf, AreConclusionsOf};
-ghost use Rattle.cm_desk.specs.CycleResources.{fallbacks_at, stand_ins_for};
+ghost use Rattle.cm_desk.specs.CycleNeeds.{AreNeeds};
+ghost use Rattle.cm_desk.specs.CycleResources.{fallbacks_at, stand_ins_for, CanBePrepared, IsAtHome, IsMadeReady};
 ghost use Rattle.cm_desk.specs.Begin.{IsNext, IsLeftOf, CanAct, CanBegin, HasBegun, CanTakeOff, HasTakenOff, none_waits};
 
 use crate::active_set::ActiveSet;
 use crate::filling::fill_cells;
-use crate::needs::empty;
+use crate::needs::{CycleNeeds, empty};
 use crate::resources::CycleResources;
 use crate::works::{Works, described_at};
 use cm_document::{Checked, CtlDesc, Life};
-use cm_model::{Decision, Seen};
+use cm_model::{Decision, Member, Seen};
 use cm_slots::{Slot, Slots};
 use ctl_trait::Controller;
 use fixed_num::Memory;
@@ -71,20 +72,24 @@ impl<C: Controller> Works<C> {
         ensures kept { OnErr result (self.new ≡ self.old) }
     {
         let plan = self.plan(alloc)?;
-        let count = plan.order.len();
-        make_places(&mut self.cells, &mut self.boxes, count)?;
-        let run = Vec::with_capacity(alloc, count)?;
-        let needs = self
-            .resources
-            .needs(alloc, &self.checked, &plan.order, self.slots.len())?;
+        let taken = take_memory(
+            alloc,
+            &self.checked,
+            &mut self.resources,
+            &mut self.cells,
+            &mut self.boxes,
+            &plan.order,
+            self.slots.len(),
+        )?;
         let cells = std::mem::replace(&mut self.cells, Vec::new(alloc));
         let boxes = std::mem::replace(&mut self.boxes, Vec::new(alloc));
         self.resources.forget_erred();
         self.carry_out(plan.first, plan.conclusions);
-        self.active_set.put(plan.order, run, self.slots.as_slice());
+        self.active_set
+            .put(plan.order, taken.run, self.slots.as_slice());
         // What was carried out tells of the state alone, so only this shows that the list is still empty.
         self.resources.forget_erred();
-        self.resources.take_in(needs);
+        self.resources.take_in(taken.needs);
         self.boxes = boxes;
         let flight = take_off(
             &mut self.slots,
@@ -296,6 +301,40 @@ fn push_names(names: &mut Seq<Name>, further: &[Name]) -> Result<(), Memory>
         names.push(name.clone()?)?;
     }
     Ok(())
+}
+
+/// What is taken for a cycle before anything changes.
+#[derive(Drop)]
+struct Taken {
+    /// Room for the indices of those that run.
+    run: Vec<u32>,
+    /// What the cycle needs besides.
+    needs: CycleNeeds,
+}
+
+/// All memory of a cycle in which these controllers are active, of so many that are loaded. What is at home stays so.
+fn take_memory<C: Controller>(
+    alloc: Global,
+    checked: &Checked,
+    resources: &mut CycleResources,
+    cells: &mut Vec<Cell<C>>,
+    boxes: &mut Vec<C>,
+    order: &[Member],
+    loaded: usize,
+) -> Result<Taken, Memory>
+    requires home { IsAtHome resources.old }
+    requires can { CanBePrepared checked.now resources.old order.now }
+    ensures run { IfOk result (λ taken. length order.now ≤ vec_capacity taken.run) }
+    ensures needs { IfOk result
+        (λ taken. AreNeeds checked.now resources.old.robot.value.places order.now loaded taken.needs) }
+    ensures cells { OnOk result ((cells.new.items ≡ []) × (length order.now ≤ vec_capacity cells.new)) }
+    ensures boxes { OnOk result ((boxes.new.items ≡ []) × (length order.now ≤ vec_capacity boxes.new)) }
+    ensures resources { IsMadeReady resources.old resources.new }
+{
+    make_places(cells, boxes, order.len())?;
+    let run = Vec::with_capacity(alloc, order.len())?;
+    let needs = resources.needs(alloc, checked, order, loaded)?;
+    Ok(Taken { run, needs })
 }
 
 /// There is room for the cells and the boxes of so many.

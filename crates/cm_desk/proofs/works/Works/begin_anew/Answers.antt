@@ -14,7 +14,7 @@ use Rattle.cm_desk.specs.ActiveSet.{IsListedOf}
 use Rattle.cm_desk.specs.CycleNeeds.{AreNeeds}
 use Rattle.cm_desk.specs.Works.{IsKept, state_with}
 use Rattle.cm_desk.specs.declared.resources.CycleResources.{CycleResources}
-use Rattle.cm_desk.proofs.AfterLemmas.{at_home, kept_ready, kept_with_room}
+use Rattle.cm_desk.proofs.AfterLemmas.{at_home, kept_ready}
 use Rattle.cm_desk.proofs.ForgottenLemmas.{kept_forgotten, kept_then, left_then}
 use Rattle.cm_desk.proofs.BeginLemmas.{begins_down, planned_order, HasDecided, has_decided, order_decided, view_flown}
 use Rattle.cm_desk.proofs.OrderLemmas.{order_loaded}
@@ -29,15 +29,15 @@ plan-requires-clause-down g c =
     let s = state_of a in
     rw (← c.self.view_is) (begins_down s (rw (← c.self.view_is) at c.requires.can))
 
-pub needs-requires-clause-home : goal.needs-requires-clause-home
-needs-requires-clause-home g c =
+pub take_memory-requires-clause-home : goal.take_memory-requires-clause-home
+take_memory-requires-clause-home g c =
     let a = c.self.inside in
     let s = state_of a in
     at_home a.checked a.active_set.order a.resources (vec_capacity a.boxes) a.slots.aloft c.self.invariant.based (begins_down s (rw (← c.self.view_is) at c.requires.can))
 
 -- who is active after all that is decided is described
-pub needs-requires-clause-can : goal.needs-requires-clause-can
-needs-requires-clause-can g c =
+pub take_memory-requires-clause-can : goal.take_memory-requires-clause-can
+take_memory-requires-clause-can g c =
     let a = c.self.inside in
     let s = state_of a in
     let planned : IsPlanOf s c.in_ok-plan.plan = subst (λ (u : State). IsPlanOf u c.in_ok-plan.plan) (sym c.self.view_is) c.in_ok-plan.ensures in
@@ -53,25 +53,17 @@ needs-requires-clause-can g c =
 -- where memory ran out the state is as before
 pub invariant_of-self : goal.invariant_of-self
 invariant_of-self g c =
-    kept_with_room c.self.inside (vec_capacity c.make_places.new.boxes) c.self.invariant (begins_down (state_of c.self.inside) (rw (← c.self.view_is) at c.requires.can))
-
-pub invariant_of-self-in_err-run : goal.invariant_of-self-in_err-run
-invariant_of-self-in_err-run g c =
-    kept_with_room c.self.inside (vec_capacity c.make_places.new.boxes) c.self.invariant (begins_down (state_of c.self.inside) (rw (← c.self.view_is) at c.requires.can))
-
-pub invariant_of-self-in_err-needs : goal.invariant_of-self-in_err-needs
-invariant_of-self-in_err-needs g c =
-    kept_ready c.self.inside c.needs.new.self (vec_capacity c.make_places.new.boxes) c.self.invariant (begins_down (state_of c.self.inside) (rw (← c.self.view_is) at c.requires.can))
-    c.needs.ensures.resources
+    kept_ready c.self.inside c.take_memory.new.resources (vec_capacity c.take_memory.new.boxes) c.self.invariant (begins_down (state_of c.self.inside) (rw (← c.self.view_is) at c.requires.can))
+    c.take_memory.ensures.resources
 
 -- what works in a cycle stays at home, and forgets whose update failed,
 pub forget_erred-requires : goal.forget_erred-requires
-forget_erred-requires g c = c.needs.ensures.resources.home
+forget_erred-requires g c = c.take_memory.ensures.resources.home
 
 -- so nobody is to stand in any more, and all else is kept
 pub invariant_of-self-2 : goal.invariant_of-self-2
 invariant_of-self-2 g c =
-    kept_then c.self.inside c.needs.new.self c.forget_erred.new.self (vec_capacity c.replace-boxes.new.dest) c.needs.ensures.resources c.forget_erred.ensures
+    kept_then c.self.inside c.take_memory.new.resources c.forget_erred.new.self (vec_capacity c.replace-boxes.new.dest) c.take_memory.ensures.resources c.forget_erred.ensures
     c.self.invariant (begins_down (state_of c.self.inside) (rw (← c.self.view_is) at c.requires.can))
 
 pub carry_out-requires-clause-down : goal.carry_out-requires-clause-down
@@ -87,7 +79,7 @@ carry_out-requires-clause-can g c =
     let s = state_of a in
     let planned : IsPlanOf s c.in_ok-plan.plan = subst (λ (u : State). IsPlanOf u c.in_ok-plan.plan) (sym c.self.view_is) c.in_ok-plan.ensures in (
       s,
-      left_then a c.needs.new.self c.forget_erred.new.self (vec_capacity c.replace-boxes.new.dest) c.needs.ensures.resources c.forget_erred.ensures
+      left_then a c.take_memory.new.resources c.forget_erred.new.self (vec_capacity c.replace-boxes.new.dest) c.take_memory.ensures.resources c.forget_erred.ensures
           c.in_ok-plan.plan (rw (← c.self.view_is) at c.requires.steady) planned,
     )
 
@@ -100,14 +92,14 @@ put-requires-clause-loaded g c =
     let b = c.self-2.inside in
     let t = state_of b in
     let planned : IsPlanOf s c.in_ok-plan.plan = subst (λ (u : State). IsPlanOf u c.in_ok-plan.plan) (sym c.self.view_is) c.in_ok-plan.ensures in
-    let left = left_then a c.needs.new.self c.forget_erred.new.self (vec_capacity c.replace-boxes.new.dest) c.needs.ensures.resources c.forget_erred.ensures
+    let left = left_then a c.take_memory.new.resources c.forget_erred.new.self (vec_capacity c.replace-boxes.new.dest) c.take_memory.ensures.resources c.forget_erred.ensures
     c.in_ok-plan.plan (rw (← c.self.view_is) at c.requires.steady) planned in
     let is : t ≡ boundary s = c.self-2.view_is ∙ c.carry_out.ensures s left in
     let order : c.in_ok-plan.plan.order.items ≡ members_in_order t = planned_order s c.in_ok-plan.plan planned ∙ ap members_in_order (sym is) in
     rw (c.as_slice.ensures, order) (order_loaded t)
 
 pub put-requires-clause-room : goal.put-requires-clause-room
-put-requires-clause-room g c = omega (arith, c.in_ok-run.ensures.capacity, c.len-count.ensures)
+put-requires-clause-room g c = omega (arith, c.in_ok-taken.ensures.run, ap length c.deref.ensures.value)
 
 pub put-requires-clause-few : goal.put-requires-clause-few
 put-requires-clause-few g c = omega (arith, ap length c.as_slice.ensures, c.self-2.invariant.few, c.self-2.invariant.counted)
@@ -120,7 +112,7 @@ forget_erred-requires-2 g c =
     let b = c.self-2.inside in
     let t = state_of b in
     let planned : IsPlanOf s c.in_ok-plan.plan = subst (λ (u : State). IsPlanOf u c.in_ok-plan.plan) (sym c.self.view_is) c.in_ok-plan.ensures in
-    let left = left_then a c.needs.new.self c.forget_erred.new.self (vec_capacity c.replace-boxes.new.dest) c.needs.ensures.resources c.forget_erred.ensures
+    let left = left_then a c.take_memory.new.resources c.forget_erred.new.self (vec_capacity c.replace-boxes.new.dest) c.take_memory.ensures.resources c.forget_erred.ensures
     c.in_ok-plan.plan (rw (← c.self.view_is) at c.requires.steady) planned in
     let is : t ≡ boundary s = c.self-2.view_is ∙ c.carry_out.ensures s left in
     let after = has_decided s t is c.self.invariant.worked_out.valid (rw (← c.self.view_is) at c.requires.can) (rw (← c.self.view_is) at c.requires.steady) (rw (← c.self.view_is) at c.requires.numbered) in
@@ -142,7 +134,7 @@ decided_there g c =
     let s = state_of a in
     let planned : IsPlanOf s c.in_ok-plan.plan = subst (λ (u : State). IsPlanOf u c.in_ok-plan.plan) (sym c.self.view_is) c.in_ok-plan.ensures in
     c.self-2.view_is
-    ∙ c.carry_out.ensures s (left_then a c.needs.new.self c.forget_erred.new.self (vec_capacity c.replace-boxes.new.dest) c.needs.ensures.resources c.forget_erred.ensures
+    ∙ c.carry_out.ensures s (left_then a c.take_memory.new.resources c.forget_erred.new.self (vec_capacity c.replace-boxes.new.dest) c.take_memory.ensures.resources c.forget_erred.ensures
     c.in_ok-plan.plan (rw (← c.self.view_is) at c.requires.steady) planned)
 
 decided : (g : Over) (c : goal.After-take_off-arg-3-1 g) → HasDecided (state_of c.self.inside) (state_of c.self-2.inside)
@@ -168,14 +160,14 @@ listed g c =
 
 -- what was prepared is for these,
 prepared : (g : Over) (c : goal.After-take_off-arg-3-1 g)
-    → AreNeeds (state_of c.self-2.inside).description c.forget_erred-2.new.self.robot.value.places c.put.new.self.order (length (state_of c.self-2.inside).loaded) c.in_ok-needs.needs
+    → AreNeeds (state_of c.self-2.inside).description c.forget_erred-2.new.self.robot.value.places c.put.new.self.order (length (state_of c.self-2.inside).loaded) c.in_ok-taken.taken.needs
 prepared g c =
     let a = c.self.inside in
     let b = c.self-2.inside in
     let after = decided g c in
     let placed : c.forget_erred-2.new.self.robot.value.places ≡ a.resources.robot.value.places =
     ap (λ (x : CycleResources). x.robot.value.places) c.forget_erred-2.ensures.resources ∙ c.self-2.invariant.worked_out.placed ∙ ap placed_of after.description ∙ sym c.self.invariant.worked_out.placed in
-    let for_plan : AreNeeds a.checked a.resources.robot.value.places c.in_ok-plan.plan.order.items (length a.slots.loaded) c.in_ok-needs.needs = rw (c.deref.ensures.value, c.len.ensures) at c.in_ok-needs.ensures.needs in
+    let for_plan : AreNeeds a.checked a.resources.robot.value.places c.in_ok-plan.plan.order.items (length a.slots.loaded) c.in_ok-taken.taken.needs = rw (c.deref.ensures.value, c.len.ensures) at c.in_ok-taken.ensures.needs in
     rw (after.description, placed, c.put.ensures.order, after.counted) for_plan
 
 -- and all is ready
@@ -203,8 +195,8 @@ flies g c =
     (can_take_off s t b.names.items c.forget_erred-2.new.self c.take_in.new.self (vec_capacity b.boxes) b.active_set c.put.new.self b.slots (map g.C.Controller.meaning c.replace-boxes.result.items) (vec_capacity c.replace-boxes.result)
     c.replace-cells.result.items (vec_capacity c.replace-cells.result) b.ended (kept g c) (decided g c) (listed g c) c.put.ensures.current (ready g c) refl refl refl
     (c.take_in.ensures.prepared t.description c.put.new.self.order (length t.loaded) (prepared g c))
-    (rw (c.replace-boxes.ensures.value) (ap (map g.C.Controller.meaning) c.in_ok-make_places.ensures.boxes.0)) (omega (arith, c.in_ok-make_places.ensures.boxes.1, many, c.len-count.ensures, ap vec_capacity c.replace-boxes.ensures.value))
-    (rw (c.replace-cells.ensures.value) c.in_ok-make_places.ensures.cells.0) (omega (arith, c.in_ok-make_places.ensures.cells.1, many, c.len-count.ensures, ap vec_capacity c.replace-cells.ensures.value)))
+    (rw (c.replace-boxes.ensures.value) (ap (map g.C.Controller.meaning) c.in_ok-taken.ensures.boxes.0)) (omega (arith, c.in_ok-taken.ensures.boxes.1, many, ap length c.deref.ensures.value, ap vec_capacity c.replace-boxes.ensures.value))
+    (rw (c.replace-cells.ensures.value) c.in_ok-taken.ensures.cells.0) (omega (arith, c.in_ok-taken.ensures.cells.1, many, ap length c.deref.ensures.value, ap vec_capacity c.replace-cells.ensures.value)))
 
 pub take_off-flight-requires : goal.take_off-flight-requires
 take_off-flight-requires g c = (state_of c.self-2.inside, flies g c)
@@ -232,7 +224,7 @@ invariant_of-self-3 g c =
     let off = c.take_off-flight.ensures.off t (flies g c.before) in
     let many = ap length c.put.ensures.order in
     let fits : length c.put.new.self.order ≤ vec_capacity c.replace-boxes.result =
-    omega (arith, c.in_ok-make_places.ensures.boxes.1, many, c.len-count.ensures, ap vec_capacity c.replace-boxes.ensures.value, c.in_ok-plan.plan.order.ok.0) in
+    omega (arith, c.in_ok-taken.ensures.boxes.1, many, ap length c.deref.ensures.value, ap vec_capacity c.replace-boxes.ensures.value, c.in_ok-plan.plan.order.ok.0) in
     let same : room ≡ vec_capacity c.replace-boxes.result = c.take_off-flight.ensures.room in
     subst (λ (u : State). IsKept u b.names.items (base_of d room) c.put.new.self) (sym (begun_there g c off))
     (kept_off s t b.names.items c.forget_erred-2.new.self c.take_in.new.self d (vec_capacity b.boxes) room b.active_set c.put.new.self b.slots c.take_off-flight.new.slots c.take_off-flight.result
