@@ -322,13 +322,11 @@ fn take_memory<C: Controller>(
     order: &[Member],
     loaded: usize,
 ) -> Result<Taken, Memory>
-    requires home { IsAtHome resources.old }
-    requires can { CanBePrepared checked.now resources.old order.now }
-    ensures run { IfOk result (λ taken. length order.now ≤ vec_capacity taken.run) }
-    ensures needs { IfOk result
-        (λ taken. AreNeeds checked.now resources.old.robot.value.places order.now loaded taken.needs) }
-    ensures cells { OnOk result ((cells.new.items ≡ []) × (length order.now ≤ vec_capacity cells.new)) }
-    ensures boxes { OnOk result ((boxes.new.items ≡ []) × (length order.now ≤ vec_capacity boxes.new)) }
+    requires { IsAtHome resources.old × CanBePrepared checked.now resources.old order.now }
+    ensures taken { IfOk result (λ taken. (length order.now ≤ vec_capacity taken.run)
+        × AreNeeds checked.now resources.old.robot.value.places order.now loaded taken.needs) }
+    ensures places { OnOk result ((cells.new.items ≡ []) × (length order.now ≤ vec_capacity cells.new)
+        × (boxes.new.items ≡ []) × (length order.now ≤ vec_capacity boxes.new)) }
     ensures resources { IsMadeReady resources.old resources.new }
 {
     make_places(cells, boxes, order.len())?;

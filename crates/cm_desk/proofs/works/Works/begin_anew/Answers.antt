@@ -29,26 +29,24 @@ plan-requires-clause-down g c =
     let s = state_of a in
     rw (← c.self.view_is) (begins_down s (rw (← c.self.view_is) at c.requires.can))
 
-pub take_memory-requires-clause-home : goal.take_memory-requires-clause-home
-take_memory-requires-clause-home g c =
+-- all is at home, and who is active after all that is decided is described
+pub take_memory-requires : goal.take_memory-requires
+take_memory-requires g c =
     let a = c.self.inside in
     let s = state_of a in
-    at_home a.checked a.active_set.order a.resources (vec_capacity a.boxes) a.slots.aloft c.self.invariant.based (begins_down s (rw (← c.self.view_is) at c.requires.can))
-
--- who is active after all that is decided is described
-pub take_memory-requires-clause-can : goal.take_memory-requires-clause-can
-take_memory-requires-clause-can g c =
-    let a = c.self.inside in
-    let s = state_of a in
+    let down = begins_down s (rw (← c.self.view_is) at c.requires.can) in
     let planned : IsPlanOf s c.in_ok-plan.plan = subst (λ (u : State). IsPlanOf u c.in_ok-plan.plan) (sym c.self.view_is) c.in_ok-plan.ensures in
-    let order : c.in_ok-plan.plan.order.items ≡ members_in_order (boundary s) = planned_order s c.in_ok-plan.plan planned in record {
-      robot = record {
-        places = c.self.invariant.worked_out.placed;
-        size = c.self.invariant.based.size;
-        within = rw (c.deref.ensures.value, order) (order_decided s c.self.invariant.described);
-      };
-      kept = record { fitted = c.self.invariant.based.fitted; ordered = c.self.invariant.based.ordered (begins_down s (rw (← c.self.view_is) at c.requires.can)) };
-    }
+    let order : c.in_ok-plan.plan.order.items ≡ members_in_order (boundary s) = planned_order s c.in_ok-plan.plan planned in (
+      at_home a.checked a.active_set.order a.resources (vec_capacity a.boxes) a.slots.aloft c.self.invariant.based down,
+      record {
+        robot = record {
+          places = c.self.invariant.worked_out.placed;
+          size = c.self.invariant.based.size;
+          within = rw (c.deref.ensures.value, order) (order_decided s c.self.invariant.described);
+        };
+        kept = record { fitted = c.self.invariant.based.fitted; ordered = c.self.invariant.based.ordered down };
+      },
+    )
 
 -- where memory ran out the state is as before
 pub invariant_of-self : goal.invariant_of-self
@@ -99,7 +97,7 @@ put-requires-clause-loaded g c =
     rw (c.as_slice.ensures, order) (order_loaded t)
 
 pub put-requires-clause-room : goal.put-requires-clause-room
-put-requires-clause-room g c = omega (arith, c.in_ok-taken.ensures.run, ap length c.deref.ensures.value)
+put-requires-clause-room g c = omega (arith, c.in_ok-taken.ensures.taken.0, ap length c.deref.ensures.value)
 
 pub put-requires-clause-few : goal.put-requires-clause-few
 put-requires-clause-few g c = omega (arith, ap length c.as_slice.ensures, c.self-2.invariant.few, c.self-2.invariant.counted)
@@ -167,7 +165,7 @@ prepared g c =
     let after = decided g c in
     let placed : c.forget_erred-2.new.self.robot.value.places ≡ a.resources.robot.value.places =
     ap (λ (x : CycleResources). x.robot.value.places) c.forget_erred-2.ensures.resources ∙ c.self-2.invariant.worked_out.placed ∙ ap placed_of after.description ∙ sym c.self.invariant.worked_out.placed in
-    let for_plan : AreNeeds a.checked a.resources.robot.value.places c.in_ok-plan.plan.order.items (length a.slots.loaded) c.in_ok-taken.taken.needs = rw (c.deref.ensures.value, c.len.ensures) at c.in_ok-taken.ensures.needs in
+    let for_plan : AreNeeds a.checked a.resources.robot.value.places c.in_ok-plan.plan.order.items (length a.slots.loaded) c.in_ok-taken.taken.needs = rw (c.deref.ensures.value, c.len.ensures) at c.in_ok-taken.ensures.taken.1 in
     rw (after.description, placed, c.put.ensures.order, after.counted) for_plan
 
 -- and all is ready
@@ -195,8 +193,8 @@ flies g c =
     (can_take_off s t b.names.items c.forget_erred-2.new.self c.take_in.new.self (vec_capacity b.boxes) b.active_set c.put.new.self b.slots (map g.C.Controller.meaning c.replace-boxes.result.items) (vec_capacity c.replace-boxes.result)
     c.replace-cells.result.items (vec_capacity c.replace-cells.result) b.ended (kept g c) (decided g c) (listed g c) c.put.ensures.current (ready g c) refl refl refl
     (c.take_in.ensures.prepared t.description c.put.new.self.order (length t.loaded) (prepared g c))
-    (rw (c.replace-boxes.ensures.value) (ap (map g.C.Controller.meaning) c.in_ok-taken.ensures.boxes.0)) (omega (arith, c.in_ok-taken.ensures.boxes.1, many, ap length c.deref.ensures.value, ap vec_capacity c.replace-boxes.ensures.value))
-    (rw (c.replace-cells.ensures.value) c.in_ok-taken.ensures.cells.0) (omega (arith, c.in_ok-taken.ensures.cells.1, many, ap length c.deref.ensures.value, ap vec_capacity c.replace-cells.ensures.value)))
+    (rw (c.replace-boxes.ensures.value) (ap (map g.C.Controller.meaning) c.in_ok-taken.ensures.places.2)) (omega (arith, c.in_ok-taken.ensures.places.3, many, ap length c.deref.ensures.value, ap vec_capacity c.replace-boxes.ensures.value))
+    (rw (c.replace-cells.ensures.value) c.in_ok-taken.ensures.places.0) (omega (arith, c.in_ok-taken.ensures.places.1, many, ap length c.deref.ensures.value, ap vec_capacity c.replace-cells.ensures.value)))
 
 pub take_off-flight-requires : goal.take_off-flight-requires
 take_off-flight-requires g c = (state_of c.self-2.inside, flies g c)
@@ -224,7 +222,7 @@ invariant_of-self-3 g c =
     let off = c.take_off-flight.ensures.off t (flies g c.before) in
     let many = ap length c.put.ensures.order in
     let fits : length c.put.new.self.order ≤ vec_capacity c.replace-boxes.result =
-    omega (arith, c.in_ok-taken.ensures.boxes.1, many, ap length c.deref.ensures.value, ap vec_capacity c.replace-boxes.ensures.value, c.in_ok-plan.plan.order.ok.0) in
+    omega (arith, c.in_ok-taken.ensures.places.3, many, ap length c.deref.ensures.value, ap vec_capacity c.replace-boxes.ensures.value, c.in_ok-plan.plan.order.ok.0) in
     let same : room ≡ vec_capacity c.replace-boxes.result = c.take_off-flight.ensures.room in
     subst (λ (u : State). IsKept u b.names.items (base_of d room) c.put.new.self) (sym (begun_there g c off))
     (kept_off s t b.names.items c.forget_erred-2.new.self c.take_in.new.self d (vec_capacity b.boxes) room b.active_set c.put.new.self b.slots c.take_off-flight.new.slots c.take_off-flight.result
