@@ -10,19 +10,14 @@ ghost use Rattle.ctl_rack.specs.Stocks.{AreBlanks};
 ghost use Rattle.cm_program.specs.declared.stock.TheConstants.{BLANKS};
 
 use crate::unkept::Unkept;
-use cm_document::{CtlKind, Description, Document, DocumentFault, LONGEST_DOCUMENT, Script};
+use cm_document::{Description, Document, DocumentFault, LONGEST_DOCUMENT, Script};
 use cm_model::Entry;
 use cm_program::stock::BLANKS;
 use cm_top::{Status, Traced, read_document, read_traced, run_document};
 use cm_words::{Job, JobKind};
-use ctl_bcast::Broadcaster;
-use ctl_forward::{Forward, Passthrough};
-use ctl_mock::Mock;
-use ctl_pid::PidCtl;
-use ctl_rack::{Stock, add};
-use ctl_shape::{DifferentialCtl, LimiterCtl, TransmissionCtl};
+use ctl_any::boxed_blanks;
+use ctl_rack::Stock;
 use ctl_trait::Controller;
-use ctl_traj::TrajCtl;
 use draw_page::{WrongTrace, page_of, trace_page_of, trace_whys_of, whys_of};
 use fixed_num::Memory;
 use outside_io::{ReadFault, Sink, Source, StdSink, StdSource, read_whole, write_whole};
@@ -85,46 +80,7 @@ fn draw_stocked<S: Source, K: Sink>(
     source: &mut S,
     sink: &mut K,
 ) -> Result<Status, Memory> {
-    let mut blanks: Vec<Box<dyn Controller + Send>> = Vec::new(alloc);
-    for _number in 0..BLANKS {
-        add(
-            &mut blanks,
-            CtlKind::Forward,
-            Box::new(alloc, Forward::blank())?,
-        )?;
-        add(
-            &mut blanks,
-            CtlKind::Passthrough,
-            Box::new(alloc, Passthrough::blank())?,
-        )?;
-        add(&mut blanks, CtlKind::Pid, Box::new(alloc, PidCtl::blank())?)?;
-        add(
-            &mut blanks,
-            CtlKind::Trajectory,
-            Box::new(alloc, TrajCtl::blank())?,
-        )?;
-        add(
-            &mut blanks,
-            CtlKind::Broadcaster,
-            Box::new(alloc, Broadcaster::blank())?,
-        )?;
-        add(&mut blanks, CtlKind::Mock, Box::new(alloc, Mock::blank())?)?;
-        add(
-            &mut blanks,
-            CtlKind::Transmission,
-            Box::new(alloc, TransmissionCtl::blank())?,
-        )?;
-        add(
-            &mut blanks,
-            CtlKind::Differential,
-            Box::new(alloc, DifferentialCtl::blank())?,
-        )?;
-        add(
-            &mut blanks,
-            CtlKind::Limiter,
-            Box::new(alloc, LimiterCtl::blank())?,
-        )?;
-    }
+    let blanks = boxed_blanks(alloc, BLANKS)?;
     Ok(draw_over(alloc, asked, source, sink, blanks))
 }
 

@@ -6,16 +6,10 @@ ghost use Rattle.cm_top.specs.Status.{ComesBeforeWriting};
 ghost use Rattle.cm_model.specs.Blanks.{blanks_of_each};
 ghost use Rattle.ctl_rack.specs.Stocks.{AreBlanks};
 
-use cm_document::CtlKind;
 use cm_top::{Status, run};
-use ctl_bcast::Broadcaster;
-use ctl_forward::{Forward, Passthrough};
-use ctl_mock::Mock;
-use ctl_pid::PidCtl;
-use ctl_rack::{Stock, add};
-use ctl_shape::{DifferentialCtl, LimiterCtl, TransmissionCtl};
+use ctl_any::boxed_blanks;
+use ctl_rack::Stock;
 use ctl_trait::Controller;
-use ctl_traj::TrajCtl;
 use fixed_num::Memory;
 use outside_io::{OpenGate, Sink, Source, YieldPace};
 use std::sync::Wait;
@@ -43,47 +37,7 @@ where
     // Where blanks can't be had, nothing was read and nothing written.
     ensures kept { OnErr result ((source.new ≡ source.old) × (sink.new ≡ sink.old)) }
 {
-    let alloc = rt.alloc();
-    let mut blanks: Vec<Box<dyn Controller + Send>> = Vec::new(alloc);
-    for _number in 0..BLANKS {
-        add(
-            &mut blanks,
-            CtlKind::Forward,
-            Box::new(alloc, Forward::blank())?,
-        )?;
-        add(
-            &mut blanks,
-            CtlKind::Passthrough,
-            Box::new(alloc, Passthrough::blank())?,
-        )?;
-        add(&mut blanks, CtlKind::Pid, Box::new(alloc, PidCtl::blank())?)?;
-        add(
-            &mut blanks,
-            CtlKind::Trajectory,
-            Box::new(alloc, TrajCtl::blank())?,
-        )?;
-        add(
-            &mut blanks,
-            CtlKind::Broadcaster,
-            Box::new(alloc, Broadcaster::blank())?,
-        )?;
-        add(&mut blanks, CtlKind::Mock, Box::new(alloc, Mock::blank())?)?;
-        add(
-            &mut blanks,
-            CtlKind::Transmission,
-            Box::new(alloc, TransmissionCtl::blank())?,
-        )?;
-        add(
-            &mut blanks,
-            CtlKind::Differential,
-            Box::new(alloc, DifferentialCtl::blank())?,
-        )?;
-        add(
-            &mut blanks,
-            CtlKind::Limiter,
-            Box::new(alloc, LimiterCtl::blank())?,
-        )?;
-    }
+    let blanks = boxed_blanks(rt.alloc(), BLANKS)?;
     Ok(run_over(rt, words, source, sink, blanks))
 }
 

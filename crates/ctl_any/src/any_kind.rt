@@ -1,5 +1,8 @@
 //! A controller of any kind, without a box.
 
+ghost use Rattle.std.specs.Prelude.{◌≡◌};
+ghost use Rattle.cm_model.specs.State.{fresh};
+
 use cm_document::{CtlKind, Mail, Params};
 use cm_model::Tick;
 use cm_storage::Done;
@@ -35,6 +38,25 @@ pub enum AnyKind {
     Differential(DifferentialCtl),
     /// A limiter.
     Limiter(LimiterCtl),
+}
+
+impl AnyKind {
+    /// One of this kind that is not configured.
+    pub fn blank(kind: CtlKind) -> AnyKind
+        ensures { ⟦<AnyKind as Controller>⟧.meaning result ≡ fresh kind }
+    {
+        match kind {
+            CtlKind::Forward => AnyKind::Forward(Forward::blank()),
+            CtlKind::Passthrough => AnyKind::Passthrough(Passthrough::blank()),
+            CtlKind::Pid => AnyKind::Pid(PidCtl::blank()),
+            CtlKind::Trajectory => AnyKind::Trajectory(TrajCtl::blank()),
+            CtlKind::Broadcaster => AnyKind::Broadcaster(Broadcaster::blank()),
+            CtlKind::Mock => AnyKind::Mock(Mock::blank()),
+            CtlKind::Transmission => AnyKind::Transmission(TransmissionCtl::blank()),
+            CtlKind::Differential => AnyKind::Differential(DifferentialCtl::blank()),
+            CtlKind::Limiter => AnyKind::Limiter(LimiterCtl::blank()),
+        }
+    }
 }
 
 impl Controller for AnyKind {
