@@ -10,3 +10,4 @@ mod limiter;
 mod only;
 mod paced;
 mod transmission;
+mod wanted;

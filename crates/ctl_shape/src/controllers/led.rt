@@ -1,10 +1,11 @@
 //! A position that is led within limits.
 
-ghost use Rattle.std.specs.Prelude.{◌≡◌, ◌≤◌, Some, None, option_map, IfSome, if◌then◌else◌};
+ghost use Rattle.std.specs.Prelude.{◌≡◌, ◌≤◌, Some, None, option_map, IfSome};
 ghost use Rattle.ctl_shape.specs.Limiters.{bounds_in};
 ghost use Rattle.ctl_shape.specs.Controllers.{AreBounds, begun, with_set, IsLedOn};
 
 use crate::controllers::paced::Paced;
+use crate::controllers::wanted::wanted_of;
 use crate::limits::Limits;
 use cm_model::LONGEST_PERIOD;
 use fixed_num::{Fx, Value};
@@ -87,7 +88,7 @@ impl LedLimiter {
         let Some(led) = self.run else {
             return Value::Unset;
         };
-        let wanted = led.wanted(reference);
+        let wanted = wanted_of(led.chained, led.set, reference);
         let at = self.paced.advance(dt_us, led.at, led.step, wanted);
         self.run = Some(Led {
             at,
@@ -95,14 +96,5 @@ impl LedLimiter {
             ..led
         });
         Value::Num(at)
-    }
-}
-
-impl Led {
-    /// What is wanted: the reference where it is chained, else what was set.
-    fn wanted(&self, reference: Value) -> Value
-        ensures { result ≡ (if self.now.chained then reference else self.now.set) }
-    {
-        if self.chained { reference } else { self.set }
     }
 }

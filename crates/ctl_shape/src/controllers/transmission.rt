@@ -1,11 +1,12 @@
 //! The controller that tells an actuator, through a gear, what its joint is to do.
 
-ghost use Rattle.std.specs.Prelude.{◌≡◌, true, pos, int_le, if◌then◌else◌};
+ghost use Rattle.std.specs.Prelude.{◌≡◌, true, pos, int_le};
 ghost use Rattle.cm_model.specs.Controllers.{through};
 ghost use Rattle.cm_model.specs.State.{fresh};
 ghost use Rattle.cm_document.specs.declared.description.CtlKind.TheVariants as kind;
 
 use crate::controllers::only::only;
+use crate::controllers::wanted::wanted_of;
 use crate::simple::Simple;
 use cm_document::{CtlKind, Mail, Params};
 use cm_model::Tick;
@@ -101,7 +102,8 @@ impl Controller for TransmissionCtl {
         ) = &self.kept
         {
             // It has one claim.
-            outs.fill(through(gear, run.wanted(only(refs))));
+            let wanted = wanted_of(run.chained, run.set, only(refs));
+            outs.fill(through(gear, wanted));
         }
         Done::Ok
     }
@@ -114,15 +116,6 @@ impl Controller for TransmissionCtl {
 
     fn cleanup(&mut self) {
         self.kept = None;
-    }
-}
-
-impl SetOne {
-    /// What is wanted: the reference where it is chained, else what was set.
-    fn wanted(&self, reference: Value) -> Value
-        ensures { result ≡ (if self.now.chained then reference else self.now.set) }
-    {
-        if self.chained { reference } else { self.set }
     }
 }
 
