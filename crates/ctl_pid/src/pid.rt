@@ -1,6 +1,6 @@
 //! The pid.
 
-ghost use Rattle.std.specs.Prelude.{◌≡◌, ◌≤◌, [], ◌∷◌, length};
+ghost use Rattle.std.specs.Prelude.{◌≡◌, ◌≤◌, [], ◌∷◌};
 ghost use Rattle.cm_model.specs.State.{fresh};
 ghost use Rattle.cm_document.specs.declared.description.CtlKind.TheVariants as kind;
 ghost use Rattle.ctl_pid.specs.Loops.{running_of, loop_step, corrected_run, correction};
@@ -9,7 +9,7 @@ use crate::tuning::{Tuning, derivative_of, error_of};
 use cm_document::{CtlKind, Mail, Params};
 use cm_model::{LONGEST_PERIOD, Tick};
 use cm_storage::Done;
-use ctl_trait::{CfgFault, Controller};
+use ctl_trait::{CfgFault, Controller, only};
 use fixed_num::{Fx, Value};
 use std::alloc::Global;
 
@@ -143,12 +143,4 @@ impl Run {
         self.last = Some(error);
         tuning.corrected(error, self.integral, derivative)
     }
-}
-
-/// The one item of a list that has one.
-fn only<T: Copy>(items: &[T]) -> T
-    requires { length items.now ≡ 1 }
-    ensures { items.now ≡ result ∷ [] }
-{
-    items[0]
 }

@@ -7,7 +7,6 @@ pub use transmission::TransmissionCtl;
 mod differential;
 mod led;
 mod limiter;
-mod only;
 mod paced;
 mod transmission;
 mod wanted;

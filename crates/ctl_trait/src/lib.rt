@@ -4,11 +4,13 @@
 
 pub use controller::Controller;
 pub use fault::CfgFault;
+pub use items::{both, only};
 pub use kinds::{publishes, shape_of, takes, takes_none};
 pub use set_part::{SetPart, set_numbers};
 
 mod controller;
 mod fault;
 mod in_box;
+mod items;
 mod kinds;
 mod set_part;

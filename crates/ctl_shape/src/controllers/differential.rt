@@ -6,12 +6,11 @@ ghost use Rattle.cm_model.specs.Controllers.{through_both, wanted};
 ghost use Rattle.cm_model.specs.State.{fresh};
 ghost use Rattle.cm_document.specs.declared.description.CtlKind.TheVariants as kind;
 
-use crate::controllers::only::both;
 use crate::differential::Differential;
 use cm_document::{CtlKind, Mail, Params};
 use cm_model::Tick;
 use cm_storage::Done;
-use ctl_trait::{CfgFault, Controller};
+use ctl_trait::{CfgFault, Controller, both};
 use fixed_num::{Fx, Value};
 use iface_names::Kind;
 use std::alloc::Global;

@@ -5,12 +5,11 @@ ghost use Rattle.cm_model.specs.State.{fresh};
 ghost use Rattle.cm_document.specs.declared.description.CtlKind.TheVariants as kind;
 
 use crate::controllers::led::LedLimiter;
-use crate::controllers::only::only;
 use crate::limits::Limits;
 use cm_document::{CtlKind, Mail, Params};
 use cm_model::Tick;
 use cm_storage::Done;
-use ctl_trait::{CfgFault, Controller};
+use ctl_trait::{CfgFault, Controller, only};
 use fixed_num::{Fx, Value};
 use std::alloc::Global;
 

@@ -5,13 +5,12 @@ ghost use Rattle.cm_model.specs.Controllers.{through};
 ghost use Rattle.cm_model.specs.State.{fresh};
 ghost use Rattle.cm_document.specs.declared.description.CtlKind.TheVariants as kind;
 
-use crate::controllers::only::only;
 use crate::controllers::wanted::wanted_of;
 use crate::simple::Simple;
 use cm_document::{CtlKind, Mail, Params};
 use cm_model::Tick;
 use cm_storage::Done;
-use ctl_trait::{CfgFault, Controller};
+use ctl_trait::{CfgFault, Controller, only};
 use fixed_num::{Fx, Value};
 use iface_names::Kind;
 use std::alloc::Global;

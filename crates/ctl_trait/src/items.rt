@@ -3,7 +3,7 @@
 ghost use Rattle.std.specs.Prelude.{◌≡◌, [], ◌∷◌, length};
 
 /// The one item of a list that has one.
-pub(crate) fn only<T: Copy>(items: &[T]) -> T
+pub fn only<T: Copy>(items: &[T]) -> T
     requires { length items.now ≡ 1 }
     ensures { items.now ≡ result ∷ [] }
 {
@@ -11,7 +11,7 @@ pub(crate) fn only<T: Copy>(items: &[T]) -> T
 }
 
 /// The two items of a list that has two.
-pub(crate) fn both<T: Copy>(items: &[T]) -> (T, T)
+pub fn both<T: Copy>(items: &[T]) -> (T, T)
     requires { length items.now ≡ 2 }
     ensures { items.now ≡ result.0 ∷ result.1 ∷ [] }
 {
