@@ -8,10 +8,11 @@ ghost use Rattle.cm_desk.specs.Desk.{IsAnswerTo, is_list, IsShort};
 ghost use Rattle.cm_desk.specs.Works.{IsAnswered};
 
 use crate::works::Works;
-use cm_document::Call;
+use cm_document::{Call, Life, Mail, SwitchRequest};
 use cm_model::{Reply, Request};
 use ctl_trait::Controller;
 use fixed_num::Memory;
+use iface_names::Name;
 use sequence::{Boxed, Shared};
 use std::alloc::Global;
 
@@ -25,17 +26,15 @@ pub(crate) struct Answer<C> {
 
 impl<C: Controller> Works<C> {
     /// Answers a call of a session. Where memory ran out nothing has changed.
-    pub(crate) fn answer(&mut self, alloc: Global, call: Call) -> Result<Answer<C>, Memory>
-        requires { CanAnswer self.old call }
+    pub(crate) fn answer(&mut self, alloc: Global, call: &Call) -> Result<Answer<C>, Memory>
+        requires { CanAnswer self.old call.now }
         ensures made { IfOk result
-            (λ answer. IsAnswerTo self.old call self.new answer.reply (option_map C.meaning answer.given)) }
+            (λ answer. IsAnswerTo self.old call.now self.new answer.reply (option_map C.meaning answer.given)) }
         ensures twice { IfOk result (λ answer. answer.noted ≡ answer.reply) }
         ensures kept { OnErr result (self.new ≡ self.old) }
     {
-        if is_list(&call) {
-            let told = self.told_list(alloc, &call);
-            drop(call);
-            return told;
+        if is_list(call) {
+            return self.told_list(alloc, call);
         }
         let (reply, given) = self.change(alloc, call)?;
         let noted = copied(&reply);
@@ -87,23 +86,23 @@ impl<C: Controller> Works<C> {
 
     /// Answers a call that is no list, by the function of its name. Where memory ran out nothing has changed.
     #[tactic(auto, using(crate::proofs::AnswerLemmas::load_reply_is_short, crate::proofs::AnswerLemmas::reply_on_is_short, crate::proofs::AnswerLemmas::request_reply_is_short))]
-    fn change(&mut self, alloc: Global, call: Call) -> Result<(Reply, Option<C>), Memory>
-        requires { CanChange self.old call }
+    fn change(&mut self, alloc: Global, call: &Call) -> Result<(Reply, Option<C>), Memory>
+        requires { CanChange self.old call.now }
         ensures made { IfOk result
-            (λ answer. IsAnswerTo self.old call self.new answer.0 (option_map C.meaning answer.1)) }
+            (λ answer. IsAnswerTo self.old call.now self.new answer.0 (option_map C.meaning answer.1)) }
         ensures short { IfOk result (λ answer. IsShort answer.0) }
         ensures kept { OnErr result (self.new ≡ self.old) }
     {
         match call {
-            Call::Load(name) => Ok((self.load(&name)?, None)),
-            Call::Configure(name) => Ok((self.configure(alloc, &name)?, None)),
-            Call::Cleanup(name) => Ok((self.cleanup(&name), None)),
-            Call::Unload(name) => Ok(self.unload(&name)),
-            Call::Rate { name, hz } => Ok((self.rate(&name, hz), None)),
-            Call::Send { name, mail } => Ok((self.send(&name, mail), None)),
-            Call::Switch(asked) => Ok((self.ask(alloc, Request::Switch(asked))?, None)),
+            Call::Load(name) => Ok((self.load(name)?, None)),
+            Call::Configure(name) => Ok((self.configure(alloc, name)?, None)),
+            Call::Cleanup(name) => Ok((self.cleanup(name), None)),
+            Call::Unload(name) => Ok(self.unload(name)),
+            Call::Rate { name, hz } => Ok((self.rate(name, *hz), None)),
+            Call::Send { name, mail } => Ok((self.send(name, own_mail(mail)?), None)),
+            Call::Switch(asked) => Ok((self.ask(alloc, switch_of(asked)?)?, None)),
             Call::Hardware { component, target } => Ok((
-                self.ask(alloc, Request::Hardware { component, target })?,
+                self.ask(alloc, move_of(component, *target)?)?,
                 None,
             )),
             _ => unreachable!(),
@@ -121,6 +120,30 @@ impl<C: Controller> Works<C> {
     {
         self.requests.ask(alloc, self.closed, request)
     }
+}
+
+/// The mail of a call, which stays with the history.
+fn own_mail(mail: &Mail) -> Result<Mail, Memory>
+    ensures { IfOk result (λ own. own ≡ mail.now) }
+{
+    Ok(mail.clone()?)
+}
+
+/// The request of a switch, which stays with the history.
+fn switch_of(asked: &SwitchRequest) -> Result<Request, Memory>
+    ensures { IfOk result (λ request. request ≡ Request.Switch asked.now) }
+{
+    Ok(Request::Switch(asked.clone()?))
+}
+
+/// The request that a component moves.
+fn move_of(component: &Name, target: Life) -> Result<Request, Memory>
+    ensures { IfOk result (λ request. request ≡ Request.Hardware component.now target) }
+{
+    Ok(Request::Hardware {
+        component: component.clone()?,
+        target,
+    })
 }
 
 /// Whether the call asks for a list.

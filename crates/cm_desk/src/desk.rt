@@ -88,14 +88,15 @@ impl<C: Controller> Desk<C> {
         ensures kept { MatchResult result (λ _. AreFew self.new.made (now_of self.new)) (λ _. self.new ≡ self.old) }
     {
         let places = self.works.slots().len() + 1;
-        let Ok(kept) = ready(alloc, &call, &mut self.history, &mut self.boxes, places) else {
+        let Ok(_) = make_ready(&mut self.history, &mut self.boxes, places) else {
             drop(call);
             return Err(Memory);
         };
-        let answer = self.works.answer(alloc, call)?;
+        let asked = Boxed::new(alloc, call)?;
+        let answer = self.works.answer(alloc, asked.get())?;
         self.history.push_reserved(Entry {
             who,
-            call: kept,
+            call: KeptCall::of_boxed(asked),
             reply: answer.noted,
         });
         Ok((answer.reply, answer.given))
@@ -289,15 +290,12 @@ fn make_room(history: &mut Vec<Entry>) -> Result<(), Memory>
     Ok(())
 }
 
-/// A call as it is kept, room for its entries, and for so many more boxes.
-fn ready<C: Controller>(
-    alloc: Global,
-    call: &Call,
+/// Room for the entries of a call, and for so many more boxes.
+fn make_ready<C: Controller>(
     history: &mut Vec<Entry>,
     boxes: &mut Vec<C>,
     places: usize,
-) -> Result<KeptCall, Memory>
-    ensures kept { IfOk result (λ kept. kept ≡ call.now) }
+) -> Result<(), Memory>
     ensures room { OnOk result (HasRoomFor history.old.items (vec_capacity history.new)
         × LeavesFew history.old.items × (length boxes.old.items + places ≤ vec_capacity boxes.new)) }
     ensures history { (history.new.items ≡ history.old.items)
@@ -306,7 +304,7 @@ fn ready<C: Controller>(
 {
     make_room(history)?;
     boxes.reserve(places)?;
-    Ok(KeptCall::copy_of(alloc, call)?)
+    Ok(())
 }
 
 /// The entry of a session that is told what became of the request of this ticket.

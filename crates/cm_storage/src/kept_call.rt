@@ -65,17 +65,16 @@ impl KeptCall {
         })
     }
 
-    /// Keeps a call of its own of one that stands elsewhere. A short one takes no memory.
-    pub fn copy_of(alloc: Global, call: &Call) -> Result<KeptCall, AllocError>
-        ensures { IfOk result (λ kept. kept ≡ call.now) }
+    /// Keeps a call that stands on the heap. It takes no memory.
+    pub fn of_boxed(call: Boxed<Call>) -> KeptCall
+        ensures { result ≡ call }
     {
-        if let Some(kept) = in_place(call) {
-            return Ok(KeptCall { kept });
+        match in_place(call.get()) {
+            Some(kept) => KeptCall { kept },
+            None => KeptCall {
+                kept: Short::Long(call),
+            },
         }
-        let own = Boxed::new(alloc, call.clone()?)?;
-        Ok(KeptCall {
-            kept: Short::Long(own),
-        })
     }
 
     /// The begin of the cycle of this number.
