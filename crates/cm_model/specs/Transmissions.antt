@@ -1,12 +1,13 @@
 -- Transmissions: what an actuator is told for what its joint is to do, and what the joint does for what the actuator
 -- does. All is exact in whole micro-units, division rounds down, and a number is brought into the range only where a
 -- formula says so.
-use Rattle.std.specs.Prelude.{ℤ, pos, ◌+ℤ◌, ◌-ℤ◌, ◌*ℤ◌, ◌<ℤ◌}
+use Rattle.std.specs.Prelude.{ℤ, pos, ◌+ℤ◌, ◌-ℤ◌, ◌*ℤ◌, ◌<ℤ◌, IsTrue}
 use Rattle.fixed_num.specs.Micro.{clamped}
 use Rattle.fixed_num.specs.Arithmetic.{floor_div, added, subtracted, multiplied}
 use Rattle.fixed_num.specs.declared.TheConstants.{MICRO}
 use Rattle.iface_names.specs.declared.kind.Kind.{Kind}
 use Rattle.iface_names.specs.declared.kind.Kind.TheVariants.{Position, Velocity, Effort}
+use Rattle.cm_document.specs.Params.{is_motion}
 
 -- a simple transmission: the kind of the values, the reduction, and the joint's position where the actuator's is
 -- nothing
@@ -21,11 +22,9 @@ pub record Pair : Type 0 where
   pub reductions : ℤ × ℤ
   pub offsets : ℤ × ℤ
 
--- positions and velocities are motions, and efforts are not
+-- a position or a velocity, and no effort
 abbrev pub IsMotion : Kind → Type 0
-IsMotion Position = Unit {0}
-IsMotion Velocity = Unit {0}
-IsMotion Effort = ⊥
+IsMotion kind = IsTrue (is_motion kind)
 
 -- a differential has reductions above 0 and carries motions
 pub record IsPair (pair : Pair) : Type 0 where

@@ -56,14 +56,14 @@ told_is : (kind : Kind) (reduction offset r : ℤ) → IsMotion kind → IsInRan
     → told kind reduction offset r ≡ product reduction (own kind offset r)
 told_is Position reduction offset r motion fits fits' = ap (λ x. clamped (product reduction x)) (keeps (r -ℤ offset) fits) ∙ keeps _ fits'
 told_is Velocity reduction offset r motion fits fits' = ap (λ x. clamped (product reduction x)) (less_nothing r) ∙ keeps _ fits'
-told_is Effort reduction offset r motion fits fits' = absurd motion
+told_is Effort reduction offset r motion fits fits' = cc
 
 -- what the joint has is the quotient and the offset
 had_is : (kind : Kind) (reduction offset u : ℤ) → IsMotion kind → IsInRange (quotient reduction u +ℤ offset_of kind offset)
     → had kind reduction offset u ≡ quotient reduction u +ℤ offset_of kind offset
 had_is Position reduction offset u motion fits = keeps _ fits
 had_is Velocity reduction offset u motion fits = ap clamped (and_nothing (quotient reduction u)) ∙ keeps _ fits
-had_is Effort reduction offset u motion fits = absurd motion
+had_is Effort reduction offset u motion fits = cc
 
 pub simple_trip : (gear : Gear) (r : ℤ) → IsMotion gear.kind → pos 0 <ℤ gear.reduction → NothingClamps gear r → IsFromTo (pos 0) (grain gear.reduction) (lost gear r)
 simple_trip gear r motion some fits =
@@ -81,12 +81,12 @@ simple_trip gear r motion some fits =
 own_is : (kind : Kind) (offset r : ℤ) → IsMotion kind → IsInRange (own kind offset r) → less_offset kind offset r ≡ own kind offset r
 own_is Position offset r motion fits = keeps _ fits
 own_is Velocity offset r motion fits = less_nothing r
-own_is Effort offset r motion fits = absurd motion
+own_is Effort offset r motion fits = cc
 
 with_is : (kind : Kind) (offset n : ℤ) → IsMotion kind → IsInRange (n +ℤ offset_of kind offset) → with_offset kind offset n ≡ n +ℤ offset_of kind offset
 with_is Position offset n motion fits = keeps _ fits
 with_is Velocity offset n motion fits = ap clamped (and_nothing n) ∙ keeps _ fits
-with_is Effort offset n motion fits = absurd motion
+with_is Effort offset n motion fits = cc
 
 -- two numbers that come back less by what two grains allow, from their sum and difference
 pub halves : (s d b1 b2 c1 c2 : ℤ) → IsFromTo (pos 0) c1 ((s +ℤ d) -ℤ b1) → IsFromTo (pos 0) c2 ((s -ℤ d) -ℤ b2)
