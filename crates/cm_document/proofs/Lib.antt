@@ -7,6 +7,8 @@ pub mod DocumentLemmas
 pub mod LineLemmas
 pub mod DistinctLemmas
 pub mod GivenLemmas
+pub mod ValueLemmas
+pub mod OwnLemmas
 pub mod KindLemmas
 pub mod ValidLemmas
 pub mod ValidParts

@@ -1,6 +1,6 @@
 -- The tables of a description, one line a key, in the order in which the keys are visited, and the walk over the whole.
-use Rattle.std.specs.Prelude.{ℕ, ◌-◌, ◌^◌, min, ℤ, pos, ◌==◌, Bool, true, false, if◌then◌else◌, List, [], ◌∷◌, ◌++◌}
-use Rattle.std.specs.Prelude.{length, map, flat_map, codes, Option, Some, None, Result, Ok, Err}
+use Rattle.std.specs.Prelude.{ℕ, ℤ, pos, ◌==◌, Bool, true, false, if◌then◌else◌, List, [], ◌∷◌, ◌++◌}
+use Rattle.std.specs.Prelude.{map, flat_map, codes, Option, Some, None, Result, Ok, Err}
 use Rattle.std.specs.Str.{is_utf8}
 use Rattle.std.specs.Option.{option_map_or}
 use Rattle.toml.specs.Data.{Data, Members, get_member}
@@ -10,7 +10,8 @@ use Rattle.fixed_num.specs.declared.TheConstants.{MICRO}
 use Rattle.iface_names.specs.declared.interface.IfaceName.{IfaceName}
 use Rattle.iface_names.specs.declared.interface.IfaceName.TheVariants.{Joint}
 use Rattle.iface_names.specs.declared.kind.Kind.{Kind}
-use Rattle.cm_document.specs.Params.{first_kind}
+use Rattle.iface_names.specs.declared.kind.Kind.TheVariants.{Position}
+use Rattle.cm_document.specs.Params.{made_of}
 use Rattle.cm_document.specs.Reading.{◌>>=◌}
 use Rattle.cm_document.specs.Vocabulary.{component_kinds, lives, lives_on_error, controller_kinds}
 use Rattle.cm_document.specs.Forms.{Form, one, list_of, list_after, tables_of, all_or_list, whole_in, quantity_in}
@@ -102,10 +103,6 @@ states_of components = flat_map (λ c. flat_map states_of_joint c.joints) compon
 
 -- ---- Controllers
 
--- how many, in 32 bits
-abbrev pub count : List IfaceName → ℕ
-count interfaces = min (length interfaces) (2 ^ 32 - 1)
-
 -- what a controller of every type says of itself: its name, its rate and its fallbacks
 pub record Headed : Type 0 where
   pub name : List ℕ
@@ -136,94 +133,58 @@ common make = filled (λ name type rate fallback. make (record { name = name; ra
     & defaulted (codes "update_rate") (one whole_in) 0
     & defaulted (codes "fallback") (list_of name_in) []
 
--- the keys of a forward, or of another type that has claims alone
-abbrev pub claiming_table : (ℕ → Params) → Table CtlDesc
-claiming_table make = common (λ head claims. a_headed head claims [] (make (count claims)))
-    & required (codes "claims") (list_of interface_in)
+-- the key of its claims: a broadcaster has none, and a mock may leave it out
+abbrev pub claims_key : CtlKind → Table (List IfaceName)
+claims_key Broadcaster = filled []
+claims_key Mock = defaulted (codes "claims") (list_of interface_in) []
+claims_key _ = required (codes "claims") (list_of interface_in)
 
--- the keys of a pid
-abbrev pub pid_table : Table CtlDesc
-pid_table =
-    common
-    (λ head claims reads kp ki kd imax omax. a_headed head claims reads (params.Pid kp ki kd imax omax))
-    & required (codes "claims") (list_of interface_in)
-    & required (codes "reads") (list_of state_in)
+-- the key of its reads, which a forward and what shapes a command have not; `all` stands for these states
+abbrev pub reads_key : List IfaceName → CtlKind → Table (List IfaceName)
+reads_key states Pid = required (codes "reads") (list_of state_in)
+reads_key states Trajectory = required (codes "reads") (list_of state_in)
+reads_key states Limiter = required (codes "reads") (list_of state_in)
+reads_key states Broadcaster = required (codes "reads") (all_or_list states)
+reads_key states Mock = defaulted (codes "reads") (list_of state_in) []
+reads_key states _ = filled []
+
+-- The keys that a type alone has give its own parameters. Those that its claims and reads tell are filled in behind.
+abbrev pub own_keys : CtlKind → Table Params
+own_keys Forward = filled (params.Forward 0)
+own_keys Passthrough = filled (params.Passthrough 0)
+own_keys Pid = filled params.Pid
     & defaulted (codes "kp") (one quantity_in) (pos 0)
     & defaulted (codes "ki") (one quantity_in) (pos 0)
     & defaulted (codes "kd") (one quantity_in) (pos 0)
     & defaulted (codes "imax") (one quantity_in) (pos 0)
     & defaulted (codes "omax") (one quantity_in) largest
-
--- the keys of a trajectory
-abbrev pub trajectory_table : Table CtlDesc
-trajectory_table =
-    common (λ head claims reads. a_headed head claims reads (params.Trajectory (count claims)))
-    & required (codes "claims") (list_of interface_in)
-    & required (codes "reads") (list_of state_in)
-
--- the keys of a broadcaster; `all` stands for these states
-abbrev pub broadcaster_table : List IfaceName → Table CtlDesc
-broadcaster_table states =
-    common (λ head reads. a_headed head [] reads (params.Broadcaster (count reads)))
-    & required (codes "reads") (all_or_list states)
-
--- the keys of a mock
-abbrev pub mock_table : Table CtlDesc
-mock_table = common (λ head claims reads refuse_config not_ready fail_update.
-    a_headed head claims reads (params.Mock (count claims) refuse_config not_ready fail_update))
-    & defaulted (codes "claims") (list_of interface_in) []
-    & defaulted (codes "reads") (list_of state_in) []
+own_keys Trajectory = filled (params.Trajectory 0)
+own_keys Broadcaster = filled (params.Broadcaster 0)
+own_keys Mock = filled (params.Mock 0)
     & defaulted (codes "refuse_config") (one boolean_in) false
     & defaulted (codes "not_ready") (list_of whole_in) []
     & defaulted (codes "fail_update") (list_of whole_in) []
-
--- the keys of a transmission, which carries the kind of its claim
-abbrev pub transmission_table : Table CtlDesc
-transmission_table =
-    common
-    (λ head claims reduction offset.
-    a_headed head claims [] (params.Transmission (first_kind claims) reduction offset))
-    & required (codes "claims") (list_of interface_in)
+own_keys Transmission = filled (params.Transmission Position)
     & required (codes "reduction") (one quantity_in)
     & defaulted (codes "offset") (one quantity_in) (pos 0)
-
--- the keys of a differential, which carries the kind of its first claim
-abbrev pub differential_table : Table CtlDesc
-differential_table =
-    common
-    (λ head claims reduction1 reduction2 offset1 offset2.
-    a_headed head claims []
-    (params.Differential (first_kind claims) reduction1 reduction2 offset1 offset2))
-    & required (codes "claims") (list_of interface_in)
+own_keys Differential = filled (params.Differential Position)
     & required (codes "reduction1") (one quantity_in)
     & required (codes "reduction2") (one quantity_in)
     & defaulted (codes "offset1") (one quantity_in) (pos 0)
     & defaulted (codes "offset2") (one quantity_in) (pos 0)
-
--- the keys of a limiter
-abbrev pub limiter_table : Table CtlDesc
-limiter_table =
-    common
-    (λ head claims reads lowest highest vmax amax.
-    a_headed head claims reads (params.Limiter lowest highest vmax amax))
-    & required (codes "claims") (list_of interface_in)
-    & required (codes "reads") (list_of state_in)
+own_keys Limiter = filled params.Limiter
     & required (codes "min") (one quantity_in)
     & required (codes "max") (one quantity_in)
     & required (codes "vmax") (one quantity_in)
     & required (codes "amax") (one quantity_in)
 
--- the keys of a controller by its type
+-- the keys of a controller by its type: its claims and reads come before its own
 unfoldable pub controller_table : List IfaceName → CtlKind → Table CtlDesc
-controller_table states Forward = claiming_table params.Forward
-controller_table states Passthrough = claiming_table params.Passthrough
-controller_table states Pid = pid_table
-controller_table states Trajectory = trajectory_table
-controller_table states Broadcaster = broadcaster_table states
-controller_table states Mock = mock_table
-controller_table states Transmission = transmission_table
-controller_table states Differential = differential_table
-controller_table states Limiter = limiter_table
+controller_table states kind =
+    common (λ head claims reads own. a_headed head claims reads (made_of own claims reads))
+    & claims_key kind
+    & reads_key states kind
+    & own_keys kind
 
 -- the type of a controller, at its key
 abbrev pub type_of : List ℕ → Members → Result CtlKind DescFault

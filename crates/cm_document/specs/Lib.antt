@@ -1,6 +1,7 @@
 -- In reading order: how a description is read and checked, then how a script is, then both together.
 pub mod Reading
 pub mod Params
+pub mod Given
 pub mod Vocabulary
 pub mod Cycles
 pub mod Forms

@@ -1,5 +1,7 @@
 -- What the parameters of a controller say of its kind: a row for each kind in each table.
-use Rattle.std.specs.Prelude.{ℕ, ℤ, pos, Bool, true, false, List, [], ◌∷◌, codes, Option, Some, None}
+use Rattle.std.specs.Prelude.{◌≡◌, ℕ, ◌-◌, ◌^◌, min, ℤ, pos, Bool, true, false, List, [], ◌∷◌, length, codes, Option}
+use Rattle.std.specs.Prelude.{Some, None}
+use Rattle.std.specs.Option.{option_map_or}
 use Rattle.iface_names.specs.declared.interface.IfaceName.{IfaceName}
 use Rattle.iface_names.specs.declared.interface.IfaceName.TheVariants.{Joint, Reference}
 use Rattle.iface_names.specs.declared.kind.Kind.{Kind}
@@ -13,6 +15,7 @@ use Rattle.cm_document.specs.declared.description.Params.TheVariants.{Forward, P
 use Rattle.cm_document.specs.declared.description.Params.TheVariants.{Broadcaster, Mock, Transmission, Differential}
 use Rattle.cm_document.specs.declared.description.Params.TheVariants.{Limiter}
 use Rattle.cm_document.specs.declared.limits.TheConstants.{MOST_CLAIMS_OF_ONE}
+use Rattle.cm_document.specs.declared.shape.Shape.{Shape}
 
 -- ---- What interfaces carry
 
@@ -31,6 +34,10 @@ abbrev pub is_motion : Kind → Bool
 is_motion Position = true
 is_motion Velocity = true
 is_motion Effort = false
+
+-- how many, in 32 bits
+abbrev pub count : List IfaceName → ℕ
+count interfaces = min (length interfaces) (2 ^ 32 - 1)
 
 -- ---- The tables
 
@@ -75,13 +82,28 @@ most_claims (Differential carried reduction1 reduction2 offset1 offset2) = 2
 most_claims (Limiter lowest highest vmax amax) = 1
 most_claims _ = MOST_CLAIMS_OF_ONE
 
--- How many reads it has beside so many claims: a pid and a limiter one, a trajectory as many, every other kind any
--- number.
+-- How many reads it has beside so many claims: a pid and a limiter one, a trajectory as many, a broadcaster and a mock
+-- any number, every other kind none.
 abbrev pub reads_beside : Params → ℕ → Option ℕ
 reads_beside (Pid kp ki kd imax omax) claims = Some 1
 reads_beside (Trajectory outs) claims = Some claims
 reads_beside (Limiter lowest highest vmax amax) claims = Some 1
-reads_beside _ claims = None
+reads_beside (Broadcaster ins) claims = None
+reads_beside (Mock outs refuse_config not_ready fail_update) claims = None
+reads_beside _ claims = Some 0
+
+-- how many claims the parameters tell of: those of the other kinds tell of none, because such a kind has its own number
+abbrev pub told_claims : Params → Option ℕ
+told_claims (Forward outs) = Some outs
+told_claims (Passthrough outs) = Some outs
+told_claims (Trajectory outs) = Some outs
+told_claims (Mock outs refuse_config not_ready fail_update) = Some outs
+told_claims _ = None
+
+-- how many reads they tell of
+abbrev pub told_reads : Params → Option ℕ
+told_reads (Broadcaster ins) = Some ins
+told_reads _ = None
 
 -- The kind that each of its claims has: a transmission and a differential claim what they carry, a limiter positions.
 -- The claims of every other kind may be of any.
@@ -133,3 +155,82 @@ exports_of (Differential carried reduction1 reduction2 offset1 offset2) = EachCl
 exports_of (Limiter lowest highest vmax amax) = EachClaim
 exports_of (Pid kp ki kd imax omax) = FirstRead
 exports_of _ = Nothing
+
+-- the parameters of a kind, with what these claims and these reads tell
+abbrev pub made_of : Params → List IfaceName → List IfaceName → Params
+made_of (Forward outs) claims reads = Forward (count claims)
+made_of (Passthrough outs) claims reads = Passthrough (count claims)
+made_of (Trajectory outs) claims reads = Trajectory (count claims)
+made_of (Broadcaster ins) claims reads = Broadcaster (count reads)
+made_of (Mock outs refuse_config not_ready fail_update) claims reads =
+    Mock (count claims) refuse_config not_ready fail_update
+made_of (Transmission carried reduction offset) claims reads = Transmission (first_kind claims) reduction offset
+made_of (Differential carried reduction1 reduction2 offset1 offset2) claims reads =
+    Differential (first_kind claims) reduction1 reduction2 offset1 offset2
+made_of own claims reads = own
+
+-- ---- The numbers at their keys
+
+-- the quantities of a controller, each at its key
+abbrev pub quantities : Params → List (List ℕ × ℤ)
+quantities (Pid kp ki kd imax omax) =
+    (codes "kp", kp)
+    ∷ (codes "ki", ki)
+    ∷ (codes "kd", kd)
+    ∷ (codes "imax", imax)
+    ∷ (codes "omax", omax)
+    ∷ []
+quantities (Transmission carried reduction offset) = (codes "reduction", reduction) ∷ (codes "offset", offset) ∷ []
+quantities (Differential carried reduction1 reduction2 offset1 offset2) =
+    (codes "reduction1", reduction1)
+    ∷ (codes "reduction2", reduction2)
+    ∷ (codes "offset1", offset1)
+    ∷ (codes "offset2", offset2)
+    ∷ []
+quantities (Limiter lowest highest vmax amax) =
+    (codes "min", lowest) ∷ (codes "max", highest) ∷ (codes "vmax", vmax) ∷ (codes "amax", amax) ∷ []
+quantities _ = []
+
+-- what is so or not, which a mock alone says
+abbrev pub flags : Params → List (List ℕ × Bool)
+flags (Mock outs refuse_config not_ready fail_update) = (codes "refuse_config", refuse_config) ∷ []
+flags _ = []
+
+-- the lists of cycles, which a mock alone has
+abbrev pub cycle_lists : Params → List (List ℕ × List ℕ)
+cycle_lists (Mock outs refuse_config not_ready fail_update) =
+    (codes "not_ready", not_ready) ∷ (codes "fail_update", fail_update) ∷ []
+cycle_lists _ = []
+
+-- ---- What is read off
+
+-- how many claims a controller has: as many as it tells of, else as many as its kind has
+abbrev pub claims_of : Params → ℕ
+claims_of params = option_map_or (λ claims. claims) (told_claims params) (most_claims params)
+
+-- how many references it exports with so many claims
+abbrev pub references_by : Exports → ℕ → ℕ
+references_by Nothing claims = 0
+references_by FirstRead claims = 1
+references_by EachClaim claims = claims
+
+-- how many interfaces a controller has that claims so many and tells of so many reads
+abbrev pub shape_with : ℕ → Option ℕ → Params → Shape
+shape_with claims (Some reads) params = record {
+  claims = claims;
+  reads = Some reads;
+  references = references_by (exports_of params) claims;
+}
+shape_with claims None params = record {
+  claims = claims;
+  reads = reads_beside params claims;
+  references = references_by (exports_of params) claims;
+}
+
+-- How many interfaces a controller claims, reads and exports. A mock reads what it likes.
+abbrev pub shape_of : Params → Shape
+shape_of params = shape_with (claims_of params) (told_reads params) params
+
+-- the parameters tell of these claims and these reads what is so
+abbrev pub AreMadeOf : Params → List IfaceName → List IfaceName → Type 0
+AreMadeOf params claims reads = made_of params claims reads ≡ params

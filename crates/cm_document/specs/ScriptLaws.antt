@@ -2,7 +2,8 @@
 use Rattle.std.specs.Prelude.{◌≡◌, ℕ, ℤ, ◌+◌, ◌<◌, ◌≤◌, Bool, false, IsTrue, Ok, List, [], ◌∷◌, length, codes}
 use Rattle.std.specs.List.{AllByRecursion}
 use Rattle.fixed_num.specs.Micro.{IsInRange}
-use Rattle.iface_names.specs.Names.{is_name, same_name}
+use Rattle.iface_names.specs.Names.{same_name}
+use Rattle.cm_document.specs.Given.{IsName}
 use Rattle.cm_document.specs.declared.limits.TheConstants.{HIGHEST_RATE, MOST_SESSIONS, MOST_CALLS, MOST_NAMES}
 use Rattle.cm_document.specs.declared.limits.TheConstants.{MOST_POINTS, MOST_VALUES}
 use Rattle.cm_document.specs.ScriptRules.{calls_and_turns, script_with}
@@ -21,10 +22,6 @@ use Rattle.cm_document.specs.declared.script.Turn.{Turn}
 use Rattle.cm_document.specs.declared.script.Turn.TheVariants as turn
 
 -- ---- Calls
-
--- a text is a name
-abbrev pub IsName : List ℕ → Type 0
-IsName name = IsTrue (is_name name)
 
 -- values for one controller: 1 to 32 numbers in the range
 pub record AreValues (values : List ℤ) : Type 0 where

@@ -6,11 +6,12 @@ use Rattle.cm_document.specs.Params.{same_controller_kind}
 use Rattle.cm_document.specs.declared.description.CompKind.{CompKind}
 use Rattle.cm_document.specs.declared.description.CompKind.TheVariants.{Sensor, Actuator, System}
 use Rattle.cm_document.specs.declared.description.CtlKind.{CtlKind}
+use Rattle.cm_document.specs.declared.description.TheConstants.{CONTROLLER_KINDS}
 use Rattle.cm_document.specs.declared.life.Life.{Life}
 use Rattle.cm_document.specs.declared.life.Life.TheVariants.{Unconfigured, Inactive, Active, Finalized}
 use Rattle.cm_document.specs.declared.script.Verb.{Verb}
 use Rattle.cm_document.specs.declared.script.Verb.TheVariants as verb
-use Rattle.cm_document.specs.declared.vocabulary.TheConstants.{COMPONENT_KINDS, LIVES, LIVES_ON_ERROR, CONTROLLER_KINDS}
+use Rattle.cm_document.specs.declared.vocabulary.TheConstants.{COMPONENT_KINDS, LIVES, LIVES_ON_ERROR}
 use Rattle.cm_document.specs.declared.vocabulary.TheConstants.{VERBS, STRICTNESSES}
 
 -- ---- Looking up

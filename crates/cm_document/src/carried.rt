@@ -1,7 +1,7 @@
 //! What interfaces carry.
 
 ghost use Rattle.std.specs.Prelude.{◌≡◌};
-ghost use Rattle.cm_document.specs.Params.{is_motion, kind_at, first_kind};
+ghost use Rattle.cm_document.specs.Params.{is_motion, kind_at, first_kind, count};
 
 use iface_names::{IfaceName, Kind};
 
@@ -25,11 +25,18 @@ pub fn is_motion(kind: Kind) -> bool
 }
 
 /// What the first of these carries, and a position if there is none.
-pub fn first_kind(interfaces: &[IfaceName]) -> Kind
+pub(crate) fn first_kind(interfaces: &[IfaceName]) -> Kind
     ensures { result ≡ first_kind interfaces.now }
 {
     match interfaces.first() {
         Some(first) => kind_at(first),
         None => Kind::Position,
     }
+}
+
+/// How many, or the most that 32 bits hold.
+pub(crate) fn count(interfaces: &[IfaceName]) -> u32
+    ensures { result ≡ count interfaces.now }
+{
+    u32::try_from(interfaces.len()).unwrap_or(u32::MAX)
 }

@@ -3,10 +3,10 @@
 ghost use Rattle.std.specs.Prelude.{◌≡◌, take, IfOk};
 ghost use Rattle.cm_document.specs.Links.{exported_for, reference_for};
 ghost use Rattle.cm_document.specs.Params.{kind_of, exports_of, fewest_claims, most_claims, reads_beside};
-ghost use Rattle.cm_document.specs.Params.{claimed_kind, read_kind, may_carry};
+ghost use Rattle.cm_document.specs.Params.{claimed_kind, read_kind, may_carry, told_claims, told_reads, made_of};
 ghost use Rattle.cm_document.specs.Places.{kinds_of};
 
-use crate::carried::is_motion;
+use crate::carried::{count, first_kind, is_motion};
 use crate::cycles::Cycles;
 use crate::life::Life;
 use crate::limits::MOST_CLAIMS_OF_ONE;
@@ -127,6 +127,19 @@ pub enum CtlKind {
     /// Leads a position to where it is wanted, within a speed and an acceleration.
     Limiter,
 }
+
+/// The words for the kinds, in the order in which each kind has its place.
+pub const CONTROLLER_KINDS: [(&str, CtlKind); 9] = [
+    ("forward", CtlKind::Forward),
+    ("passthrough", CtlKind::Passthrough),
+    ("pid", CtlKind::Pid),
+    ("trajectory", CtlKind::Trajectory),
+    ("broadcaster", CtlKind::Broadcaster),
+    ("mock", CtlKind::Mock),
+    ("transmission", CtlKind::Transmission),
+    ("differential", CtlKind::Differential),
+    ("limiter", CtlKind::Limiter),
+];
 
 /// Which references a controller exports.
 #[derive(Clone, Copy, Debug, PartialEq, Eq)]
@@ -340,7 +353,8 @@ impl Params {
         match self {
             Params::Pid { .. } | Params::Limiter { .. } => Some(1),
             Params::Trajectory { .. } => Some(claims),
-            _ => None,
+            Params::Broadcaster { .. } | Params::Mock { .. } => None,
+            _ => Some(0),
         }
     }
 
@@ -362,6 +376,81 @@ impl Params {
         match self {
             Params::Limiter { .. } => Some(Kind::Position),
             _ => None,
+        }
+    }
+
+    /// How many claims they tell of; None if the kind has a number of its own.
+    pub(crate) fn told_claims(&self) -> Option<u32>
+        ensures { result ≡ told_claims self.now }
+    {
+        match self {
+            Params::Forward { outs }
+            | Params::Passthrough { outs }
+            | Params::Trajectory { outs }
+            | Params::Mock { outs, .. } => Some(*outs),
+            _ => None,
+        }
+    }
+
+    /// How many reads they tell of; None if they tell of none.
+    pub(crate) fn told_reads(&self) -> Option<u32>
+        ensures { result ≡ told_reads self.now }
+    {
+        match self {
+            Params::Broadcaster { ins } => Some(*ins),
+            _ => None,
+        }
+    }
+
+    /// The same, with what these claims and these reads tell.
+    pub fn made_of(self, claims: &[IfaceName], reads: &[IfaceName]) -> Params
+        ensures { result ≡ made_of self claims.now reads.now }
+    {
+        match self {
+            Params::Forward { .. } => Params::Forward {
+                outs: count(claims),
+            },
+            Params::Passthrough { .. } => Params::Passthrough {
+                outs: count(claims),
+            },
+            Params::Trajectory { .. } => Params::Trajectory {
+                outs: count(claims),
+            },
+            Params::Broadcaster { .. } => Params::Broadcaster { ins: count(reads) },
+            Params::Mock {
+                refuse_config,
+                not_ready,
+                fail_update,
+                ..
+            } => Params::Mock {
+                outs: count(claims),
+                refuse_config,
+                not_ready,
+                fail_update,
+            },
+            Params::Transmission {
+                reduction,
+                offset,
+                ..
+            } => Params::Transmission {
+                kind: first_kind(claims),
+                reduction,
+                offset,
+            },
+            Params::Differential {
+                reduction1,
+                reduction2,
+                offset1,
+                offset2,
+                ..
+            } => Params::Differential {
+                kind: first_kind(claims),
+                reduction1,
+                reduction2,
+                offset1,
+                offset2,
+            },
+            own => own,
         }
     }
 

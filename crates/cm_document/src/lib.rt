@@ -3,11 +3,12 @@
 #![tactic(auto)]
 
 pub use call::{Call, Mail, Pick, Point2, SwitchRequest};
-pub use carried::{first_kind, is_motion, kind_at};
+pub use carried::{is_motion, kind_at};
 pub use checked::Checked;
 pub use cycles::Cycles;
 pub use description::{
-    CompDesc, CompKind, CtlDesc, CtlKind, Description, Exports, GroupDesc, JointDesc, Params,
+    CONTROLLER_KINDS, CompDesc, CompKind, CtlDesc, CtlKind, Description, Exports, GroupDesc,
+    JointDesc, Params,
 };
 pub use document::Document;
 pub use faults::{CheckFault, DescFault, DescProblem, DocumentFault, ScriptFault, What, Wrong};
@@ -21,9 +22,10 @@ pub use limits::{
 };
 pub use picks::{flat, group_of, has_group};
 pub use script::{Grammar, Script, ScriptLine, SessionText, Turn, Verb, whole_grammar};
+pub use shape::Shape;
 pub use text::Text;
 pub use vocabulary::{
-    COMPONENT_KINDS, CONTROLLER_KINDS, LIVES, LIVES_ON_ERROR, STRICTNESSES, VERBS, meaning_of,
+    COMPONENT_KINDS, LIVES, LIVES_ON_ERROR, STRICTNESSES, VERBS, meaning_of,
 };
 
 mod call;
@@ -39,5 +41,6 @@ mod life;
 mod limits;
 mod picks;
 mod script;
+mod shape;
 mod text;
 mod vocabulary;

@@ -33,7 +33,7 @@ pub fn flat(
 ) -> Result<Vec<Pick>, AllocError>
     ensures { IfOk result (λ list. list.items ≡ flat description.now picks.now) }
 {
-    let mut list = Vec::new(alloc);
+    let mut list = Vec::with_capacity(alloc, picks.len())?;
     for pick in picks {
         push_pick(description, pick, &mut list)?;
     }
@@ -69,6 +69,7 @@ pub fn group_of<'a>(description: &'a Description, name: &Name) -> Option<&'a Gro
 fn push_members(members: &[Name], list: &mut Vec<Pick>) -> Result<(), AllocError>
     ensures { OnOk result (list.new.items ≡ list.old.items ++ map One members.now) }
 {
+    list.reserve(members.len())?;
     for name in members {
         list.push(Pick::One(name.clone()?))?;
     }

@@ -5,7 +5,7 @@ ghost use Rattle.iface_names.specs.Names.{same_name};
 ghost use Rattle.cm_document.specs.Params.{same_controller_kind};
 ghost use Rattle.cm_document.specs.Vocabulary.{listed, same_component_kind, component_word, controller_word, same_life, life_word, same_verb, verb_word, bool_eq, strictness_word};
 
-use crate::description::{CompKind, CtlKind};
+use crate::description::{CONTROLLER_KINDS, CompKind, CtlKind};
 use crate::life::Life;
 use crate::script::Verb;
 
@@ -28,19 +28,6 @@ pub const LIVES: [(&str, Life); 4] = [
 pub const LIVES_ON_ERROR: [(&str, Life); 2] = [
     ("unconfigured", Life::Unconfigured),
     ("finalized", Life::Finalized),
-];
-
-/// What a controller computes.
-pub const CONTROLLER_KINDS: [(&str, CtlKind); 9] = [
-    ("forward", CtlKind::Forward),
-    ("passthrough", CtlKind::Passthrough),
-    ("pid", CtlKind::Pid),
-    ("trajectory", CtlKind::Trajectory),
-    ("broadcaster", CtlKind::Broadcaster),
-    ("mock", CtlKind::Mock),
-    ("transmission", CtlKind::Transmission),
-    ("differential", CtlKind::Differential),
-    ("limiter", CtlKind::Limiter),
 ];
 
 /// The words that a line of a script can begin with.

@@ -1,109 +1,44 @@
 -- A controller of a valid description has parameters with which it can be configured.
-use Rattle.std.proofs.Common.{◌≡◌, ℕ, zero, suc, ◌+◌, ◌≤◌, ◌^◌, ◌-◌, ℤ, Bool, true, false, List, [], ◌∷◌, length, min, Some, Ok, refl, subst, ◌∙◌, arith}
-use Rattle.std.specs.Prelude.{IfOk, codes, nat_le, ◌&&◌, slice_get}
+use Rattle.std.proofs.Common.{◌≡◌, ℕ, zero, suc, ◌+◌, ◌≤◌, ◌^◌, ◌-◌, Bool, true, false, List, [], ◌∷◌, length, min, Some, Ok, refl, sym, subst, ◌∙◌, arith}
+use Rattle.std.specs.Prelude.{IfOk, IfSome, Option, None, codes, nat_le, ◌&&◌, slice_get}
 use Rattle.std.specs.List.{AllByRecursion, list_all}
-use Rattle.std.proofs.lemmas.Bool.{leb-true, and_parts}
+use Rattle.std.specs.Option.{option_map_or}
+use Rattle.std.proofs.lemmas.Bool.{leb-true, le-leb, and_parts}
 use Rattle.std.proofs.lemmas.Option.{same_Some}
 use Rattle.sequence.proofs.ListLemmas.{all_at}
 use Rattle.iface_names.specs.declared.interface.IfaceName.{IfaceName}
 use Rattle.cm_document.specs.Forms.{item_path, inside, tables_of}
-use Rattle.cm_document.specs.Described.{count, a_description, a_grouped, claiming_table, pid_table, trajectory_table, broadcaster_table, mock_table, controller_table, controller_form, type_of, top_table, described_states, is_second, description_form, transmission_table, differential_table, limiter_table}
-use Rattle.cm_document.specs.Params.{fewest_claims, most_claims, limits_at, Bounded, first_kind, claimed_kind, read_kind, may_carry}
+use Rattle.cm_document.specs.Described.{a_description, a_grouped, controller_table, controller_form, type_of, top_table, described_states, is_second, description_form}
+use Rattle.cm_document.specs.Params.{fewest_claims, most_claims, limits_at, Bounded, claimed_kind, read_kind, may_carry, told_claims, shape_of, AreMadeOf}
 use Rattle.cm_document.specs.Valid.{ranged, each_ranged, controller_ranged, claims_fit, reads_fit, limits_ranged, IsDescribed, IsValid, is_bounded, are_all_of, claims_carried, all_bounded, links_ranged}
 use Rattle.cm_document.specs.declared.description.CompDesc.{CompDesc}
 use Rattle.cm_document.specs.declared.description.CtlDesc.{CtlDesc}
 use Rattle.cm_document.specs.declared.description.CtlKind.{CtlKind}
-use Rattle.cm_document.specs.declared.description.CtlKind.TheVariants as kind
 use Rattle.cm_document.specs.declared.description.Description.{Description}
 use Rattle.cm_document.specs.declared.description.GroupDesc.{GroupDesc}
 use Rattle.cm_document.specs.declared.description.Params.{Params}
-use Rattle.cm_document.specs.declared.description.Params.TheVariants.{Forward, Passthrough, Pid, Trajectory, Broadcaster, Mock, Transmission, Differential, Limiter}
+use Rattle.cm_document.specs.declared.description.Params.TheVariants.{Pid}
 use Rattle.cm_document.specs.declared.limits.TheConstants.{HIGHEST_RATE, MOST_FALLBACKS}
+use Rattle.cm_document.specs.declared.shape.Shape.{Shape}
 use Rattle.cm_document.proofs.GivenLemmas.{Gives, filled_gives, next_key, any_key, defaulted_gives, walk_gives, tables_give, anything}
+use Rattle.cm_document.proofs.OwnLemmas.{made_once, told_claims_are, shape_is}
 use Rattle.cm_document.proofs.ReadingLemmas.{bind_keeps, bind_Ok}
 use Rattle.cm_document.proofs.ValidParts.{in_range_passes, parts_of_valid}
-use Rattle.cm_model.specs.Kinds.{shape_of, limits_fit, are_ranged}
+use Rattle.cm_model.specs.Kinds.{limits_fit, are_ranged}
 
 -- ---- Parameters count the links
 
--- these parameters are of these claims and these reads, where they tell of any
-abbrev pub IsShapeOf : Params → List IfaceName → List IfaceName → Type 0
-IsShapeOf (Forward outs) claims reads = (outs ≡ count claims) × (reads ≡ [])
-IsShapeOf (Passthrough outs) claims reads = (outs ≡ count claims) × (reads ≡ [])
-IsShapeOf (Pid kp ki kd imax omax) claims reads = Unit {0}
-IsShapeOf (Trajectory outs) claims reads = outs ≡ count claims
-IsShapeOf (Broadcaster ins) claims reads = (ins ≡ count reads) × (claims ≡ [])
-IsShapeOf (Mock outs refuse_config not_ready fail_update) claims reads = outs ≡ count claims
-IsShapeOf (Transmission carried reduction offset) claims reads = (carried ≡ first_kind claims) × (reads ≡ [])
-IsShapeOf (Differential carried reduction1 reduction2 offset1 offset2) claims reads = (carried ≡ first_kind claims) × (reads ≡ [])
-IsShapeOf (Limiter lowest highest vmax amax) claims reads = Unit {0}
-
--- so are those of a described controller
+-- the parameters of a described controller tell of its claims and reads what is so
 abbrev pub IsShaped : CtlDesc → Type 0
-IsShaped c = IsShapeOf c.params c.claims c.reads
-
-claiming_gives : (make : ℕ → Params) → ((claims : List IfaceName) → IsShapeOf (make (count claims)) claims []) → Gives (claiming_table make).form.read IsShaped
-claiming_gives make holds =
-    any_key {A = List IfaceName} _ _ _ (any_key {A = List (List ℕ)} _ _ _ (any_key {A = ℕ} _ _ _ (any_key {A = CtlKind} _ _ _ (any_key {A = List ℕ} _ _ _ (filled_gives _ _
-    (λ name type rate fallback claims. holds claims))))))
-
-pid_gives : Gives pid_table.form.read IsShaped
-pid_gives =
-    any_key {A = ℤ} _ _ _ (any_key {A = ℤ} _ _ _ (any_key {A = ℤ} _ _ _ (any_key {A = ℤ} _ _ _ (any_key {A = ℤ} _ _ _
-    (any_key {A = List IfaceName} _ _ _ (any_key {A = List IfaceName} _ _ _
-    (any_key {A = List (List ℕ)} _ _ _ (any_key {A = ℕ} _ _ _ (any_key {A = CtlKind} _ _ _ (any_key {A = List ℕ} _ _ _ (filled_gives _ _
-    (λ name type rate fallback claims reads kp ki kd imax omax. tt))))))))))))
-
-trajectory_gives : Gives trajectory_table.form.read IsShaped
-trajectory_gives =
-    any_key {A = List IfaceName} _ _ _ (any_key {A = List IfaceName} _ _ _
-    (any_key {A = List (List ℕ)} _ _ _ (any_key {A = ℕ} _ _ _ (any_key {A = CtlKind} _ _ _ (any_key {A = List ℕ} _ _ _ (filled_gives _ _
-    (λ name type rate fallback claims reads. refl)))))))
-
-broadcaster_gives : (states : List IfaceName) → Gives (broadcaster_table states).form.read IsShaped
-broadcaster_gives states =
-    any_key {A = List IfaceName} _ _ _
-    (any_key {A = List (List ℕ)} _ _ _ (any_key {A = ℕ} _ _ _ (any_key {A = CtlKind} _ _ _ (any_key {A = List ℕ} _ _ _ (filled_gives _ _
-    (λ name type rate fallback reads. (refl, refl)))))))
-
-mock_gives : Gives mock_table.form.read IsShaped
-mock_gives =
-    any_key {A = List ℕ} _ _ _ (any_key {A = List ℕ} _ _ _ (any_key {A = Bool} _ _ _
-    (any_key {A = List IfaceName} _ _ _ (any_key {A = List IfaceName} _ _ _
-    (any_key {A = List (List ℕ)} _ _ _ (any_key {A = ℕ} _ _ _ (any_key {A = CtlKind} _ _ _ (any_key {A = List ℕ} _ _ _ (filled_gives _ _
-    (λ name type rate fallback claims reads refuse_config not_ready fail_update. refl))))))))))
-
-transmission_gives : Gives transmission_table.form.read IsShaped
-transmission_gives =
-    any_key {A = ℤ} _ _ _ (any_key {A = ℤ} _ _ _ (any_key {A = List IfaceName} _ _ _
-    (any_key {A = List (List ℕ)} _ _ _ (any_key {A = ℕ} _ _ _ (any_key {A = CtlKind} _ _ _ (any_key {A = List ℕ} _ _ _ (filled_gives _ _
-    (λ name type rate fallback claims reduction offset. (refl, refl)))))))))
-
-differential_gives : Gives differential_table.form.read IsShaped
-differential_gives =
-    any_key {A = ℤ} _ _ _ (any_key {A = ℤ} _ _ _ (any_key {A = ℤ} _ _ _ (any_key {A = ℤ} _ _ _ (any_key {A = List IfaceName} _ _ _
-    (any_key {A = List (List ℕ)} _ _ _ (any_key {A = ℕ} _ _ _ (any_key {A = CtlKind} _ _ _ (any_key {A = List ℕ} _ _ _ (filled_gives _ _
-    (λ name type rate fallback claims reduction1 reduction2 offset1 offset2. (refl, refl)))))))))))
-
-limiter_gives : Gives limiter_table.form.read IsShaped
-limiter_gives =
-    any_key {A = ℤ} _ _ _ (any_key {A = ℤ} _ _ _ (any_key {A = ℤ} _ _ _ (any_key {A = ℤ} _ _ _
-    (any_key {A = List IfaceName} _ _ _ (any_key {A = List IfaceName} _ _ _
-    (any_key {A = List (List ℕ)} _ _ _ (any_key {A = ℕ} _ _ _ (any_key {A = CtlKind} _ _ _ (any_key {A = List ℕ} _ _ _ (filled_gives _ _
-    (λ name type rate fallback claims reads lowest highest vmax amax. tt)))))))))))
+IsShaped c = AreMadeOf c.params c.claims c.reads
 
 -- a controller of each type is read so
 table_gives : (states : List IfaceName) (kind : CtlKind) → Gives (controller_table states kind).form.read IsShaped
 unfolding controller_table
-table_gives states kind.Forward = claiming_gives Forward (λ claims. (refl, refl))
-table_gives states kind.Passthrough = claiming_gives Passthrough (λ claims. (refl, refl))
-table_gives states kind.Pid = pid_gives
-table_gives states kind.Trajectory = trajectory_gives
-table_gives states kind.Broadcaster = broadcaster_gives states
-table_gives states kind.Mock = mock_gives
-table_gives states kind.Transmission = transmission_gives
-table_gives states kind.Differential = differential_gives
-table_gives states kind.Limiter = limiter_gives
+table_gives states kind =
+    any_key {A = Params} _ _ _ (any_key {A = List IfaceName} _ _ _ (any_key {A = List IfaceName} _ _ _
+    (any_key {A = List (List ℕ)} _ _ _ (any_key {A = ℕ} _ _ _ (any_key {A = CtlKind} _ _ _ (any_key {A = List ℕ} _ _ _ (filled_gives _ _
+    (λ name type rate fallback claims reads own. made_once own claims reads))))))))
 
 controller_gives : (states : List IfaceName) → Gives (controller_form states).read IsShaped
 controller_gives states = record {
@@ -164,10 +99,6 @@ both_true first b one other = rw (one, other) refl
 -- no controller may have more claims than any may
 pub at_most : (params : Params) → most_claims params ≤ 32
 at_most (Pid kp ki kd imax omax) = omega arith
-at_most (Broadcaster ins) = omega arith
-at_most (Transmission carried reduction offset) = omega arith
-at_most (Differential carried reduction1 reduction2 offset1 offset2) = omega arith
-at_most (Limiter lowest highest vmax amax) = omega arith
 at_most _ = omega arith
 
 -- as many as may be are counted
@@ -181,17 +112,21 @@ counted_fit params outs n counted fits =
     let same : outs ≡ n = counted ∙ few n small in
     rw same fits
 
+-- what its parameters tell of, or else what it has at most, is as many as there may be
+told_fit : (params : Params) (told : Option ℕ) (n : ℕ) → IfSome told (λ outs. outs ≡ min n (2 ^ 32 - 1)) → claims_fit params n ≡ true
+    → claims_fit params (option_map_or (λ claims. claims) told (most_claims params)) ≡ true
+told_fit params (Some outs) n counted fits = counted_fit params outs n counted fits
+told_fit params None n counted fits =
+    let most = most_claims params in
+    let both = and_parts (nat_le (fewest_claims params) n) (nat_le n most) fits in
+    let some : fewest_claims params ≤ most = omega (arith, leb-true (fewest_claims params) n both.0, leb-true n most both.1) in
+    both_true (nat_le (fewest_claims params) most) (nat_le most most) (le-leb (fewest_claims params) most some) (le-leb most most (omega arith))
+
 -- the claims that its parameters tell of are as many as there may be
-claims_so : (params : Params) (claims reads : List IfaceName) → IsShapeOf params claims reads → claims_fit params (length claims) ≡ true → claims_fit params (shape_of params).claims ≡ true
-claims_so (Forward outs) claims reads shape fits = counted_fit (Forward outs) outs (length claims) shape.0 fits
-claims_so (Passthrough outs) claims reads shape fits = counted_fit (Passthrough outs) outs (length claims) shape.0 fits
-claims_so (Pid kp ki kd imax omax) claims reads shape fits = refl
-claims_so (Trajectory outs) claims reads shape fits = counted_fit (Trajectory outs) outs (length claims) shape fits
-claims_so (Broadcaster ins) claims reads shape fits = refl
-claims_so (Transmission carried reduction offset) claims reads shape fits = refl
-claims_so (Differential carried reduction1 reduction2 offset1 offset2) claims reads shape fits = refl
-claims_so (Limiter lowest highest vmax amax) claims reads shape fits = refl
-claims_so (Mock outs refuse_config not_ready fail_update) claims reads shape fits = counted_fit (Mock outs refuse_config not_ready fail_update) outs (length claims) shape fits
+claims_so : (params : Params) (claims reads : List IfaceName) → AreMadeOf params claims reads → claims_fit params (length claims) ≡ true → claims_fit params (shape_of params).claims ≡ true
+claims_so params claims reads made fits =
+    subst (λ (s : Shape). claims_fit params s.claims ≡ true) (sym (shape_is params))
+    (told_fit params (told_claims params) (length claims) (told_claims_are params claims reads made) fits)
 
 -- limits that were found so are not below their least
 limits_so : (path : List ℕ) (limits : List Bounded) → all_bounded path limits ≡ Ok tt → list_all is_bounded limits ≡ true
@@ -200,7 +135,7 @@ limits_so path (limit ∷ limits) passes =
     let first = bind_Ok (ranged (is_bounded limit) _) _ tt passes in
     both_true (is_bounded limit) (list_all is_bounded limits) (in_range_passes _ _ first.1) (limits_so path limits first.2)
 
-params_so : (path : List ℕ) (params : Params) (claims reads : List IfaceName) → IsShapeOf params claims reads → claims_fit params (length claims) ≡ true
+params_so : (path : List ℕ) (params : Params) (claims reads : List IfaceName) → AreMadeOf params claims reads → claims_fit params (length claims) ≡ true
     → claims_carried params claims ≡ true → limits_ranged path params ≡ Ok tt → are_ranged params ≡ true
 params_so path params claims reads shape fits carried limits =
     let carries = and_parts (may_carry params) (are_all_of (claimed_kind params) claims) carried in

@@ -4,7 +4,7 @@ use Rattle.std.specs.Prelude.{◌≡◌, ℕ, ◌-◌, ◌≤◌, ℤ, pos, ◌+
 use Rattle.std.specs.Prelude.{map, replicate, Option, Some, None, option_map, IsSomeAnd}
 use Rattle.fixed_num.specs.declared.value.Value.{Value}
 use Rattle.fixed_num.specs.declared.value.Value.TheVariants.{Unset, Num}
-use Rattle.cm_document.specs.Params.{kind_of}
+use Rattle.cm_document.specs.Params.{kind_of, shape_of}
 use Rattle.cm_document.specs.declared.call.Mail.{Mail}
 use Rattle.cm_document.specs.declared.call.Mail.TheVariants.{Values, Points}
 use Rattle.cm_document.specs.declared.call.Point2.{Point2}
@@ -12,7 +12,7 @@ use Rattle.cm_document.specs.declared.description.Params.{Params}
 use Rattle.cm_document.specs.declared.description.Params.TheVariants.{Pid, Trajectory, Broadcaster}
 use Rattle.cm_document.specs.declared.description.Params.TheVariants.{Transmission, Differential, Limiter}
 use Rattle.cm_model.specs.State.{fresh}
-use Rattle.cm_model.specs.Kinds.{shape_of, has_references, publishes, follows_points, tuning_of, bounds_of}
+use Rattle.cm_model.specs.Kinds.{has_references, publishes, follows_points, tuning_of, bounds_of}
 use Rattle.cm_model.specs.Kinds.{is_over_values}
 use Rattle.cm_model.specs.Kinds.{AreItsReads, are_ranged, is_ready_in, fails_in, takes}
 use Rattle.cm_model.specs.Limiters.{Bounds, reach_of, between, wanted_step, new_step}

@@ -3,41 +3,19 @@
 use Rattle.std.specs.Prelude.{◌≡◌, ℕ, ℤ, Bool, true, false, not, ◌&&◌, ◌==◌, List, length, Option, Some, None, is_none}
 use Rattle.std.specs.List.{list_all}
 use Rattle.cm_document.specs.Links.{exports_any}
-use Rattle.cm_document.specs.Params.{kind_of, exports_of, limits_at, may_carry}
+use Rattle.cm_document.specs.Params.{kind_of, exports_of, limits_at, may_carry, shape_of}
 use Rattle.cm_document.specs.Valid.{is_bounded, claims_fit}
 use Rattle.cm_document.specs.declared.call.Mail.{Mail}
 use Rattle.cm_document.specs.declared.call.Mail.TheVariants.{Values, Points}
 use Rattle.cm_document.specs.declared.description.CtlKind.{CtlKind}
 use Rattle.cm_document.specs.declared.description.CtlKind.TheVariants as kind
 use Rattle.cm_document.specs.declared.description.Params.{Params}
-use Rattle.cm_document.specs.declared.description.Params.TheVariants.{Forward, Passthrough, Pid, Trajectory}
-use Rattle.cm_document.specs.declared.description.Params.TheVariants.{Broadcaster, Mock, Transmission, Differential}
-use Rattle.cm_document.specs.declared.description.Params.TheVariants.{Limiter}
+use Rattle.cm_document.specs.declared.description.Params.TheVariants.{Pid, Trajectory, Broadcaster, Mock, Limiter}
 use Rattle.cm_model.specs.Components.{is_listed}
 use Rattle.cm_model.specs.Limiters.{Bounds}
 use Rattle.cm_model.specs.Pids.{Tuning}
-use Rattle.cm_model.specs.declared.shape.Shape.{Shape}
 
 -- ---- What a controller has
-
--- How many interfaces it claims, reads and exports. A pid closes a loop from one state to one claim, and has a
--- reference for it. A passthrough has a reference for each claim, a trajectory a state for each. A broadcaster claims
--- nothing. A mock reads what it likes. A transmission has one claim and a differential two, each with a reference. A
--- limiter has one claim, the state of its position, and a reference.
-abbrev pub shape_of : Params → Shape
-shape_of (Forward outs) = record { claims = outs; reads = Some 0; references = 0 }
-shape_of (Passthrough outs) = record { claims = outs; reads = Some 0; references = outs }
-shape_of (Pid kp ki kd imax omax) = record { claims = 1; reads = Some 1; references = 1 }
-shape_of (Trajectory outs) = record { claims = outs; reads = Some outs; references = 0 }
-shape_of (Broadcaster ins) = record { claims = 0; reads = Some ins; references = 0 }
-shape_of (Mock outs refuse_config not_ready fail_update) = record { claims = outs; reads = None; references = 0 }
-shape_of (Transmission carried reduction offset) = record { claims = 1; reads = Some 0; references = 1 }
-shape_of (Differential carried reduction1 reduction2 offset1 offset2) = record {
-  claims = 2;
-  reads = Some 0;
-  references = 2;
-}
-shape_of (Limiter lowest highest vmax amax) = record { claims = 1; reads = Some 1; references = 1 }
 
 -- it exports references, and so can be chained: another controller may set them
 abbrev pub has_references : Params → Bool

@@ -15,7 +15,6 @@ pub use ports::{LoopPort, Port};
 pub use reply::{Reply, Why};
 pub use request::Request;
 pub use seen::Seen;
-pub use shape::Shape;
 pub use tick::{LONGEST_PERIOD, Tick};
 
 mod blanks;
@@ -33,7 +32,6 @@ mod ports;
 mod reply;
 mod request;
 mod seen;
-mod shape;
 pub mod steady;
 mod tick;
 

@@ -7,7 +7,8 @@ use Rattle.cm_document.specs.declared.life.Life.TheVariants.{Unconfigured, Inact
 use Rattle.cm_model.specs.Commit.{leaving}
 use Rattle.cm_model.specs.Console.{is_inactive}
 use Rattle.cm_model.specs.Controllers.{activated, deactivated, CanBeActivated}
-use Rattle.cm_model.specs.Kinds.{shape_of, AreItsReads}
+use Rattle.cm_document.specs.Params.{shape_of}
+use Rattle.cm_model.specs.Kinds.{AreItsReads}
 use Rattle.cm_model.specs.State.{Loaded, is_active}
 use Rattle.cm_model.specs.declared.data.CtlData.{CtlData}
 use Rattle.cm_model.specs.declared.data.RunData.{RunData}

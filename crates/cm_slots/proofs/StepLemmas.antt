@@ -5,7 +5,7 @@ use Rattle.cm_model.proofs.ControllerLemmas.{only_so, mail_keeps_tells, update_k
 use Rattle.cm_model.proofs.KindLemmas.{starts_as}
 use Rattle.fixed_num.specs.declared.value.Value.{Value}
 use Rattle.fixed_num.specs.declared.value.Value.TheVariants.{Unset, Num}
-use Rattle.cm_document.specs.Params.{kind_of}
+use Rattle.cm_document.specs.Params.{kind_of, shape_of}
 use Rattle.cm_document.specs.declared.call.Mail.{Mail}
 use Rattle.cm_document.specs.declared.call.Point2.{Point2}
 use Rattle.cm_document.specs.declared.description.CtlKind.{CtlKind}
@@ -13,7 +13,7 @@ use Rattle.cm_document.specs.declared.description.Params.{Params}
 use Rattle.cm_document.specs.declared.life.Life.{Life}
 use Rattle.cm_document.specs.declared.life.Life.TheVariants.{Unconfigured, Inactive, Active, Finalized}
 use Rattle.cm_model.specs.Controllers.{Stepped, Updated, started, with_mail, pid_update, loop_update, limiter_update, bounded_update, set_update, trajectory_update, publishes_states, only_if, updated, activated, deactivated, mailed, step_with, update_step, ctl_step, IsIdle, IsRunning, CanBeActivated, CanBeUpdated}
-use Rattle.cm_model.specs.Kinds.{shape_of, publishes, follows_points, tuning_of, bounds_of, is_over_values, fails_in, AreItsReads}
+use Rattle.cm_model.specs.Kinds.{publishes, follows_points, tuning_of, bounds_of, is_over_values, fails_in, AreItsReads}
 use Rattle.cm_model.specs.Limiters.{Bounds}
 use Rattle.cm_model.specs.Pids.{Tuning}
 use Rattle.cm_model.specs.Scene.{is_running}

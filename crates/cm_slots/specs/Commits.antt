@@ -2,7 +2,8 @@
 use Rattle.std.specs.Prelude.{◌≡◌, ℤ, Bool, if◌then◌else◌, List, None, IfSome, ℕ}
 use Rattle.cm_model.specs.Commit.{scene_of, leaving}
 use Rattle.cm_model.specs.Controllers.{activated}
-use Rattle.cm_model.specs.Kinds.{shape_of, AreItsReads}
+use Rattle.cm_document.specs.Params.{shape_of}
+use Rattle.cm_model.specs.Kinds.{AreItsReads}
 use Rattle.cm_model.specs.Order.{Places, set_of}
 use Rattle.cm_model.specs.Scene.{is_chained_in}
 use Rattle.cm_model.specs.State.{State, Loaded}

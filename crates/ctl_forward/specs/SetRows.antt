@@ -9,7 +9,8 @@ use Rattle.cm_document.specs.declared.description.CtlKind.TheVariants as kind
 use Rattle.cm_document.specs.declared.description.Params.{Params}
 use Rattle.cm_document.specs.declared.description.Params.TheVariants.{Forward, Passthrough}
 use Rattle.cm_model.specs.Controllers.{started, updated, gives, wanted}
-use Rattle.cm_model.specs.Kinds.{shape_of, publishes, is_refused, is_ready_in, takes}
+use Rattle.cm_document.specs.Params.{shape_of}
+use Rattle.cm_model.specs.Kinds.{publishes, is_refused, is_ready_in, takes}
 use Rattle.cm_model.specs.declared.data.RunData.TheVariants.{Set}
 use Rattle.cm_model.specs.declared.tick.Tick.{Tick}
 

@@ -2,38 +2,10 @@
 
 ghost use Rattle.std.specs.Prelude.{◌≡◌};
 ghost use Rattle.std.specs.List.{list_all};
-ghost use Rattle.cm_model.specs.Kinds.{publishes, shape_of, takes, takes_none, is_for_claims};
+ghost use Rattle.cm_model.specs.Kinds.{publishes, takes, takes_none, is_for_claims};
 
 use cm_document::{CtlKind, Mail, Params, Point2};
-use cm_model::Shape;
 use fixed_num::Fx;
-
-/// How many interfaces a controller with these parameters has.
-pub fn shape_of(params: &Params) -> Shape
-    ensures { result ≡ shape_of params.now }
-{
-    match params {
-        Params::Forward { outs } => shape(*outs, Some(0), 0),
-        Params::Passthrough { outs } => shape(*outs, Some(0), *outs),
-        Params::Pid { .. } => shape(1, Some(1), 1),
-        Params::Trajectory { outs } => shape(*outs, Some(*outs), 0),
-        Params::Broadcaster { ins } => shape(0, Some(*ins), 0),
-        Params::Mock { outs, .. } => shape(*outs, None, 0),
-        Params::Transmission { .. } => shape(1, Some(0), 1),
-        Params::Differential { .. } => shape(2, Some(0), 2),
-        Params::Limiter { .. } => shape(1, Some(1), 1),
-    }
-}
-
-fn shape(claims: u32, reads: Option<u32>, references: u32) -> Shape
-    ensures { result ≡ record { claims = claims; reads = reads; references = references } }
-{
-    Shape {
-        claims,
-        reads,
-        references,
-    }
-}
 
 /// Whether a controller of this kind publishes what it reads.
 pub fn publishes(kind: CtlKind) -> bool
@@ -81,5 +53,5 @@ fn are_for_claims(params: &Params, points: &[Point2]) -> bool
 fn is_for_claims(params: &Params, values: &[Fx]) -> bool
     ensures { result ≡ is_for_claims params.now values.now }
 {
-    values.len() == shape_of(params).claims as usize
+    values.len() == params.shape().claims
 }

@@ -1,36 +1,33 @@
 -- What stands in a printed table is read back: values, lists, and lists of tables.
-use Rattle.std.proofs.Common.{◌≡◌, ℕ, ◌+◌, ◌<◌, ◌≤◌, ◌^◌, ℤ, pos, Bool, true, false, List, [], ◌∷◌, ◌++◌, length, map, Option, Some, None, Result, Ok, Err, refl, sym, ap, ◌∙◌, arith, append_assoc, subst}
-use Rattle.std.specs.Prelude.{◌||◌}
+use Rattle.std.proofs.Common.{◌≡◌, ℕ, ◌+◌, ◌≤◌, ◌^◌, ℤ, pos, false, List, [], ◌∷◌, ◌++◌, length, map, Some, None, Result, Ok, refl, sym, ap, ◌∙◌, arith, append_assoc, subst}
 use Rattle.std.specs.List.{AllByRecursion, IsDistinct, list_any}
 use Rattle.std.proofs.lemmas.Bool.{lt-ltb}
 use Rattle.std.proofs.lemmas.Int.{ints}
 use Rattle.std.proofs.lemmas.List.{append-nil}
-use Rattle.toml.specs.Data.{Data, string, integer, boolean, array, table, Items, no_items, item, Members, get_member}
+use Rattle.toml.specs.Data.{Data, string, integer, array, table, Members, get_member}
 use Rattle.toml.specs.View.{items_of}
 use Rattle.fixed_num.specs.Micro.{IsInRange}
-use Rattle.fixed_num.specs.Text.{number_of, spelled}
+use Rattle.fixed_num.specs.Text.{spelled}
 use Rattle.fixed_num.proofs.ReadBackLemmas.{spelled_reads_back}
-use Rattle.iface_names.specs.Interfaces.{interface_of, interface_text, kind_named, kind_word, same_kind}
+use Rattle.iface_names.specs.Interfaces.{interface_text, kind_named, kind_word, same_kind}
 use Rattle.iface_names.specs.declared.interface.IfaceName.{IfaceName}
 use Rattle.iface_names.specs.declared.interface.IfaceName.TheVariants.{Joint, Reference}
 use Rattle.iface_names.specs.declared.kind.Kind.{Kind}
 use Rattle.iface_names.specs.declared.kind.Kind.TheVariants.{Position, Velocity, Effort}
 use Rattle.iface_names.proofs.TextLemmas.{joint_reads_back, reference_reads_back}
 use Rattle.cm_document.specs.Reading.{◌>>=◌}
-use Rattle.cm_document.specs.Vocabulary.{component_word, component_kinds, controller_word, controller_kinds, life_word, lives, lives_on_error}
-use Rattle.cm_document.specs.Forms.{Form, item_path, inside, placed, one, whole_in, quantity_in, boolean_in, name_in, word_in, interface_in, of_joint, state_in, new_kind, kind_in, items_from, list_read, list_of, list_after, tables_from, tables_of, all_or_list}
+use Rattle.cm_document.specs.Vocabulary.{component_word, component_kinds, controller_word, controller_kinds, life_word, lives}
+use Rattle.cm_document.specs.Forms.{Form, item_path, inside, placed, whole_in, quantity_in, name_in, word_in, interface_in, state_in, kind_in, items_from, list_of, list_after, tables_from, tables_of}
 use Rattle.cm_document.specs.Tables.{required_read, defaulted_read}
 use Rattle.cm_document.specs.declared.description.CompKind.{CompKind}
 use Rattle.cm_document.specs.declared.description.CompKind.TheVariants.{Sensor, Actuator, System}
 use Rattle.cm_document.specs.declared.description.CtlKind.{CtlKind}
 use Rattle.cm_document.specs.declared.description.CtlKind.TheVariants as kind
-use Rattle.cm_document.specs.declared.faults.DescFault.{DescFault}
 use Rattle.cm_document.specs.declared.faults.Wrong.{Wrong}
-use Rattle.cm_document.specs.declared.faults.Wrong.TheVariants as wrong
 use Rattle.cm_document.specs.declared.life.Life.{Life}
 use Rattle.cm_document.specs.declared.life.Life.TheVariants.{Unconfigured, Inactive, Active, Finalized}
-use Rattle.desc_text.specs.Printed.{Row, table_of, listed, names, cycles, interfaces, kinds}
-use Rattle.desc_text.specs.Readable.{IsName, IsWhole, AreWholes, IsNamed, IsOfJoint}
+use Rattle.desc_text.specs.Printed.{Row, table_of, listed, cycles, kinds}
+use Rattle.cm_document.specs.Given.{IsName, IsWhole, AreWholes, IsNamed, IsOfJoint}
 use Rattle.desc_text.proofs.RowLemmas.{table_at, value_at}
 
 -- ---- One value
@@ -63,14 +60,7 @@ life_back Finalized = refl
 -- the type of a controller is read back from its word
 pub controller_word_back : (k : CtlKind) → word_in controller_kinds (string (controller_word k)) ≡ Ok k
 controller_word_back kind.Forward = refl
-controller_word_back kind.Passthrough = refl
-controller_word_back kind.Pid = refl
-controller_word_back kind.Trajectory = refl
-controller_word_back kind.Broadcaster = refl
-controller_word_back kind.Mock = refl
-controller_word_back kind.Transmission = refl
-controller_word_back kind.Differential = refl
-controller_word_back kind.Limiter = refl
+controller_word_back _ = refl
 
 -- an interface is read back from its text
 pub interface_back : (interface : IfaceName) → IsNamed interface → interface_in (string (interface_text interface)) ≡ Ok interface

@@ -1,24 +1,29 @@
 -- The tables of controllers are read back, kind by kind.
-use Rattle.std.proofs.Common.{◌≡◌, ℕ, ◌≤◌, ℤ, pos, Bool, false, List, [], ◌∷◌, ◌++◌, length, None, Some, Ok, refl, ap, ◌∙◌}
-use Rattle.std.specs.Prelude.{codes}
+use Rattle.std.proofs.Common.{◌≡◌, ℕ, ◌≤◌, ℤ, pos, Bool, true, false, List, [], ◌++◌, length, None, Ok, refl, ap, ◌∙◌, arith}
+use Rattle.std.specs.Prelude.{codes, nat_le, ◌==◌, ◌&&◌}
 use Rattle.std.specs.List.{AllByRecursion}
+use Rattle.std.proofs.lemmas.Bool.{leb-true, eqb-true, and_parts}
+use Rattle.std.proofs.lemmas.List.{nil_from_length}
 use Rattle.toml.specs.Data.{Members, string, get_member}
 use Rattle.fixed_num.specs.Micro.{largest, IsInRange}
 use Rattle.iface_names.specs.Interfaces.{interface_text}
 use Rattle.iface_names.specs.declared.interface.IfaceName.{IfaceName}
-use Rattle.cm_document.specs.Params.{kind_of, first_kind}
+use Rattle.iface_names.specs.declared.kind.Kind.TheVariants.{Position}
+use Rattle.cm_document.specs.Given.{IsName, IsWhole, IsNamed, IsOfJoint, AreNumbers}
+use Rattle.cm_document.specs.Params.{kind_of, fewest_claims, most_claims, made_of}
 use Rattle.cm_document.specs.Reading.{◌>>=◌}
 use Rattle.cm_document.specs.Vocabulary.{controller_kinds, controller_word}
 use Rattle.cm_document.specs.Forms.{one, list_of, all_or_list, whole_in, quantity_in, boolean_in, name_in, word_in, interface_in, state_in}
 use Rattle.cm_document.specs.Tables.{required_read, defaulted_read, unlisted, walk}
-use Rattle.cm_document.specs.Described.{count, Headed, a_headed, claiming_table, pid_table, trajectory_table, broadcaster_table, mock_table, transmission_table, differential_table, limiter_table, controller_table, type_of, controller_form}
+use Rattle.cm_document.specs.Described.{Headed, a_headed, claims_key, reads_key, own_keys, controller_table, type_of, controller_form}
 use Rattle.cm_document.specs.declared.description.CtlDesc.{CtlDesc}
 use Rattle.cm_document.specs.declared.description.CtlKind.{CtlKind}
 use Rattle.cm_document.specs.declared.description.CtlKind.TheVariants as kind
 use Rattle.cm_document.specs.declared.description.Params.{Params}
 use Rattle.cm_document.specs.declared.description.Params.TheVariants as params
+use Rattle.cm_document.specs.declared.limits.TheConstants.{MOST_CLAIMS_OF_ONE}
 use Rattle.desc_text.specs.Printed.{Row, table_of, text, whole, names, quantity, interfaces, controller_rows, controller_tree}
-use Rattle.desc_text.specs.Readable.{IsName, IsWhole, AreWholes, IsNamed, IsOfJoint, Fits, ControllerIsReadable}
+use Rattle.desc_text.specs.Readable.{Fits, ControllerIsReadable}
 use Rattle.desc_text.proofs.RowLemmas.{value_at, none_besides}
 use Rattle.desc_text.proofs.BackLemmas.{name_back, whole_back, quantity_back, controller_word_back, interface_back, state_back, each_so, array_back, list_back, full_list_back, cycles_back, required_at, defaulted_at, one_back}
 
@@ -106,261 +111,161 @@ quantity_or default key rows prefix q within e =
     defaulted_at key (one quantity_in) default rows (prefix ++ key) q
     (ap (defaulted_read (one quantity_in) default (prefix ++ key)) e ∙ one_back _ _ _ (quantity_back q within))
 
--- ---- Forwards and passthroughs
+-- ---- What depends on the type
 
-abbrev claiming_keys : List (List ℕ)
-claiming_keys = codes "name" ∷ codes "type" ∷ codes "update_rate" ∷ codes "fallback" ∷ codes "claims" ∷ []
+-- the table of a controller with this head and these parameters
+abbrev rows_of : Headed → List IfaceName → List IfaceName → Params → List Row
+rows_of head claims reads p = controller_rows (a_headed head claims reads p)
 
-claiming_read : (make : ℕ → Params) (prefix : List ℕ) (ms : Members) (head : Headed) (kind : CtlKind) (claims : List IfaceName) → unlisted claiming_keys ms ≡ []
-    → HeadReads prefix ms head kind → ClaimsRead prefix ms claims → (walk (claiming_table make)).read prefix ms ≡ Ok (a_headed head claims [] (make (count claims)))
-claiming_read make prefix ms head kind claims listed h a = rw (listed, h.name, h.type_is, h.rate, h.fallback, a) refl
+-- a controller of a type without a key for them reads nothing,
+no_reads : (reads : List IfaceName) → (length reads == 0) ≡ true → reads ≡ []
+no_reads reads none = nil_from_length reads (eqb-true (length reads) 0 none)
 
-forward_back : (states : List IfaceName) (head : Headed) (claims : List IfaceName) → HeadIsReadable head → AllByRecursion IsNamed claims → 1 ≤ length claims
-    → (prefix : List ℕ) → let c = a_headed head claims [] (params.Forward (count claims)) in (controller_form states).read prefix (controller_tree c) ≡ Ok c
+-- and one that may claim nothing claims nothing
+no_claims : (claims : List IfaceName) → (nat_le 0 (length claims) && nat_le (length claims) 0) ≡ true → claims ≡ []
+no_claims claims none = nil_from_length claims (omega (arith, leb-true (length claims) 0 (and_parts (nat_le 0 (length claims)) (nat_le (length claims) 0) none).1))
+
+-- the head of a printed table is read back
+head_at : (head : Headed) (claims reads : List IfaceName) (p : Params) → HeadIsReadable head → (prefix : List ℕ)
+    → HeadReads prefix (table_of (rows_of head claims reads p)) head (kind_of p)
+head_at head claims reads (params.Pid kp ki kd imax omax) can prefix = head_back head can kind.Pid (rows_of head claims reads (params.Pid kp ki kd imax omax)) prefix refl refl refl refl
+head_at head claims reads p can prefix = head_back head can (kind_of p) (rows_of head claims reads p) prefix refl refl refl refl
+
+-- it has no key but those of its type
+listed_at : (states : List IfaceName) (head : Headed) (claims reads : List IfaceName) (p : Params) → Fits p claims reads
+    → unlisted (controller_table states (kind_of p)).keys (table_of (rows_of head claims reads p)) ≡ []
 unfolding controller_table
-forward_back states head claims can named some prefix =
-    let c = a_headed head claims [] (params.Forward (count claims)) in
-    let rows = controller_rows c in
-    let h = head_back head can kind.Forward rows prefix refl refl refl refl in
-    typed_read states prefix (table_of rows) kind.Forward c h.type_is
-    (claiming_read params.Forward prefix (table_of rows) head kind.Forward claims (none_besides claiming_keys rows refl) h (claims_back rows prefix claims named some refl))
+listed_at states head claims reads (params.Pid kp ki kd imax omax) fits = none_besides (controller_table states kind.Pid).keys (rows_of head claims reads (params.Pid kp ki kd imax omax)) refl
+listed_at states head claims reads (params.Trajectory outs) fits = none_besides (controller_table states kind.Trajectory).keys (rows_of head claims reads (params.Trajectory outs)) refl
+listed_at states head claims reads (params.Limiter lowest highest vmax amax) fits =
+    none_besides (controller_table states kind.Limiter).keys (rows_of head claims reads (params.Limiter lowest highest vmax amax)) refl
+listed_at states head claims reads (params.Mock outs refuse_config not_ready fail_update) fits =
+    none_besides (controller_table states kind.Mock).keys (rows_of head claims reads (params.Mock outs refuse_config not_ready fail_update)) refl
+listed_at states head claims reads (params.Broadcaster ins) fits =
+    rw (no_claims claims fits.claims) (none_besides (controller_table states kind.Broadcaster).keys (rows_of head [] reads (params.Broadcaster ins)) refl)
+listed_at states head claims reads p fits =
+    rw (no_reads reads fits.reads) (none_besides (controller_table states (kind_of p)).keys (rows_of head claims [] p) refl)
 
-passthrough_back : (states : List IfaceName) (head : Headed) (claims : List IfaceName) → HeadIsReadable head → AllByRecursion IsNamed claims → 1 ≤ length claims
-    → (prefix : List ℕ) → let c = a_headed head claims [] (params.Passthrough (count claims)) in (controller_form states).read prefix (controller_tree c) ≡ Ok c
-unfolding controller_table
-passthrough_back states head claims can named some prefix =
-    let c = a_headed head claims [] (params.Passthrough (count claims)) in
-    let rows = controller_rows c in
-    let h = head_back head can kind.Passthrough rows prefix refl refl refl refl in
-    typed_read states prefix (table_of rows) kind.Passthrough c h.type_is
-    (claiming_read params.Passthrough prefix (table_of rows) head kind.Passthrough claims (none_besides claiming_keys rows refl) h
-    (claims_back rows prefix claims named some refl))
+-- its claims are read back
+claims_at : (head : Headed) (claims reads : List IfaceName) (p : Params) → Fits p claims reads → AllByRecursion IsNamed claims → (prefix : List ℕ)
+    → (claims_key (kind_of p)).form.read prefix (table_of (rows_of head claims reads p)) ≡ Ok claims
+claims_at head claims reads (params.Broadcaster ins) fits named prefix = rw (no_claims claims fits.claims) refl
+claims_at head claims reads (params.Mock outs refuse_config not_ready fail_update) fits named prefix =
+    defaulted_at (codes "claims") (list_of interface_in) [] (rows_of head claims reads (params.Mock outs refuse_config not_ready fail_update)) (prefix ++ codes "claims") claims
+    (list_back interface_in (λ i. string (interface_text i)) (prefix ++ codes "claims") claims (each_so IsNamed _ interface_back claims named))
+claims_at head claims reads p fits named prefix =
+    let both = and_parts (nat_le (fewest_claims p) (length claims)) (nat_le (length claims) (most_claims p)) fits.claims in
+    claims_back (rows_of head claims reads p) prefix claims named (omega (arith, leb-true (fewest_claims p) (length claims) both.0)) refl
 
--- ---- Pids
+-- and its reads, which are as many as beside its claims
+reads_at : (states : List IfaceName) (head : Headed) (claims reads : List IfaceName) (p : Params) → Fits p claims reads → AllByRecursion IsOfJoint reads → (prefix : List ℕ)
+    → (reads_key states (kind_of p)).form.read prefix (table_of (rows_of head claims reads p)) ≡ Ok reads
+reads_at states head claims reads (params.Pid kp ki kd imax omax) fits named prefix =
+    reads_back (rows_of head claims reads (params.Pid kp ki kd imax omax)) prefix reads named (omega (arith, eqb-true (length reads) 1 fits.reads)) refl
+reads_at states head claims reads (params.Limiter lowest highest vmax amax) fits named prefix =
+    reads_back (rows_of head claims reads (params.Limiter lowest highest vmax amax)) prefix reads named (omega (arith, eqb-true (length reads) 1 fits.reads)) refl
+reads_at states head claims reads (params.Trajectory outs) fits named prefix =
+    let both = and_parts (nat_le 1 (length claims)) (nat_le (length claims) MOST_CLAIMS_OF_ONE) fits.claims in
+    reads_back (rows_of head claims reads (params.Trajectory outs)) prefix reads named
+    (omega (arith, leb-true 1 (length claims) both.0, eqb-true (length reads) (length claims) fits.reads)) refl
+reads_at states head claims reads (params.Broadcaster ins) fits named prefix =
+    required_at (codes "reads") (all_or_list states) (rows_of head claims reads (params.Broadcaster ins)) (prefix ++ codes "reads") reads
+    (array_back state_in (λ i. string (interface_text i)) (prefix ++ codes "reads") reads (each_so IsOfJoint _ state_back reads named))
+reads_at states head claims reads (params.Mock outs refuse_config not_ready fail_update) fits named prefix =
+    defaulted_at (codes "reads") (list_of state_in) [] (rows_of head claims reads (params.Mock outs refuse_config not_ready fail_update)) (prefix ++ codes "reads") reads
+    (list_back state_in (λ i. string (interface_text i)) (prefix ++ codes "reads") reads (each_so IsOfJoint _ state_back reads named))
+reads_at states head claims reads p fits named prefix = rw (no_reads reads fits.reads) refl
 
-abbrev pid_keys : List (List ℕ)
-pid_keys =
-    codes "name" ∷ codes "type" ∷ codes "update_rate" ∷ codes "fallback" ∷ codes "claims" ∷ codes "reads" ∷ codes "kp" ∷ codes "ki" ∷ codes "kd" ∷ codes "imax" ∷ codes "omax" ∷ []
+-- ---- The keys that a type alone has
 
-pid_read : (prefix : List ℕ) (ms : Members) (head : Headed) (kind : CtlKind) (claims reads : List IfaceName) (kp ki kd imax omax : ℤ) → unlisted pid_keys ms ≡ []
-    → HeadReads prefix ms head kind → ClaimsRead prefix ms claims → ReadsRead prefix ms reads
+pid_read : (prefix : List ℕ) (ms : Members) (kp ki kd imax omax : ℤ)
     → QuantityOr (pos 0) (codes "kp") prefix ms kp → QuantityOr (pos 0) (codes "ki") prefix ms ki → QuantityOr (pos 0) (codes "kd") prefix ms kd
     → QuantityOr (pos 0) (codes "imax") prefix ms imax → QuantityOr largest (codes "omax") prefix ms omax
-    → (walk pid_table).read prefix ms ≡ Ok (a_headed head claims reads (params.Pid kp ki kd imax omax))
-pid_read prefix ms head kind claims reads kp ki kd imax omax listed h a b p i d m o =
-    rw (listed, h.name, h.type_is, h.rate, h.fallback, a, b, p, i, d, m, o) refl
+    → (own_keys kind.Pid).form.read prefix ms ≡ Ok (params.Pid kp ki kd imax omax)
+pid_read prefix ms kp ki kd imax omax p i d m o = rw (p, i, d, m, o) refl
 
-pid_back : (states : List IfaceName) (head : Headed) (claims reads : List IfaceName) (kp ki kd imax omax : ℤ) → HeadIsReadable head
-    → AllByRecursion IsNamed claims → AllByRecursion IsOfJoint reads → Fits (params.Pid kp ki kd imax omax) claims reads
-    → (prefix : List ℕ) → let c = a_headed head claims reads (params.Pid kp ki kd imax omax) in (controller_form states).read prefix (controller_tree c) ≡ Ok c
-unfolding controller_table
-pid_back states head claims reads kp ki kd imax omax can named read fits prefix =
-    let c = a_headed head claims reads (params.Pid kp ki kd imax omax) in
-    let rows = controller_rows c in
-    let h = head_back head can kind.Pid rows prefix refl refl refl refl in
-    typed_read states prefix (table_of rows) kind.Pid c h.type_is
-    (pid_read prefix (table_of rows) head kind.Pid claims reads kp ki kd imax omax (none_besides pid_keys rows refl) h
-    (claims_back rows prefix claims named fits.0 refl)
-    (reads_back rows prefix reads read fits.1 refl)
-    (quantity_or (pos 0) (codes "kp") rows prefix kp fits.2 refl)
-    (quantity_or (pos 0) (codes "ki") rows prefix ki fits.3 refl)
-    (quantity_or (pos 0) (codes "kd") rows prefix kd fits.4 refl)
-    (quantity_or (pos 0) (codes "imax") rows prefix imax fits.5 refl)
-    (quantity_or largest (codes "omax") rows prefix omax fits.6 refl))
-
--- ---- Trajectories
-
-abbrev trajectory_keys : List (List ℕ)
-trajectory_keys = codes "name" ∷ codes "type" ∷ codes "update_rate" ∷ codes "fallback" ∷ codes "claims" ∷ codes "reads" ∷ []
-
-trajectory_read : (prefix : List ℕ) (ms : Members) (head : Headed) (kind : CtlKind) (claims reads : List IfaceName) → unlisted trajectory_keys ms ≡ []
-    → HeadReads prefix ms head kind → ClaimsRead prefix ms claims → ReadsRead prefix ms reads
-    → (walk trajectory_table).read prefix ms ≡ Ok (a_headed head claims reads (params.Trajectory (count claims)))
-trajectory_read prefix ms head kind claims reads listed h a b = rw (listed, h.name, h.type_is, h.rate, h.fallback, a, b) refl
-
-trajectory_back : (states : List IfaceName) (head : Headed) (claims reads : List IfaceName) → HeadIsReadable head
-    → AllByRecursion IsNamed claims → AllByRecursion IsOfJoint reads → 1 ≤ length claims → 1 ≤ length reads
-    → (prefix : List ℕ) → let c = a_headed head claims reads (params.Trajectory (count claims)) in (controller_form states).read prefix (controller_tree c) ≡ Ok c
-unfolding controller_table
-trajectory_back states head claims reads can named read some some_reads prefix =
-    let c = a_headed head claims reads (params.Trajectory (count claims)) in
-    let rows = controller_rows c in
-    let h = head_back head can kind.Trajectory rows prefix refl refl refl refl in
-    typed_read states prefix (table_of rows) kind.Trajectory c h.type_is
-    (trajectory_read prefix (table_of rows) head kind.Trajectory claims reads (none_besides trajectory_keys rows refl) h
-    (claims_back rows prefix claims named some refl) (reads_back rows prefix reads read some_reads refl))
-
--- ---- Broadcasters
-
-abbrev broadcaster_keys : List (List ℕ)
-broadcaster_keys = codes "name" ∷ codes "type" ∷ codes "update_rate" ∷ codes "fallback" ∷ codes "reads" ∷ []
-
-broadcaster_read : (states : List IfaceName) (prefix : List ℕ) (ms : Members) (head : Headed) (kind : CtlKind) (reads : List IfaceName) → unlisted broadcaster_keys ms ≡ []
-    → HeadReads prefix ms head kind → required_read (all_or_list states) (prefix ++ codes "reads") (get_member (codes "reads") ms) ≡ Ok reads
-    → (walk (broadcaster_table states)).read prefix ms ≡ Ok (a_headed head [] reads (params.Broadcaster (count reads)))
-broadcaster_read states prefix ms head kind reads listed h a = rw (listed, h.name, h.type_is, h.rate, h.fallback, a) refl
-
-broadcaster_back : (states : List IfaceName) (head : Headed) (reads : List IfaceName) → HeadIsReadable head → AllByRecursion IsOfJoint reads
-    → (prefix : List ℕ) → let c = a_headed head [] reads (params.Broadcaster (count reads)) in (controller_form states).read prefix (controller_tree c) ≡ Ok c
-unfolding controller_table
-broadcaster_back states head reads can read prefix =
-    let c = a_headed head [] reads (params.Broadcaster (count reads)) in
-    let rows = controller_rows c in
-    let h = head_back head can kind.Broadcaster rows prefix refl refl refl refl in
-    typed_read states prefix (table_of rows) kind.Broadcaster c h.type_is
-    (broadcaster_read states prefix (table_of rows) head kind.Broadcaster reads (none_besides broadcaster_keys rows refl) h
-    (required_at (codes "reads") (all_or_list states) rows (prefix ++ codes "reads") reads
-    (array_back state_in (λ i. string (interface_text i)) (prefix ++ codes "reads") reads (each_so IsOfJoint _ state_back reads read))))
-
--- ---- Mocks
-
-abbrev mock_keys : List (List ℕ)
-mock_keys =
-    codes "name" ∷ codes "type" ∷ codes "update_rate" ∷ codes "fallback" ∷ codes "claims" ∷ codes "reads" ∷ codes "refuse_config" ∷ codes "not_ready" ∷ codes "fail_update" ∷ []
-
-mock_read : (prefix : List ℕ) (ms : Members) (head : Headed) (kind : CtlKind) (claims reads : List IfaceName) (refuse_config : Bool) (not_ready fail_update : List ℕ)
-    → unlisted mock_keys ms ≡ [] → HeadReads prefix ms head kind
-    → defaulted_read (list_of interface_in) [] (prefix ++ codes "claims") (get_member (codes "claims") ms) ≡ Ok claims
-    → defaulted_read (list_of state_in) [] (prefix ++ codes "reads") (get_member (codes "reads") ms) ≡ Ok reads
+mock_read : (prefix : List ℕ) (ms : Members) (refuse_config : Bool) (not_ready fail_update : List ℕ)
     → defaulted_read (one boolean_in) false (prefix ++ codes "refuse_config") (get_member (codes "refuse_config") ms) ≡ Ok refuse_config
     → defaulted_read (list_of whole_in) [] (prefix ++ codes "not_ready") (get_member (codes "not_ready") ms) ≡ Ok not_ready
     → defaulted_read (list_of whole_in) [] (prefix ++ codes "fail_update") (get_member (codes "fail_update") ms) ≡ Ok fail_update
-    → (walk mock_table).read prefix ms ≡ Ok (a_headed head claims reads (params.Mock (count claims) refuse_config not_ready fail_update))
-mock_read prefix ms head kind claims reads refuse_config not_ready fail_update listed h a b r n f =
-    rw (listed, h.name, h.type_is, h.rate, h.fallback, a, b, r, n, f) refl
+    → (own_keys kind.Mock).form.read prefix ms ≡ Ok (params.Mock 0 refuse_config not_ready fail_update)
+mock_read prefix ms refuse_config not_ready fail_update r n f = rw (r, n, f) refl
 
-mock_back : (states : List IfaceName) (head : Headed) (claims reads : List IfaceName) (refuse_config : Bool) (not_ready fail_update : List ℕ) → HeadIsReadable head
-    → AllByRecursion IsNamed claims → AllByRecursion IsOfJoint reads → AreWholes not_ready → AreWholes fail_update
-    → (prefix : List ℕ) → let c = a_headed head claims reads (params.Mock (count claims) refuse_config not_ready fail_update) in
-    (controller_form states).read prefix (controller_tree c) ≡ Ok c
-unfolding controller_table
-mock_back states head claims reads refuse_config not_ready fail_update can named read ready fails prefix =
-    let c = a_headed head claims reads (params.Mock (count claims) refuse_config not_ready fail_update) in
-    let rows = controller_rows c in
-    let h = head_back head can kind.Mock rows prefix refl refl refl refl in
-    typed_read states prefix (table_of rows) kind.Mock c h.type_is
-    (mock_read prefix (table_of rows) head kind.Mock claims reads refuse_config not_ready fail_update (none_besides mock_keys rows refl) h
-    (defaulted_at (codes "claims") (list_of interface_in) [] rows (prefix ++ codes "claims") claims
-    (list_back interface_in (λ i. string (interface_text i)) (prefix ++ codes "claims") claims (each_so IsNamed _ interface_back claims named)))
-    (defaulted_at (codes "reads") (list_of state_in) [] rows (prefix ++ codes "reads") reads
-    (list_back state_in (λ i. string (interface_text i)) (prefix ++ codes "reads") reads (each_so IsOfJoint _ state_back reads read)))
-    (defaulted_at (codes "refuse_config") (one boolean_in) false rows (prefix ++ codes "refuse_config") refuse_config refl)
-    (defaulted_at (codes "not_ready") (list_of whole_in) [] rows (prefix ++ codes "not_ready") not_ready (cycles_back (prefix ++ codes "not_ready") not_ready ready))
-    (defaulted_at (codes "fail_update") (list_of whole_in) [] rows (prefix ++ codes "fail_update") fail_update
-    (cycles_back (prefix ++ codes "fail_update") fail_update fails)))
-
--- ---- Transmissions
-
-abbrev transmission_keys : List (List ℕ)
-transmission_keys = codes "name" ∷ codes "type" ∷ codes "update_rate" ∷ codes "fallback" ∷ codes "claims" ∷ codes "reduction" ∷ codes "offset" ∷ []
-
-transmission_read : (prefix : List ℕ) (ms : Members) (head : Headed) (kind : CtlKind) (claims : List IfaceName) (reduction offset : ℤ) → unlisted transmission_keys ms ≡ []
-    → HeadReads prefix ms head kind → ClaimsRead prefix ms claims
+transmission_read : (prefix : List ℕ) (ms : Members) (reduction offset : ℤ)
     → QuantityRead (codes "reduction") prefix ms reduction → QuantityOr (pos 0) (codes "offset") prefix ms offset
-    → (walk transmission_table).read prefix ms ≡ Ok (a_headed head claims [] (params.Transmission (first_kind claims) reduction offset))
-transmission_read prefix ms head kind claims reduction offset listed h a r o = rw (listed, h.name, h.type_is, h.rate, h.fallback, a, r, o) refl
+    → (own_keys kind.Transmission).form.read prefix ms ≡ Ok (params.Transmission Position reduction offset)
+transmission_read prefix ms reduction offset r o = rw (r, o) refl
 
-transmission_back : (states : List IfaceName) (head : Headed) (claims : List IfaceName) (reduction offset : ℤ) → HeadIsReadable head
-    → AllByRecursion IsNamed claims → 1 ≤ length claims → IsInRange reduction → IsInRange offset
-    → (prefix : List ℕ) → let c = a_headed head claims [] (params.Transmission (first_kind claims) reduction offset) in
-    (controller_form states).read prefix (controller_tree c) ≡ Ok c
-unfolding controller_table
-transmission_back states head claims reduction offset can named some reduces shifts prefix =
-    let c = a_headed head claims [] (params.Transmission (first_kind claims) reduction offset) in
-    let rows = controller_rows c in
-    let h = head_back head can kind.Transmission rows prefix refl refl refl refl in
-    typed_read states prefix (table_of rows) kind.Transmission c h.type_is
-    (transmission_read prefix (table_of rows) head kind.Transmission claims reduction offset (none_besides transmission_keys rows refl) h
-    (claims_back rows prefix claims named some refl)
-    (quantity_at (codes "reduction") rows prefix reduction reduces refl)
-    (quantity_or (pos 0) (codes "offset") rows prefix offset shifts refl))
-
--- ---- Differentials
-
-abbrev differential_keys : List (List ℕ)
-differential_keys =
-    codes "name" ∷ codes "type" ∷ codes "update_rate" ∷ codes "fallback" ∷ codes "claims" ∷ codes "reduction1" ∷ codes "reduction2" ∷ codes "offset1" ∷ codes "offset2" ∷ []
-
-differential_read : (prefix : List ℕ) (ms : Members) (head : Headed) (kind : CtlKind) (claims : List IfaceName) (reduction1 reduction2 offset1 offset2 : ℤ)
-    → unlisted differential_keys ms ≡ [] → HeadReads prefix ms head kind → ClaimsRead prefix ms claims
+differential_read : (prefix : List ℕ) (ms : Members) (reduction1 reduction2 offset1 offset2 : ℤ)
     → QuantityRead (codes "reduction1") prefix ms reduction1 → QuantityRead (codes "reduction2") prefix ms reduction2
     → QuantityOr (pos 0) (codes "offset1") prefix ms offset1 → QuantityOr (pos 0) (codes "offset2") prefix ms offset2
-    → (walk differential_table).read prefix ms ≡ Ok (a_headed head claims [] (params.Differential (first_kind claims) reduction1 reduction2 offset1 offset2))
-differential_read prefix ms head kind claims reduction1 reduction2 offset1 offset2 listed h a r s o p =
-    rw (listed, h.name, h.type_is, h.rate, h.fallback, a, r, s, o, p) refl
+    → (own_keys kind.Differential).form.read prefix ms ≡ Ok (params.Differential Position reduction1 reduction2 offset1 offset2)
+differential_read prefix ms reduction1 reduction2 offset1 offset2 r s o p = rw (r, s, o, p) refl
 
-differential_back : (states : List IfaceName) (head : Headed) (claims : List IfaceName) (reduction1 reduction2 offset1 offset2 : ℤ) → HeadIsReadable head
-    → AllByRecursion IsNamed claims → 1 ≤ length claims → IsInRange reduction1 → IsInRange reduction2 → IsInRange offset1 → IsInRange offset2
-    → (prefix : List ℕ) → let c = a_headed head claims [] (params.Differential (first_kind claims) reduction1 reduction2 offset1 offset2) in
-    (controller_form states).read prefix (controller_tree c) ≡ Ok c
-unfolding controller_table
-differential_back states head claims reduction1 reduction2 offset1 offset2 can named some first second third fourth prefix =
-    let c = a_headed head claims [] (params.Differential (first_kind claims) reduction1 reduction2 offset1 offset2) in
-    let rows = controller_rows c in
-    let h = head_back head can kind.Differential rows prefix refl refl refl refl in
-    typed_read states prefix (table_of rows) kind.Differential c h.type_is
-    (differential_read prefix (table_of rows) head kind.Differential claims reduction1 reduction2 offset1 offset2 (none_besides differential_keys rows refl) h
-    (claims_back rows prefix claims named some refl)
-    (quantity_at (codes "reduction1") rows prefix reduction1 first refl)
-    (quantity_at (codes "reduction2") rows prefix reduction2 second refl)
-    (quantity_or (pos 0) (codes "offset1") rows prefix offset1 third refl)
-    (quantity_or (pos 0) (codes "offset2") rows prefix offset2 fourth refl))
-
--- ---- Limiters
-
-abbrev limiter_keys : List (List ℕ)
-limiter_keys =
-    codes "name" ∷ codes "type" ∷ codes "update_rate" ∷ codes "fallback" ∷ codes "claims" ∷ codes "reads" ∷ codes "min" ∷ codes "max" ∷ codes "vmax" ∷ codes "amax" ∷ []
-
-limiter_read : (prefix : List ℕ) (ms : Members) (head : Headed) (kind : CtlKind) (claims reads : List IfaceName) (lowest highest vmax amax : ℤ)
-    → unlisted limiter_keys ms ≡ [] → HeadReads prefix ms head kind → ClaimsRead prefix ms claims → ReadsRead prefix ms reads
+limiter_read : (prefix : List ℕ) (ms : Members) (lowest highest vmax amax : ℤ)
     → QuantityRead (codes "min") prefix ms lowest → QuantityRead (codes "max") prefix ms highest
     → QuantityRead (codes "vmax") prefix ms vmax → QuantityRead (codes "amax") prefix ms amax
-    → (walk limiter_table).read prefix ms ≡ Ok (a_headed head claims reads (params.Limiter lowest highest vmax amax))
-limiter_read prefix ms head kind claims reads lowest highest vmax amax listed h a b l g v m =
-    rw (listed, h.name, h.type_is, h.rate, h.fallback, a, b, l, g, v, m) refl
+    → (own_keys kind.Limiter).form.read prefix ms ≡ Ok (params.Limiter lowest highest vmax amax)
+limiter_read prefix ms lowest highest vmax amax l h v a = rw (l, h, v, a) refl
 
-limiter_back : (states : List IfaceName) (head : Headed) (claims reads : List IfaceName) (lowest highest vmax amax : ℤ) → HeadIsReadable head
-    → AllByRecursion IsNamed claims → AllByRecursion IsOfJoint reads → Fits (params.Limiter lowest highest vmax amax) claims reads
-    → (prefix : List ℕ) → let c = a_headed head claims reads (params.Limiter lowest highest vmax amax) in (controller_form states).read prefix (controller_tree c) ≡ Ok c
-unfolding controller_table
-limiter_back states head claims reads lowest highest vmax amax can named read fits prefix =
-    let c = a_headed head claims reads (params.Limiter lowest highest vmax amax) in
-    let rows = controller_rows c in
-    let h = head_back head can kind.Limiter rows prefix refl refl refl refl in
-    typed_read states prefix (table_of rows) kind.Limiter c h.type_is
-    (limiter_read prefix (table_of rows) head kind.Limiter claims reads lowest highest vmax amax (none_besides limiter_keys rows refl) h
-    (claims_back rows prefix claims named fits.0 refl)
-    (reads_back rows prefix reads read fits.1 refl)
-    (quantity_at (codes "min") rows prefix lowest fits.2 refl)
-    (quantity_at (codes "max") rows prefix highest fits.3 refl)
-    (quantity_at (codes "vmax") rows prefix vmax fits.4 refl)
-    (quantity_at (codes "amax") rows prefix amax fits.5 refl))
+-- What stands at a type's own keys is read back, without what claims and reads tell.
+own_at : (head : Headed) (claims reads : List IfaceName) (p : Params) → AreNumbers p → (prefix : List ℕ)
+    → (own_keys (kind_of p)).form.read prefix (table_of (rows_of head claims reads p)) ≡ Ok (made_of p [] [])
+own_at head claims reads (params.Pid kp ki kd imax omax) numbers prefix =
+    let rows = rows_of head claims reads (params.Pid kp ki kd imax omax) in
+    let q = numbers.within in
+    pid_read prefix (table_of rows) kp ki kd imax omax (quantity_or (pos 0) (codes "kp") rows prefix kp q.0 refl) (quantity_or (pos 0) (codes "ki") rows prefix ki q.1.0 refl)
+    (quantity_or (pos 0) (codes "kd") rows prefix kd q.1.1.0 refl) (quantity_or (pos 0) (codes "imax") rows prefix imax q.1.1.1.0 refl)
+    (quantity_or largest (codes "omax") rows prefix omax q.1.1.1.1.0 refl)
+own_at head claims reads (params.Mock outs refuse_config not_ready fail_update) numbers prefix =
+    let rows = rows_of head claims reads (params.Mock outs refuse_config not_ready fail_update) in
+    mock_read prefix (table_of rows) refuse_config not_ready fail_update
+    (defaulted_at (codes "refuse_config") (one boolean_in) false rows (prefix ++ codes "refuse_config") refuse_config refl)
+    (defaulted_at (codes "not_ready") (list_of whole_in) [] rows (prefix ++ codes "not_ready") not_ready (cycles_back (prefix ++ codes "not_ready") not_ready numbers.wholes.0))
+    (defaulted_at (codes "fail_update") (list_of whole_in) [] rows (prefix ++ codes "fail_update") fail_update
+    (cycles_back (prefix ++ codes "fail_update") fail_update numbers.wholes.1.0))
+own_at head claims reads (params.Transmission carried reduction offset) numbers prefix =
+    let rows = rows_of head claims reads (params.Transmission carried reduction offset) in
+    let q = numbers.within in
+    transmission_read prefix (table_of rows) reduction offset (quantity_at (codes "reduction") rows prefix reduction q.0 refl) (quantity_or (pos 0) (codes "offset") rows prefix offset q.1.0 refl)
+own_at head claims reads (params.Differential carried reduction1 reduction2 offset1 offset2) numbers prefix =
+    let rows = rows_of head claims reads (params.Differential carried reduction1 reduction2 offset1 offset2) in
+    let q = numbers.within in
+    differential_read prefix (table_of rows) reduction1 reduction2 offset1 offset2 (quantity_at (codes "reduction1") rows prefix reduction1 q.0 refl)
+    (quantity_at (codes "reduction2") rows prefix reduction2 q.1.0 refl) (quantity_or (pos 0) (codes "offset1") rows prefix offset1 q.1.1.0 refl)
+    (quantity_or (pos 0) (codes "offset2") rows prefix offset2 q.1.1.1.0 refl)
+own_at head claims reads (params.Limiter lowest highest vmax amax) numbers prefix =
+    let rows = rows_of head claims reads (params.Limiter lowest highest vmax amax) in
+    let q = numbers.within in
+    limiter_read prefix (table_of rows) lowest highest vmax amax (quantity_at (codes "min") rows prefix lowest q.0 refl) (quantity_at (codes "max") rows prefix highest q.1.0 refl)
+    (quantity_at (codes "vmax") rows prefix vmax q.1.1.0 refl) (quantity_at (codes "amax") rows prefix amax q.1.1.1.0 refl)
+own_at head claims reads _ numbers prefix = refl
 
 -- ---- Every type
+
+-- a table in which all this is read is that of the controller
+table_read : (states : List IfaceName) (prefix : List ℕ) (ms : Members) (head : Headed) (kind : CtlKind) (claims reads : List IfaceName) (own p : Params)
+    → unlisted (controller_table states kind).keys ms ≡ [] → HeadReads prefix ms head kind → (claims_key kind).form.read prefix ms ≡ Ok claims
+    → (reads_key states kind).form.read prefix ms ≡ Ok reads → (own_keys kind).form.read prefix ms ≡ Ok own → made_of own claims reads ≡ p
+    → (walk (controller_table states kind)).read prefix ms ≡ Ok (a_headed head claims reads p)
+unfolding controller_table
+table_read states prefix ms head kind claims reads own p listed h a b o made = rw (listed, h.name, h.type_is, h.rate, h.fallback, a, b, o, made) refl
+
+-- what claims and reads tell is filled in again
+made_again : (p : Params) (claims reads : List IfaceName) → made_of (made_of p [] []) claims reads ≡ made_of p claims reads
+made_again (params.Forward outs) claims reads = refl
+made_again _ claims reads = refl
 
 -- the table of a controller with this head and these parameters is read back
 form_back : (states : List IfaceName) (head : Headed) (claims reads : List IfaceName) (p : Params) → HeadIsReadable head
     → AllByRecursion IsNamed claims → AllByRecursion IsOfJoint reads → Fits p claims reads
     → (prefix : List ℕ) → (controller_form states).read prefix (controller_tree (a_headed head claims reads p)) ≡ Ok (a_headed head claims reads p)
-form_back states head claims reads (params.Forward outs) can named read fits prefix =
-    rw (fits.0, fits.2) (forward_back states head claims can named fits.1 prefix)
-form_back states head claims reads (params.Passthrough outs) can named read fits prefix =
-    rw (fits.0, fits.2) (passthrough_back states head claims can named fits.1 prefix)
-form_back states head claims reads (params.Pid kp ki kd imax omax) can named read fits prefix =
-    pid_back states head claims reads kp ki kd imax omax can named read fits prefix
-form_back states head claims reads (params.Trajectory outs) can named read fits prefix =
-    rw fits.0 (trajectory_back states head claims reads can named read fits.1 fits.2 prefix)
-form_back states head claims reads (params.Broadcaster ins) can named read fits prefix =
-    rw (fits.0, fits.1) (broadcaster_back states head reads can read prefix)
-form_back states head claims reads (params.Mock outs refuse_config not_ready fail_update) can named read fits prefix =
-    rw fits.0 (mock_back states head claims reads refuse_config not_ready fail_update can named read fits.1 fits.2 prefix)
-form_back states head claims reads (params.Transmission carried reduction offset) can named read fits prefix =
-    rw (fits.0, fits.2) (transmission_back states head claims reduction offset can named fits.1 fits.3 fits.4 prefix)
-form_back states head claims reads (params.Differential carried reduction1 reduction2 offset1 offset2) can named read fits prefix =
-    rw (fits.0, fits.2) (differential_back states head claims reduction1 reduction2 offset1 offset2 can named fits.1 fits.3 fits.4 fits.5 fits.6 prefix)
-form_back states head claims reads (params.Limiter lowest highest vmax amax) can named read fits prefix =
-    limiter_back states head claims reads lowest highest vmax amax can named read fits prefix
+form_back states head claims reads p can named read fits prefix =
+    let h = head_at head claims reads p can prefix in
+    typed_read states prefix (table_of (rows_of head claims reads p)) (kind_of p) (a_headed head claims reads p) h.type_is
+    (table_read states prefix (table_of (rows_of head claims reads p)) head (kind_of p) claims reads (made_of p [] []) p
+    (listed_at states head claims reads p fits) h (claims_at head claims reads p fits named prefix) (reads_at states head claims reads p fits read prefix)
+    (own_at head claims reads p fits.numbers prefix) (made_again p claims reads ∙ fits.made))
 
 -- the table of a controller is read back, whatever `all` stands for
 pub controller_back : (states : List IfaceName) (c : CtlDesc) → ControllerIsReadable c → (prefix : List ℕ)

@@ -5,5 +5,4 @@ mod BackLemmas
 mod PartsBackLemmas
 mod ControllersBackLemmas
 mod PrintLemmas
-mod GivenLemmas
 pub mod ReadableLemmas

@@ -1,11 +1,9 @@
 -- The tables of joints, components and groups are read back.
 use Rattle.std.proofs.Common.{◌≡◌, ◌⊎◌, ℕ, pos, List, [], ◌∷◌, ◌++◌, Ok, refl, inl, inr}
 use Rattle.std.specs.Prelude.{codes}
-use Rattle.std.specs.List.{AllByRecursion}
-use Rattle.toml.specs.Data.{Members, string, table, get_member}
+use Rattle.toml.specs.Data.{Members, string, get_member}
 use Rattle.fixed_num.specs.declared.TheConstants.{MICRO}
-use Rattle.iface_names.specs.declared.kind.Kind.{Kind}
-use Rattle.cm_document.specs.Vocabulary.{component_kinds, lives, lives_on_error, component_word, life_word}
+use Rattle.cm_document.specs.Vocabulary.{component_kinds, lives, lives_on_error, life_word}
 use Rattle.cm_document.specs.Forms.{one, list_of, list_after, tables_of, whole_in, quantity_in, name_in, word_in, kind_in}
 use Rattle.cm_document.specs.Tables.{required_read, defaulted_read, unlisted, walk}
 use Rattle.cm_document.specs.Described.{joint_table, component_table, group_table}
@@ -15,9 +13,10 @@ use Rattle.cm_document.specs.declared.description.JointDesc.{JointDesc}
 use Rattle.cm_document.specs.declared.life.Life.{Life}
 use Rattle.cm_document.specs.declared.life.Life.TheVariants.{Unconfigured, Inactive, Active, Finalized}
 use Rattle.desc_text.specs.Printed.{joint_rows, joint_tree, component_rows, component_tree, group_rows, group_tree}
-use Rattle.desc_text.specs.Readable.{IsName, IsWhole, JointIsReadable, ComponentIsReadable, GroupIsReadable}
+use Rattle.cm_document.specs.Given.{IsName}
+use Rattle.desc_text.specs.Readable.{JointIsReadable, ComponentIsReadable, GroupIsReadable}
 use Rattle.desc_text.proofs.RowLemmas.{none_besides}
-use Rattle.desc_text.proofs.BackLemmas.{name_back, whole_back, quantity_back, component_word_back, life_back, each_so, cycles_back, list_back, full_list_back, kind_list_back, full_tables_back, required_at, defaulted_at, one_back}
+use Rattle.desc_text.proofs.BackLemmas.{name_back, quantity_back, component_word_back, life_back, each_so, cycles_back, full_list_back, kind_list_back, full_tables_back, required_at, defaulted_at, one_back}
 
 -- ---- Joints
 

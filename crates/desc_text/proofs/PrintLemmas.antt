@@ -1,15 +1,16 @@
 -- The printed tree of a description is read as it, and is no deeper than texts may be.
-use Rattle.std.proofs.Common.{◌≡◌, ℕ, suc, pos, ◌≤◌, true, false, List, [], ◌∷◌, ◌++◌, map, None, Some, Ok, refl, ap, ◌∙◌, arith}
+use Rattle.std.proofs.Common.{◌≡◌, ℕ, suc, ℤ, pos, ◌≤◌, Bool, true, false, List, [], ◌∷◌, ◌++◌, map, Some, Ok, refl, ap, ◌∙◌, arith}
 use Rattle.std.specs.Prelude.{codes, IsUtf8}
 use Rattle.std.specs.List.{AllByRecursion}
 use Rattle.std.specs.Option.{option_map_or}
-use Rattle.toml.specs.Data.{Data, string, integer, table, Members, get_member, depth, items_depth, members_depth}
+use Rattle.toml.specs.Data.{Data, string, integer, table, Members, depth, items_depth, members_depth}
 use Rattle.toml.specs.Parse.{parse_document}
 use Rattle.toml.specs.View.{items_of}
 use Rattle.iface_names.specs.Interfaces.{interface_text, kind_word}
-use Rattle.cm_document.specs.Reading.{◌>>=◌}
+use Rattle.sequence.proofs.ListLemmas.{all_append}
+use Rattle.cm_document.specs.Params.{flags, quantities, cycle_lists}
 use Rattle.cm_document.specs.Forms.{one, tables_of, whole_in}
-use Rattle.cm_document.specs.Tables.{required_read, defaulted_read, none_unlisted, walk}
+use Rattle.cm_document.specs.Tables.{none_unlisted, walk}
 use Rattle.cm_document.specs.Described.{component_table, component_key, controller_form, group_table, states_of, top_table, described_states, is_two, is_second, description_form, description_in, tree_of}
 use Rattle.cm_document.specs.declared.description.CompDesc.{CompDesc}
 use Rattle.cm_document.specs.declared.description.CtlDesc.{CtlDesc}
@@ -19,7 +20,7 @@ use Rattle.cm_document.specs.declared.description.JointDesc.{JointDesc}
 use Rattle.cm_document.specs.declared.description.Params.{Params}
 use Rattle.cm_document.specs.declared.description.Params.TheVariants as params
 use Rattle.cm_document.specs.declared.limits.TheConstants.{SECOND_VERSION}
-use Rattle.desc_text.specs.Printed.{listed, joint_rows, joint_tree, component_rows, component_tree, head_rows, reads_row, params_rows, controller_rows, controller_tree, group_rows, group_tree, description_rows, description_tree}
+use Rattle.desc_text.specs.Printed.{listed, joint_rows, joint_tree, component_rows, component_tree, reads_row, flag_row, quantity_row, cycles_row, params_rows, controller_rows, controller_tree, group_rows, group_tree, description_rows, description_tree}
 use Rattle.desc_text.specs.Readable.{ComponentIsReadable, ControllerIsReadable, GroupIsReadable, IsReadable}
 use Rattle.desc_text.proofs.TreeLemmas.{tree_of_parsed, top_keys, second_read}
 use Rattle.desc_text.proofs.RowLemmas.{RowIsWithin, table_at, none_besides, table_within}
@@ -101,14 +102,22 @@ reads_within c (params.Broadcaster ins) = omega (arith, items_within 0 (λ i. st
 reads_within c _ = list_within 2 (codes "reads") (λ interface. string (interface_text interface)) (λ _. flat 2) c.reads
 
 -- its parameters
+flags_within : (fs : List (List ℕ × Bool)) → AllByRecursion (RowIsWithin 3) (map flag_row fs)
+flags_within [] = tt
+flags_within (f ∷ fs) = (flat 3, flags_within fs)
+
+quantities_within : (qs : List (List ℕ × ℤ)) → AllByRecursion (RowIsWithin 3) (map quantity_row qs)
+quantities_within [] = tt
+quantities_within (q ∷ qs) = (flat 3, quantities_within qs)
+
+cycles_within : (ls : List (List ℕ × List ℕ)) → AllByRecursion (RowIsWithin 3) (map cycles_row ls)
+cycles_within [] = tt
+cycles_within (l ∷ ls) = (list_within 2 l.0 (λ n. integer (pos n)) (λ _. flat 2) l.1, cycles_within ls)
+
 params_within : (p : Params) → AllByRecursion (RowIsWithin 3) (params_rows p)
-params_within (params.Pid kp ki kd imax omax) = (flat 3, (flat 3, (flat 3, (flat 3, (flat 3, tt)))))
-params_within (params.Mock outs refuse_config not_ready fail_update) =
-    (flat 3, (list_within 2 (codes "not_ready") (λ n. integer (pos n)) (λ _. flat 2) not_ready, (list_within 2 (codes "fail_update") (λ n. integer (pos n)) (λ _. flat 2) fail_update, tt)))
-params_within (params.Transmission carried reduction offset) = (flat 3, (flat 3, tt))
-params_within (params.Differential carried reduction1 reduction2 offset1 offset2) = (flat 3, (flat 3, (flat 3, (flat 3, tt))))
-params_within (params.Limiter lowest highest vmax amax) = (flat 3, (flat 3, (flat 3, (flat 3, tt))))
-params_within _ = tt
+params_within p =
+    all_append (RowIsWithin 3) (map flag_row (flags p)) (map quantity_row (quantities p) ++ map cycles_row (cycle_lists p)) (flags_within (flags p))
+    (all_append (RowIsWithin 3) (map quantity_row (quantities p)) (map cycles_row (cycle_lists p)) (quantities_within (quantities p)) (cycles_within (cycle_lists p)))
 
 controller_within : (c : CtlDesc) → depth (table (controller_tree c)) ≤ 4
 controller_within c =

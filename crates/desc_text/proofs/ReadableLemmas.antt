@@ -1,23 +1,23 @@
 -- A valid description, as one of the second version, can be read back.
-use Rattle.std.proofs.Common.{◌≡◌, ℕ, ◌+◌, ◌<◌, ◌≤◌, ◌^◌, ℤ, pos, Bool, true, false, List, [], ◌∷◌, ◌++◌, length, map, Result, Ok, Err, inl, refl, subst, arith}
-use Rattle.std.specs.Prelude.{IfOk, codes, nat_le, ◌&&◌, ◌==◌, flat_map}
+use Rattle.std.proofs.Common.{◌≡◌, ℕ, ◌+◌, ◌≤◌, pos, Bool, true, false, List, [], ◌∷◌, length, map, Result, Ok, Err, inl, refl, subst, arith}
+use Rattle.std.specs.Prelude.{IfOk, codes, nat_le, flat_map}
 use Rattle.std.specs.List.{AllByRecursion}
 use Rattle.std.proofs.lemmas.Bool.{leb-true, eqb-true, and_parts}
 use Rattle.std.proofs.lemmas.Int.{ints}
 use Rattle.toml.specs.Data.{Members}
-use Rattle.fixed_num.specs.Micro.{IsInRange, largest}
+use Rattle.fixed_num.specs.Micro.{IsInRange}
 use Rattle.fixed_num.specs.declared.TheConstants.{MICRO}
 use Rattle.iface_names.specs.declared.interface.IfaceName.{IfaceName}
 use Rattle.iface_names.specs.declared.interface.IfaceName.TheVariants.{Joint}
 use Rattle.iface_names.specs.declared.kind.Kind.{Kind}
 use Rattle.sequence.proofs.ListLemmas.{all_append}
-use Rattle.cm_document.specs.Reading.{◌>>=◌}
-use Rattle.cm_document.specs.Forms.{one, list_of, tables_of, all_or_list, item_path, inside, whole_in, quantity_in, boolean_in, name_in, word_in, interface_in, state_in}
+use Rattle.cm_document.specs.Forms.{one, list_of, tables_of, all_or_list, item_path, inside, whole_in, quantity_in, name_in, word_in, interface_in, state_in}
 use Rattle.cm_document.specs.Tables.{required, defaulted, walk}
 use Rattle.cm_document.specs.Vocabulary.{lives_on_error}
-use Rattle.cm_document.specs.Described.{a_joint, a_component, count, a_headed, a_description, a_grouped, a_group, joint_table, component_table, component_key, states_of_joint, states_of, claiming_table, pid_table, trajectory_table, broadcaster_table, mock_table, transmission_table, differential_table, limiter_table, controller_table, controller_form, type_of, group_table, top_table, described_states, is_second, description_form}
-use Rattle.cm_document.specs.Params.{fewest_claims, most_claims, reads_beside, first_kind}
-use Rattle.cm_document.specs.Valid.{ranged, each_ranged, component_ranged, joint_count_fits, joint_ranged, controller_ranged, claims_fit, reads_fit, links_ranged, claims_carried, group_ranged, IsDescribed, IsValid}
+use Rattle.cm_document.specs.Described.{a_joint, a_component, a_description, a_grouped, a_group, joint_table, component_table, component_key, states_of_joint, states_of, claims_key, reads_key, controller_table, controller_form, type_of, group_table, top_table, described_states, is_second, description_form}
+use Rattle.cm_document.specs.Given.{IsName, IsWhole, AreWholes, IsNamed, IsOfJoint, AreNumbers}
+use Rattle.cm_document.specs.Params.{AreMadeOf}
+use Rattle.cm_document.specs.Valid.{ranged, each_ranged, component_ranged, joint_count_fits, controller_ranged, claims_fit, reads_fit, links_ranged, claims_carried, group_ranged, IsDescribed, IsValid}
 use Rattle.cm_document.specs.declared.description.CompDesc.{CompDesc}
 use Rattle.cm_document.specs.declared.description.CompKind.{CompKind}
 use Rattle.cm_document.specs.declared.description.CompKind.TheVariants.{Sensor, Actuator, System}
@@ -27,18 +27,16 @@ use Rattle.cm_document.specs.declared.description.CtlKind.TheVariants as kind
 use Rattle.cm_document.specs.declared.description.Description.{Description}
 use Rattle.cm_document.specs.declared.description.GroupDesc.{GroupDesc}
 use Rattle.cm_document.specs.declared.description.JointDesc.{JointDesc}
-use Rattle.cm_document.specs.declared.description.Params.{Params}
-use Rattle.cm_document.specs.declared.description.Params.TheVariants as params
 use Rattle.cm_document.specs.declared.limits.TheConstants.{SECOND_VERSION, HIGHEST_RATE, MOST_FALLBACKS, MOST_MEMBERS}
 use Rattle.cm_document.specs.declared.life.Life.{Life}
 use Rattle.cm_document.specs.declared.life.Life.TheVariants.{Unconfigured}
 use Rattle.cm_document.proofs.GivenLemmas.{Gives, filled_gives, next_key, any_key, required_gives, defaulted_gives, walk_gives, tables_give, anything}
 use Rattle.cm_document.proofs.KindLemmas.{KindsOnce, IsDescribed-DescribesOnce}
+use Rattle.cm_document.proofs.OwnLemmas.{made_once, made_numbers, own_give}
 use Rattle.cm_document.proofs.ReadingLemmas.{bind_keeps, bind_Ok}
 use Rattle.cm_document.proofs.ValidParts.{in_range_passes, parts_of_valid}
-use Rattle.desc_text.specs.Readable.{IsName, IsWhole, AreWholes, IsNamed, IsOfJoint, JointIsReadable, ComponentIsReadable, Fits, ControllerIsReadable, GroupIsReadable, IsReadable}
-use Rattle.desc_text.proofs.BackLemmas.{each_so}
-use Rattle.desc_text.proofs.GivenLemmas.{name_gives, names_give, whole_gives, wholes_give, quantity_gives, interfaces_give, states_give, all_or_list_gives, IsOnError, on_error_gives}
+use Rattle.cm_document.proofs.ValueLemmas.{name_gives, names_give, whole_gives, wholes_give, quantity_gives, interfaces_give, states_give, all_or_list_gives, IsOnError, on_error_gives}
+use Rattle.desc_text.specs.Readable.{JointIsReadable, ComponentIsReadable, ControllerIsReadable, GroupIsReadable, IsReadable}
 
 -- ---- What a walk gives: components
 
@@ -137,19 +135,6 @@ described_states_are ms = states_of_read (component_key.form.read [] ms) (compon
 
 -- ---- What a walk gives: controllers
 
--- parameters that were read are of these claims and these reads
-abbrev IsReadWith : Params → List IfaceName → List IfaceName → Type 0
-IsReadWith (params.Forward outs) claims reads = (outs ≡ count claims) × (reads ≡ [])
-IsReadWith (params.Passthrough outs) claims reads = (outs ≡ count claims) × (reads ≡ [])
-IsReadWith (params.Pid kp ki kd imax omax) claims reads = IsInRange kp × IsInRange ki × IsInRange kd × IsInRange imax × IsInRange omax
-IsReadWith (params.Trajectory outs) claims reads = outs ≡ count claims
-IsReadWith (params.Broadcaster ins) claims reads = (ins ≡ count reads) × (claims ≡ [])
-IsReadWith (params.Mock outs refuse_config not_ready fail_update) claims reads = (outs ≡ count claims) × AreWholes not_ready × AreWholes fail_update
-IsReadWith (params.Transmission carried reduction offset) claims reads = (carried ≡ first_kind claims) × (reads ≡ []) × IsInRange reduction × IsInRange offset
-IsReadWith (params.Differential carried reduction1 reduction2 offset1 offset2) claims reads =
-    (carried ≡ first_kind claims) × (reads ≡ []) × IsInRange reduction1 × IsInRange reduction2 × IsInRange offset1 × IsInRange offset2
-IsReadWith (params.Limiter lowest highest vmax amax) claims reads = IsInRange lowest × IsInRange highest × IsInRange vmax × IsInRange amax
-
 -- what is known of a controller that was read
 record ControllerIsRead (c : CtlDesc) : Type 0 where
   pub named : IsName c.name
@@ -157,7 +142,8 @@ record ControllerIsRead (c : CtlDesc) : Type 0 where
   pub fallback : AllByRecursion IsName c.fallback
   pub claims : AllByRecursion IsNamed c.claims
   pub reads : AllByRecursion IsOfJoint c.reads
-  pub fits : IsReadWith c.params c.claims c.reads
+  pub made : AreMadeOf c.params c.claims c.reads
+  pub numbers : AreNumbers c.params
 
 -- the keys that every type has
 abbrev name_key : Gives (required (codes "name") (one name_in)).form.read IsName
@@ -169,109 +155,37 @@ rate_key = defaulted_gives (codes "update_rate") (one whole_in) 0 IsWhole whole_
 abbrev fallback_key : Gives (defaulted (codes "fallback") (list_of name_in) []).form.read (AllByRecursion IsName)
 fallback_key = defaulted_gives (codes "fallback") (list_of name_in) [] (AllByRecursion IsName) names_give tt
 
--- those of most
-abbrev claims_key : Gives (required (codes "claims") (list_of interface_in)).form.read (AllByRecursion IsNamed)
-claims_key = required_gives (codes "claims") (list_of interface_in) (AllByRecursion IsNamed) interfaces_give
+-- the claims of a type are named by names
+claims_give : (kind : CtlKind) → Gives (claims_key kind).form.read (AllByRecursion IsNamed)
+claims_give kind.Broadcaster = filled_gives [] (AllByRecursion IsNamed) tt
+claims_give kind.Mock = defaulted_gives (codes "claims") (list_of interface_in) [] (AllByRecursion IsNamed) interfaces_give tt
+claims_give _ = required_gives (codes "claims") (list_of interface_in) (AllByRecursion IsNamed) interfaces_give
 
-abbrev reads_key : Gives (required (codes "reads") (list_of state_in)).form.read (AllByRecursion IsOfJoint)
-reads_key = required_gives (codes "reads") (list_of state_in) (AllByRecursion IsOfJoint) states_give
-
--- a quantity
-quantity_key : (key : List ℕ) → Gives (required key (one quantity_in)).form.read IsInRange
-quantity_key key = required_gives key (one quantity_in) IsInRange quantity_gives
-
--- one that may be missing
-quantity_or_zero : (key : List ℕ) → Gives (defaulted key (one quantity_in) (pos 0)).form.read IsInRange
-quantity_or_zero key = defaulted_gives key (one quantity_in) (pos 0) IsInRange quantity_gives (omega (arith, ints), omega (arith, ints))
-
-claiming_gives : (make : ℕ → Params) → ((claims : List IfaceName) → IsReadWith (make (count claims)) claims []) → Gives (claiming_table make).form.read ControllerIsRead
-claiming_gives make holds =
-    next_key _ _ (AllByRecursion IsNamed) ControllerIsRead
-    (next_key _ _ (AllByRecursion IsName) _ (next_key _ _ IsWhole _ (any_key {A = CtlKind} _ _ _ (next_key _ _ IsName _
-    (filled_gives _ _ (λ name named type rate small fallback are claims by_names.
-    record { named = named; rate = small; fallback = are; claims = by_names; reads = tt; fits = holds claims }))
-    name_key)) rate_key) fallback_key) claims_key
-
-pid_gives : Gives pid_table.form.read ControllerIsRead
-pid_gives =
-    next_key _ _ IsInRange ControllerIsRead (next_key _ _ IsInRange _ (next_key _ _ IsInRange _ (next_key _ _ IsInRange _ (next_key _ _ IsInRange _
-    (next_key _ _ (AllByRecursion IsOfJoint) _ (next_key _ _ (AllByRecursion IsNamed) _
-    (next_key _ _ (AllByRecursion IsName) _ (next_key _ _ IsWhole _ (any_key {A = CtlKind} _ _ _ (next_key _ _ IsName _
-    (filled_gives _ _ (λ name named type rate small fallback are claims by_names reads of_joints kp p ki i kd d imax m omax o.
-    record { named = named; rate = small; fallback = are; claims = by_names; reads = of_joints; fits = (p, i, d, m, o) }))
-    name_key)) rate_key) fallback_key) claims_key) reads_key)
-    (quantity_or_zero (codes "kp"))) (quantity_or_zero (codes "ki"))) (quantity_or_zero (codes "kd"))) (quantity_or_zero (codes "imax")))
-    (defaulted_gives (codes "omax") (one quantity_in) largest IsInRange quantity_gives (omega (arith, ints), omega (arith, ints)))
-
-trajectory_gives : Gives trajectory_table.form.read ControllerIsRead
-trajectory_gives =
-    next_key _ _ (AllByRecursion IsOfJoint) ControllerIsRead (next_key _ _ (AllByRecursion IsNamed) _
-    (next_key _ _ (AllByRecursion IsName) _ (next_key _ _ IsWhole _ (any_key {A = CtlKind} _ _ _ (next_key _ _ IsName _
-    (filled_gives _ _ (λ name named type rate small fallback are claims by_names reads of_joints.
-    record { named = named; rate = small; fallback = are; claims = by_names; reads = of_joints; fits = refl }))
-    name_key)) rate_key) fallback_key) claims_key) reads_key
-
-broadcaster_gives : (states : List IfaceName) → AllByRecursion IsOfJoint states → Gives (broadcaster_table states).form.read ControllerIsRead
-broadcaster_gives states all =
-    next_key _ _ (AllByRecursion IsOfJoint) ControllerIsRead
-    (next_key _ _ (AllByRecursion IsName) _ (next_key _ _ IsWhole _ (any_key {A = CtlKind} _ _ _ (next_key _ _ IsName _
-    (filled_gives _ _ (λ name named type rate small fallback are reads of_joints.
-    record { named = named; rate = small; fallback = are; claims = tt; reads = of_joints; fits = (refl, refl) }))
-    name_key)) rate_key) fallback_key)
-    (required_gives (codes "reads") (all_or_list states) (AllByRecursion IsOfJoint) (all_or_list_gives states all))
-
-mock_gives : Gives mock_table.form.read ControllerIsRead
-mock_gives =
-    next_key _ _ AreWholes ControllerIsRead (next_key _ _ AreWholes _ (any_key {A = Bool} _ _ _
-    (next_key _ _ (AllByRecursion IsOfJoint) _ (next_key _ _ (AllByRecursion IsNamed) _
-    (next_key _ _ (AllByRecursion IsName) _ (next_key _ _ IsWhole _ (any_key {A = CtlKind} _ _ _ (next_key _ _ IsName _
-    (filled_gives _ _ (λ name named type rate small fallback are claims by_names reads of_joints refuse_config not_ready r fail_update f.
-    record { named = named; rate = small; fallback = are; claims = by_names; reads = of_joints; fits = (refl, r, f) }))
-    name_key)) rate_key) fallback_key)
-    (defaulted_gives (codes "claims") (list_of interface_in) [] (AllByRecursion IsNamed) interfaces_give tt))
-    (defaulted_gives (codes "reads") (list_of state_in) [] (AllByRecursion IsOfJoint) states_give tt)))
-    (defaulted_gives (codes "not_ready") (list_of whole_in) [] AreWholes wholes_give tt))
-    (defaulted_gives (codes "fail_update") (list_of whole_in) [] AreWholes wholes_give tt)
-
-transmission_gives : Gives transmission_table.form.read ControllerIsRead
-transmission_gives =
-    next_key _ _ IsInRange ControllerIsRead (next_key _ _ IsInRange _ (next_key _ _ (AllByRecursion IsNamed) _
-    (next_key _ _ (AllByRecursion IsName) _ (next_key _ _ IsWhole _ (any_key {A = CtlKind} _ _ _ (next_key _ _ IsName _
-    (filled_gives _ _ (λ name named type rate small fallback are claims by_names reduction r offset o.
-    record { named = named; rate = small; fallback = are; claims = by_names; reads = tt; fits = (refl, refl, r, o) }))
-    name_key)) rate_key) fallback_key) claims_key)
-    (quantity_key (codes "reduction"))) (quantity_or_zero (codes "offset"))
-
-differential_gives : Gives differential_table.form.read ControllerIsRead
-differential_gives =
-    next_key _ _ IsInRange ControllerIsRead (next_key _ _ IsInRange _ (next_key _ _ IsInRange _ (next_key _ _ IsInRange _ (next_key _ _ (AllByRecursion IsNamed) _
-    (next_key _ _ (AllByRecursion IsName) _ (next_key _ _ IsWhole _ (any_key {A = CtlKind} _ _ _ (next_key _ _ IsName _
-    (filled_gives _ _ (λ name named type rate small fallback are claims by_names reduction1 r reduction2 s offset1 o offset2 p.
-    record { named = named; rate = small; fallback = are; claims = by_names; reads = tt; fits = (refl, refl, r, s, o, p) }))
-    name_key)) rate_key) fallback_key) claims_key)
-    (quantity_key (codes "reduction1"))) (quantity_key (codes "reduction2"))) (quantity_or_zero (codes "offset1"))) (quantity_or_zero (codes "offset2"))
-
-limiter_gives : Gives limiter_table.form.read ControllerIsRead
-limiter_gives =
-    next_key _ _ IsInRange ControllerIsRead (next_key _ _ IsInRange _ (next_key _ _ IsInRange _ (next_key _ _ IsInRange _
-    (next_key _ _ (AllByRecursion IsOfJoint) _ (next_key _ _ (AllByRecursion IsNamed) _
-    (next_key _ _ (AllByRecursion IsName) _ (next_key _ _ IsWhole _ (any_key {A = CtlKind} _ _ _ (next_key _ _ IsName _
-    (filled_gives _ _ (λ name named type rate small fallback are claims by_names reads of_joints lowest l highest h vmax v amax a.
-    record { named = named; rate = small; fallback = are; claims = by_names; reads = of_joints; fits = (l, h, v, a) }))
-    name_key)) rate_key) fallback_key) claims_key) reads_key)
-    (quantity_key (codes "min"))) (quantity_key (codes "max"))) (quantity_key (codes "vmax"))) (quantity_key (codes "amax"))
+-- and its reads are of joints
+reads_give : (states : List IfaceName) → AllByRecursion IsOfJoint states → (kind : CtlKind) → Gives (reads_key states kind).form.read (AllByRecursion IsOfJoint)
+reads_give states all kind.Pid = required_gives (codes "reads") (list_of state_in) (AllByRecursion IsOfJoint) states_give
+reads_give states all kind.Trajectory = required_gives (codes "reads") (list_of state_in) (AllByRecursion IsOfJoint) states_give
+reads_give states all kind.Limiter = required_gives (codes "reads") (list_of state_in) (AllByRecursion IsOfJoint) states_give
+reads_give states all kind.Broadcaster = required_gives (codes "reads") (all_or_list states) (AllByRecursion IsOfJoint) (all_or_list_gives states all)
+reads_give states all kind.Mock = defaulted_gives (codes "reads") (list_of state_in) [] (AllByRecursion IsOfJoint) states_give tt
+reads_give states all _ = filled_gives [] (AllByRecursion IsOfJoint) tt
 
 table_gives : (states : List IfaceName) → AllByRecursion IsOfJoint states → (kind : CtlKind) → Gives (controller_table states kind).form.read ControllerIsRead
 unfolding controller_table
-table_gives states all kind.Forward = claiming_gives params.Forward (λ claims. (refl, refl))
-table_gives states all kind.Passthrough = claiming_gives params.Passthrough (λ claims. (refl, refl))
-table_gives states all kind.Pid = pid_gives
-table_gives states all kind.Trajectory = trajectory_gives
-table_gives states all kind.Broadcaster = broadcaster_gives states all
-table_gives states all kind.Mock = mock_gives
-table_gives states all kind.Transmission = transmission_gives
-table_gives states all kind.Differential = differential_gives
-table_gives states all kind.Limiter = limiter_gives
+table_gives states all kind =
+    next_key _ _ AreNumbers ControllerIsRead
+    (next_key _ _ (AllByRecursion IsOfJoint) _ (next_key _ _ (AllByRecursion IsNamed) _
+    (next_key _ _ (AllByRecursion IsName) _ (next_key _ _ IsWhole _ (any_key {A = CtlKind} _ _ _ (next_key _ _ IsName _
+    (filled_gives _ _ (λ name named type rate small fallback are claims by_names reads of_joints own numbers. record {
+      named = named;
+      rate = small;
+      fallback = are;
+      claims = by_names;
+      reads = of_joints;
+      made = made_once own claims reads;
+      numbers = made_numbers own claims reads numbers;
+    })) name_key)) rate_key) fallback_key) (claims_give kind)) (reads_give states all kind))
+    (own_give kind)
 
 controller_gives : (states : List IfaceName) → AllByRecursion IsOfJoint states → Gives (controller_form states).read ControllerIsRead
 controller_gives states all = record {
@@ -374,27 +288,6 @@ components_can key k (c ∷ cs) passes all once =
       components_can key (k + 1) cs here.2 all.1 once.1,
     )
 
--- at least so many claims, and the reads beside them, make the parameters fit
-fits_at : (p : Params) (claims reads : List IfaceName) → IsReadWith p claims reads → fewest_claims p ≤ length claims → reads_fit p (length claims) (length reads) ≡ true
-    → Fits p claims reads
-fits_at (params.Forward outs) claims reads read some said = (read.0, some, read.1)
-fits_at (params.Passthrough outs) claims reads read some said = (read.0, some, read.1)
-fits_at (params.Pid kp ki kd imax omax) claims reads read some said = (some, omega (arith, eqb-true (length reads) 1 said), read.0, read.1, read.2, read.3, read.4)
-fits_at (params.Trajectory outs) claims reads read some said = (read, some, omega (arith, some, eqb-true (length reads) (length claims) said))
-fits_at (params.Broadcaster ins) claims reads read some said = read
-fits_at (params.Mock outs refuse_config not_ready fail_update) claims reads read some said = read
-fits_at (params.Transmission carried reduction offset) claims reads read some said = (read.0, some, read.1, read.2, read.3)
-fits_at (params.Differential carried reduction1 reduction2 offset1 offset2) claims reads read some said =
-    (read.0, omega (arith, some), read.1, read.2, read.3, read.4, read.5)
-fits_at (params.Limiter lowest highest vmax amax) claims reads read some said = (some, omega (arith, eqb-true (length reads) 1 said), read.0, read.1, read.2, read.3)
-
--- a controller has as many claims as its kind has at least, and as many reads as it has beside them
-fits_so : (p : Params) (claims reads : List IfaceName) → IsReadWith p claims reads → claims_fit p (length claims) ≡ true → reads_fit p (length claims) (length reads) ≡ true
-    → Fits p claims reads
-fits_so p claims reads read claimed said =
-    let both = and_parts (nat_le (fewest_claims p) (length claims)) (nat_le (length claims) (most_claims p)) claimed in
-    fits_at p claims reads read (leb-true (fewest_claims p) (length claims) both.0) said
-
 controllers_can : (key : List ℕ) (k : ℕ) (cs : List CtlDesc) → each_ranged controller_ranged key k cs ≡ Ok tt → AllByRecursion ControllerIsRead cs
     → AllByRecursion ControllerIsReadable cs
 controllers_can key k [] passes all = tt
@@ -413,7 +306,7 @@ controllers_can key k (c ∷ cs) passes all =
         fallback = read.fallback;
         claims = read.claims;
         reads = read.reads;
-        fits = fits_so c.params c.claims c.reads read.fits (in_range_passes _ _ claims.1) (in_range_passes _ _ reads.1);
+        fits = record { made = read.made; numbers = read.numbers; claims = in_range_passes _ _ claims.1; reads = in_range_passes _ _ reads.1 };
       },
       controllers_can key (k + 1) cs here.2 all.1,
     )

@@ -1,5 +1,5 @@
 -- A table of rows: what stands at a key, no key without a row, and how deep it is.
-use Rattle.std.proofs.Common.{◌≡◌, ℕ, ◌≤◌, max, cond, ◌||◌, not, Bool, true, false, List, [], ◌∷◌, length, ◌==◌, Option, Some, None, Ordering, Less, Equal, Greater, String, Global, string_bytes, nat_cmp, is_eq, is_some, refl, sym, ap, ◌∙◌, ◌⊎◌, inl, inr, arith}
+use Rattle.std.proofs.Common.{◌≡◌, ℕ, ◌≤◌, cond, ◌||◌, not, Bool, true, false, List, [], ◌∷◌, length, ◌==◌, Option, Some, None, Ordering, Less, Equal, Greater, String, Global, string_bytes, nat_cmp, is_eq, is_some, refl, sym, ap, ◌∙◌, ◌⊎◌, inl, inr, arith}
 use Rattle.std.specs.BTreeMap.{insert_entry}
 use Rattle.std.specs.Cmp.Lexicographic.{slice_cmp}
 use Rattle.std.specs.List.{AllByRecursion, list_any, list_all}

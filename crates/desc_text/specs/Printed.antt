@@ -1,5 +1,5 @@
 -- The table that a description is printed as: every key with its value, but no list that is empty.
-use Rattle.std.specs.Prelude.{ℕ, ℤ, pos, List, [], ◌∷◌, ◌++◌, map, codes, Option, Some, None}
+use Rattle.std.specs.Prelude.{ℕ, ℤ, pos, Bool, List, [], ◌∷◌, ◌++◌, map, codes, Option, Some, None}
 use Rattle.std.specs.Ordering.{nat_cmp, match_ordering}
 use Rattle.std.specs.Cmp.Lexicographic.{slice_cmp}
 use Rattle.toml.specs.Data.{Data, string, integer, boolean, array, table, Items, no_items, item}
@@ -9,7 +9,7 @@ use Rattle.fixed_num.specs.Text.{spelled}
 use Rattle.iface_names.specs.Interfaces.{interface_text, kind_word}
 use Rattle.iface_names.specs.declared.interface.IfaceName.{IfaceName}
 use Rattle.iface_names.specs.declared.kind.Kind.{Kind}
-use Rattle.cm_document.specs.Params.{kind_of}
+use Rattle.cm_document.specs.Params.{kind_of, flags, quantities, cycle_lists}
 use Rattle.cm_document.specs.Vocabulary.{component_word, controller_word, life_word}
 use Rattle.cm_document.specs.declared.description.CompDesc.{CompDesc}
 use Rattle.cm_document.specs.declared.description.CtlDesc.{CtlDesc}
@@ -125,31 +125,20 @@ reads_row c (params.Broadcaster ins) =
     (codes "reads", Some (array (items_of (map (λ interface. string (interface_text interface)) c.reads))))
 reads_row c _ = (codes "reads", interfaces c.reads)
 
+-- a flag, a quantity or a list of cycles, each at its key
+abbrev pub flag_row : List ℕ × Bool → Row
+flag_row flag = (flag.0, Some (boolean flag.1))
+
+abbrev pub quantity_row : List ℕ × ℤ → Row
+quantity_row q = (q.0, quantity q.1)
+
+abbrev pub cycles_row : List ℕ × List ℕ → Row
+cycles_row list = (list.0, cycles list.1)
+
 -- the rows of its parameters
 abbrev pub params_rows : Params → List Row
-params_rows (params.Pid kp ki kd imax omax) =
-    (codes "kp", quantity kp)
-    ∷ (codes "ki", quantity ki)
-    ∷ (codes "kd", quantity kd)
-    ∷ (codes "imax", quantity imax)
-    ∷ (codes "omax", quantity omax) ∷ []
-params_rows (params.Mock outs refuse_config not_ready fail_update) =
-    (codes "refuse_config", Some (boolean refuse_config))
-    ∷ (codes "not_ready", cycles not_ready)
-    ∷ (codes "fail_update", cycles fail_update) ∷ []
-params_rows (params.Transmission carried reduction offset) =
-    (codes "reduction", quantity reduction) ∷ (codes "offset", quantity offset) ∷ []
-params_rows (params.Differential carried reduction1 reduction2 offset1 offset2) =
-    (codes "reduction1", quantity reduction1)
-    ∷ (codes "reduction2", quantity reduction2)
-    ∷ (codes "offset1", quantity offset1)
-    ∷ (codes "offset2", quantity offset2) ∷ []
-params_rows (params.Limiter lowest highest vmax amax) =
-    (codes "min", quantity lowest)
-    ∷ (codes "max", quantity highest)
-    ∷ (codes "vmax", quantity vmax)
-    ∷ (codes "amax", quantity amax) ∷ []
-params_rows _ = []
+params_rows p =
+    map flag_row (flags p) ++ (map quantity_row (quantities p) ++ map cycles_row (cycle_lists p))
 
 -- the rows of a controller
 abbrev pub controller_rows : CtlDesc → List Row

@@ -2,8 +2,7 @@
 
 mod controllers;
 mod parts;
-mod rows;
-mod shaping;
+pub(crate) mod rows;
 
 ghost use Rattle.std.specs.Prelude.{◌≡◌, Ok, IfOk, OnOk, drop, map};
 ghost use Rattle.std.specs.List.{AllByRecursion};

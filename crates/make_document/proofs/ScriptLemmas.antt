@@ -14,7 +14,8 @@ use Rattle.cm_document.specs.Grammars.{whole_grammar}
 use Rattle.cm_document.specs.CallText.{call_text}
 use Rattle.cm_document.specs.LineGrammar.{value_word, in_front, mail_in, a_call, line_of}
 use Rattle.cm_document.specs.ScriptRules.{Draft, nothing, script_in, has_room, call_fits, with_said, with_line, with_lines, script_with}
-use Rattle.cm_document.specs.ScriptLaws.{IsName, CanBeWritten, allows}
+use Rattle.cm_document.specs.Given.{IsName}
+use Rattle.cm_document.specs.ScriptLaws.{CanBeWritten, allows}
 use Rattle.cm_document.specs.declared.call.Call.{Call}
 use Rattle.cm_document.specs.declared.call.Call.TheVariants as call
 use Rattle.cm_document.specs.declared.call.Mail.{Mail}

@@ -7,7 +7,7 @@ ghost use Rattle.cm_model.specs.Controllers.{IsBlank};
 use cm_document::{CtlKind, Mail, Params};
 use cm_model::Tick;
 use cm_storage::Done;
-use ctl_trait::{CfgFault, Controller, shape_of};
+use ctl_trait::{CfgFault, Controller};
 use fixed_num::{Fx, Value};
 use std::alloc::Global;
 use std::marker::Model;
@@ -17,13 +17,13 @@ use std::test::Fail;
 #[derive(Drop)]
 pub struct Marked<C: Controller> {
     ctl: C,
-    claims: Option<u32>,
+    claims: Option<usize>,
     runs: bool,
 }
 
 impl<C: Controller> Model for Marked<C> {
     ghost use Rattle.std.specs.Prelude.{◌≡◌, option_map, is_some};
-    ghost use Rattle.cm_model.specs.Kinds.{shape_of};
+    ghost use Rattle.cm_document.specs.Params.{shape_of};
     ghost use Rattle.cm_model.specs.declared.data.CtlData.{CtlData};
 
     ghost Value = { CtlData };
@@ -69,7 +69,7 @@ impl<C: Controller> Controller for Marked<C> {
 
     fn configure(&mut self, alloc: Global, params: &Params) -> Result<(), CfgFault> {
         self.ctl.configure(alloc, params)?;
-        self.claims = Some(shape_of(params).claims);
+        self.claims = Some(params.shape().claims);
         self.runs = false;
         Ok(())
     }

@@ -8,7 +8,8 @@ use Rattle.cm_document.specs.Vocabulary.{life_word, listed, lives, strictness_wo
 use Rattle.cm_document.specs.Lines.{is_comment}
 use Rattle.cm_document.specs.CallText.{call_text}
 use Rattle.cm_document.specs.LineGrammar.{line_of}
-use Rattle.cm_document.specs.ScriptLaws.{IsName, CanBeSent, CanBeAsked, CanBeWritten, allows}
+use Rattle.cm_document.specs.Given.{IsName}
+use Rattle.cm_document.specs.ScriptLaws.{CanBeSent, CanBeAsked, CanBeWritten, allows}
 use Rattle.cm_document.specs.declared.call.Call.{Call}
 use Rattle.cm_document.specs.declared.call.Call.TheVariants as call
 use Rattle.cm_document.specs.declared.call.Mail.{Mail}

@@ -14,7 +14,8 @@ use Rattle.iface_names.specs.Names.{is_letter, is_name_byte}
 use Rattle.cm_document.specs.Vocabulary.{listed, strictnesses, strictness_word}
 use Rattle.cm_document.specs.CallText.{values_text, point_text, mail_text, pick_text, signed_text}
 use Rattle.cm_document.specs.LineGrammar.{whole_word, value_word, in_front, all_words, values_in, untimed, timed, points_after, mail_in, pick_word, behind, is_signed, switch_in}
-use Rattle.cm_document.specs.ScriptLaws.{IsName, IsPick, AreValues, ArePointsAfter, CanBeSent, CanBeAsked}
+use Rattle.cm_document.specs.Given.{IsName}
+use Rattle.cm_document.specs.ScriptLaws.{IsPick, AreValues, ArePointsAfter, CanBeSent, CanBeAsked}
 use Rattle.cm_document.specs.declared.call.Mail.{Mail}
 use Rattle.cm_document.specs.declared.call.Mail.TheVariants.{Values, Points}
 use Rattle.cm_document.specs.declared.call.Pick.{Pick}

@@ -15,7 +15,8 @@ use Rattle.cm_document.specs.Lines.{raw_lines}
 use Rattle.cm_document.specs.CallText.{call_text, session_text, session_name, turn_text, schedule_text, script_text}
 use Rattle.cm_document.specs.ScriptRules.{Draft, nothing, script_in, session_accepted, mail_fits, call_fits, then_calling, with_lines, script_with}
 use Rattle.cm_document.specs.declared.limits.TheConstants.{MOST_SESSIONS, MOST_CALLS}
-use Rattle.cm_document.specs.ScriptLaws.{IsName, ArePointsAfter, CanBeSent, CanBeWritten, IsSession, AreApart, IsTurnAmong, MeetsRules, allows, UsesGrammar}
+use Rattle.cm_document.specs.Given.{IsName}
+use Rattle.cm_document.specs.ScriptLaws.{ArePointsAfter, CanBeSent, CanBeWritten, IsSession, AreApart, IsTurnAmong, MeetsRules, allows, UsesGrammar}
 use Rattle.cm_document.specs.declared.call.Call.{Call}
 use Rattle.cm_document.specs.declared.call.Call.TheVariants as call
 use Rattle.cm_document.specs.declared.call.Mail.{Mail}

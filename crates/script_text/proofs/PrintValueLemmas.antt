@@ -16,7 +16,7 @@ use Rattle.fixed_num.proofs.DigitLemmas.{own}
 use Rattle.fixed_num.proofs.ReadBackLemmas.{spelled_reads_back, spelled_is_short}
 use Rattle.iface_names.specs.Names.{is_name_byte}
 use Rattle.cm_document.specs.LineGrammar.{name_word, whole_word, value_word, is_time}
-use Rattle.cm_document.specs.ScriptLaws.{IsName}
+use Rattle.cm_document.specs.Given.{IsName}
 use Rattle.script_text.proofs.PrintWordLemmas.{IsWord}
 
 -- bytes behind the space

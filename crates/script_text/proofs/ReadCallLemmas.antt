@@ -20,7 +20,8 @@ use Rattle.iface_names.specs.Names.{is_name, same_name}
 use Rattle.cm_document.specs.Vocabulary.{listed, lives, strictnesses, verbs}
 use Rattle.cm_document.specs.LineGrammar.{name_word, whole_word, at_most, value_word, in_front, all_words, values_in, is_time, untimed, timed, time_word, point_at, later, points_after, mail_in, pick_word, behind, is_signed, switch_in, where_accepted, a_call, on_name, rate_in, send_in, hardware_in, lists, list_in, said, line_of}
 use Rattle.cm_document.specs.ScriptRules.{mail_fits, call_fits}
-use Rattle.cm_document.specs.ScriptLaws.{IsName, IsPick, AreValues, ArePointsAfter, CanBeSent, CanBeAsked, CanBeWritten, allows}
+use Rattle.cm_document.specs.Given.{IsName}
+use Rattle.cm_document.specs.ScriptLaws.{IsPick, AreValues, ArePointsAfter, CanBeSent, CanBeAsked, CanBeWritten, allows}
 use Rattle.cm_document.specs.declared.call.Call.{Call}
 use Rattle.cm_document.specs.declared.call.Call.TheVariants as call
 use Rattle.cm_document.specs.declared.call.Mail.{Mail}

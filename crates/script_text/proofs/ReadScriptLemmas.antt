@@ -11,7 +11,8 @@ use Rattle.cm_document.specs.Lines.{raw_lines, bare, words, is_skipped}
 use Rattle.cm_document.specs.LineGrammar.{line_of}
 use Rattle.cm_document.specs.declared.limits.TheConstants.{LONGEST_LINE, MOST_SESSIONS, MOST_CALLS}
 use Rattle.cm_document.specs.ScriptRules.{Draft, nothing, script_in, calls_and_turns, has_room, session_accepted, is_session_line, with_session, call_fits, then_calling, with_call, with_schedule, with_turn, session_number, with_step, with_said, with_line, with_lines, script_with}
-use Rattle.cm_document.specs.ScriptLaws.{IsName, CanBeWritten, IsSession, AreApart, IsTurnAmong, MeetsRules, allows, UsesGrammar}
+use Rattle.cm_document.specs.Given.{IsName}
+use Rattle.cm_document.specs.ScriptLaws.{CanBeWritten, IsSession, AreApart, IsTurnAmong, MeetsRules, allows, UsesGrammar}
 use Rattle.cm_document.specs.declared.call.Call.{Call}
 use Rattle.cm_document.specs.declared.script.Grammar.{Grammar}
 use Rattle.cm_document.specs.declared.script.Script.{Script}

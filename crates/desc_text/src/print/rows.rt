@@ -6,7 +6,7 @@ ghost use Rattle.toml.specs.View.{view, array_view, items_of, table_view};
 ghost use Rattle.iface_names.specs.Interfaces.{interface_text};
 ghost use Rattle.desc_text.specs.Printed.{with_member, with_row, if_items, text, whole, quantity, names};
 ghost use Rattle.desc_text.specs.Printed.{interfaces, cycles};
-ghost use Rattle.desc_text.specs.Readable.{IsWhole, AreWholes};
+ghost use Rattle.cm_document.specs.Given.{IsWhole, AreWholes};
 
 use fixed_num::{Fx, Memory};
 use iface_names::{IfaceName, Name};

@@ -7,7 +7,7 @@ ghost use Rattle.cm_model.specs.Controllers.{runs_chained, started, IsBlank};
 use cm_document::{MOST_CLAIMS_OF_ONE, Mail, Params, is_motion};
 use cm_model::{LONGEST_PERIOD, Tick};
 use cm_storage::Done;
-use ctl_trait::{CfgFault, Controller, shape_of, takes, takes_none};
+use ctl_trait::{CfgFault, Controller, takes, takes_none};
 use fixed_num::{Fx, Value};
 use std::alloc::Global;
 use std::marker::Model;
@@ -69,7 +69,7 @@ impl<C: Controller> Tried<C> {
             return Ok("out of range");
         }
         let kept = copied(params)?;
-        let outs = vec![in alloc; Value::Unset; shape_of(params).claims as usize]?;
+        let outs = vec![in alloc; Value::Unset; params.shape().claims]?;
         match self.ctl.configure(alloc, params) {
             Ok(()) => {
                 self.params = Some(kept);
@@ -89,7 +89,7 @@ impl<C: Controller> Tried<C> {
         if self.chained.is_some() {
             return "it runs";
         }
-        if !are_its_reads(shape_of(params).reads, states.len()) {
+        if !are_its_reads(params.shape().reads, states.len()) {
             return "wrong states";
         }
         let keeps = keeps_chained(params);
@@ -123,10 +123,10 @@ impl<C: Controller> Tried<C> {
         let (Some(params), Some(_)) = (&self.params, self.chained) else {
             return "not active";
         };
-        let shape = shape_of(params);
+        let shape = params.shape();
         if !are_its_reads(shape.reads, states.len())
-            || refs.len() != shape.references as usize
-            || self.outs.len() != shape.claims as usize
+            || refs.len() != shape.references
+            || self.outs.len() != shape.claims
         {
             return "wrong counts";
         }
@@ -168,11 +168,11 @@ fn copied(params: &Params) -> Result<Params, Fail>
 }
 
 /// Whether so many states are as many as a controller reads.
-fn are_its_reads(reads: Option<u32>, states: usize) -> bool
+fn are_its_reads(reads: Option<usize>, states: usize) -> bool
     ensures { result ≡ true → AreItsReads reads states }
 {
     match reads {
-        Some(reads) => states == reads as usize,
+        Some(reads) => states == reads,
         None => true,
     }
 }
@@ -195,7 +195,7 @@ fn keeps_chained(params: &Params) -> bool
 fn are_ranged(params: &Params) -> bool
     ensures { result ≡ are_ranged params.now }
 {
-    let claims = shape_of(params).claims as usize;
+    let claims = params.shape().claims;
     match params {
         Params::Pid { imax, omax, .. } => imax.micro() >= 0 && omax.micro() >= 0,
         Params::Broadcaster { .. } => true,

@@ -1,7 +1,6 @@
-use Rattle.std.proofs.Common.{◌≡◌, ◌+◌, ◌∷◌, drop, map, refl, ap, sym, subst, ◌∙◌, arith}
+use Rattle.std.proofs.Common.{◌+◌, ◌∷◌, drop, map, refl, ap, sym, subst, ◌∙◌, arith}
 use Rattle.std.proofs.lemmas.List.{drop_more, drop_all}
 use Rattle.cm_model.specs.Blanks.{with_one_more}
-use Rattle.cm_model.specs.declared.blanks.Blanks.{Blanks}
 use Rattle.ctl_any.specs.Stocks.{with_one_of}
 use Rattle.ctl_any.specs.contracts.any_kind.AnyKindController.TheImpl.{ghosts}
 use Rattle.ctl_rack.specs.Stocks.{AreBlanks}

@@ -1,7 +1,7 @@
 use Rattle.std.proofs.Common.{◌≡◌, ◌++◌, pos, drop, map}
 use Rattle.toml.specs.Data.{integer}
 use Rattle.toml.specs.View.{view}
-use Rattle.desc_text.specs.Readable.{AreWholes}
+use Rattle.cm_document.specs.Given.{AreWholes}
 use Rattle.desc_text.proofs.print.rows.numbers.Given as goal
 
 -- the numbers so far, and those of the cycles that are left, are those of all, and those that are left are wholes

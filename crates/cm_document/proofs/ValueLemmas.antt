@@ -1,5 +1,5 @@
 -- What is known of each value that a walk reads.
-use Rattle.std.proofs.Common.{◌≡◌, ℕ, ◌+◌, ◌<◌, ◌^◌, ℤ, pos, negsuc, true, false, List, [], ◌∷◌, ◌++◌, map, Option, Some, None, Result, Ok, Err, ◌⊎◌, inl, inr, arith, refl}
+use Rattle.std.proofs.Common.{◌≡◌, ℕ, ◌+◌, ◌^◌, ℤ, pos, negsuc, List, [], ◌∷◌, ◌++◌, Option, Some, None, Result, Ok, Err, ◌⊎◌, inl, inr, arith, refl}
 use Rattle.std.specs.Prelude.{IfOk, codes, nat_lt, int_le, ◌&&◌, neg_ℤ, ◌*ℤ◌}
 use Rattle.std.specs.List.{AllByRecursion}
 use Rattle.std.proofs.lemmas.Bool.{cond_both, ltb-true, and_parts}
@@ -25,7 +25,7 @@ use Rattle.cm_document.specs.declared.life.Life.{Life}
 use Rattle.cm_document.specs.declared.life.Life.TheVariants.{Unconfigured, Finalized}
 use Rattle.cm_document.proofs.GivenLemmas.{Gives}
 use Rattle.cm_document.proofs.ReadingLemmas.{bind_keeps}
-use Rattle.desc_text.specs.Readable.{IsName, IsWhole, AreWholes, IsNamed, IsOfJoint}
+use Rattle.cm_document.specs.Given.{IsName, IsWhole, AreWholes, IsNamed, IsOfJoint}
 
 -- ---- From a rule to its forms
 
