@@ -6,7 +6,7 @@ use Rattle.cm_document.specs.declared.call.Call.{Call}
 use Rattle.cm_document.specs.declared.call.Call.TheVariants.{Load, Unload, Told, Await, Close}
 use Rattle.cm_document.specs.declared.description.CtlKind.TheVariants as kind
 use Rattle.cm_document.specs.declared.description.Params.TheVariants.{Mock}
-use Rattle.cm_model.specs.Blanks.{no_blanks, with_count}
+use Rattle.cm_model.specs.Blanks.{blanks_of, no_blanks, with_count}
 use Rattle.cm_model.specs.Boundary.{all_concluded}
 use Rattle.cm_model.specs.Machine.{LegalFrom, step}
 use Rattle.cm_model.specs.State.{State, boot, fresh}
@@ -48,7 +48,7 @@ loaded_again =
 -- ---- Rows
 
 -- an unload gives no blank back, and no serial is given twice
-no_blank_back : ((after unloaded).loaded ≡ []) × ((after unloaded).blanks.mock ≡ 1) × ((after loaded_again).blanks.mock ≡ 0) × ((after loaded_again).loads ≡ 2)
+no_blank_back : ((after unloaded).loaded ≡ []) × (blanks_of (after unloaded).blanks kind.Mock ≡ 1) × (blanks_of (after loaded_again).blanks kind.Mock ≡ 0) × ((after loaded_again).loads ≡ 2)
 unfolding step
 no_blank_back = (refl, refl, refl, refl)
 

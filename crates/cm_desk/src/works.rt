@@ -13,7 +13,7 @@ use crate::start::{at_start, names_of};
 use cm_document::{Checked, CtlDesc};
 use cm_model::{Reply, Why};
 use cm_slots::{Slot, Slots};
-use ctl_rack::{Piles, Stock};
+use ctl_rack::Stock;
 use ctl_trait::Controller;
 use fixed_num::Memory;
 use iface_names::Name;
@@ -31,7 +31,7 @@ pub struct Works<C: Controller> {
     /// The names of the described controllers, by place, for the lines of lists.
     pub(crate) names: Vec<Shared<Name>>,
     pub(crate) sessions: u32,
-    pub(crate) blanks: Piles<C>,
+    pub(crate) blanks: Stock<C>,
     pub(crate) loads: u32,
     /// By serial: a load comes last.
     pub(crate) slots: Slots<C>,
@@ -78,14 +78,14 @@ impl<C: Controller> Works<C> {
         ensures booted { IfOk result (λ works. works ≡ boot checked stock sessions) }
         ensures valid { OnOk result (IsValid checked) }
     {
-        let blanks = stock.sorted(alloc)?;
+        stock.is_few();
         let names = names_of(alloc, checked.description().controllers.as_slice())?;
         let start = at_start(alloc, &checked)?;
         Ok(Works {
             checked,
             names,
             sessions,
-            blanks,
+            blanks: stock,
             loads: 0,
             slots: Slots::none(alloc),
             requests: Requests::none(alloc),

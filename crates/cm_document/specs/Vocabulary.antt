@@ -1,5 +1,6 @@
 -- Vocabularies: tables of words, each with what it stands for. A reader looks up a word, a printer what it stands for.
-use Rattle.std.specs.Prelude.{ℕ, Bool, true, false, not, if◌then◌else◌, List, [], ◌∷◌, map, find, Option, Some, None}
+use Rattle.std.specs.Prelude.{ℕ, Bool, true, false, not, if◌then◌else◌, List, [], ◌∷◌, map, find, position, Option}
+use Rattle.std.specs.Prelude.{Some, None}
 use Rattle.std.specs.Option.{option_map_or}
 use Rattle.iface_names.specs.Names.{same_name}
 use Rattle.cm_document.specs.Params.{same_controller_kind}
@@ -64,6 +65,10 @@ component_word kind = option_map_or (λ row. row.0.now) (find (λ row. same_comp
 abbrev pub controller_word : CtlKind → List ℕ
 controller_word kind =
     option_map_or (λ row. row.0.now) (find (λ row. same_controller_kind row.1 kind) CONTROLLER_KINDS) []
+
+-- the place of a kind of controller among all kinds
+abbrev pub place_of : CtlKind → ℕ
+place_of kind = option_map_or (λ place. place) (position (λ row. same_controller_kind row.1 kind) CONTROLLER_KINDS) 0
 
 -- the two states are one
 abbrev pub same_life : Life → Life → Bool

@@ -128,8 +128,11 @@ pub enum CtlKind {
     Limiter,
 }
 
+/// How many kinds of controllers there are.
+pub const NUMBER_OF_KINDS: usize = 9;
+
 /// The words for the kinds, in the order in which each kind has its place.
-pub const CONTROLLER_KINDS: [(&str, CtlKind); 9] = [
+pub const CONTROLLER_KINDS: [(&str, CtlKind); NUMBER_OF_KINDS] = [
     ("forward", CtlKind::Forward),
     ("passthrough", CtlKind::Passthrough),
     ("pid", CtlKind::Pid),

@@ -8,7 +8,7 @@ pub use checked::Checked;
 pub use cycles::Cycles;
 pub use description::{
     CONTROLLER_KINDS, CompDesc, CompKind, CtlDesc, CtlKind, Description, Exports, GroupDesc,
-    JointDesc, Params,
+    JointDesc, NUMBER_OF_KINDS, Params,
 };
 pub use document::Document;
 pub use faults::{CheckFault, DescFault, DescProblem, DocumentFault, ScriptFault, What, Wrong};
@@ -24,9 +24,7 @@ pub use picks::{flat, group_of, has_group};
 pub use script::{Grammar, Script, ScriptLine, SessionText, Turn, Verb, whole_grammar};
 pub use shape::Shape;
 pub use text::Text;
-pub use vocabulary::{
-    COMPONENT_KINDS, LIVES, LIVES_ON_ERROR, STRICTNESSES, VERBS, meaning_of,
-};
+pub use vocabulary::{COMPONENT_KINDS, LIVES, LIVES_ON_ERROR, STRICTNESSES, VERBS, meaning_of};
 
 mod call;
 mod carried;

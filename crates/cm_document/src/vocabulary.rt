@@ -1,11 +1,11 @@
 //! Vocabularies: tables of words, each with what it stands for. Readers look a word up, printers what it stands for.
 
-ghost use Rattle.std.specs.Prelude.{◌≡◌, map, find, option_copied};
+ghost use Rattle.std.specs.Prelude.{◌≡◌, ◌<◌, map, find, position, option_copied};
 ghost use Rattle.iface_names.specs.Names.{same_name};
 ghost use Rattle.cm_document.specs.Params.{same_controller_kind};
-ghost use Rattle.cm_document.specs.Vocabulary.{listed, same_component_kind, component_word, controller_word, same_life, life_word, same_verb, verb_word, bool_eq, strictness_word};
+ghost use Rattle.cm_document.specs.Vocabulary.{listed, same_component_kind, component_word, controller_word, place_of, same_life, life_word, same_verb, verb_word, bool_eq, strictness_word};
 
-use crate::description::{CONTROLLER_KINDS, CompKind, CtlKind};
+use crate::description::{CONTROLLER_KINDS, CompKind, CtlKind, NUMBER_OF_KINDS};
 use crate::life::Life;
 use crate::script::Verb;
 
@@ -113,6 +113,28 @@ impl CtlKind {
             None => "",
         }
     }
+
+    /// Whether it is the other kind.
+    pub fn is_same(self, other: CtlKind) -> bool
+        ensures { result ≡ same_controller_kind self other }
+    {
+        self == other
+    }
+
+    /// Its place among all kinds, from 0 on.
+    #[tactic(auto, using(crate::proofs::VocabularyLemmas::place_is_within))]
+    pub fn place(self) -> usize
+        ensures place { result ≡ place_of self }
+        ensures within { result < NUMBER_OF_KINDS }
+    {
+        place_in(&CONTROLLER_KINDS, self).unwrap_or(0)
+    }
+}
+
+fn place_in(table: &[(&str, CtlKind)], kind: CtlKind) -> Option<usize>
+    ensures { result ≡ position (λ row. same_controller_kind row.1 kind) table.now }
+{
+    table.iter().position(|row| row.1.is_same(kind))
 }
 
 fn kind_row<'a, 'b>(
@@ -121,13 +143,7 @@ fn kind_row<'a, 'b>(
 ) -> Option<&'a (&'b str, CtlKind)>
     ensures { option_copied result ≡ find (λ row. same_controller_kind row.1 kind) table.now }
 {
-    table.iter().find(|row| is_kind(row.1, kind))
-}
-
-fn is_kind(kind: CtlKind, other: CtlKind) -> bool
-    ensures { result ≡ same_controller_kind kind other }
-{
-    kind == other
+    table.iter().find(|row| row.1.is_same(kind))
 }
 
 impl Life {

@@ -20,7 +20,7 @@ use Rattle.cm_document.specs.declared.description.Description.{Description}
 use Rattle.cm_document.specs.declared.document.Document.{Document}
 use Rattle.cm_document.specs.declared.description.Params.{Params}
 use Rattle.cm_document.specs.declared.description.Params.TheVariants.{Forward, Pid, Trajectory, Broadcaster, Mock}
-use Rattle.cm_model.specs.Blanks.{blanks_of_each, with_one_less, with_one_more}
+use Rattle.cm_model.specs.Blanks.{blanks_of_each, with_count, with_one_less, with_one_more}
 use Rattle.cm_model.specs.Boundary.{all_concluded}
 use Rattle.cm_model.specs.Console.{unload_reply, moves_out}
 use Rattle.cm_model.specs.Cycle.{cycle, after_cycle}
@@ -162,7 +162,7 @@ unfolding digits step
 a_blank_serves_once = refl
 
 -- so 32 blanks serve 32 loads
-blanks_serve_as_often : replies (boot robot (record stock { forward = 32 }) 1) (flat_map (λ n. Load (codes "fwd") ∷ Unload (codes "fwd") ∷ []) (range_with_len 0 32) ++ Load (codes "fwd") ∷ [])
+blanks_serve_as_often : replies (boot robot (with_count stock kind.Forward 32) 1) (flat_map (λ n. Load (codes "fwd") ∷ Unload (codes "fwd") ∷ []) (range_with_len 0 32) ++ Load (codes "fwd") ∷ [])
     ≡ flat_map (λ n. (codes "ok " ++ decimal n) ∷ codes "ok" ∷ []) (range_with_len 0 32) ++ codes "stock_empty" ∷ []
 unfolding digits step
 blanks_serve_as_often = refl

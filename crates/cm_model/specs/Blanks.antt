@@ -1,48 +1,26 @@
--- The stock of blank controllers, counted by their kind. Each kind has a field: two tables say which, and all else is
--- read off them.
-use Rattle.std.specs.Prelude.{ℕ, ◌+◌, ◌-◌, if◌then◌else◌}
+-- The stock of blank controllers, counted by their kind.
+use Rattle.std.specs.Prelude.{ℕ, ◌+◌, ◌-◌, if◌then◌else◌, map, slice_index, sum_by}
 use Rattle.cm_document.specs.Params.{same_controller_kind}
+use Rattle.cm_document.specs.Vocabulary.{place_of}
 use Rattle.cm_document.specs.declared.description.CtlKind.{CtlKind}
-use Rattle.cm_document.specs.declared.description.CtlKind.TheVariants.{Forward, Passthrough, Pid, Trajectory}
-use Rattle.cm_document.specs.declared.description.CtlKind.TheVariants.{Broadcaster, Mock, Transmission, Differential}
-use Rattle.cm_document.specs.declared.description.CtlKind.TheVariants.{Limiter}
+use Rattle.cm_document.specs.declared.description.TheConstants.{CONTROLLER_KINDS}
 use Rattle.cm_model.specs.declared.blanks.Blanks.{Blanks}
 
--- ---- A field for each kind
+-- ---- A number at the place of each kind
 
 -- how many blanks of a kind are left
 abbrev pub blanks_of : Blanks → CtlKind → ℕ
-blanks_of blanks Forward = blanks.forward
-blanks_of blanks Passthrough = blanks.passthrough
-blanks_of blanks Pid = blanks.pid
-blanks_of blanks Trajectory = blanks.trajectory
-blanks_of blanks Broadcaster = blanks.broadcaster
-blanks_of blanks Mock = blanks.mock
-blanks_of blanks Transmission = blanks.transmission
-blanks_of blanks Differential = blanks.differential
-blanks_of blanks Limiter = blanks.limiter
+blanks_of blanks kind = slice_index blanks (place_of kind)
 
 -- as many of each kind as this says
 abbrev pub counted_by : (CtlKind → ℕ) → Blanks
-counted_by count = record {
-  forward = count Forward;
-  passthrough = count Passthrough;
-  pid = count Pid;
-  trajectory = count Trajectory;
-  broadcaster = count Broadcaster;
-  mock = count Mock;
-  transmission = count Transmission;
-  differential = count Differential;
-  limiter = count Limiter;
-}
+counted_by count = map (λ row. count row.1) CONTROLLER_KINDS
+
+-- ---- What is read off
 
 -- how many blanks there are of all kinds together
 abbrev pub total : Blanks → ℕ
-total b =
-    (((((b.forward + b.passthrough) + b.pid) + b.trajectory) + b.broadcaster) + b.mock)
-    + ((b.transmission + b.differential) + b.limiter)
-
--- ---- What is read off
+total blanks = sum_by (λ row. blanks_of blanks row.1) CONTROLLER_KINDS
 
 -- so many of each kind
 abbrev pub blanks_of_each : ℕ → Blanks

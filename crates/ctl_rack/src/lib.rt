@@ -1,8 +1,6 @@
-//! The blanks that are left to be loaded: a stock of them, and the same on piles by their kind.
+//! The blanks that are left to be loaded.
 #![tactic(auto)]
 
-pub use piles::Piles;
 pub use stock::{Stock, add};
 
-mod piles;
 mod stock;

@@ -1,5 +1,5 @@
 -- The state of a made run between two cycles and aloft, whatever the controllers hold, and a cycle of it.
-use Rattle.std.proofs.Common.{◌≡◌, ℕ, ◌+◌, true, false, List, [], ◌∷◌, length, Some, None, refl, ap, ◌∙◌}
+use Rattle.std.proofs.Common.{◌≡◌, ℕ, zero, suc, ◌+◌, true, false, List, [], ◌∷◌, length, Some, None, refl, ap, ◌∙◌}
 use Rattle.std.specs.Prelude.{◌==◌, if◌then◌else◌}
 use Rattle.std.specs.Fmt.{digits}
 use Rattle.std.specs.List.{AllByRecursion}
@@ -10,6 +10,8 @@ use Rattle.cm_document.specs.declared.description.CtlKind.TheVariants as kind
 use Rattle.cm_document.specs.declared.description.Params.TheVariants as params
 use Rattle.cm_document.specs.declared.life.Life.TheVariants.{Active}
 use Rattle.cm_model.specs.BestEffort.{stays_within}
+use Rattle.cm_model.specs.Blanks.{with_one_less}
+use Rattle.cm_model.specs.declared.blanks.Blanks.{Blanks}
 use Rattle.cm_model.specs.Commit.{commit}
 use Rattle.cm_model.specs.Cycle.{reaches, active_order, is_held_off, cycle, after_cycle}
 use Rattle.cm_model.specs.Order.{rank_within}
@@ -60,12 +62,17 @@ pub record Asked : Type 0 where
   pub requests : List Request
   pub outcomes : List Outcome
 
+-- the stock after so many forwards were loaded
+abbrev pub taken : ℕ → Blanks
+taken zero = stocked
+taken (suc n) = with_one_less (taken n) kind.Forward
+
 -- The state of a run of so many cycles, after so many, between two.
 abbrev pub between : ℕ → List Loaded → Held → Asked → ℕ → State
 between cycles loaded held asked n = record {
   description = robot_meant cycles;
   sessions = 1;
-  blanks = record stocked { forward = 24 };
+  blanks = taken 8;
   loads = 8;
   loaded = loaded;
   lives = Active ∷ [];

@@ -1,4 +1,4 @@
-//! Stocks on piles by their kind: boxes of several kinds, and controllers of one kind without boxes.
+//! Stocks, of which blanks are taken by their kind: boxes of several kinds, and controllers of one kind without boxes.
 
 ghost use Rattle.std.specs.Prelude.{◌≡◌, ◌+◌, ◌<◌, ◌^◌, length, OnOk};
 ghost use Rattle.std.specs.List.{All};
@@ -7,7 +7,7 @@ ghost use Rattle.cm_model.specs.Controllers.{IsBlank};
 use cm_document::{CONTROLLER_KINDS, CtlKind, meaning_of};
 use ctl_forward::{Forward, Passthrough};
 use ctl_mock::Mock;
-use ctl_rack::{Piles, Stock};
+use ctl_rack::Stock;
 use ctl_trait::Controller;
 use pages_cases::pages::{Teller, hold, push_parted};
 use std::alloc::Global;
@@ -109,25 +109,25 @@ fn all_taken<C: Controller>(alloc: Global, blanks: Vec<C>, kinds: &str) -> Resul
     requires blank { All (λ c. IsBlank (C.meaning c)) blanks.items }
     requires few { length blanks.items < 2 ^ 32 }
 {
-    let mut piles = Stock::make(blanks).sorted(alloc)?;
-    lines_of(alloc, &mut piles, kinds)
+    let mut stock = Stock::make(blanks);
+    lines_of(alloc, &mut stock, kinds)
 }
 
 fn lines_of<C: Controller>(
     alloc: Global,
-    piles: &mut Piles<C>,
+    stock: &mut Stock<C>,
     kinds: &str,
 ) -> Result<String, Fail> {
     let mut told = String::new(alloc);
     for kind in kinds.lines() {
-        push_parted(&mut told, "\n", taken(piles, kind_named(kind)?))?;
+        push_parted(&mut told, "\n", taken(stock, kind_named(kind)?))?;
     }
     Ok(told)
 }
 
 /// The kind of the blank that is taken.
-fn taken<C: Controller>(piles: &mut Piles<C>, kind: CtlKind) -> &'static str {
-    match piles.take(kind) {
+fn taken<C: Controller>(stock: &mut Stock<C>, kind: CtlKind) -> &'static str {
+    match stock.take(kind) {
         Some(ctl) => ctl.kind().word(),
         None => "none left",
     }

@@ -7,6 +7,7 @@
 - No line of a source of Rust is wider than 120 columns, and no public name of a library stands in two crates.
 - Each crate has a README, each example its place, and each crate its minutes in docs/SPEED.md.
 - No sentence, cell of a table or page is longer than its limit, and a number that is quoted with docs/SPEED.md stands there.
+- Another kind of controller touches at most ten files, which `scripts/pages kinds` prints.
 - What `scripts/pages contracts` finds, and what the pages lack that `scripts/pages write` makes.
 Prints a line a finding, and last how many. The exit status is 1 if there is one.
 """
@@ -17,7 +18,7 @@ import subprocess
 from pathlib import Path
 
 from ..tree import TOP, crates
-from . import contracts, lengths, names, write
+from . import contracts, kinds, lengths, names, write
 from .repository import Repository
 
 WIDEST = 120  # columns
@@ -76,6 +77,7 @@ def findings():
     yield from homes_shared(repository)
     yield from examples_listed_wrong(repository)
     yield from minutes_missing()
+    yield from kinds.findings(repository)
     for page in repository.pages:
         yield from (f"{page}: {it}" for it in names.findings(repository, page))
     yield from kit_missing()
