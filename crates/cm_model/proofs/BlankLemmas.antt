@@ -41,6 +41,10 @@ count_is count _ = refl
 pub same_counts : (count other : CtlKind → ℕ) → ((kind : CtlKind) → count kind ≡ other kind) → counted_by count ≡ counted_by other
 same_counts count other same = λ i. counted_by (λ kind. same kind i)
 
+-- what was counted is counted again
+pub counted_again : (count : CtlKind → ℕ) → counted_by count ≡ counted_by (blanks_of (counted_by count))
+counted_again count = same_counts count (blanks_of (counted_by count)) (λ kind. sym (count_is count kind))
+
 -- so many at each place are so many of each kind
 each_at : (n : ℕ) (kind : CtlKind) → blanks_of (replicate NUMBER_OF_KINDS n) kind ≡ n
 each_at n Forward = refl

@@ -22,7 +22,7 @@ impl Model for Blanks {
 }
 
 impl Blanks {
-    ghost use Rattle.cm_model.specs.Blanks.{blanks_of, blanks_of_each, with_count};
+    ghost use Rattle.cm_model.specs.Blanks.{blanks_of, blanks_of_each, counted_by, with_count};
 
     /// So many of each kind.
     pub fn of_each(count: u32) -> Blanks
@@ -47,5 +47,12 @@ impl Blanks {
         let mut counts = self.counts;
         counts[kind.place()] = count;
         Blanks { counts }
+    }
+
+    /// What all blanks are, for a caller's proof: it does nothing.
+    pub fn are_counted(&self)
+        ensures { self.now ≡ counted_by (blanks_of self.now) }
+    {
+        let _ = &self.counts;
     }
 }

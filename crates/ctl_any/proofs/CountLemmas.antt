@@ -1,33 +1,29 @@
--- Blanks of one kind, counted up.
-use Rattle.std.proofs.Common.{◌≡◌, ℕ, ◌+◌, refl, sym, ap, ◌∙◌, add-zero, arith}
+-- Blanks of one kind, counted up, and of all kinds.
+use Rattle.std.proofs.Common.{◌≡◌, ℕ, ◌+◌, Bool, true, false, map, refl, sym, ap, ◌∙◌, arith}
+use Rattle.std.specs.Prelude.{if◌then◌else◌}
+use Rattle.cm_document.specs.Params.{same_controller_kind}
 use Rattle.cm_document.specs.declared.description.CtlKind.{CtlKind}
-use Rattle.cm_document.specs.declared.description.CtlKind.TheVariants.{Forward, Passthrough, Pid, Trajectory, Broadcaster}
-use Rattle.cm_document.specs.declared.description.CtlKind.TheVariants.{Mock, Transmission, Differential, Limiter}
-use Rattle.cm_model.specs.Blanks.{blanks_of, no_blanks, with_count, with_one_more}
+use Rattle.cm_document.specs.declared.description.CtlKind.TheVariants.{Forward}
+use Rattle.cm_document.specs.declared.description.TheConstants.{CONTROLLER_KINDS}
+use Rattle.cm_document.proofs.VocabularyLemmas.{same_kind_is}
+use Rattle.cm_model.proofs.BlankLemmas.{same_counts}
+use Rattle.cm_model.specs.Blanks.{blanks_of, counted_by, no_blanks, with_count, with_one_more}
 use Rattle.cm_model.specs.declared.blanks.Blanks.{Blanks}
+use Rattle.ctl_any.specs.Stocks.{with_some_of}
+
+as_many : (is : Bool) (one all : ℕ) → (is ≡ true → one ≡ all) → (if is then one + 0 else all) ≡ all
+as_many true one all same = omega (arith, same refl)
+as_many false one all same = refl
 
 -- none more are as many
-pub none_more : (b : Blanks) (kind : CtlKind) → with_count b kind (blanks_of b kind + 0) ≡ b
-none_more b Forward = ap (λ n. record b { forward = n }) (add-zero b.forward)
-none_more b Passthrough = ap (λ n. record b { passthrough = n }) (add-zero b.passthrough)
-none_more b Pid = ap (λ n. record b { pid = n }) (add-zero b.pid)
-none_more b Trajectory = ap (λ n. record b { trajectory = n }) (add-zero b.trajectory)
-none_more b Broadcaster = ap (λ n. record b { broadcaster = n }) (add-zero b.broadcaster)
-none_more b Mock = ap (λ n. record b { mock = n }) (add-zero b.mock)
-none_more b Transmission = ap (λ n. record b { transmission = n }) (add-zero b.transmission)
-none_more b Differential = ap (λ n. record b { differential = n }) (add-zero b.differential)
-none_more b Limiter = ap (λ n. record b { limiter = n }) (add-zero b.limiter)
+pub none_more : (b : Blanks) (kind : CtlKind) → b ≡ counted_by (blanks_of b) → with_count b kind (blanks_of b kind + 0) ≡ b
+none_more b kind is =
+    same_counts (λ other. if same_controller_kind other kind then blanks_of b kind + 0 else blanks_of b other) (blanks_of b) (λ other. as_many (same_controller_kind other kind) (blanks_of b kind) (blanks_of b other) (λ yes. ap (blanks_of b) (sym (same_kind_is other kind yes))))
+    ∙ sym is
 
 counted_on : (b : Blanks) (kind : CtlKind) (n : ℕ) → with_one_more (with_count b kind n) kind ≡ with_count b kind (n + 1)
 counted_on b Forward n = refl
-counted_on b Passthrough n = refl
-counted_on b Pid n = refl
-counted_on b Trajectory n = refl
-counted_on b Broadcaster n = refl
-counted_on b Mock n = refl
-counted_on b Transmission n = refl
-counted_on b Differential n = refl
-counted_on b Limiter n = refl
+counted_on b _ n = refl
 
 -- one more is one more
 pub one_counted : (b : Blanks) (kind : CtlKind) (more : ℕ) → with_one_more (with_count b kind (blanks_of b kind + more)) kind ≡ with_count b kind (blanks_of b kind + (more + 1))
@@ -37,33 +33,10 @@ one_counted b kind more =
 
 -- ---- All kinds, one after the other
 
-abbrev pub with_some : Blanks → CtlKind → ℕ → Blanks
-with_some b kind more = with_count b kind (blanks_of b kind + more)
+all_at : (counts : Blanks) (kind : CtlKind) → blanks_of (with_some_of counts no_blanks (map (λ row. row.1) CONTROLLER_KINDS)) kind ≡ blanks_of counts kind
+all_at counts Forward = omega arith
+all_at counts _ = omega arith
 
-abbrev pub all_some : Blanks → Blanks
-all_some b =
-    let forwards = with_some no_blanks Forward b.forward in
-    let passthroughs = with_some forwards Passthrough b.passthrough in
-    let pids = with_some passthroughs Pid b.pid in
-    let trajectories = with_some pids Trajectory b.trajectory in
-    let broadcasters = with_some trajectories Broadcaster b.broadcaster in
-    let mocks = with_some broadcasters Mock b.mock in
-    let transmissions = with_some mocks Transmission b.transmission in
-    let differentials = with_some transmissions Differential b.differential in
-    with_some differentials Limiter b.limiter
-
-zero_plus : (n : ℕ) → 0 + n ≡ n
-zero_plus n = omega arith
-
-pub all_counted : (b : Blanks) → all_some b ≡ b
-all_counted b = λ i. record {
-  forward = zero_plus b.forward i;
-  passthrough = zero_plus b.passthrough i;
-  pid = zero_plus b.pid i;
-  trajectory = zero_plus b.trajectory i;
-  broadcaster = zero_plus b.broadcaster i;
-  mock = zero_plus b.mock i;
-  transmission = zero_plus b.transmission i;
-  differential = zero_plus b.differential i;
-  limiter = zero_plus b.limiter i;
-}
+-- so many of each kind are as many as were counted
+pub all_counted : (counts : Blanks) → with_some_of counts no_blanks (map (λ row. row.1) CONTROLLER_KINDS) ≡ counted_by (blanks_of counts)
+all_counted counts = λ i. counted_by (λ kind. all_at counts kind i)

@@ -3,7 +3,7 @@
 ghost use Rattle.std.specs.Prelude.{◌+◌, IfOk, OnOk, map};
 ghost use Rattle.cm_model.specs.Blanks.{blanks_of, blanks_of_each, with_count};
 ghost use Rattle.cm_model.specs.declared.blanks.Blanks.{Blanks};
-ghost use Rattle.ctl_any.specs.Stocks.{with_one_of};
+ghost use Rattle.ctl_any.specs.Stocks.{with_some_of};
 ghost use Rattle.ctl_rack.specs.Stocks.{AreBlanks};
 
 use crate::any_kind::AnyKind;
@@ -19,40 +19,36 @@ pub fn blanks(alloc: Global, each: u32) -> Result<Vec<AnyKind>, Memory>
     ensures { IfOk result
         (λ blanks. AreBlanks ⟦<AnyKind as Controller>⟧.meaning blanks.items (blanks_of_each each)) }
 {
-    let mut blanks = Vec::new(alloc);
-    for _number in 0..each {
-        add_each(&mut blanks, &CONTROLLER_KINDS)?;
-    }
+    let counts = Blanks::of_each(each);
+    let blanks = counted(alloc, &counts)?;
     Ok(blanks)
-}
-
-/// One blank more of each of these kinds.
-fn add_each(blanks: &mut Vec<AnyKind>, kinds: &[(&str, CtlKind)]) -> Result<(), Memory>
-    ensures { OnOk result ((b : Blanks) → AreBlanks ⟦<AnyKind as Controller>⟧.meaning blanks.old.items b
-        → AreBlanks ⟦<AnyKind as Controller>⟧.meaning blanks.new.items (with_one_of b (map (λ row. row.1) kinds.now))) }
-{
-    for row in kinds {
-        add(blanks, row.1, AnyKind::blank(row.1))?;
-    }
-    Ok(())
 }
 
 /// As many blanks of each kind as these counts say.
-pub fn counted(alloc: Global, counts: Blanks) -> Result<Vec<AnyKind>, Memory>
+pub fn counted(alloc: Global, counts: &Blanks) -> Result<Vec<AnyKind>, Memory>
     ensures { IfOk result
-        (λ blanks. AreBlanks ⟦<AnyKind as Controller>⟧.meaning blanks.items counts) }
+        (λ blanks. AreBlanks ⟦<AnyKind as Controller>⟧.meaning blanks.items counts.now) }
 {
+    counts.are_counted();
     let mut blanks = Vec::new(alloc);
-    add_some(&mut blanks, CtlKind::Forward, counts.forward)?;
-    add_some(&mut blanks, CtlKind::Passthrough, counts.passthrough)?;
-    add_some(&mut blanks, CtlKind::Pid, counts.pid)?;
-    add_some(&mut blanks, CtlKind::Trajectory, counts.trajectory)?;
-    add_some(&mut blanks, CtlKind::Broadcaster, counts.broadcaster)?;
-    add_some(&mut blanks, CtlKind::Mock, counts.mock)?;
-    add_some(&mut blanks, CtlKind::Transmission, counts.transmission)?;
-    add_some(&mut blanks, CtlKind::Differential, counts.differential)?;
-    add_some(&mut blanks, CtlKind::Limiter, counts.limiter)?;
+    add_counted(&mut blanks, &CONTROLLER_KINDS, counts)?;
     Ok(blanks)
+}
+
+/// As many blanks more of each of these kinds as the counts say.
+fn add_counted(
+    blanks: &mut Vec<AnyKind>,
+    kinds: &[(&str, CtlKind)],
+    counts: &Blanks,
+) -> Result<(), Memory>
+    ensures { OnOk result ((b : Blanks) → AreBlanks ⟦<AnyKind as Controller>⟧.meaning blanks.old.items b
+        → AreBlanks ⟦<AnyKind as Controller>⟧.meaning blanks.new.items
+        (with_some_of counts.now b (map (λ row. row.1) kinds.now))) }
+{
+    for row in kinds {
+        add_some(blanks, row.1, counts.of(row.1))?;
+    }
+    Ok(())
 }
 
 /// So many blanks of this kind, behind those that are there.

@@ -1,16 +1,17 @@
 //! The check of a stored trace.
 
-ghost use Rattle.std.specs.Prelude.{◌≡◌, ◌<◌, ◌-◌, ◌^◌, length, nat_lt};
+ghost use Rattle.std.specs.Prelude.{◌≡◌, ◌<◌, ◌≤◌, ◌-◌, ◌^◌, length, map, nat_lt, sum_by};
 ghost use Rattle.cm_document.specs.Lines.{raw_lines};
 ghost use Rattle.cm_document.specs.ScriptLaws.{MeetsRules};
-ghost use Rattle.cm_model.specs.Blanks.{total};
+ghost use Rattle.cm_document.specs.declared.description.TheConstants.{NUMBER_OF_KINDS};
+ghost use Rattle.cm_model.specs.Blanks.{blanks_of};
 ghost use Rattle.trace_laws.specs.Judged.{judged};
-ghost use Rattle.trace_laws.specs.Stocks.{at_most};
+ghost use Rattle.trace_laws.specs.Stocks.{at_most, lessened};
 ghost use Rattle.trace_check.specs.Checks.{Judges, Tells};
 
 use crate::fault::{TraceFault, WrongLine};
 use crate::replay::replay_over;
-use cm_document::{Checked, Script};
+use cm_document::{CONTROLLER_KINDS, Checked, CtlKind, Script};
 use cm_model::Blanks;
 use ctl_any::counted;
 use ctl_rack::Stock;
@@ -36,24 +37,27 @@ pub fn check_trace(
     ensures tells { Tells (judged (record { description = checked.now; script = script.now }) blanks.now text.now)
         result }
 {
-    let counts = at_most(*blanks, lines_in(text));
-    if !are_few(counts) {
+    let counts = at_most(blanks, lines_in(text));
+    if !are_few(&counts, &CONTROLLER_KINDS) {
         return Err(TraceFault::Memory);
     }
-    let boxes = counted(alloc, counts)?;
+    let boxes = counted(alloc, &counts)?;
     // Its contract says that the description is valid.
     checked.description();
     check_over(alloc, checked, script, Stock::make(boxes), text)
 }
 
-/// Whether a stock can count so many blanks. More would take terabytes.
-fn are_few(counts: Blanks) -> bool
-    ensures { result ≡ nat_lt (total counts) (2 ^ 32) }
+/// Whether a stock can count so many blanks of these kinds. More would take terabytes.
+#[tactic(auto, using(std::proofs::lemmas::List::Sums::sum_by_more))]
+fn are_few(counts: &Blanks, kinds: &[(&str, CtlKind)]) -> bool
+    requires { length kinds.now ≤ NUMBER_OF_KINDS }
+    ensures { result ≡ nat_lt (sum_by (λ row. blanks_of counts.now row.1) kinds.now) (2 ^ 32) }
 {
-    let chained = counts.forward as u64 + counts.passthrough as u64 + counts.pid as u64;
-    let others = counts.trajectory as u64 + counts.broadcaster as u64 + counts.mock as u64;
-    let shaped = counts.transmission as u64 + counts.differential as u64 + counts.limiter as u64;
-    chained + others + shaped < 1 << 32
+    let mut sum = 0u64;
+    for row in kinds {
+        sum += counts.of(row.1) as u64;
+    }
+    sum < 1 << 32
 }
 
 /// The check over this stock.
@@ -93,18 +97,19 @@ fn lines_in(text: &[u8]) -> u32
 }
 
 /// The same counts, but at most so many of each kind.
-fn at_most(counts: Blanks, most: u32) -> Blanks
-    ensures { result ≡ at_most most counts }
+fn at_most(counts: &Blanks, most: u32) -> Blanks
+    ensures { result ≡ at_most most counts.now }
 {
-    Blanks {
-        forward: counts.forward.min(most),
-        passthrough: counts.passthrough.min(most),
-        pid: counts.pid.min(most),
-        trajectory: counts.trajectory.min(most),
-        broadcaster: counts.broadcaster.min(most),
-        mock: counts.mock.min(most),
-        transmission: counts.transmission.min(most),
-        differential: counts.differential.min(most),
-        limiter: counts.limiter.min(most),
+    let mut few = Blanks::of_each(0);
+    lessen(&mut few, counts, most, &CONTROLLER_KINDS);
+    few
+}
+
+/// Sets the counts of these kinds to those, but at most to so many.
+fn lessen(few: &mut Blanks, counts: &Blanks, most: u32, kinds: &[(&str, CtlKind)])
+    ensures { few.new ≡ lessened most counts.now few.old (map (λ row. row.1) kinds.now) }
+{
+    for row in kinds {
+        *few = few.with(row.1, most.min(counts.of(row.1)));
     }
 }

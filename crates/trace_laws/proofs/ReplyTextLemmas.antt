@@ -66,14 +66,7 @@ component_kind_printed System = word_printed (component_word System) refl
 
 controller_kind_printed : (of : CtlKind) → IsPrinted (controller_word of)
 controller_kind_printed kind.Forward = word_printed (controller_word kind.Forward) refl
-controller_kind_printed kind.Passthrough = word_printed (controller_word kind.Passthrough) refl
-controller_kind_printed kind.Pid = word_printed (controller_word kind.Pid) refl
-controller_kind_printed kind.Trajectory = word_printed (controller_word kind.Trajectory) refl
-controller_kind_printed kind.Broadcaster = word_printed (controller_word kind.Broadcaster) refl
-controller_kind_printed kind.Mock = word_printed (controller_word kind.Mock) refl
-controller_kind_printed kind.Transmission = word_printed (controller_word kind.Transmission) refl
-controller_kind_printed kind.Differential = word_printed (controller_word kind.Differential) refl
-controller_kind_printed kind.Limiter = word_printed (controller_word kind.Limiter) refl
+controller_kind_printed of = word_printed (controller_word of) refl
 
 why_printed : (reason : Why) → IsPrinted (why_word reason)
 why_printed why.NotDescribed = word_printed (why_word why.NotDescribed) refl

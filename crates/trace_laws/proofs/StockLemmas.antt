@@ -1,6 +1,6 @@
 -- States that differ in their blanks alone, of which each has enough for what is to come, make the same steps.
 use Rattle.std.proofs.Common.{◌≡◌, ℕ, suc, ◌≤◌, Bool, true, false, List, [], ◌∷◌, ◌++◌, Option, Some, None, refl, sym, ap, subst, ◌∙◌, inl, inr, ◌⊎◌, arith}
-use Rattle.std.specs.Prelude.{◌==◌, ◌-◌, option_map, slice_get, if◌then◌else◌}
+use Rattle.std.specs.Prelude.{◌==◌, ◌-◌, map, min, option_map, slice_get, if◌then◌else◌}
 use Rattle.std.specs.Option.{option_map_or}
 use Rattle.std.proofs.lemmas.Bool.Decides.{nat_tests}
 use Rattle.cm_document.specs.Params.{kind_of, same_controller_kind}
@@ -9,11 +9,12 @@ use Rattle.cm_document.specs.declared.call.Call.TheVariants.{Load, Configure, Cl
 use Rattle.cm_document.specs.declared.description.CtlDesc.{CtlDesc}
 use Rattle.cm_document.specs.declared.description.CtlKind.{CtlKind}
 use Rattle.cm_document.specs.declared.description.CtlKind.TheVariants as kind
+use Rattle.cm_document.specs.declared.description.TheConstants.{CONTROLLER_KINDS}
 use Rattle.cm_document.specs.declared.life.Life.{Life}
 use Rattle.cm_document.specs.declared.call.SwitchRequest.{SwitchRequest}
 use Rattle.cm_model.specs.BestEffort.{decided, stays_within}
 use Rattle.cm_storage.specs.Kept.{load_name}
-use Rattle.cm_model.specs.Blanks.{blanks_of, counted_by, with_one_less}
+use Rattle.cm_model.specs.Blanks.{blanks_of, counted_by, no_blanks, with_one_less}
 use Rattle.cm_model.specs.Boundary.{request_effect, Concluded, with_switch, component_place, move_fault, with_move_unless, with_move, concluded, with_outcome, all_concluded, stood_in, standing_in, after_standing_in, after_fallbacks, waiting, boundary, told_of_fallbacks, decisions_between}
 use Rattle.cm_model.specs.Commit.{scene_of, commit}
 use Rattle.cm_model.specs.Console.{unless_refused, place_of, slot_of, where_done, with_slot, with_changed, without_slot, configured_with, description_of, after_configure, after_cleanup, after_rate, after_send}
@@ -23,6 +24,8 @@ use Rattle.cm_model.specs.Order.{Places}
 use Rattle.cm_model.specs.State.{State, Loaded}
 use Rattle.cm_model.specs.Switches.{Decided, refused, done}
 use Rattle.cm_model.specs.declared.blanks.Blanks.{Blanks}
+use Rattle.cm_model.proofs.BlankLemmas.{count_is}
+use Rattle.trace_laws.specs.Stocks.{at_most, lessened}
 use Rattle.cm_model.specs.declared.cause.Cause.{Cause}
 use Rattle.cm_model.specs.declared.cause.Decision.{Decision}
 use Rattle.cm_model.specs.declared.reply.Reply.{Reply}
@@ -172,22 +175,18 @@ enough_fewer loads all some enough = λ k. fewer (enough k)
     fewer (inl same) = inl same
     fewer (inr (some, all)) = inr (omega (arith, some), omega (arith, all))
 
--- what was counted by a kind is the count of that kind
-pub counted_at : (count : CtlKind → ℕ) (k : CtlKind) → blanks_of (counted_by count) k ≡ count k
-counted_at count kind.Forward = refl
-counted_at count kind.Passthrough = refl
-counted_at count kind.Pid = refl
-counted_at count kind.Trajectory = refl
-counted_at count kind.Broadcaster = refl
-counted_at count kind.Mock = refl
-counted_at count kind.Transmission = refl
-counted_at count kind.Differential = refl
-counted_at count kind.Limiter = refl
+-- at most so many of each kind
+lessened_at : (most : ℕ) (counts : Blanks) (k : CtlKind) → blanks_of (lessened most counts no_blanks (map (λ row. row.1) CONTROLLER_KINDS)) k ≡ min most (blanks_of counts k)
+lessened_at most counts kind.Forward = refl
+lessened_at most counts _ = refl
+
+pub all_lessened : (most : ℕ) (counts : Blanks) → lessened most counts no_blanks (map (λ row. row.1) CONTROLLER_KINDS) ≡ at_most most counts
+all_lessened most counts = λ i. counted_by (λ k. lessened_at most counts k i)
 
 -- one blank of a kind is taken of both
 enough_taken : (loads : ℕ) (all some : Blanks) (taken : CtlKind) → AreEnough (suc loads) all some → AreEnough loads (with_one_less all taken) (with_one_less some taken)
 enough_taken loads all some taken enough = λ k.
-    rw (counted_at (λ other. if same_controller_kind other taken then blanks_of some taken - 1 else blanks_of some other) k, counted_at (λ other. if same_controller_kind other taken then blanks_of all taken - 1 else blanks_of all other) k)
+    rw (count_is (λ other. if same_controller_kind other taken then blanks_of some taken - 1 else blanks_of some other) k, count_is (λ other. if same_controller_kind other taken then blanks_of all taken - 1 else blanks_of all other) k)
     (either k (same_controller_kind k taken))
   where
     less : {m n : ℕ} → ((m ≡ n) ⊎ ((suc loads ≤ m) × (suc loads ≤ n))) → (m - 1 ≡ n - 1) ⊎ ((loads ≤ m - 1) × (loads ≤ n - 1))

@@ -11,6 +11,7 @@ use Rattle.cm_document.specs.Reading.{◌>>=◌}
 use Rattle.cm_document.specs.ScriptLaws.{MeetsRules}
 use Rattle.cm_document.specs.declared.call.Call.{Call}
 use Rattle.cm_document.specs.declared.document.Document.{Document}
+use Rattle.cm_model.proofs.BlankLemmas.{count_is}
 use Rattle.cm_model.proofs.LegalLemmas.{Leads, Leads-step}
 use Rattle.cm_model.specs.Blanks.{blanks_of}
 use Rattle.cm_model.specs.Machine.{step}
@@ -23,7 +24,7 @@ use Rattle.trace_laws.specs.Next.{caller_named, first_word, next_of, state_of, e
 use Rattle.trace_laws.specs.Stocks.{at_most}
 use Rattle.trace_laws.specs.Told.{WrongLine}
 use Rattle.trace_laws.proofs.ReplayLemmas.{telling}
-use Rattle.trace_laws.proofs.StockLemmas.{AreAlike, StepAlike, neither, both, counted_at, step_alike}
+use Rattle.trace_laws.proofs.StockLemmas.{AreAlike, StepAlike, neither, both, step_alike}
 
 module _ (document : Document) (all some : Blanks) (rules : MeetsRules document.script) where
   -- a history leads to states that are alike for so many loads
@@ -130,6 +131,6 @@ few_are_enough document blanks text rules =
       alike = record {
         blanks = at_most n blanks;
         same = refl;
-        enough = λ k. subst (λ few. (few ≡ blanks_of blanks k) ⊎ ((n ≤ few) × (n ≤ blanks_of blanks k))) (sym (counted_at (λ kind. min n (blanks_of blanks kind)) k)) (lesser n (blanks_of blanks k));
+        enough = λ k. subst (λ few. (few ≡ blanks_of blanks k) ⊎ ((n ≤ few) × (n ≤ blanks_of blanks k))) (sym (count_is (λ kind. min n (blanks_of blanks kind)) k)) (lesser n (blanks_of blanks k));
       };
     })

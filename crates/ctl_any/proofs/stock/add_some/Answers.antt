@@ -4,7 +4,14 @@ use Rattle.cm_model.specs.declared.blanks.Blanks.{Blanks}
 use Rattle.ctl_any.proofs.CountLemmas.{none_more, one_counted}
 use Rattle.ctl_any.specs.contracts.any_kind.AnyKindController.TheImpl.{ghosts}
 use Rattle.ctl_rack.specs.Stocks.{AreBlanks}
+use Rattle.ctl_rack.proofs.StockLemmas.{blanks_counted}
 use Rattle.ctl_any.proofs.stock.add_some.Goals as goal
+
+-- none more yet
+pub loop-number-init : goal.loop-number-init
+loop-number-init c = λ b are.
+    subst (λ (x : Blanks). AreBlanks ghosts.meaning c.args.blanks.now.items x)
+    (sym (none_more b c.args.kind (blanks_counted ghosts.meaning c.args.blanks.now.items b are))) are
 
 -- one more of the kind
 pub loop-number-preserved : goal.loop-number-preserved
