@@ -49,6 +49,15 @@ impl Blanks {
         Blanks { counts }
     }
 
+    /// The same once more.
+    pub fn copied(&self) -> Blanks
+        ensures { result ≡ self.now }
+    {
+        Blanks {
+            counts: self.counts,
+        }
+    }
+
     /// What all blanks are, for a caller's proof: it does nothing.
     pub fn are_counted(&self)
         ensures { self.now ≡ counted_by (blanks_of self.now) }

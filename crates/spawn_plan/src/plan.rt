@@ -30,7 +30,7 @@ pub fn spawn(
     let controllers = checked.description().controllers.as_slice();
     let places = places_in(alloc, checked, wanted)?;
     each_once(wanted)?;
-    have_blanks(controllers, *blanks, places.as_slice())?;
+    have_blanks(controllers, blanks, places.as_slice())?;
     can_be_configured(controllers, places.as_slice())?;
     let cycle = start_together(alloc, checked, wanted, places.as_slice())?;
     let script = starting(alloc, wanted, cycle)?;

@@ -81,13 +81,13 @@ fn is_among(name: &Name, names: &[Name]) -> bool
 /// Each takes a blank of its kind; else the first for which those before it have used them up.
 pub fn have_blanks(
     controllers: &[CtlDesc],
-    blanks: Blanks,
+    blanks: &Blanks,
     places: &[u32],
 ) -> Result<(), SpawnFault>
     requires { All (λ place. place < length controllers.now) places.now }
-    ensures { Answers SpawnFault.Memory (have_blanks controllers.now blanks places.now) result }
+    ensures { Answers SpawnFault.Memory (have_blanks controllers.now blanks.now places.now) result }
 {
-    let mut left = blanks;
+    let mut left = blanks.copied();
     for place in places {
         let controller = &controllers[*place as usize];
         let kind = controller.params.kind();
