@@ -24,7 +24,8 @@ use Rattle.cm_model.proofs.InterfaceLemmas.{joints_all}
 use Rattle.cm_model.specs.Faults.{joint_name}
 use Rattle.cm_model.specs.Order.{controller_at}
 use Rattle.desc_text.proofs.ReadableLemmas.{valid_IsReadable}
-use Rattle.desc_text.specs.Readable.{IsNamed, IsOfJoint, JointIsReadable, ComponentIsReadable, ControllerIsReadable, GroupIsReadable}
+use Rattle.cm_document.specs.Given.{IsNamed, IsOfJoint}
+use Rattle.desc_text.specs.Readable.{JointIsReadable, ComponentIsReadable, ControllerIsReadable, GroupIsReadable}
 use Rattle.script_text.proofs.PrintWordLemmas.{IsPrinted}
 use Rattle.trace_laws.proofs.SpellingLemmas.{word_printed, between, name_printed}
 

@@ -8,7 +8,7 @@ use Rattle.std.proofs.lemmas.Bool.{and_parts, cases_Bool}
 use Rattle.std.proofs.lemmas.Bool.Decides.{nat_tests}
 use Rattle.fixed_num.specs.Text.{sign_text, six_digits, spelled}
 use Rattle.cm_document.proofs.ReadingLemmas.{cases_Option}
-use Rattle.cm_document.specs.ScriptLaws.{IsName}
+use Rattle.cm_document.specs.Given.{IsName}
 use Rattle.cm_model.specs.Trace.{joined}
 use Rattle.script_text.proofs.PrintValueLemmas.{name_IsWord}
 use Rattle.script_text.proofs.PrintWordLemmas.{IsPrinted, IsPrinted-append, shown_IsPrinted}
