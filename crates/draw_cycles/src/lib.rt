@@ -10,6 +10,7 @@ pub use why::push_whys;
 
 mod axis;
 mod bars;
+mod broken;
 mod causes;
 mod log;
 mod marks;

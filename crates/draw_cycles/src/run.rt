@@ -2,6 +2,7 @@
 
 use crate::axis::draw_axis;
 use crate::bars::{Barred, draw_bars};
+use crate::broken::draw_break;
 use crate::causes::answered_title;
 use crate::marks::draw_mark;
 use crate::placed::{Placed, marks_of};
@@ -30,6 +31,8 @@ pub struct Run<'a> {
     pub description: &'a Description,
     /// What happened.
     pub replay: &'a Replay<'a>,
+    /// The number of the line at which the trace that tells it goes wrong, if there is one.
+    pub wrong_line: Option<u32>,
 }
 
 /// Draws the run from this height on, and gives where it ends.
@@ -38,6 +41,10 @@ pub fn draw_run(alloc: Global, svg: &mut Svg, top: Px, run: Run<'_>) -> Result<P
     draw_axis(alloc, svg, &run.strip, top, bottom)?;
     draw_rows(alloc, svg, top, run)?;
     draw_tickets(alloc, svg, top, run)?;
+    if let Some(line) = run.wrong_line {
+        let ended = run.replay.cycles_ended();
+        draw_break(alloc, svg, &run.strip, top, bottom, ended, line)?;
+    }
     Ok(bottom.plus(Px::of(24)))
 }
 

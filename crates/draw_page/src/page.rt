@@ -135,6 +135,7 @@ fn page(
         strip: Strip::of(columns, left),
         description: linked.description,
         replay,
+        wrong_line: wrong.map(|it| it.line),
     };
     let mut svg = Svg::new(alloc);
     let top = draw_head(alloc, &mut svg, name, linked.description, run.replay.counts)?;

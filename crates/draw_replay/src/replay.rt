@@ -102,6 +102,13 @@ impl<'a> Replay<'a> {
         Ok(replay)
     }
 
+    /// How many cycles ended.
+    pub fn cycles_ended(&self) -> u64
+        ensures { result ≡ self.now.present.ended }
+    {
+        self.present.ended
+    }
+
     /// Of a run in which nothing happened yet.
     fn blank(
         alloc: Global,

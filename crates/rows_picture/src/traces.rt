@@ -1,7 +1,7 @@
-//! Where a stored trace goes wrong, in words: it is told before what went wrong in the run up to there.
+//! Where a stored trace goes wrong: it is told before what went wrong in the run up to there, and marked in the run.
 
 use crate::drawn::read;
-use draw_page::{WrongTrace, trace_whys_of};
+use draw_page::{WrongTrace, trace_page_of, trace_whys_of};
 use pages_cases::pages::hold_told;
 use pages_runs::books::history_of;
 use pages_runs::runs::{IN_STOCK, without_end};
@@ -18,6 +18,49 @@ fn a_wrong_line_is_told_with_the_one_that_was_to_come(rt: HostRuntime) -> Result
     let close = b"loop close: none".as_slice();
     hold_wrong(alloc, 7, nothing, close, BEHIND_THE_LAST)?;
     hold_wrong(alloc, 2, b"a\xff\tb".as_slice(), nothing, OF_NOBODY)
+}
+
+/// A load, the begin and the end of the one cycle, and the close: so many of these lines are legal, and the next is wrong.
+#[test]
+fn a_wrong_line_is_marked_in_the_run(rt: HostRuntime) -> Result<(), Fail> {
+    hold_marked(rt.alloc(), 0, 1, "in cycle 0")?;
+    hold_marked(rt.alloc(), 1, 2, "in cycle 0")?;
+    hold_marked(rt.alloc(), 2, 3, "in cycle 0")?;
+    hold_marked(rt.alloc(), 3, 4, "after the last cycle")
+}
+
+/// Fails where the page of a trace that goes wrong at a line, behind so many legal ones, lacks a bar that tells it then, or the line's
+/// number above.
+fn hold_marked(alloc: Global, legal: usize, line: u32, then: &str) -> Result<(), Fail> {
+    let document = read(alloc, DOCUMENT.as_bytes())?;
+    let history = history_of(alloc, DOCUMENT, IN_STOCK)?;
+    let Some((told, _)) = history.as_slice().split_at_checked(legal) else {
+        return Err(Fail::new("the run is shorter"));
+    };
+    let wrong = WrongTrace {
+        line,
+        came: b"nobody".as_slice(),
+        expected: b"".as_slice(),
+    };
+    let description = document.description.description();
+    let script = &document.script;
+    let page = trace_page_of(alloc, "rows.cm", description, script, told, Some(wrong))?;
+    let title = format!(in alloc;
+        "<title>the trace goes wrong at its line {line}, {then}</title>"
+    )?;
+    hold_element(page.as_str(), format!(in alloc; "{title}</rect>")?)?;
+    hold_element(
+        page.as_str(),
+        format!(in alloc; "{title}line {line}</text>")?,
+    )
+}
+
+/// Fails where this does not stand on the page.
+fn hold_element(page: &str, element: String) -> Result<(), Fail> {
+    if page.contains(element.as_str()) {
+        return Ok(());
+    }
+    Err(Fail::new(element))
 }
 
 /// Fails where other words are told of a trace that goes wrong so.
