@@ -1,7 +1,8 @@
 """Answers: does the drawing program draw what the pictures show?
 
 Each docs/pictures/NAME.svg is the page of examples/NAME.cm, and a document that is refused has no page. Of an example that is run live
-it is the page of its stored trace, which the job `steps` makes again. With `--write` the pictures are made anew.
+it is the page of its stored trace, which the job `steps` makes again; of one with a trace to judge, that of the trace as far as it is
+legal, and what `--why` says of the first wrong line is looked at too. With `--write` the pictures are made anew.
 Prints a line a picture and a refused document, and last `N passed, M failed`. The exit status is 1 if one differs, if the program has no
 page for it, or has one that it should not.
 """
@@ -19,6 +20,14 @@ REFUSED = {
     "a document without an update rate": b"version = 1\n--- script ---\n",
 }
 REFUSED_STATUS = 3
+# What is said of the first wrong line of a stored trace.
+WRONG_LINES = {
+    "exchanged_lines": b"""\
+the trace goes wrong at its line 9, and is drawn as far as it is legal
+    came: loop begin 2: none
+    to come: loop end 1: run fwd ok unset; joint j1 0.000000 0.000000 0.000000
+""",
+}
 
 
 def options(parser):
@@ -31,7 +40,10 @@ def page(document, drawer):
     """Returns the status of drawing an example, and its page."""
     if not document.exists():
         return 1, b""
-    if words_of(document)[0] == LIVE:
+    job, *_ = words_of(document)
+    if job == "check":
+        return programs.ran([drawer, job], document.read_bytes())[:2]
+    if job == LIVE:
         trace = beside(document, ".stdout").read_bytes().splitlines()
         return programs.ran([drawer, "steps"], scheduled(document.read_bytes(), trace))[:2]
     return programs.ran([drawer], document.read_bytes())[:2]
@@ -50,10 +62,18 @@ def reason(picture, drawer, writes):
     return f"the page of {document.name} is another one; scripts/replay pictures --write makes it anew" if differs else None
 
 
+def wrong_line_fault(name, told, drawer):
+    """Returns what is wrong with what is said of an example's wrong line, or None."""
+    status, said, _ = programs.ran([drawer, "check", "--why"], (TOP / "examples" / f"{name}.cm").read_bytes())
+    return None if status == 0 and said.startswith(told) else f"status {status}, and {said[:300].decode(errors='replace')}"
+
+
 def main(asked):
     drawer, tally = programs.drawer(asked), Tally()
     for picture in sorted(PICTURES.glob("*.svg")):
         tally.tell(picture.relative_to(TOP), reason(picture, drawer, asked.write))
+    for name, told in WRONG_LINES.items():
+        tally.tell(f"./draw check --why < examples/{name}.cm", wrong_line_fault(name, told, drawer))
     for name, document in REFUSED.items():
         status, drawn, _ = programs.ran([drawer], document)
         is_so = status == REFUSED_STATUS and not drawn
