@@ -1,8 +1,7 @@
 -- What stands behind the separator of a script, divided line by line.
-use Rattle.std.proofs.Common.{◌≡◌, ℕ, ◌+◌, ◌-◌, ◌<◌, ◌≤◌, true, false, List, [], ◌∷◌, ◌++◌, length, take, Option, Some, None, refl, sym, ap, ◌∙◌, arith, append_assoc, append-nil, length-append}
-use Rattle.std.specs.Prelude.{if◌then◌else◌, Bool}
+use Rattle.std.proofs.Common.{◌≡◌, ℕ, ◌+◌, ◌-◌, ◌<◌, ◌≤◌, true, false, List, [], ◌∷◌, ◌++◌, length, take, Some, None, refl, sym, ap, ◌∙◌, arith, append_assoc, append-nil, length-append}
 use Rattle.std.proofs.lemmas.List.{take_at}
-use Rattle.cm_document.specs.Lines.{raw_lines, joined}
+use Rattle.cm_document.specs.Lines.{raw_lines}
 use Rattle.cm_document.proofs.LineLemmas.{joined_raw_lines}
 use Rattle.cm_top.specs.Traced.{Behind, is_trace_separator, behind_of_lines, behind_of}
 

@@ -1,24 +1,23 @@
 -- From the judgement of a trace to what the job `check` promises.
-use Rattle.std.proofs.Common.{◌≡◌, ℕ, ◌<◌, ◌≤◌, List, [], length, Option, Some, None, Ok, true, false, refl, sym, ap, ◌∙◌, inl, inr, ◌⊎◌, arith}
-use Rattle.std.specs.Prelude.{codes, nat_lt, IfSome, Result, Err}
+use Rattle.std.proofs.Common.{◌≡◌, ℕ, ◌<◌, List, length, Option, Some, None, Ok, true, false, refl, sym, ap, ◌∙◌, inl, inr, ◌⊎◌, arith}
+use Rattle.std.specs.Prelude.{codes, nat_lt, IfSome, Err}
 use Rattle.std.specs.Io.KnownBytes.{Keeps}
 use Rattle.std.proofs.lemmas.Bool.Decides.{nat_tests}
 use Rattle.std.proofs.KnownBytes.{Keeps-refl}
 use Rattle.outside_io.specs.Bytes.{GivesAll, IsLonger}
-use Rattle.outside_io.specs.Faults.{IsToldAs, Rose, one_more}
-use Rattle.cm_document.specs.declared.document.Document.{Document}
+use Rattle.outside_io.specs.Faults.{Rose, one_more}
 use Rattle.cm_document.specs.declared.faults.DescProblem.{DescProblem}
 use Rattle.cm_document.specs.declared.faults.DocumentFault.TheVariants as fault
 use Rattle.cm_document.specs.declared.faults.ScriptFault.{ScriptFault}
 use Rattle.cm_document.specs.declared.limits.TheConstants.{LONGEST_DOCUMENT}
 use Rattle.cm_model.specs.declared.blanks.Blanks.{Blanks}
 use Rattle.trace_laws.specs.Judged.{judged}
-use Rattle.trace_laws.specs.Told.{IsTold, IsWrong, WrongLine}
-use Rattle.cm_top.specs.Answering.{Answering, checking, accepted_by, AnsweredWith, Refuses, WroteAnswer, status_for, status_of_accepted, status_of_judgement}
-use Rattle.cm_top.specs.Book.{BookFacts, IsShort}
+use Rattle.trace_laws.specs.Told.{IsTold, IsWrong}
+use Rattle.cm_top.specs.Answering.{checking, accepted_by, AnsweredWith, Refuses, status_for, status_of_accepted, status_of_judgement}
+use Rattle.cm_top.specs.Book.{IsShort}
 use Rattle.cm_top.specs.Calls.Check.{ChecksDocument, ChecksBytes}
-use Rattle.cm_top.specs.Calls.Run.{SourceFacts, SinkFacts, MindsSink, MindsFaults, AnswersFrom, written}
-use Rattle.cm_top.specs.Status.{Written, Wrote, ComesOfBytes, IsPlain, IsPlainFault, status_of_document}
+use Rattle.cm_top.specs.Calls.Run.{SourceFacts, SinkFacts, MindsSink, AnswersFrom, written}
+use Rattle.cm_top.specs.Status.{Written, Wrote, ComesOfBytes, IsPlain, IsPlainFault}
 use Rattle.cm_top.specs.Traced.{Given, traced}
 use Rattle.cm_top.specs.declared.status.Status.{Status}
 use Rattle.cm_top.specs.declared.status.Status.TheVariants as status

@@ -1,5 +1,5 @@
 -- What judging the trace of an accepted document comes to.
-use Rattle.std.specs.Prelude.{◌≡◌, ◌⊎◌, ℕ, List, Ok, Err}
+use Rattle.std.specs.Prelude.{◌≡◌, ◌⊎◌, ℕ, List}
 use Rattle.cm_model.specs.declared.blanks.Blanks.{Blanks}
 use Rattle.trace_laws.specs.Judged.{judged}
 use Rattle.cm_top.specs.Answering.{AnsweredWith, Refuses, WroteAnswer, checking, status_for, status_of_judgement}

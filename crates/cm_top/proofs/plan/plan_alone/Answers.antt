@@ -1,6 +1,5 @@
-use Rattle.std.proofs.Common.{◌≡◌, sym, ap, ◌∙◌}
+use Rattle.std.proofs.Common.{sym, ap, ◌∙◌}
 use Rattle.std.specs.Prelude.{Err}
-use Rattle.outside_io.specs.declared.whole.ReadFault.TheVariants.{Failed, TooLong}
 use Rattle.cm_top.proofs.CheckLemmas.{failed_Rose}
 use Rattle.cm_top.proofs.PlanLemmas.{planned-AnswersFrom, failed-AnswersFrom, long-AnswersFrom, memory-AnswersFrom}
 use Rattle.cm_top.proofs.plan.plan_alone.Goals as goal
