@@ -119,13 +119,16 @@ def verdict_of(name, said):
     line = re.search(rf"(?m)^fn {re.escape(name)}: (.*)", said)
     if not line:
         return False, "the prover says nothing of it"
+    errors = re.findall(rf"(?m)^(?:\./)?proofs/{own}/(\w+)\.antt:\S+ (error.*(?:\n  .*)*)", said)
+    if any(file == "Invariants" and OF_NAMES.search(it) for file, it in errors):
+        # Without its invariant each goal of a loop fails, whatever the body does.
+        return False, "refused by a name of an invariant alone"
     above = said[: line.start()].rpartition("\nfn ")[2]
     goals = re.findall(r"(?m)^note: \S+: .* \(`(\S+)`\)", above)
     if goals:
         return True, f"refused at {', '.join(dict.fromkeys(goals[:3]))}"
-    answers = re.findall(rf"(?m)^(?:\./)?proofs/{own}/\w+\.antt:\S+ error.*(?:\n  .*)*", said)
-    if any(not OF_NAMES.search(it) for it in answers):
+    if any(not OF_NAMES.search(it) for _, it in errors):
         return True, f"refused at {', '.join(re.findall(r'Answers.([^`]+)`', line[1])) or 'an answer'}"
-    if answers:
+    if errors:
         return False, "refused by a name alone"
     return False, "LET THROUGH" if line[1].startswith("no holes") else line[1]
