@@ -31,8 +31,8 @@ book_facts meaning book = record { history = book.history.items; boxes = map mea
 abbrev pub book_of : History → BookFacts
 book_of h = record { history = h.made; boxes = map (λ l. l.ctl) (now_of h).loaded }
 
--- The history that a job makes of each document. A live run leaves it to its threads; an upgrade and a
--- check make none.
+-- The history that a job makes of each document. A live run leaves it to its threads; an upgrade, a check
+-- and a plan make none.
 abbrev pub Histories : Type 0
 Histories = Option (Document → List Entry)
 

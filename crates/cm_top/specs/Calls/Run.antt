@@ -60,7 +60,7 @@ ReadsPlainly kind.Plan = ⊥
 ReadsPlainly _ = Unit {0}
 
 -- A job that one thread can do: it is not live, and its document, if it is made, has as many rounds as one can have. An
--- upgrade and a check read theirs.
+-- upgrade, a check and a plan read theirs.
 pub record CanRunAlone (job : Job) : Type 0 where
   pub alone : job.kind ≢ kind.Live
   pub rounds : IfSome job.make (λ rounds. (1 ≤ rounds) × (rounds ≤ MOST_ROUNDS))
