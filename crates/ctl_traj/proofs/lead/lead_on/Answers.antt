@@ -1,5 +1,4 @@
-use Rattle.std.proofs.Common.{◌≡◌, ◌+◌, ◌∷◌, length, drop, sym, ap, ◌∙◌, arith}
-use Rattle.std.proofs.lemmas.List.{drop_more}
+use Rattle.std.proofs.Common.{length, ap, ◌∙◌, arith}
 use Rattle.ctl_traj.proofs.ComeLemmas.{way_behind, since_come, begin_long, rest_fit}
 use Rattle.ctl_traj.proofs.lead.lead_on.Goals as goal
 
