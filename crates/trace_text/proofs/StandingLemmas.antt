@@ -44,7 +44,7 @@ renumbered (Some last) names bodies head cycle pair line fits stands next =
     let differ : DifferAtPair tail before now pair = next_line tail (codes "loop end ") last cycle pair fits next in
     let ends : length before ≡ head + length tail = length-append (end_call last) tail ∙ ap (λ k. k + length tail) (sym stands.place) in
     let was : length before ≡ length differ.front + suc (suc (length tail)) = ap length differ.was ∙ length-append differ.front (differ.tens ∷ differ.ones ∷ tail) in
-    let is : length now ≡ length differ.front + suc (suc (length tail)) = ap length differ.is ∙ length-append differ.front (48 + pair / 10 ∷ 48 + pair % 10 ∷ tail) in
+    let is : length now ≡ length differ.front + suc (suc (length tail)) = ap length differ.is ∙ length-append differ.front ((48 + pair / 10) ∷ (48 + pair % 10) ∷ tail) in
     let call : length now ≡ length (end_call cycle) + length tail = length-append (end_call cycle) tail in
     record {
       text = ap (λ l. slice_set (slice_set l (head - 2) (48 + pair / 10)) (head - 1) (48 + pair % 10)) stands.text ∙ put_before tail before now head pair ends differ;

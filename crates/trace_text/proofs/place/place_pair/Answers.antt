@@ -1,3 +1,4 @@
+use Rattle.std.proofs.Common.{◌+◌, ◌/◌, ◌%◌}
 use Rattle.trace_text.proofs.PlaceLemmas.{pair_at, two_put}
 use Rattle.trace_text.proofs.place.place_pair.Goals as goal
 
