@@ -1,6 +1,8 @@
 //! What happened in a run, read off its history: the rows of the requests, the controllers and the components, and the course of each
 //! joint. Which call an entry is of is known from the script, as each session makes its lines once and in order.
 
+ghost use Rattle.std.specs.Prelude.{◌≡◌};
+
 use crate::columns::Columns;
 use crate::course::{JointCourse, blank_courses, forget};
 use crate::groups::{groups_of, members_of};
