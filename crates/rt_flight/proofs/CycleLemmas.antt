@@ -1,8 +1,8 @@
 -- That a flight makes the cycle of the state from which it began.
 use Rattle.std.proofs.Common.{◌≡◌, ℕ, Bool, true, false, List, [], ◌∷◌, ◌++◌, length, map, Some, refl, sym, ap, ap₂, subst, ◌∙◌, arith}
-use Rattle.std.specs.Prelude.{◌==◌, ◌&&◌, if◌then◌else◌, not, vec_len, vec_capacity}
+use Rattle.std.specs.Prelude.{◌==◌, ◌&&◌, if◌then◌else◌, vec_len, vec_capacity}
 use Rattle.std.specs.List.{AllByRecursion}
-use Rattle.std.proofs.lemmas.Bool.{and_from, eq-eqb, eqb-true}
+use Rattle.std.proofs.lemmas.Bool.{and_from, eq-eqb}
 use Rattle.std.proofs.lemmas.List.{append-nil, length-map}
 use Rattle.fixed_num.specs.declared.value.BodyState.{BodyState}
 use Rattle.cm_document.specs.Places.{interfaces_of}
@@ -230,17 +230,6 @@ pub flags_after : (w : Related) (members : List Member) (serials : List ℕ) (ma
     → (failed ≡ false → IsQuiet serials made told before ending) → (failed ≡ true → Decides w members serials made told ending) → HasFlags (length w.leaders) ending
 flags_after w members serials made told before ending false flags quiet decides = subst (HasFlags (length w.leaders)) (sym (quiet refl).ending) flags
 flags_after w members serials made told before ending true flags quiet decides = (decides refl).flags
-
--- where nobody flies
-pub none_there : (count : ℕ) (b : Bool) → b ≡ (count == 0) → not b ≡ false → count ≡ 0
-none_there count true is nobody = eqb-true count 0 (sym is)
-none_there count false is nobody = cc
-
--- nobody ran, whoever stops
-pub nobody_ran : (w : Related) (members : List Member) (serials : List ℕ) (made told : RecordRoom) (before ending : Ending) (failed : Bool)
-    → (failed ≡ false → IsQuiet serials made told before ending) → (failed ≡ true → Decides w members serials made told ending) → made.ran.rans ≡ [] → told.ran.rans ≡ []
-nobody_ran w members serials made told before ending false quiet decides none = ap (λ (x : RecordRoom). x.ran.rans) (quiet refl).same ∙ none
-nobody_ran w members serials made told before ending true quiet decides none = ap (λ (x : RecordRoom). x.ran.rans) (decides refl).told ∙ none
 
 -- where a cycle was made as many interfaces stand on the board
 pub board_moved : (s : State) (w : Wired) → IsMoved s w → length w.loans ≡ length (interfaces_of s.description)

@@ -107,7 +107,6 @@ impl<C: Controller> Flight<C> {
         ensures computed { is_some self.new.outcome ≡ true }
         ensures number { self.new.number ≡ self.old.number }
     {
-        let flies = !self.cells.is_empty();
         let context = &mut *self.context;
         let Some(room) = &mut context.room else {
             unreachable!();
@@ -127,6 +126,7 @@ impl<C: Controller> Flight<C> {
             room,
         );
         context.robot.hardware.show(&mut context.lists);
+        let flies = !self.cells.is_empty();
         context.record = Some(told(
             self.number,
             flies,
