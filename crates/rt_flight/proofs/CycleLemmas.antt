@@ -231,6 +231,12 @@ pub flags_after : (w : Related) (members : List Member) (serials : List ℕ) (ma
 flags_after w members serials made told before ending false flags quiet decides = subst (HasFlags (length w.leaders)) (sym (quiet refl).ending) flags
 flags_after w members serials made told before ending true flags quiet decides = (decides refl).flags
 
+-- nor does the end change who ran
+pub ran_after : (w : Related) (members : List Member) (serials : List ℕ) (made told : RecordRoom) (before ending : Ending) (failed : Bool)
+    → (failed ≡ false → IsQuiet serials made told before ending) → (failed ≡ true → Decides w members serials made told ending) → told.ran.rans ≡ made.ran.rans
+ran_after w members serials made told before ending false quiet decides = ap (λ (r : RecordRoom). r.ran.rans) (quiet refl).same
+ran_after w members serials made told before ending true quiet decides = ap (λ (r : RecordRoom). r.ran.rans) (decides refl).told
+
 -- where a cycle was made as many interfaces stand on the board
 pub board_moved : (s : State) (w : Wired) → IsMoved s w → length w.loans ≡ length (interfaces_of s.description)
 board_moved s w is =

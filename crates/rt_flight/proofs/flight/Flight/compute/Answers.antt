@@ -1,6 +1,7 @@
-use Rattle.std.proofs.Common.{◌≡◌, ℕ, true, false, List, length, Option, sym, ap, subst, ◌∙◌, arith}
+use Rattle.std.proofs.Common.{◌≡◌, ℕ, true, false, List, [], length, Option, sym, ap, subst, ◌∙◌, arith}
 use Rattle.std.specs.Prelude.{is_some, vec_capacity, None, Some, IsSomeAnd}
-use Rattle.std.proofs.lemmas.List.{with_items_is}
+use Rattle.std.proofs.lemmas.Bool.{not-false, eqb-true}
+use Rattle.std.proofs.lemmas.List.{nil_from_length, with_items_is}
 use Rattle.cm_storage.specs.Happened.{Happened}
 use Rattle.cm_storage.specs.declared.record_room.RecordRoom.{RecordRoom}
 use Rattle.stop_plan.specs.Ending.{HasFlags}
@@ -10,8 +11,23 @@ use Rattle.rt_flight.specs.Cells.{CellFacts}
 use Rattle.rt_flight.specs.Flights.{facts_with, IsReady, IsAloft, IsAloftOver, IsComputed, IsFlight, HasMade}
 use Rattle.rt_flight.specs.declared.context.CycleContext.{CycleContext}
 use Rattle.rt_flight.specs.declared.robot.Robot.{Robot}
-use Rattle.rt_flight.proofs.CycleLemmas.{computed_is, flags_after, lines_after, lines_in, equipped_after}
+use Rattle.rt_flight.proofs.CycleLemmas.{computed_is, flags_after, ran_after, lines_after, lines_in, equipped_after}
 use Rattle.rt_flight.proofs.flight.Flight.compute.Goals as goal
+
+-- nobody ran where nobody flies
+pub told-requires-clause-ran : goal.told-requires-clause-ran
+told-requires-clause-ran g c = λ nobody.
+    let a = c.self.inside in
+    let k = c.deref_mut-context.result.now in
+    let kept = subst (IsFlight a.number a.cells.items) (sym c.deref_mut-context.ensures.value) c.self.invariant in
+    let record_is : a.context.value.record ≡ None = rw (← c.self.view_is) at c.requires in
+    let none : is_some k.record ≡ false = ap (λ (x : CycleContext). is_some x.record) c.deref_mut-context.ensures.value ∙ ap (λ (o : Option Happened). is_some o) record_is in
+    let ready = subst (λ (o : Option RecordRoom). IsSomeAnd o (IsReady a.number a.cells.items k.order.items k.robot)) c.in-Some.is (kept.ready none) in
+    let count : a.cells.len ≡ 0 = eqb-true a.cells.len 0 (sym c.is_empty-flies.ensures ∙ not-false c.is_empty-flies.result nobody) in
+    let empty : c.as_mut_slice.result.now ≡ [] = nil_from_length c.as_mut_slice.result.now (omega (arith, c.as_mut_slice.ensures.len, count)) in
+    ran_after c.make_cycle.new.robot.relations c.deref.result.now c.deref-2.result.now c.make_cycle.new.room c.settle-context.new.room k.ending c.settle-context.new.ending
+    c.settle-context.result c.settle-context.ensures.quiet c.settle-context.ensures.decided
+    ∙ c.make_cycle.ensures.kept.idle empty ∙ ready.empty.none_ran
 
 -- what a flight keeps is kept,
 pub invariant_of-self : goal.invariant_of-self
