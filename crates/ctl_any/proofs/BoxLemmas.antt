@@ -1,7 +1,7 @@
 -- Blanks are blanks in boxes too.
-use Rattle.std.proofs.Common.{◌≡◌, List, [], ◌∷◌, ◌++◌, length, map, append_assoc, sym, ap, subst, ◌∙◌}
+use Rattle.std.proofs.Common.{◌≡◌, List, [], ◌∷◌, length, map, sym, ap, subst, ◌∙◌}
 use Rattle.std.specs.List.{All}
-use Rattle.std.proofs.lemmas.List.{length-map, map-append}
+use Rattle.std.proofs.lemmas.List.{length-map}
 use Rattle.std.proofs.lemmas.List.Elements.{All-nil, All-cons, All-head, All-tail}
 use Rattle.cm_model.specs.Controllers.{IsBlank}
 use Rattle.cm_model.specs.declared.blanks.Blanks.{Blanks}
@@ -24,10 +24,3 @@ AreBlanks-alike m n xs ys b same are = record {
   counted = ap counts_of same ∙ are.counted;
   number = sym (length-map xs m) ∙ ap length same ∙ length-map ys n ∙ are.number;
 }
-
--- those in boxes and those that are left are all, after the next one is put into its box too
-pub next_in_box : {A B : Type 0} (m : A → CtlData) (n : B → CtlData) (boxed more : List A) (box : A) (left rest : List B) (one : B) (all : List CtlData) → more ≡ boxed ++ box ∷ []
-    → m box ≡ n one → left ≡ one ∷ rest → map m boxed ++ map n left ≡ all → map m more ++ map n rest ≡ all
-next_in_box m n boxed more box left rest one all put same next before =
-    ap (λ xs. map m xs ++ map n rest) put ∙ ap (λ xs. xs ++ map n rest) (map-append m boxed (box ∷ [])) ∙ append_assoc (map m boxed) (m box ∷ []) (map n rest)
-    ∙ ap (λ d. map m boxed ++ d ∷ map n rest) same ∙ sym (ap (λ xs. map m boxed ++ map n xs) next) ∙ before

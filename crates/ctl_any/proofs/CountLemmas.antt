@@ -1,6 +1,7 @@
 -- Blanks of one kind, counted up, and of all kinds.
-use Rattle.std.proofs.Common.{◌≡◌, ℕ, ◌+◌, Bool, true, false, map, refl, sym, ap, ◌∙◌, arith}
+use Rattle.std.proofs.Common.{◌≡◌, ℕ, ◌+◌, ◌<◌, Bool, true, false, List, length, map, get_or, drop, refl, sym, ap, ◌∙◌, arith}
 use Rattle.std.specs.Prelude.{if◌then◌else◌}
+use Rattle.std.proofs.lemmas.List.{drop_more}
 use Rattle.cm_document.specs.Params.{same_controller_kind}
 use Rattle.cm_document.specs.declared.description.CtlKind.{CtlKind}
 use Rattle.cm_document.specs.declared.description.CtlKind.TheVariants.{Forward}
@@ -40,3 +41,14 @@ all_at counts _ = omega arith
 -- so many of each kind are as many as were counted
 pub all_counted : (counts : Blanks) → with_some_of counts no_blanks (map (λ row. row.1) CONTROLLER_KINDS) ≡ counted_by (blanks_of counts)
 all_counted counts = λ i. counted_by (λ kind. all_at counts kind i)
+
+-- the blanks so far with those of the next kind too, and those of the kinds behind it, are all of them still
+pub next_kind : {R : Type 0} (Are : Blanks → Type 0) (kind_of : R → CtlKind) (counts b all : Blanks) (rows : List R) (i : ℕ) (d : R) (n : ℕ) → i < length rows
+    → n ≡ blanks_of counts (kind_of (get_or rows i d)) → Are (with_count b (kind_of (get_or rows i d)) (blanks_of b (kind_of (get_or rows i d)) + n))
+    → with_some_of counts b (map kind_of (drop i rows)) ≡ all → (so_far : Blanks) × Are so_far × (with_some_of counts so_far (map kind_of (drop (i + 1) rows)) ≡ all)
+next_kind Are kind_of counts b all rows i d n below is are before =
+    let kind = kind_of (get_or rows i d) in (
+      with_count b kind (blanks_of b kind + n),
+      are,
+      ap (λ k. with_some_of counts (with_count b kind (blanks_of b kind + k)) (map kind_of (drop (i + 1) rows))) is ∙ sym (ap (λ rs. with_some_of counts b (map kind_of rs)) (drop_more rows i d below)) ∙ before,
+    )

@@ -1,8 +1,9 @@
-use Rattle.std.proofs.Common.{◌+◌, ◌∷◌, drop, map, refl, ap, sym, subst, ◌∙◌, arith}
-use Rattle.std.proofs.lemmas.List.{drop_more, drop_all}
-use Rattle.cm_model.specs.Blanks.{blanks_of, with_count}
+use Rattle.std.proofs.Common.{[], map, refl, ap, sym, subst, ◌∙◌, arith}
+use Rattle.std.proofs.lemmas.List.{drop_all}
+use Rattle.cm_document.specs.declared.description.CtlKind.TheVariants.{Forward}
 use Rattle.ctl_any.specs.Stocks.{with_some_of}
 use Rattle.ctl_any.specs.contracts.any_kind.AnyKindController.TheImpl.{ghosts}
+use Rattle.ctl_any.proofs.CountLemmas.{next_kind}
 use Rattle.ctl_rack.specs.Stocks.{AreBlanks}
 use Rattle.ctl_any.proofs.stock.add_counted.Goals as goal
 
@@ -12,14 +13,9 @@ loop-row-init c = λ b are. (b, are, refl)
 -- so many more of this kind, and then of those after it
 pub loop-row-preserved : goal.loop-row-preserved
 loop-row-preserved c = λ b are.
-    let i = c.loop-row.row-index in
-    let kinds = c.args.kinds.now in
     let before = c.loop-row.invariant b are in
-    let left = drop_more kinds i c.row-item.result c.loop-row-test.true ∙ ap (λ r. r ∷ drop (i + 1) kinds) (sym c.row-item.is) in (
-      with_count before.0 c.row-item.result.1 (blanks_of before.0 c.row-item.result.1 + blanks_of c.args.counts.now c.row-item.result.1),
-      rw (c.of.ensures) at (c.in_ok-add_some.ensures before.0 before.1),
-      sym (ap (λ rows. with_some_of c.args.counts.now before.0 (map (λ row. row.1) rows)) left) ∙ before.2,
-    )
+    next_kind (AreBlanks ghosts.meaning c.add_some.new.blanks.items) (λ row. row.1) c.args.counts.now before.0 (with_some_of c.args.counts.now b (map (λ row. row.1) c.args.kinds.now)) c.args.kinds.now
+    c.loop-row.row-index (record { ref_ptr = (0, 0); now = [] }, Forward) c.of.result c.loop-row-test.true c.of.ensures (c.in_ok-add_some.ensures before.0 before.1) before.2
 
 pub returns : goal.returns
 returns c = λ b are.
