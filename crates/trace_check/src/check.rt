@@ -48,7 +48,6 @@ pub fn check_trace(
 }
 
 /// Whether a stock can count so many blanks of these kinds. More would take terabytes.
-#[tactic(auto, using(std::proofs::lemmas::List::Sums::sum_by_more))]
 fn are_few(counts: &Blanks, kinds: &[(&str, CtlKind)]) -> bool
     requires { length kinds.now ≤ NUMBER_OF_KINDS }
     ensures { result ≡ nat_lt (sum_by (λ row. blanks_of counts.now row.1) kinds.now) (2 ^ 32) }
