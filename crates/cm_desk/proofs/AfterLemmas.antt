@@ -1,6 +1,6 @@
 -- What the desk keeps of its state after a commit, after a move of a component, and after a cycle.
-use Rattle.std.proofs.Common.{◌≡◌, ℕ, ◌+◌, Bool, true, false, List, [], length, map, Option, Some, None, refl, sym, ap, subst, ◌∙◌, arith, vec_capacity}
-use Rattle.std.specs.Prelude.{not, is_some, Box, IfSome, IsSomeAnd}
+use Rattle.std.proofs.Common.{◌≡◌, ℕ, ◌+◌, Bool, true, false, Result, Ok, Err, List, [], length, map, Option, Some, None, refl, sym, ap, subst, ◌∙◌, arith, vec_capacity}
+use Rattle.std.specs.Prelude.{not, is_some, Box, IfSome, IsSomeAnd, OnErr}
 use Rattle.std.specs.List.{AllByRecursion}
 use Rattle.std.specs.declared.alloc.Global.{Global}
 use Rattle.cm_document.specs.Valid.{IsValid}
@@ -367,6 +367,11 @@ pub kept_ready : {C : Type 0} (a : Inside C) (next : CycleResources) (box_places
 kept_ready a next box_places kept down made =
     subst (λ (t : State). IsKept t a.names.items (base_of next box_places) a.active_set) (sym (used_view a next box_places made))
     (used_idle (state_of a) a.names.items a.resources next (vec_capacity a.boxes) box_places a.active_set kept down made)
+
+-- what holds in any case holds after an error
+pub err_holds : {A E P : Type 0} (result : Result A E) → P → OnErr result P
+err_holds (Ok x) holds = tt
+err_holds (Err e) holds = holds
 
 -- also where there is other room for boxes alone
 pub kept_with_room : {C : Type 0} (a : Inside C) (box_places : ℕ) → IsKept (state_of a) a.names.items (base_in a) a.active_set → a.slots.aloft ≡ false

@@ -72,6 +72,14 @@ there_from P xs i x (Some y) e holds same =
 pub there : {X : Type 0} (P : X → Type 0) (xs : List X) (i : ℕ) (x : X) → IsSomeAnd (slice_get xs i) P → x ≡ get_or xs i x → (slice_get xs i ≡ Some x) × P x
 there P xs i x holds same = there_from P xs i x (slice_get xs i) refl holds same
 
+-- and it is within
+within_from : {X : Type 0} (P : X → Type 0) (xs : List X) (i : ℕ) (o : Option X) → slice_get xs i ≡ o → IsSomeAnd o P → i < length xs
+within_from P xs i None e holds = absurd holds
+within_from P xs i (Some x) e holds = slice_get_within xs i x e
+
+pub within_there : {X : Type 0} (P : X → Type 0) (xs : List X) (i : ℕ) → IsSomeAnd (slice_get xs i) P → i < length xs
+within_there P xs i holds = within_from P xs i (slice_get xs i) refl holds
+
 -- what was configured, or was not, stays of its kind, under its serial and at its place, and is not active
 pub still_as_described : (d : Description) (l after : Loaded) (p : Params) (n : ℕ) (result : Result (Unit {0}) CfgFault)
     → OnOk result (after ≡ record l { ctl = configured l.ctl p; divisor = Some n }) → OnErr result (after ≡ l)

@@ -14,7 +14,7 @@ use Rattle.cm_desk.specs.ActiveSet.{IsListedOf}
 use Rattle.cm_desk.specs.CycleNeeds.{AreNeeds}
 use Rattle.cm_desk.specs.Works.{IsKept, state_with}
 use Rattle.cm_desk.specs.declared.resources.CycleResources.{CycleResources}
-use Rattle.cm_desk.proofs.AfterLemmas.{at_home, kept_ready}
+use Rattle.cm_desk.proofs.AfterLemmas.{at_home, used_view, kept_ready, err_holds}
 use Rattle.cm_desk.proofs.ForgottenLemmas.{kept_forgotten, kept_then, left_then}
 use Rattle.cm_desk.proofs.BeginLemmas.{begins_down, planned_order, HasDecided, has_decided, order_decided, view_flown}
 use Rattle.cm_desk.proofs.OrderLemmas.{order_loaded}
@@ -53,6 +53,11 @@ pub invariant_of-self : goal.invariant_of-self
 invariant_of-self g c =
     kept_ready c.self.inside c.take_memory.new.resources (vec_capacity c.take_memory.new.boxes) c.self.invariant (begins_down (state_of c.self.inside) (rw (← c.self.view_is) at c.requires.can))
     c.take_memory.ensures.resources
+
+pub returns-in_err-taken-clause-kept : goal.returns-in_err-taken-clause-kept
+returns-in_err-taken-clause-kept g c =
+    err_holds c.from_residual-in_err-taken.result
+    (used_view c.self.inside c.take_memory.new.resources (vec_capacity c.take_memory.new.boxes) c.take_memory.ensures.resources ∙ c.self.view_is)
 
 -- what works in a cycle stays at home, and forgets whose update failed,
 pub forget_erred-requires : goal.forget_erred-requires

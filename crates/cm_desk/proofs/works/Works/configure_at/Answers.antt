@@ -1,12 +1,33 @@
-use Rattle.std.proofs.Common.{◌≡◌, false, refl}
+use Rattle.std.proofs.Common.{◌≡◌, ◌<◌, false, length, refl, arith}
 use Rattle.std.specs.Prelude.{slice_set}
 use Rattle.cm_model.specs.Order.{divisor}
 use Rattle.cm_model.specs.State.{Loaded, is_active}
 use Rattle.cm_desk.proofs.ChangeLemmas.{fit_after_configure}
 use Rattle.cm_desk.proofs.KeptLemmas.{kept_after_change}
-use Rattle.cm_desk.proofs.WorksLemmas.{there, kept_there, can_be_configured, still_as_described, still_divided, divided_here, configured_slots, configured_there}
+use Rattle.cm_desk.proofs.WorksLemmas.{there, within_there, kept_there, can_be_configured, still_as_described, still_divided, divided_here, configured_slots, configured_there}
 use Rattle.cm_desk.proofs.Insides.{base_in, state_of}
 use Rattle.cm_desk.proofs.works.Works.configure_at.Goals as goal
+
+-- it stands among the loaded ones
+pub offset_bounds-as_slice-index : goal.offset_bounds-as_slice-index
+offset_bounds-as_slice-index g c =
+    let a = c.self.inside in
+    let within : c.args.index < length a.slots.loaded = within_there (λ (m : Loaded). is_active m ≡ false) a.slots.loaded c.args.index (rw (← c.self.view_is) at c.requires) in
+    omega (arith, within, c.self.invariant.few, c.self.invariant.counted)
+
+pub bounds-as_slice-index : goal.bounds-as_slice-index
+bounds-as_slice-index g c =
+    let a = c.self.inside in
+    let within : c.args.index < length a.slots.loaded = within_there (λ (m : Loaded). is_active m ≡ false) a.slots.loaded c.args.index (rw (← c.self.view_is) at c.requires) in
+    rw (c.as_slice.ensures) within
+
+-- and is of its described kind
+pub described-controller-requires : goal.described-controller-requires
+described-controller-requires g c =
+    let a = c.self.inside in
+    let l = c.index-as_slice-index.result in
+    let here = there (λ (m : Loaded). is_active m ≡ false) a.slots.loaded c.args.index l (rw (← c.self.view_is) at c.requires) (rw (c.as_slice.ensures) at c.index-as_slice-index.is) in
+    kept_there a.checked a.slots.loaded c.args.index l c.self.invariant.described here.0
 
 pub configure-requires : goal.configure-requires
 configure-requires g c =
