@@ -8,7 +8,8 @@ use Rattle.cm_document.proofs.DistinctLemmas.{all_map}
 use Rattle.cm_document.proofs.ValidParts.{parts_of_valid}
 use Rattle.cm_document.specs.CallText.{script_text}
 use Rattle.cm_document.specs.Grammars.{whole_grammar}
-use Rattle.cm_document.specs.ScriptLaws.{IsName, IsPick, CanBeWritten, MeetsRules, UsesGrammar, allows}
+use Rattle.cm_document.specs.Given.{IsName}
+use Rattle.cm_document.specs.ScriptLaws.{IsPick, CanBeWritten, MeetsRules, UsesGrammar, allows}
 use Rattle.cm_document.specs.ScriptRules.{script_with}
 use Rattle.cm_document.specs.Valid.{IsValid}
 use Rattle.cm_document.specs.declared.call.Call.{Call}

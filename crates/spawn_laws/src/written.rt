@@ -3,8 +3,9 @@
 ghost use Rattle.std.specs.Prelude.{◌≡◌, ℕ, List, Ok};
 ghost use Rattle.std.specs.List.{AllByRecursion};
 ghost use Rattle.cm_document.specs.CallText.{script_text};
+ghost use Rattle.cm_document.specs.Given.{IsName};
 ghost use Rattle.cm_document.specs.Grammars.{whole_grammar};
-ghost use Rattle.cm_document.specs.ScriptLaws.{IsName, MeetsRules};
+ghost use Rattle.cm_document.specs.ScriptLaws.{MeetsRules};
 ghost use Rattle.cm_document.specs.ScriptRules.{script_with};
 ghost use Rattle.cm_document.specs.Valid.{IsValid};
 ghost use Rattle.cm_document.specs.declared.description.Description.{Description};
