@@ -116,6 +116,7 @@ def verdict(names, said):
 
 def verdict_of(name, said):
     own = re.escape(name.split("::", 1)[1].replace("::", "/"))
+    closures = "::(?:fn::)?".join(map(re.escape, name.split("::")))
     line = re.search(rf"(?m)^fn {re.escape(name)}: (.*)", said)
     if not line:
         return False, "the prover says nothing of it"
@@ -123,7 +124,9 @@ def verdict_of(name, said):
     if any(file == "Invariants" and OF_NAMES.search(it) for file, it in errors):
         # Without its invariant each goal of a loop fails, whatever the body does.
         return False, "refused by a name of an invariant alone"
-    above = said[: line.start()].rpartition("\nfn ")[2]
+    # Goals stand above the line of their function. Those of its closures are its own.
+    lines = [*re.finditer(rf"(?m)^fn {closures}::\S+: ", said), line]
+    above = "\n".join(said[: it.start()].rpartition("\nfn ")[2] for it in lines)
     goals = re.findall(r"(?m)^note: \S+: .* \(`(\S+)`\)", above)
     if goals:
         return True, f"refused at {', '.join(dict.fromkeys(goals[:3]))}"
