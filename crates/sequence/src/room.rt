@@ -1,6 +1,6 @@
 //! A list with room that was reserved: within it an item is added without memory.
 
-ghost use Rattle.std.specs.Prelude.{◌≡◌, ◌-◌, ◌<◌, [], ◌∷◌, ◌++◌, IfOk};
+ghost use Rattle.std.specs.Prelude.{◌≡◌, ◌+◌, ◌-◌, ◌<◌, [], ◌∷◌, ◌++◌, length, IfOk};
 
 use crate::seq::Seq;
 use std::alloc::{AllocError, Global};
@@ -37,6 +37,22 @@ impl<T> ListRoom<T> {
         ensures { self.new ≡ record { items = self.old.items ++ item ∷ []; room = self.old.room - 1 } }
     {
         self.items.push_reserved(item);
+    }
+
+    /// How many more items it has room for.
+    pub fn room(&self) -> usize
+        ensures { result ≡ self.now.room }
+    {
+        self.items.capacity() - self.items.len()
+    }
+
+    /// No item any more. The room stays, so it takes no memory and gives none back.
+    pub fn clear(&mut self)
+    where
+        T: Drop,
+        ensures { self.new ≡ record { items = []; room = self.old.room + length self.old.items } }
+    {
+        self.items.clear();
     }
 
     /// The items so far.
