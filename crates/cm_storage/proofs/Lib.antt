@@ -1,1 +1,2 @@
 pub mod RanLemmas
+pub mod StandingLemmas

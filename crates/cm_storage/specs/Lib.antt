@@ -3,4 +3,5 @@ pub mod Ran
 pub mod Happened
 pub mod Rans
 pub mod Held
+pub mod Standing
 pub mod Kept

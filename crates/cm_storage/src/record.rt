@@ -5,7 +5,7 @@ ghost use Rattle.cm_storage.specs.Ran.{Ran};
 
 use crate::ran::{RanList, Rans};
 use fixed_num::BodyState;
-use sequence::Seq;
+use sequence::{Seq, Shared};
 use std::alloc::{AllocError, Global};
 use std::marker::Model;
 
@@ -49,7 +49,8 @@ impl CycleParts {
     }
 }
 
-/// What happened in one cycle. Contracts see its parts. A cycle of which there is nothing to tell takes no memory.
+/// What happened in one cycle. Contracts see its parts. A cycle of which there is nothing to tell takes no memory, nor does one of bodies
+/// that stand.
 #[derive(Clone, Debug, Drop)]
 pub struct CycleRecord {
     held: Held,
@@ -62,6 +63,8 @@ enum Held {
     Quiet(u64),
     /// All parts.
     Whole(Box<CycleParts>),
+    /// The number, and bodies, which alone are told: those that stand are kept once for all cycles.
+    Bodies(u32, Shared<Seq<BodyState>>),
 }
 
 impl Model for CycleRecord {
@@ -75,7 +78,7 @@ impl Model for CycleRecord {
 }
 
 impl CycleRecord {
-    ghost use Rattle.cm_storage.specs.Held.{happened_in_parts, tells_nothing};
+    ghost use Rattle.cm_storage.specs.Held.{bodies_in, happened_in_parts, tells_nothing};
 
     /// The record of a cycle of which there is nothing to tell. It takes no memory.
     pub fn quiet(cycle: u64) -> CycleRecord
@@ -104,6 +107,15 @@ impl CycleRecord {
         }
     }
 
+    /// The record of the cycle of this number that tells these bodies alone. It takes no memory.
+    pub(crate) fn of_bodies(cycle: u32, bodies: Shared<Seq<BodyState>>) -> CycleRecord
+        ensures { result ≡ bodies_in cycle bodies }
+    {
+        CycleRecord {
+            held: Held::Bodies(cycle, bodies),
+        }
+    }
+
     /// The cycle's number.
     pub fn cycle(&self) -> u64
         ensures { result ≡ self.now.cycle }
@@ -111,16 +123,19 @@ impl CycleRecord {
         match &self.held {
             Held::Quiet(cycle) => *cycle,
             Held::Whole(parts) => parts.cycle,
+            Held::Bodies(cycle, _) => u64::from(*cycle),
         }
     }
 
     /// Whether there is nothing to tell but the cycle's number.
+    #[tactic(auto, using(crate::proofs::StandingLemmas::tells_no_body))]
     pub fn tells_nothing(&self) -> bool
         ensures { result ≡ tells_nothing self.now }
     {
         match &self.held {
             Held::Quiet(_) => true,
             Held::Whole(parts) => parts.tells_nothing(),
+            Held::Bodies(_, bodies) => bodies.get().as_slice().is_empty(),
         }
     }
 
@@ -131,6 +146,7 @@ impl CycleRecord {
         match &self.held {
             Held::Quiet(_) => &[],
             Held::Whole(parts) => parts.failed.as_slice(),
+            Held::Bodies(_, _) => &[],
         }
     }
 
@@ -141,6 +157,7 @@ impl CycleRecord {
         match &self.held {
             Held::Quiet(_) => Rans::none(),
             Held::Whole(parts) => parts.ran.iter(),
+            Held::Bodies(_, _) => Rans::none(),
         }
     }
 
@@ -151,6 +168,7 @@ impl CycleRecord {
         match &self.held {
             Held::Quiet(_) => &[],
             Held::Whole(parts) => parts.bodies.as_slice(),
+            Held::Bodies(_, bodies) => bodies.get().as_slice(),
         }
     }
 
@@ -161,6 +179,7 @@ impl CycleRecord {
         match &self.held {
             Held::Quiet(_) => &[],
             Held::Whole(parts) => parts.stops.as_slice(),
+            Held::Bodies(_, _) => &[],
         }
     }
 }
