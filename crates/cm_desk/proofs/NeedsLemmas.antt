@@ -1,5 +1,6 @@
 -- What a cycle can tell, of the hardware of a state.
-use Rattle.std.proofs.Common.{◌≡◌, ◌+◌, List, [], ◌∷◌, ◌++◌, length, map, refl, sym, ap, ap₂, ◌∙◌}
+use Rattle.std.proofs.Common.{◌≡◌, ◌+◌, true, List, [], ◌∷◌, ◌++◌, length, map, refl, sym, ap, ap₂, ◌∙◌, arith}
+use Rattle.std.specs.Prelude.{◌==◌, Option, None, Some, IfSome, IsSomeAnd}
 use Rattle.cm_document.specs.declared.description.Description.{Description}
 use Rattle.sequence.proofs.ListLemmas.{all_push}
 use Rattle.cm_model.specs.declared.member.Member.{Member}
@@ -8,7 +9,8 @@ use Rattle.cm_hardware.specs.Wiring.{Wired, Mounted, most_failures, all_joints, 
 use Rattle.cm_places.specs.Placed.{Placed}
 use Rattle.rt_flight.specs.Flights.{TellsNothing}
 use Rattle.rt_flight.specs.Workspaces.{WorkspaceFacts, IsFitted}
-use Rattle.cm_desk.specs.CycleNeeds.{failing, joints, stands_for, HasRoom, IsBuiltAs, IsWorkspaceFor, AreKept, AreWorkspacesFor, AreWorkspaces}
+use Rattle.cm_desk.specs.CycleNeeds.{failing, joints, stands_for, HasRoom, HasRoomOf, IsBuiltAs, IsSizeOf, IsWorkspaceFor, AreKept, AreWorkspacesFor, AreWorkspaces}
+use Rattle.cm_desk.specs.declared.needs.HardwareSize.{HardwareSize}
 
 -- ---- Components
 
@@ -30,6 +32,24 @@ joints_of d w built = joints_are w.components ∙ ap joints (sym built)
 -- in room that is enough nothing is told
 pub tells_nothing : (d : Description) (placed : Placed) (order : List Member) (r : RecordRoom) → HasRoom d placed order r → TellsNothing r
 tells_nothing d placed order r has = record { no_failure = has.no_failure; none_ran = has.none_ran; no_body = has.no_body; none_stopped = has.none_stopped }
+
+-- room in which nothing is told is enough where nobody flies, if it is for the hardware
+pub room_stays : (d : Description) (placed : Placed) (s : HardwareSize) (order : List Member) (o : Option RecordRoom) → IsSizeOf d s → (length order == 0) ≡ true → IfSome o TellsNothing
+    → IsSomeAnd o (HasRoomOf s) → IsSomeAnd o (HasRoom d placed order)
+room_stays d placed s [] None size nobody tells has = absurd has
+room_stays d placed s [] (Some r) size nobody tells has = record {
+  no_failure = tells.no_failure;
+  failures = omega (arith, size.failures, has.failures);
+  no_body = tells.no_body;
+  bodies = omega (arith, size.joints, has.joints);
+  none_ran = tells.none_ran;
+  heads = omega arith;
+  values = omega arith;
+  numbers = omega arith;
+  none_stopped = tells.none_stopped;
+  stops = omega arith;
+}
+room_stays d placed s (m ∷ ms) o size nobody tells has = cc
 
 -- ---- Workspaces
 

@@ -93,11 +93,10 @@ pub record IsSizeOf (d : Description) (s : HardwareSize) : Type 0 where
   pub failures : s.failures ≡ failing d.components
   pub joints : s.joints ≡ joints d.components
 
--- hardware of this size has nothing to tell where these controllers are active, whatever happens
-pub record IsSilent (s : HardwareSize) (order : List Member) : Type 0 where
-  pub no_failures : s.failures ≡ 0
-  pub no_joints : s.joints ≡ 0
-  pub nobody : order ≡ []
+-- in this record there is room for all that hardware of this size can tell
+pub record HasRoomOf (s : HardwareSize) (r : RecordRoom) : Type 0 where
+  pub failures : s.failures ≤ r.failed.room
+  pub joints : s.joints ≤ r.bodies.room
 
 -- A cycle can be prepared in which these controllers are active: the places and the size are those of the description,
 -- and each is described.
@@ -152,6 +151,7 @@ pub record IsRefitted (before after : CycleContext) : Type 0 where
     erred = after.erred;
     room = after.room;
     left_over = after.left_over;
+    standing = after.standing;
   }
   pub erred : after.erred.items ≡ before.erred.items
   pub told : IfSome after.room TellsNothing

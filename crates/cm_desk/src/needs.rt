@@ -4,7 +4,7 @@ ghost use Rattle.std.specs.Prelude.{◌≡◌, ◌+◌, ◌≤◌, ◌<◌, [], 
 ghost use Rattle.cm_places.specs.Placed.{placed_of};
 ghost use Rattle.rt_flight.specs.Flights.{TellsNothing};
 ghost use Rattle.rt_flight.specs.Workspaces.{HasRows, IsFitted};
-ghost use Rattle.cm_desk.specs.CycleNeeds.{AreKept, AreWorkspacesFor, AreWorkspaces, AreNeeds, CanPrepare, CanPrepareFrom, HasRoom, HaveNeeds, IsRefitted, IsRun, IsSilent, IsSizeOf, IsWorkspaceFor, outs_at, numbers_at};
+ghost use Rattle.cm_desk.specs.CycleNeeds.{AreKept, AreWorkspacesFor, AreWorkspaces, AreNeeds, CanPrepare, CanPrepareFrom, HasRoom, HasRoomOf, HaveNeeds, IsRefitted, IsRun, IsSizeOf, IsWorkspaceFor, outs_at, numbers_at};
 
 use crate::resources::CycleBuffers;
 use crate::works::described_at;
@@ -12,7 +12,7 @@ use cm_document::Checked;
 use cm_model::Member;
 use cm_places::CtlPlaces;
 use cm_slots::MailAloft;
-use cm_storage::{CycleParts, RecordRoom, RecordSize};
+use cm_storage::{CycleParts, RecordRoom, RecordSize, Standing};
 use ctl_trait::publishes;
 use fixed_num::Memory;
 use rt_flight::{CycleContext, Workspace};
@@ -107,6 +107,7 @@ pub(crate) fn prepare(
     )?;
     context.erred.reserve(order.len())?;
     make_room(&mut buffers.mails, loaded)?;
+    ready_standing(alloc, size, order, &mut context.standing)?;
     renew_room(
         alloc,
         checked,
@@ -273,8 +274,22 @@ fn make_room<T: Drop>(list: &mut Vec<T>, count: usize) -> Result<(), Memory>
     Ok(())
 }
 
-/// There is room to tell of a cycle of hardware of this size in which these controllers are active: that of the cycle before, where there is
-/// nothing that either of them can tell, and else new room.
+/// If no controller is active, a list of the bodies is ready for the record, in case that they stand.
+fn ready_standing(
+    alloc: Global,
+    size: HardwareSize,
+    order: &[Member],
+    standing: &mut Standing,
+) -> Result<(), Memory> {
+    if order.is_empty() && size.joints > 0 {
+        standing.prepare(alloc, size.joints)?;
+    }
+    Ok(())
+}
+
+/// There is room to tell of a cycle of hardware of this size in which these controllers are active: that of the cycle before, if none is
+/// active and it is there still, and else new room.
+#[tactic(auto, using(crate::proofs::NeedsLemmas::room_stays))]
 fn renew_room(
     alloc: Global,
     checked: &Checked,
@@ -289,7 +304,7 @@ fn renew_room(
     ensures room { OnOk result (IsSomeAnd room.new (HasRoom checked.now places.now order.now)) }
     ensures told { IfSome room.new TellsNothing }
 {
-    if room.is_some() && is_silent(size, order) {
+    if order.is_empty() && has_room(size, room) {
         return Ok(());
     }
     make_record(alloc, checked, places, size, order, room, left_over)
@@ -317,11 +332,14 @@ fn make_record(
     Ok(())
 }
 
-/// Whether a cycle of hardware of this size in which these controllers are active has nothing to tell, whatever happens.
-fn is_silent(size: HardwareSize, order: &[Member]) -> bool
-    ensures { result ≡ true → IsSilent size order.now }
+/// Whether there is room for all that hardware of this size can tell.
+fn has_room(size: HardwareSize, room: &Option<RecordRoom>) -> bool
+    ensures { result ≡ true → IsSomeAnd room.now (HasRoomOf size) }
 {
-    size.failures == 0 && size.joints == 0 && order.is_empty()
+    match room {
+        Some(room) => { size.failures <= room.failed.room() && size.joints <= room.bodies.room() }
+        None => false,
+    }
 }
 
 /// A record for a cycle of hardware of this size in which these controllers are active, with room for all that it can

@@ -12,6 +12,7 @@ use cm_document::{Checked, CtlDesc};
 use cm_hardware::{Lists, ResourceManager};
 use cm_model::SECOND_US;
 use cm_places::CtlPlaces;
+use cm_storage::Standing;
 use fixed_num::Memory;
 use iface_names::Name;
 use rt_flight::{CycleContext, Robot};
@@ -85,6 +86,7 @@ fn idle(alloc: Global, robot: Robot, ending: Ending, lists: Lists) -> CycleConte
         room: None,
         record: None,
         left_over: None,
+        standing: Standing::none(alloc),
     }
 }
 

@@ -3,7 +3,7 @@
 use crate::robot::Robot;
 use cm_hardware::Lists;
 use cm_model::Member;
-use cm_storage::{CycleParts, CycleRecord, RecordRoom};
+use cm_storage::{CycleParts, CycleRecord, RecordRoom, Standing};
 use stop_plan::Ending;
 
 /// What works in a cycle besides the controllers, and room to tell of it. It stands behind one pointer, which alone moves as a cycle leaves
@@ -29,4 +29,6 @@ pub struct CycleContext {
     pub record: Option<CycleRecord>,
     /// The place of a record that the cycle left over, of which there was nothing to tell.
     pub left_over: Option<Box<CycleParts>>,
+    /// The bodies that were told last where nothing else was, with a list of them for the record of the next cycle.
+    pub standing: Standing,
 }

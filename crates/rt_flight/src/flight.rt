@@ -7,7 +7,7 @@ ghost use Rattle.rt_flight.specs.Flights.{IsEquipped, IsReady, IsAloft, IsComput
 use crate::cell::Cell;
 use crate::compute::{make_cycle, settle};
 use crate::context::CycleContext;
-use cm_storage::{CycleParts, CycleRecord, RecordRoom};
+use cm_storage::{CycleParts, CycleRecord, RecordRoom, Standing};
 use ctl_trait::Controller;
 use std::marker::Model;
 
@@ -132,6 +132,7 @@ impl<C: Controller> Flight<C> {
             flies,
             &mut context.room,
             &mut context.left_over,
+            &mut context.standing,
         ));
     }
 
@@ -167,13 +168,15 @@ impl<C: Controller> Flight<C> {
     }
 }
 
-/// The record of the cycle of this number, of what was told in its room. The room stays where it is if no controller flew and nothing else
-/// was told; else it is taken, with the place of the record where nothing was told of those that flew. It takes no memory.
+/// The record of the cycle of this number, of what was told in its room. The room stays where it is if no controller flew and nothing else was
+/// told, or only bodies that stand; else it is taken, with the place of the record where nothing was told of those that flew. It takes no
+/// memory.
 fn told(
     number: u64,
     flies: bool,
     room: &mut Option<RecordRoom>,
     left_over: &mut Option<Box<CycleParts>>,
+    standing: &mut Standing,
 ) -> CycleRecord
     requires there { is_some room.old ≡ true }
     requires ran { flies ≡ false → IfSome room.old (λ r. r.ran.rans ≡ []) }
@@ -187,12 +190,47 @@ fn told(
         }) }
     ensures left { IfSome room.new TellsNothing }
 {
-    if !flies && is_blank(room) {
-        return CycleRecord::quiet(number);
+    if !flies {
+        if is_blank(room) {
+            return CycleRecord::quiet(number);
+        }
+        if let Some(record) = told_again(number, room, standing) {
+            return record;
+        }
     }
     let (record, place) = take_room(room).land(number);
     *left_over = place;
     record
+}
+
+/// The record of a cycle in which no controller flew, if nothing but bodies that stand was told in its room. Nothing is told there then any
+/// more. It takes no memory.
+fn told_again(
+    number: u64,
+    room: &mut Option<RecordRoom>,
+    standing: &mut Standing,
+) -> Option<CycleRecord>
+    requires ran { IfSome room.old (λ r. r.ran.rans ≡ []) }
+    ensures told { IfSome result (λ made. IfSome room.old
+        (λ r. made ≡ record {
+          cycle = number;
+          failed = r.failed.items;
+          ran = r.ran.rans;
+          bodies = r.bodies.items;
+          stops = r.stops.items;
+        })) }
+    ensures left { IfSome result (λ _. IfSome room.new TellsNothing) }
+    ensures kept { result ≡ None → room.new ≡ room.old }
+{
+    let Some(room) = room else {
+        return None;
+    };
+    if !room.failed.as_slice().is_empty() || !room.stops.as_slice().is_empty() {
+        return None;
+    }
+    let record = standing.tell(number, room.bodies.as_slice())?;
+    room.bodies.clear();
+    Some(record)
 }
 
 /// Whether no failure, no body and no stop was told in the room.
