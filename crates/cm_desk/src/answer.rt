@@ -13,7 +13,7 @@ use cm_model::{Reply, Request};
 use ctl_trait::Controller;
 use fixed_num::Memory;
 use iface_names::Name;
-use sequence::{Boxed, Shared};
+use sequence::Shared;
 use std::alloc::Global;
 
 /// What a call came to: its reply, once for the caller and once for the history, and the box that it hands out.
@@ -68,7 +68,7 @@ impl<C: Controller> Works<C> {
         ensures { IfOk result (λ reply. reply_of self.now call.now ≡ Some reply) }
     {
         match call {
-            Call::ListControllers => Ok(Reply::Controllers(Boxed::new(
+            Call::ListControllers => Ok(Reply::Controllers(Shared::new(
                 alloc,
                 self.controllers(alloc)?,
             )?)),
@@ -76,7 +76,7 @@ impl<C: Controller> Works<C> {
                 alloc,
                 self.interfaces(alloc)?,
             )?)),
-            Call::ListComponents => Ok(Reply::Components(Boxed::new(
+            Call::ListComponents => Ok(Reply::Components(Shared::new(
                 alloc,
                 self.components(alloc)?,
             )?)),

@@ -49,12 +49,12 @@ pub enum Reply {
     Not(Why),
     /// What became of the request.
     Outcome(Boxed<Outcome>),
-    /// The loaded controllers by serial.
-    Controllers(Boxed<Seq<CtlLine>>),
-    /// The interfaces by place. A list is kept once for all that hold it.
+    /// The loaded controllers by serial. A list is kept once for all that hold it.
+    Controllers(Shared<Seq<CtlLine>>),
+    /// The interfaces by place.
     Interfaces(Shared<Seq<IfaceLine>>),
     /// The components as described.
-    Components(Boxed<Seq<CompLine>>),
+    Components(Shared<Seq<CompLine>>),
     /// What a begin or the close decided, by ticket.
     Decisions(Rare<Decision>),
     /// What the cycle did.
