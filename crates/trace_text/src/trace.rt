@@ -126,7 +126,7 @@ fn has_no_item(reply: &Reply) -> bool
     }
 }
 
-/// Appends a reply: the record of a cycle as bytes, any other in words.
+/// Appends a reply.
 fn push_reply(
     line: &mut LineText,
     words: &mut String,
@@ -138,9 +138,7 @@ fn push_reply(
     if let Reply::Cycle(record) = reply {
         return push_record(line, names, record);
     }
-    words.clear();
-    push_in_words(words, names, reply)?;
-    line.push_word(words.as_str())
+    push_in_words(line, words, names, reply)
 }
 
 /// The call of a cycle that an entry of the loop has, where there is nothing to tell of it.
