@@ -1,5 +1,5 @@
 -- The line of bodies that stand, and where it can be kept.
-use Rattle.std.proofs.Common.{◌≡◌, ℕ, suc, ◌+◌, ◌-◌, ◌/◌, ◌%◌, ◌<◌, ◌≤◌, ◌^◌, ℤ, List, [], ◌∷◌, ◌++◌, length, map, ap, sym, ◌∙◌, append-nil, length-append, arith}
+use Rattle.std.proofs.Common.{◌≡◌, ℕ, suc, ◌+◌, ◌-◌, ◌/◌, ◌%◌, ◌<◌, ◌≤◌, ◌^◌, List, [], ◌∷◌, ◌++◌, length, map, ap, sym, ◌∙◌, append-nil, length-append, arith}
 use Rattle.std.specs.Prelude.{Option, None, Some, IfSome, IsSomeAnd, codes, decimal, slice_set}
 use Rattle.std.proofs.Math.Seq.{set-append_seam}
 use Rattle.fixed_num.specs.declared.value.BodyState.{BodyState}
@@ -8,13 +8,6 @@ use Rattle.cm_model.specs.Items.{Names, failed_text, ran_text, body_texts, stop_
 use Rattle.trace_text.specs.Quiet.{DifferAtPair, IsNextWith}
 use Rattle.trace_text.specs.Standing.{end_call, standing_end, standing_text, IsStanding}
 use Rattle.trace_text.proofs.QuietLemmas.{next_line, set_second}
-
--- two bodies with the same numbers are the same
-pub same_body : (a b : BodyState) → a.x ≡ b.x → a.v ≡ b.v → a.f ≡ b.f → a ≡ b
-same_body a b x v f =
-    ap (λ (n : ℤ). let y : BodyState = record { x = n; v = a.v; f = a.f } in y) x
-    ∙ ap (λ (n : ℤ). let y : BodyState = record { x = b.x; v = n; f = a.f } in y) v
-    ∙ ap (λ (n : ℤ). let y : BodyState = record { x = b.x; v = b.v; f = n } in y) f
 
 -- where nothing failed, ran or stopped, the items are those of the bodies
 pub bodies_alone : (names : Names) (happened : Happened) → happened.failed ≡ [] → happened.ran ≡ [] → happened.stops ≡ [] → record_items names happened ≡ body_texts names 0 happened.bodies

@@ -1,7 +1,7 @@
 //! The line of a cycle in which nobody flies and the bodies stand: it is made of that of the cycle before, because its last two digits
 //! alone are others.
 
-ghost use Rattle.std.specs.Prelude.{◌≡◌, ◌+◌, ◌-◌, ◌/◌, ◌%◌, ◌<◌, ◌≤◌, true, length, slice_set, IfOk, IfSome, IsSomeAnd, OnOk};
+ghost use Rattle.std.specs.Prelude.{◌≡◌, ◌+◌, ◌-◌, ◌/◌, ◌%◌, ◌<◌, ◌≤◌, length, slice_set, IfOk, IfSome, IsSomeAnd, OnOk};
 ghost use Rattle.trace_text.specs.Quiet.{IsNextWith};
 ghost use Rattle.trace_text.specs.Standing.{IsStanding, standing_text};
 
@@ -9,6 +9,7 @@ use crate::line::LineText;
 use crate::names::Names;
 use crate::quiet::next_digits;
 use crate::records::push_some_bodies;
+use cm_storage::are_same;
 use fixed_num::{BodyState, Memory};
 use std::alloc::Global;
 use std::marker::Model;
@@ -128,36 +129,4 @@ fn make_standing(
     push_some_bodies(text, names, bodies)?;
     text.push_word("\n")?;
     Ok(head)
-}
-
-/// Whether these are the same bodies.
-fn are_same(some: &[BodyState], others: &[BodyState]) -> bool
-    ensures { result ≡ true → some.now ≡ others.now }
-{
-    if some.len() != others.len() {
-        return false;
-    }
-    for i in 0..some.len() {
-        if !is_same(&some[i], &others[i]) {
-            return false;
-        }
-    }
-    true
-}
-
-/// Whether two bodies are the same.
-#[tactic(auto, using(crate::proofs::StandingLemmas::same_body))]
-fn is_same(one: &BodyState, other: &BodyState) -> bool
-    ensures { result ≡ true → one.now ≡ other.now }
-{
-    if one.x.micro() != other.x.micro() {
-        return false;
-    }
-    if one.v.micro() != other.v.micro() {
-        return false;
-    }
-    if one.f.micro() != other.f.micro() {
-        return false;
-    }
-    true
 }

@@ -20,6 +20,6 @@ pub returns-in-Some-clause-told : goal.returns-in-Some-clause-told
 returns-in-Some-clause-told c =
     let stands = renumbered c.self.inside.told c.self.inside.names.now c.self.inside.bodies.items c.self.inside.head c.args.cycle c.in-Some.pair c.self.inside.text (omega arith)
     c.self.invariant c.in-Some.ensures in
-    let bodies : c.self.inside.bodies.items ≡ c.args.bodies.now = cc (c.are_same.ensures c.if-are_same.true) in
+    let bodies : c.self.inside.bodies.items ≡ c.args.bodies.now = cc (c.are_same.ensures.same c.if-are_same.true) in
     c.put_digits.ensures ∙ stands.text ∙ ap (standing_text c.self.inside.names.now c.args.cycle) bodies
     ∙ ap (λ (line : StandingFacts). standing_text line.names c.args.cycle c.args.bodies.now) c.self.view_is
