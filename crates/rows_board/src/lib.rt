@@ -1,5 +1,5 @@
-//! Tests of loan boards, of where the interfaces of each controller stand on the board, of the order of updates, and of
-//! ends of cycles.
+//! Tests of loan boards, of where the interfaces of each controller stand on the board, of the order of updates, of
+//! ends of cycles, and of the records of cycles in which the bodies stand.
 #![tactic(auto)]
 
 #[cfg(test)]
@@ -10,3 +10,5 @@ mod ends;
 mod orders;
 #[cfg(test)]
 mod places;
+#[cfg(test)]
+mod standing;
