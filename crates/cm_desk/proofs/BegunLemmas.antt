@@ -1,6 +1,6 @@
 -- The cycle that a history has begun and not ended: what each entry makes of it, and that the state is still one of that cycle.
 use Rattle.std.proofs.Common.{◌≡◌, ℕ, Bool, true, false, List, [], ◌∷◌, ◌++◌, Option, Some, None, refl, sym, ap, ap₂, subst, ◌∙◌}
-use Rattle.std.specs.Prelude.{not, ◌&&◌, is_some, IfSome, IsSomeAnd}
+use Rattle.std.specs.Prelude.{not, ◌&&◌, is_some, IsSomeAnd}
 use Rattle.cm_document.specs.declared.call.Call.{Call}
 use Rattle.cm_document.specs.declared.call.Call.TheVariants.{Load, Configure, Cleanup, Unload, Rate, Send, Switch, Hardware, ListControllers, ListInterfaces, ListComponents, Begin, End, Close}
 use Rattle.cm_storage.specs.Happened.{Happened}
@@ -21,7 +21,7 @@ use Rattle.rt_flight.specs.Flights.{FlightFacts, IsAloft, IsComputed, StaysAloft
 use Rattle.rt_flight.proofs.AlikeLemmas.{stays_aloft}
 use Rattle.sound_laws.proofs.BetweenLemmas.{HasBegun, goes_on}
 use Rattle.sound_laws.proofs.MomentLemmas.{legal_step}
-use Rattle.cm_desk.specs.Desk.{History, begun_among, begun_of, now_of, Grows, IsOut, MayLand, IsAtHand, IsFlown, IsAloftAlike, CanBeCalled}
+use Rattle.cm_desk.specs.Desk.{History, begun_among, begun_of, now_of, Grows, IsOut, MayLand, IsAtHand, IsAloftAlike, CanBeCalled}
 use Rattle.cm_desk.specs.End.{CanLand}
 
 -- the moment of an entry that is a step
@@ -193,27 +193,11 @@ none_told (Some told) none some = cc
 
 -- a flight that is out is at hand,
 pub out_at_hand : (h : History) (f : FlightFacts) → IsOut h f → IsAtHand h f
-out_at_hand h f out = record { before = λ none. out; after = λ some. absurd (none_told f.outcome out.not_yet some) }
+out_at_hand h f out = record { before = λ none. out; after = λ some. absurd (none_told f.outcome out.not_yet.1 some) }
 
 -- and so is what it is once it is computed
 pub computed_at_hand : (h : History) (f f' : FlightFacts) → IsOut h f → ((s : State) → IsAloft s f → IsComputed s f') → is_some f'.outcome ≡ true → IsAtHand h f'
 computed_at_hand h f f' out made some = record { before = λ none. absurd (none_told f'.outcome none some); after = λ told. may_land h f f' out made }
-
--- the flight stays that of the cycle that is aloft
-pub flown_alike : (old new : History) (o : Option FlightFacts) → IsAloftAlike old new → IsFlown old o → IsFlown new o
-flown_alike old new o alike is = record { there = is.there ∙ sym alike.aloft; lands = each o is.lands }
-  where
-    each : (o : Option FlightFacts) → IfSome o (MayLand old) → IfSome o (MayLand new)
-    each None may = tt
-    each (Some f) may = lands_alike old new f alike may
-
--- where no cycle is aloft there is none
-pub none_flies : (old new : History) (o : Option FlightFacts) → IsFlown old o → (now_of old).aloft ≡ false → (now_of new).aloft ≡ false → IsFlown new o
-none_flies old new o is before after = record { there = is.there ∙ before ∙ sym after; lands = each o (is.there ∙ before) }
-  where
-    each : (o : Option FlightFacts) → is_some o ≡ false → IfSome o (MayLand new)
-    each None none = tt
-    each (Some f) none = cc
 
 -- the loop closes where none is
 pub down_there : (aloft closed : Bool) → (not aloft && not closed) ≡ true → aloft ≡ false

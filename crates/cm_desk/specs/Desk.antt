@@ -1,6 +1,6 @@
 -- What contracts see of the desk, and what its type keeps.
 use Rattle.std.specs.Prelude.{◌≡◌, ℕ, ◌+◌, ◌<◌, ◌≤◌, Bool, true, false, not, List, [], ◌∷◌, length, Option, Some, None}
-use Rattle.std.specs.Prelude.{is_some, IfSome, IsSomeAnd}
+use Rattle.std.specs.Prelude.{is_some, IsSomeAnd}
 use mathlib.Core.List.{IsPrefix}
 use Rattle.cm_desk.specs.declared.TheConstants.{TOO_MANY_FOR_A_BOOK}
 use Rattle.cm_document.specs.Valid.{IsValid}
@@ -22,7 +22,7 @@ use Rattle.cm_model.specs.declared.entry.Entry.{Entry}
 use Rattle.cm_model.specs.declared.reply.Reply.{Reply}
 use Rattle.cm_model.specs.declared.reply.Reply.TheVariants as reply
 use Rattle.cm_hardware.specs.Wiring.{one_if}
-use Rattle.rt_flight.specs.Flights.{FlightFacts, StaysAloft, StaysComputed}
+use Rattle.rt_flight.specs.Flights.{FlightFacts, MayBeComputed, StaysAloft, StaysComputed}
 
 -- ---- A history
 
@@ -60,25 +60,20 @@ begun_among begun (moment ∷ moments) = begun_among (aloft_after begun moment m
 abbrev pub begun_of : History → Option State
 begun_of h = begun_among None (moments h.opening h.made)
 
--- The flight is out, and not computed yet: it is that of the cycle which the history has begun and not ended, whatever
+-- The flight is out, and not started yet: it is that of the cycle which the history has begun and not ended, whatever
 -- consoles have called since.
 pub record IsOut (h : History) (f : FlightFacts) : Type 0 where
   pub aloft : IsSomeAnd (begun_of h) (λ begun. StaysAloft begun f)
-  pub not_yet : f.outcome ≡ None
+  pub not_yet : MayBeComputed f
 
 -- It may land: it is that of this cycle, and computed.
 abbrev pub MayLand : History → FlightFacts → Type 0
 MayLand h f = IsSomeAnd (begun_of h) (λ begun. StaysComputed begun f)
 
--- It is at hand: not computed yet, or so that it may land.
+-- It is at hand: not started yet, or so that it may land.
 pub record IsAtHand (h : History) (f : FlightFacts) : Type 0 where
   pub before : f.outcome ≡ None → IsOut h f
   pub after : is_some f.outcome ≡ true → MayLand h f
-
--- Where a cycle is aloft in a desk of this history, its flight is here and may land.
-pub record IsFlown (h : History) (flight : Option FlightFacts) : Type 0 where
-  pub there : is_some flight ≡ (now_of h).aloft
-  pub lands : IfSome flight (MayLand h)
 
 -- From one history to the other the same cycle is aloft, if one is.
 pub record IsAloftAlike (old new : History) : Type 0 where

@@ -20,6 +20,8 @@ cell_of mails l s ctl = record {
   workspace = record s { divisor = divisor_of l };
   ctl = ctl;
   mail = mail_in mails s.serial;
+  depth = 0;
+  turn = None;
   done = None;
 }
 

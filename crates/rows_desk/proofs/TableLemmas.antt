@@ -22,7 +22,7 @@ is_out h f at none = at.before (not_told f.outcome none)
 pub hand_alike : (old new : History) (o : Option FlightFacts) → IsAloftAlike old new → IfSome o (IsAtHand old) → IfSome o (IsAtHand new)
 hand_alike old new None alike at = tt
 hand_alike old new (Some f) alike at = record {
-  before = λ none. record { aloft = subst (λ (b : Option State). IsSomeAnd b (λ begun. StaysAloft begun f)) (sym alike.begun) (at.before none).aloft; not_yet = none };
+  before = λ none. record { aloft = subst (λ (b : Option State). IsSomeAnd b (λ begun. StaysAloft begun f)) (sym alike.begun) (at.before none).aloft; not_yet = (at.before none).not_yet };
   after = λ some. subst (λ (b : Option State). IsSomeAnd b (λ begun. StaysComputed begun f)) (sym alike.begun) (at.after some);
 }
 

@@ -181,7 +181,7 @@ fn cycles_of<C: Controller>(desk: &Desk<C>) -> u64
 
 /// A flight, computed.
 fn flown<C: Controller>(mut flight: Flight<C>) -> Flight<C>
-    requires { flight.outcome ≡ None }
+    requires { flight.progress ≡ None }
     ensures cycle { (s : State) → IsAloft s flight → IsComputed s result }
     ensures computed { is_some result.outcome ≡ true }
 {
@@ -191,14 +191,14 @@ fn flown<C: Controller>(mut flight: Flight<C>) -> Flight<C>
 
 /// A flight that was moved to another thread, computed there.
 fn flown_aside<R: Threads, C: Controller + Send + 'static>(rt: &R, flight: Flight<C>) -> Flight<C>
-    requires { flight.outcome ≡ None }
+    requires { flight.progress ≡ None }
     ensures cycle { (s : State) → IsAloft s flight → IsComputed s result }
     ensures computed { is_some result.outcome ≡ true }
 {
     let (flight, ()) = thread::join(
         rt,
         move || -> Flight<C>
-            requires { flight.outcome ≡ None }
+            requires { flight.progress ≡ None }
             ensures cycle { (s : State) → IsAloft s flight → IsComputed s result }
             ensures computed { is_some result.outcome ≡ true }
         { flown(flight) },

@@ -27,7 +27,7 @@ use Rattle.switch_plan.proofs.TestLemmas.{some_below-from}
 use Rattle.rt_flight.specs.Cells.{TellsApart}
 
 -- who does not stand in the row of those that precede a controller does not precede it
-not_before : (cs : List CtlDesc) (p q : ℕ) → is_listed (linked (leaders_of cs) q) p ≡ false → precedes_at cs p q ≡ false
+pub not_before : (cs : List CtlDesc) (p q : ℕ) → is_listed (linked (leaders_of cs) q) p ≡ false → precedes_at cs p q ≡ false
 not_before cs p q none =
     false_from_ne_true (precedes_at cs p q) (λ leads.
     let first = precedes_at-first cs p q leads in

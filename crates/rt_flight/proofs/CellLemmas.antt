@@ -235,7 +235,7 @@ module _ (s : State) (a : Aloft) (valid : IsValid s.description) (aloft : IsAlof
       → AreCellsAfter (with_updates s u (filter (due s) (l ∷ ls))).loaded (map running_part (l ∷ ls)) (cells_after a (c ∷ cs) f)
   cells_on u f l c ls cs stands is differ found updated passed =
       subst (λ (b : Bool). AreCellsAfter (with_updates s u (filter (due s) (l ∷ ls))).loaded (map running_part (l ∷ ls))
-      ((if b then cell_stepped step gathered else record c { mail = None; done = None }) ∷ cells_after a cs (if b then with_step a c step f else f)))
+      ((if b then cell_stepped step gathered else record c { mail = None; turn = None; done = None }) ∷ cells_after a cs (if b then with_step a c step f else f)))
       (sym (flies_is s a l c valid aloft is))
       (by_due (due s l) (record { workspace = record { serial = is.workspace.serial; place = is.workspace.place; divisor = is.workspace.divisor }; ctl = stepped_data; no_mail = refl }, updated) (record { workspace = record { serial = is.workspace.serial; place = is.workspace.place; divisor = is.workspace.divisor }; ctl = kept_data; no_mail = refl }, passed))
     where
@@ -260,9 +260,9 @@ module _ (s : State) (a : Aloft) (valid : IsValid s.description) (aloft : IsAlof
       kept_data = ap Some is.ctl ∙ sym (ap (option_map (λ (m : Loaded). m.ctl)) (found_later s l.serial ls u differ ∙ found))
 
       by_due : (b : Bool) → AreCellsAfter (with_updates s next later).loaded (map running_part (l ∷ ls)) (cell_stepped step gathered ∷ cells_after a cs (with_step a c step f))
-          → AreCellsAfter (with_updates s u later).loaded (map running_part (l ∷ ls)) (record c { mail = None; done = None } ∷ cells_after a cs f)
+          → AreCellsAfter (with_updates s u later).loaded (map running_part (l ∷ ls)) (record c { mail = None; turn = None; done = None } ∷ cells_after a cs f)
           → AreCellsAfter (with_updates s u (if b then l ∷ later else later)).loaded (map running_part (l ∷ ls))
-          ((if b then cell_stepped step gathered else record c { mail = None; done = None }) ∷ cells_after a cs (if b then with_step a c step f else f))
+          ((if b then cell_stepped step gathered else record c { mail = None; turn = None; done = None }) ∷ cells_after a cs (if b then with_step a c step f else f))
       by_due true is_updated is_kept = is_updated
       by_due false is_updated is_kept = is_kept
 

@@ -1,5 +1,5 @@
 -- That a flight makes the cycle of the state from which it began.
-use Rattle.std.proofs.Common.{◌≡◌, ℕ, Bool, true, false, List, [], ◌∷◌, ◌++◌, length, map, Some, refl, sym, ap, ap₂, subst, ◌∙◌, arith}
+use Rattle.std.proofs.Common.{◌≡◌, ℕ, Bool, true, false, List, [], ◌∷◌, ◌++◌, length, map, Option, Some, refl, sym, ap, ap₂, subst, ◌∙◌, arith}
 use Rattle.std.specs.Prelude.{◌==◌, ◌&&◌, if◌then◌else◌, vec_len, vec_capacity}
 use Rattle.std.specs.List.{AllByRecursion}
 use Rattle.std.proofs.lemmas.Bool.{and_from, eq-eqb}
@@ -33,7 +33,10 @@ use Rattle.cm_slots.specs.Updates.{Aloft}
 use Rattle.cm_places.specs.Placed.{Placed}
 use Rattle.rt_flight.specs.Workspaces.{flies, IsFitted}
 use Rattle.rt_flight.specs.Cells.{CellFacts, Flying, cell_gathered, step_of, with_step, flying_after, all_flown, cells_after, CanFly}
-use Rattle.rt_flight.specs.Flights.{FlightFacts, AreCellsOf, IsAloftOver, IsAloft, IsComputed, AreCellsAfter, member_in, HasMade, TellsNothing, IsEquipped}
+use Rattle.rt_flight.specs.Flights.{AreCellsOf, IsComputed, AreCellsAfter, member_in, HasMade, IsEquipped}
+use Rattle.rt_flight.specs.Progress.{Progress, round_in}
+use Rattle.rt_flight.specs.UnderWay.{HasBegunOf}
+use Rattle.rt_flight.specs.declared.context.CycleContext.{CycleContext}
 use Rattle.rt_flight.specs.declared.robot.Robot.{Robot}
 use Rattle.rt_flight.specs.Calls.Cycles.{LeavesFlight, IsToldOf, Decides, IsQuiet}
 use Rattle.rt_flight.proofs.CellLemmas.{Stands, AreLeft, IsFound, found_once, all_stand, cells_are}
@@ -78,9 +81,9 @@ pub record HasFlown (s : State) (a : Aloft) (cells : List CellFacts) (f : Flying
   pub stands : Stands s f.ran f.erred (updates s (values_read s)) (all_flown a cells f)
   pub cell_facts : AreCellsAfter (updates s (values_read s)).loaded (configuration s).running (cells_after a cells f)
 
-pub has_flown : (s : State) (number : ℕ) (cells : List CellFacts) (g : Robot) (a : Aloft) (f : Flying) → IsAloftOver s number cells g → IsAloftOf s a → IsInCycle s (values_read s) f.hardware
+pub has_flown : (s : State) (number : ℕ) (cells : List CellFacts) (k : CycleContext) (a : Aloft) (f : Flying) → HasBegunOf s number cells k → IsAloftOf s a → IsInCycle s (values_read s) f.hardware
     → HasFlown s a cells f
-has_flown s number cells g a f is aloft inside =
+has_flown s number cells k a f is aloft inside =
     let begun : Updates = record { loaded = s.loaded; values = values_read s; ran = [] } in
     let stands : Stands s f.ran f.erred begun f = record { hardware = inside; ran = sym (append-nil f.ran); erred = sym (append-nil f.erred) } in
     let left : AreLeft s (active_order s) cells = record {
@@ -110,16 +113,8 @@ members_are s (l ∷ ls) (c ∷ cs) are =
 -- ---- The whole
 
 -- this is the cycle that is aloft, once the reads were told
-pub round_is : (s : State) (number : ℕ) (cells : List CellFacts) (g : Robot) (a : Aloft) (none parts seen : List FailedPart) → IsAloftOver s number cells g
-    → a ≡ record { number = number; period_us = g.period_us; placed = g.places; related = g.relations; failed = seen }
-    → seen ≡ parts → parts ≡ none ++ reads_failed_in s → none ≡ [] → IsAloftOf s a
-round_is s number cells g a none parts seen is so same told empty = record {
-  number = ap (λ (x : Aloft). x.number) so ∙ is.number;
-  period = ap (λ (x : Aloft). x.period_us) so ∙ is.timed;
-  placed = ap (λ (x : Aloft). x.placed) so ∙ is.placed;
-  related = ap (λ (x : Aloft). x.related) so ∙ is.related;
-  failed = ap (λ (x : Aloft). x.failed) so ∙ same ∙ told ∙ ap (λ (ps : List FailedPart). ps ++ reads_failed_in s) empty;
-}
+pub round_is : (s : State) (number : ℕ) (cells : List CellFacts) (k : CycleContext) → HasBegunOf s number cells k → IsAloftOf s (round_in number k)
+round_is s number cells k is = record { number = is.number; period = is.timed; placed = is.placed; related = is.related; failed = is.failed }
 
 -- What was made of the cycle: of the cells, of the hardware, and what is told.
 pub record WasMade (s : State) (cell_facts : List CellFacts) (w : Wired) (parts : List FailedPart) (rans : List Ran) (states : List BodyState) (serials : List ℕ) : Type 0 where
@@ -165,18 +160,19 @@ quiet_stops s parts erred = none_stop s (told_in s) parts erred
 
 -- ---- The flight, once it is computed
 
-module _ (s : State) (f : FlightFacts) (order : List Member) (r made told : RecordRoom) (cells : List CellFacts) (g : Robot) (erred : List ℕ) (before ending : Ending) (failed : Bool) (room room' : ℕ)
-    (is : IsAloft s f) (same : order ≡ map member_in f.cells) (empty : TellsNothing r) (has : HasMade s cells g erred made) (leaves : LeavesFlight f.cells cells f.robot g r made room room')
+module _ (s : State) (number : ℕ) (begun : List CellFacts) (read : CycleContext) (order : List Member) (r made told : RecordRoom) (cells : List CellFacts) (g : Robot) (erred : List ℕ)
+    (before ending : Ending) (failed : Bool) (room room' : ℕ) (is : HasBegunOf s number begun read) (same : order ≡ map member_in begun) (none_stopped : r.stops.items ≡ [])
+    (has : HasMade s cells g erred made) (leaves : LeavesFlight begun cells read.robot g r made room room')
     (still : failed ≡ false → IsQuiet erred made told before ending) (decides : failed ≡ true → Decides g.relations order erred made told ending) where
   related : g.relations ≡ relations_of s.description
-  related = ap (λ (x : Robot). x.relations) leaves.robot ∙ is.over.related
+  related = ap (λ (x : Robot). x.relations) leaves.robot ∙ is.related
 
   told_so : IsToldOf s g.relations order made.failed.items erred
   told_so = record {
-    valid = is.over.valid;
-    steady = is.over.steady;
+    valid = is.valid;
+    steady = is.steady;
     related = related;
-    order = same ∙ members_are s (active_order s) f.cells is.over.cells;
+    order = same ∙ members_are s (active_order s) begun is.cells;
     failed = has.failed;
     erred = has.erred;
   }
@@ -185,7 +181,7 @@ module _ (s : State) (f : FlightFacts) (order : List Member) (r made told : Reco
   quiet none = (sym has.failed ∙ (still none).failed, sym has.erred ∙ (still none).erred)
 
   none_yet : made.stops.items ≡ []
-  none_yet = ap (λ stops. stops.items) leaves.stops ∙ empty.none_stopped
+  none_yet = ap (λ stops. stops.items) leaves.stops ∙ none_stopped
 
   -- only who stops is told besides
   tells : told ≡ record made { stops = told.stops }
@@ -202,22 +198,22 @@ module _ (s : State) (f : FlightFacts) (order : List Member) (r made told : Reco
       by_end false e = ap (λ (x : RecordRoom). x.stops.items) (still e).same ∙ none_yet ∙ sym (quiet_stops s (quiet e).0 (quiet e).1)
       by_end true e = (decides e).stops s told_so ∙ ap (λ (ns : List ℕ). ns ++ stops s (told_in s)) none_yet
 
-  pub computed_is : (lists : Lists) (outcome : Happened) → Shows g.hardware lists
-      → outcome ≡ record { cycle = f.number; failed = told.failed.items; ran = told.ran.rans; bodies = told.bodies.items; stops = told.stops.items }
-      → IsComputed s (record { number = f.number; cells = cells; robot = g; ending = ending; lists = lists; has_failed = failed; erred = erred; outcome = Some outcome })
-  computed_is lists outcome shown is_told = record {
-    number = is.over.number;
+  pub computed_is : (lists : Lists) (progress : Option Progress) (outcome : Happened) → Shows g.hardware lists
+      → outcome ≡ record { cycle = number; failed = told.failed.items; ran = told.ran.rans; bodies = told.bodies.items; stops = told.stops.items }
+      → IsComputed s (record { number = number; cells = cells; robot = g; ending = ending; lists = lists; has_failed = failed; erred = erred; progress = progress; outcome = Some outcome })
+  computed_is lists progress outcome shown is_told = record {
+    number = is.number;
     outcome = ap Some (is_told
-        ∙ ap (λ (n : ℕ). record { cycle = n; failed = told.failed.items; ran = told.ran.rans; bodies = told.bodies.items; stops = told.stops.items }) is.over.number
+        ∙ ap (λ (n : ℕ). record { cycle = n; failed = told.failed.items; ran = told.ran.rans; bodies = told.bodies.items; stops = told.stops.items }) is.number
         ∙ outcome_is s told.failed.items told.ran.rans told.bodies.items told.stops.items
         (ap (λ (x : RecordRoom). x.failed.items) tells ∙ has.failed) (ap (λ (x : RecordRoom). x.ran.rans) tells ∙ has.ran) (ap (λ (x : RecordRoom). x.bodies.items) tells ∙ has.bodies) stops_are);
     cells = has.cells;
     fitted = subst (λ (p : Placed). AllByRecursion (λ c. IsFitted p c.workspace) cells) (sym (ap (λ (x : Robot). x.places) leaves.robot)) leaves.fitted;
     hardware = has.hardware;
     shown = shown;
-    placed = ap (λ (x : Robot). x.places) leaves.robot ∙ is.over.placed;
+    placed = ap (λ (x : Robot). x.places) leaves.robot ∙ is.placed;
     related = related;
-    timed = ap (λ (x : Robot). x.period_us) leaves.robot ∙ is.over.timed;
+    timed = ap (λ (x : Robot). x.period_us) leaves.robot ∙ is.timed;
     quiet = quiet;
     erred = has.erred;
     ending = λ some. (decides some).ending s told_so;
@@ -246,14 +242,23 @@ board_moved s w is =
 pub components_of : (s : State) (ms : List Mounted) → IsWired s ms → length ms ≡ length s.description.components
 components_of s ms is = sym (length-map ms (λ m. m.hardware.description)) ∙ sym (ap length is.components)
 
--- so there is room for the lists as there was before
-pub lines_after : (s : State) (number : ℕ) (cells cells' : List CellFacts) (g g' : Robot) (serials : List ℕ) (r : RecordRoom) (l : Lists) → IsAloftOver s number cells g
-    → HasMade s cells' g' serials r → HasLinesFor g.hardware l → HasLinesFor g'.hardware l
-lines_after s number cells cells' g g' serials r l over has lines =
-    let count : length g.hardware.components ≡ length s.description.components = components_of s g.hardware.components over.hardware.wired in
-    let count' : length g'.hardware.components ≡ length s.description.components = components_of (landed s (cycle s)) g'.hardware.components has.hardware.lent.wired in
-    let board : length g.hardware.loans ≡ length (interfaces_of s.description) = board_of s g.hardware over.hardware in
-    let board' : length g'.hardware.loans ≡ length (interfaces_of s.description) = board_moved (landed s (cycle s)) g'.hardware has.hardware in
+-- so there is room for the lists once the components were read, as there was before,
+pub lines_read : (s : State) (w after : Wired) (l : Lists) → IsHardwareOf s w → IsInCycle s (values_read s) after → HasLinesFor w l → HasLinesFor after l
+lines_read s w after l is inside lines =
+    let count : length w.components ≡ length s.description.components = components_of s w.components is.wired in
+    let count' : length after.components ≡ length s.description.components = components_of (record s { values = values_read s }) after.components inside.wired in
+    let board : length w.loans ≡ length (interfaces_of s.description) = board_of s w is in
+    let board' : length after.loans ≡ length (interfaces_of s.description) = board_in_cycle s (values_read s) after inside in
+    record { components = omega (arith, count, count', lines.components); loans = omega (arith, board, board', lines.loans) }
+
+-- and once the cycle was made
+pub lines_after : (s : State) (number : ℕ) (begun cells : List CellFacts) (read : CycleContext) (g : Robot) (serials : List ℕ) (r : RecordRoom) (l : Lists) → HasBegunOf s number begun read
+    → HasMade s cells g serials r → HasLinesFor read.robot.hardware l → HasLinesFor g.hardware l
+lines_after s number begun cells read g serials r l over has lines =
+    let count : length read.robot.hardware.components ≡ length s.description.components = components_of (record s { values = values_read s }) read.robot.hardware.components over.hardware.wired in
+    let count' : length g.hardware.components ≡ length s.description.components = components_of (landed s (cycle s)) g.hardware.components has.hardware.lent.wired in
+    let board : length read.robot.hardware.loans ≡ length (interfaces_of s.description) = board_in_cycle s (values_read s) read.robot.hardware over.hardware in
+    let board' : length g.hardware.loans ≡ length (interfaces_of s.description) = board_moved (landed s (cycle s)) g.hardware has.hardware in
     record { components = omega (arith, count, count', lines.components); loans = omega (arith, board, board', lines.loans) }
 
 -- and in lists with as much room

@@ -43,6 +43,8 @@ top given mail out = record {
   workspace = workspace 7 0 1 [] out;
   ctl = record { kind = kind.Passthrough; params = Some (Passthrough 1); run = Some (run.Set false (given ∷ [])) };
   mail = mail;
+  depth = 0;
+  turn = None;
   done = None;
 }
 
@@ -52,6 +54,8 @@ low divisor reference out = record {
   workspace = workspace 5 1 divisor (reference ∷ []) out;
   ctl = record { kind = kind.Passthrough; params = Some (Passthrough 1); run = Some (run.Set true (Unset ∷ [])) };
   mail = None;
+  depth = 0;
+  turn = None;
   done = None;
 }
 
@@ -87,7 +91,7 @@ comes_late = refl
 -- as it would if both read before either gives out: so low waits for top
 comes_late_together :
     all_put (round 4 []).placed
-    (map (cell_run (round 4 [])) (map (cell_read (round 4 []) (board Unset Unset Unset)) (top Unset sent Unset ∷ low 1 Unset Unset ∷ [])))
+    (map cell_run (map (cell_read (round 4 []) (board Unset Unset Unset)) (top Unset sent Unset ∷ low 1 Unset Unset ∷ [])))
     (over (board Unset Unset Unset) [] [])
     ≡ over (board Unset one_and_a_half Unset) (told 7 one_and_a_half ∷ told 5 Unset ∷ []) []
 comes_late_together = refl
@@ -114,6 +118,8 @@ mock fails = record {
   workspace = workspace 5 1 1 (Unset ∷ []) (Num (pos 8));
   ctl = record { kind = kind.Mock; params = Some (Mock 1 false [] (fails ∷ [])); run = Some (run.Set false (Num (pos 9) ∷ [])) };
   mail = None;
+  depth = 0;
+  turn = None;
   done = None;
 }
 

@@ -83,7 +83,7 @@ some_and P None some each = absurd some
 some_and P (Some x) some each = each
 
 -- it can be updated at its time
-can_be_updated : (a : Aloft) (c : CellFacts) → IsTimely a → CanStep a.related a.period_us c
+pub can_be_updated : (a : Aloft) (c : CellFacts) → IsTimely a → CanStep a.related a.period_us c
     → CanBeUpdated c.ctl (tick_at a c.workspace) (length c.workspace.states) (length c.workspace.references) (length c.workspace.outs)
 can_be_updated a c timely can = record {
   counts = record { configured = some_and _ c.ctl.params can.kept.state.configured can.counts; running = can.kept.state.running };
@@ -130,21 +130,22 @@ put_is_step a c loans f timely can step is =
 module _ (a : Aloft) (c : CellFacts) (loans : List Loan) (f : Flying) (timely : IsTimely a) (can : CanStep a.related a.period_us c)
     (same : gathered a.placed loans c.workspace ≡ gathered a.placed f.hardware.loans c.workspace) where
   read_same : cell_read a loans c ≡ cell_read a f.hardware.loans c
-  read_same = ap (λ (s : WorkspaceFacts). if flies a c.workspace then record c { workspace = s } else c) same
+  read_same =
+      ap (λ (s : WorkspaceFacts). if flies a c.workspace then record c { workspace = s; turn = Some (tick_at a c.workspace) } else record c { turn = None }) same
 
-  cell_same : cell_put (cell_run a (cell_read a loans c)) ≡ cell_after a f.hardware.loans c
-  cell_same = ap (λ (d : CellFacts). cell_put (cell_run a d)) read_same ∙ by_turn (flies a c.workspace) refl
+  cell_same : cell_put (cell_run (cell_read a loans c)) ≡ cell_after a f.hardware.loans c
+  cell_same = ap (λ (d : CellFacts). cell_put (cell_run d)) read_same ∙ by_turn (flies a c.workspace) refl
     where
-      by_turn : (b : Bool) → flies a c.workspace ≡ b → cell_put (cell_run a (cell_read a f.hardware.loans c)) ≡ cell_after a f.hardware.loans c
-      by_turn true e = rw e (rw e refl)
-      by_turn false e = rw e (rw e refl)
+      by_turn : (b : Bool) → flies a c.workspace ≡ b → cell_put (cell_run (cell_read a f.hardware.loans c)) ≡ cell_after a f.hardware.loans c
+      by_turn true e = rw e refl
+      by_turn false e = rw e refl
 
-  put_same : flying_put a.placed (cell_run a (cell_read a loans c)) f ≡ flying_after a c f
-  put_same = ap (λ (d : CellFacts). flying_put a.placed (cell_run a d) f) read_same ∙ by_turn (flies a c.workspace) refl
+  put_same : flying_put a.placed (cell_run (cell_read a loans c)) f ≡ flying_after a c f
+  put_same = ap (λ (d : CellFacts). flying_put a.placed (cell_run d) f) read_same ∙ by_turn (flies a c.workspace) refl
     where
-      by_turn : (b : Bool) → flies a c.workspace ≡ b → flying_put a.placed (cell_run a (cell_read a f.hardware.loans c)) f ≡ flying_after a c f
-      by_turn true e = rw e (rw e (put_is_step a c f.hardware.loans f timely can (step_of a (cell_gathered a.placed f.hardware.loans c)) refl))
-      by_turn false e = rw e (rw e refl)
+      by_turn : (b : Bool) → flies a c.workspace ≡ b → flying_put a.placed (cell_run (cell_read a f.hardware.loans c)) f ≡ flying_after a c f
+      by_turn true e = rw e (put_is_step a c f.hardware.loans f timely can (step_of a (cell_gathered a.placed f.hardware.loans c)) refl)
+      by_turn false e = rw e refl
 
 -- ---- All of them
 
@@ -163,8 +164,8 @@ all_apart placed related tells (c ∷ cs) none = (each cs none.0, all_apart plac
 
 -- What some turns together came to is what they come to one after the other.
 pub record IsTogether (a : Aloft) (loans : List Loan) (cs : List CellFacts) (f : Flying) : Type 0 where
-  pub cells : map cell_put (map (cell_run a) (map (cell_read a loans) cs)) ≡ cells_after a cs f
-  pub flying : all_put a.placed (map (cell_run a) (map (cell_read a loans) cs)) f ≡ all_flown a cs f
+  pub cells : map cell_put (map cell_run (map (cell_read a loans) cs)) ≡ cells_after a cs f
+  pub flying : all_put a.placed (map cell_run (map (cell_read a loans) cs)) f ≡ all_flown a cs f
 
 -- these read the same on both boards
 abbrev ReadSame : Aloft → List Loan → Flying → List CellFacts → Type 0
@@ -182,7 +183,7 @@ together a loans timely (c ∷ cs) f can apart same =
     let rest = together a loans timely cs (flying_after a c f) can.1 apart.1 (still_same a loans c f cs apart.0 same.1) in
     record {
       cells = ap₂ (λ (d : CellFacts) (ds : List CellFacts). d ∷ ds) (cell_same a c loans f timely can.0 same.0) rest.cells;
-      flying = ap (all_put a.placed (map (cell_run a) (map (cell_read a loans) cs))) (put_same a c loans f timely can.0 same.0) ∙ rest.flying;
+      flying = ap (all_put a.placed (map cell_run (map (cell_read a loans) cs))) (put_same a c loans f timely can.0 same.0) ∙ rest.flying;
     }
 
 pub reads_itself : (a : Aloft) (f : Flying) (cs : List CellFacts) → ReadSame a f.hardware.loans f cs

@@ -5,5 +5,13 @@ pub mod LayerLemmas
 pub mod PostLemmas
 pub mod ApartLemmas
 pub mod CycleLemmas
+pub mod BegunLemmas
+pub mod WayLemmas
+pub mod EndLemmas
+pub mod PartsLemmas
+pub mod FlightLemmas
 pub mod AlikeLemmas
+pub mod DepthLemmas
+pub mod RankLemmas
+pub mod PutDownLemmas
 pub mod FlightRows

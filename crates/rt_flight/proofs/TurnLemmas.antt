@@ -1,21 +1,22 @@
 -- The turns of some cells and of the others; and what goes by who stands where, and by how much room each has.
-use Rattle.std.proofs.Common.{◌≡◌, ℕ, ◌+◌, ◌<◌, ◌^◌, Bool, true, false, List, [], ◌∷◌, ◌++◌, length, map, refl, sym, ap, ap₂, subst, ◌∙◌, arith}
-use Rattle.std.specs.Prelude.{◌||◌, if◌then◌else◌, IfSome}
+use Rattle.std.proofs.Common.{◌≡◌, ℕ, ◌+◌, ◌<◌, ◌^◌, Bool, true, false, List, [], ◌∷◌, ◌++◌, length, map, None, Some, refl, sym, ap, ap₂, subst, ◌∙◌, arith}
+use Rattle.std.specs.Prelude.{◌||◌, if◌then◌else◌}
 use Rattle.std.specs.List.{All, list_any, AllByRecursion}
 use Rattle.std.proofs.lemmas.Bool.{or_parts}
 use Rattle.std.proofs.lemmas.List.{length-map}
-use Rattle.cm_model.specs.Controllers.{AreItsCounts}
+use Rattle.cm_model.specs.Controllers.{CanBeUpdated}
 use Rattle.cm_model.specs.declared.member.Member.{Member}
 use Rattle.loan_board.specs.declared.board.Loan.{Loan}
 use Rattle.chain_order.specs.Links.{linked}
 use Rattle.cm_places.specs.Placed.{Placed}
 use Rattle.cm_model.specs.Kinds.{publishes}
-use Rattle.cm_slots.specs.Updates.{Aloft}
+use Rattle.cm_slots.specs.Updates.{Aloft, IsTimely}
 use Rattle.sequence.proofs.ListLemmas.{map_twice, head_same, tail_same}
 use Rattle.switch_plan.specs.Relations.{Related}
-use Rattle.rt_flight.specs.Workspaces.{gathered, flies, HasRows, IsFitted, IsConnectedTo}
-use Rattle.rt_flight.specs.Cells.{CellFacts, Flying, Post, post_of, cell_gathered, cell_read, cell_put, cell_after, flying_after, all_flown, cells_after, all_outs, all_numbers, precedes_in, NonePrecedes, CanStep, CanFly}
+use Rattle.rt_flight.specs.Workspaces.{gathered, flies, tick_at, HasRows, IsFitted, IsConnectedTo}
+use Rattle.rt_flight.specs.Cells.{CellFacts, Flying, Post, post_of, cell_gathered, cell_read, cell_put, cell_after, flying_after, all_flown, cells_after, all_outs, all_numbers, precedes_in, NonePrecedes, CanMakeStep, CanFly}
 use Rattle.rt_flight.specs.Flights.{member_in}
+use Rattle.rt_flight.proofs.LayerLemmas.{can_be_updated}
 
 -- ---- Some and the others
 
@@ -143,7 +144,8 @@ module _ (a : Aloft) (loans : List Loan) (board : ℕ) (c : CellFacts) (can : Ca
   pub read_post : post_of (cell_read a loans c) ≡ post_of c
   read_post = by_turn (flies a c.workspace)
     where
-      by_turn : (b : Bool) → post_of (if b then cell_gathered a.placed loans c else c) ≡ post_of c
+      by_turn : (b : Bool)
+          → post_of (if b then record (cell_gathered a.placed loans c) { turn = Some (tick_at a c.workspace) } else record c { turn = None }) ≡ post_of c
       by_turn true = ap₂ (λ (n m : ℕ). record {
         serial = c.workspace.serial;
         place = c.workspace.place;
@@ -156,30 +158,30 @@ module _ (a : Aloft) (loans : List Loan) (board : ℕ) (c : CellFacts) (can : Ca
       by_turn false = refl
 
   -- and can make its step
-  pub read_can_step : CanStep a.related a.period_us (cell_read a loans c)
-  read_can_step = by_turn (flies a c.workspace)
+  pub read_can_step : IsTimely a → CanMakeStep (cell_read a loans c)
+  read_can_step timely = by_turn (flies a c.workspace)
     where
-      by_turn : (b : Bool) → CanStep a.related a.period_us (if b then cell_gathered a.placed loans c else c)
+      there : CanBeUpdated c.ctl (tick_at a c.workspace) (length c.workspace.states) (length c.workspace.references) (length c.workspace.outs)
+      there = can_be_updated a c timely can.steps
+
+      by_turn : (b : Bool)
+          → CanMakeStep (if b then record (cell_gathered a.placed loans c) { turn = Some (tick_at a c.workspace) } else record c { turn = None })
       by_turn true = record {
-        kept = can.steps.kept;
-        counts = subst (λ (n : ℕ). IfSome c.ctl.params (λ params. AreItsCounts params n (length (gathered a.placed loans c.workspace).references) (length c.workspace.outs))) (sym states_count)
-            (subst (λ (n : ℕ). IfSome c.ctl.params (λ params. AreItsCounts params (length c.workspace.states) n (length c.workspace.outs))) (sym references_count) can.steps.counts);
-        related = can.steps.related;
-        led = can.steps.led;
-        in_time = record { divided = can.steps.in_time.divided; no_longer = can.steps.in_time.no_longer };
-        mail = can.steps.mail;
+        counts = subst (λ (n : ℕ). CanBeUpdated c.ctl (tick_at a c.workspace) n (length (gathered a.placed loans c.workspace).references) (length c.workspace.outs)) (sym states_count)
+            (subst (λ (n : ℕ). CanBeUpdated c.ctl (tick_at a c.workspace) (length c.workspace.states) n (length c.workspace.outs)) (sym references_count) there);
+        taking = can.steps.mail;
       }
-      by_turn false = can.steps
+      by_turn false = tt
 
 pub read_posts : (a : Aloft) (loans : List Loan) (board : ℕ) (cs : List CellFacts) → AllByRecursion (CanFly a.placed a.related a.period_us board) cs
     → map post_of (map (cell_read a loans) cs) ≡ map post_of cs
 read_posts a loans board [] can = refl
 read_posts a loans board (c ∷ cs) can = ap₂ (λ (p : Post) (ps : List Post). p ∷ ps) (read_post a loans board c can.0) (read_posts a loans board cs can.1)
 
-pub read_can_steps : (a : Aloft) (loans : List Loan) (board : ℕ) (cs : List CellFacts) → AllByRecursion (CanFly a.placed a.related a.period_us board) cs
-    → AllByRecursion (CanStep a.related a.period_us) (map (cell_read a loans) cs)
-read_can_steps a loans board [] can = tt
-read_can_steps a loans board (c ∷ cs) can = (read_can_step a loans board c can.0, read_can_steps a loans board cs can.1)
+pub read_can_steps : (a : Aloft) (loans : List Loan) (board : ℕ) → IsTimely a → (cs : List CellFacts) → AllByRecursion (CanFly a.placed a.related a.period_us board) cs
+    → AllByRecursion CanMakeStep (map (cell_read a loans) cs)
+read_can_steps a loans board timely [] can = tt
+read_can_steps a loans board timely (c ∷ cs) can = (read_can_step a loans board c can.0 timely, read_can_steps a loans board timely cs can.1)
 
 -- what is put leaves all of it
 pub put_posts : (cs : List CellFacts) → map post_of (map cell_put cs) ≡ map post_of cs

@@ -1,3 +1,6 @@
 pub mod Workspaces
 pub mod Cells
+pub mod Depths
 pub mod Cycles
+pub mod Parts
+pub mod Turns

@@ -9,6 +9,7 @@ use Rattle.cm_model.specs.Components.{is_listed}
 use Rattle.cm_model.specs.Controllers.{Stepped, put_out, AreItsCounts}
 use Rattle.cm_storage.specs.Ran.{Ran, Filling}
 use Rattle.cm_model.specs.declared.data.CtlData.{CtlData}
+use Rattle.cm_model.specs.declared.tick.Tick.{Tick}
 use Rattle.cm_storage.specs.declared.ran.Done.{Done}
 use Rattle.cm_storage.specs.declared.ran.Done.TheVariants as done
 use Rattle.cm_hardware.specs.Wiring.{Wired}
@@ -16,19 +17,22 @@ use Rattle.loan_board.specs.declared.board.Loan.{Loan}
 use Rattle.chain_order.specs.Links.{linked}
 use Rattle.cm_places.specs.Placed.{Placed}
 use Rattle.cm_model.specs.Kinds.{publishes}
-use Rattle.cm_slots.specs.Lives.{IsKept}
+use Rattle.cm_slots.specs.Lives.{CanBeStepped, IsKept}
 use Rattle.cm_slots.specs.Updates.{Aloft, put_on, board_after, with_erred}
 use Rattle.ctl_trait.specs.Taking.{CanTake}
 use Rattle.switch_plan.specs.Relations.{Related}
 use Rattle.rt_flight.specs.Workspaces.{WorkspaceFacts, gathered, flies, tick_at, step_from, told_of, IsConnectedTo}
 use Rattle.rt_flight.specs.Workspaces.{IsInTime}
 
--- A controller that runs, in its cell: where it stands, its data, and the mail that went aloft for it; and how its
--- update went, while what it gave out is not yet put into its claims.
+-- A controller that runs, in its cell: where it stands, its data, and the mail that went aloft for it; its depth, once
+-- the flight started; when it is updated in the cycle, once it has read and until its step; and how its update went,
+-- while what it gave out is not yet put into its claims.
 pub record CellFacts : Type 0 where
   pub workspace : WorkspaceFacts
   pub ctl : CtlData
   pub mail : Option Mail
+  pub depth : ℕ
+  pub turn : Option Tick
   pub done : Option Done
 
 -- ---- One update
@@ -37,9 +41,13 @@ pub record CellFacts : Type 0 where
 abbrev pub cell_gathered : Placed → List Loan → CellFacts → CellFacts
 cell_gathered placed loans c = record c { workspace = gathered placed loans c.workspace }
 
--- its step, from what was read for it
+-- its step at this time, from what was read for it
+abbrev pub step_at : Tick → CellFacts → Stepped
+step_at tick c = step_from c.ctl tick c.workspace c.mail
+
+-- its step in this cycle
 abbrev pub step_of : Aloft → CellFacts → Stepped
-step_of a c = step_from c.ctl (tick_at a c.workspace) c.workspace c.mail
+step_of a c = step_at (tick_at a c.workspace) c
 
 -- the cell after this step: it took its mail, and what it gave out stands in it unless it failed
 abbrev pub cell_stepped : Stepped → CellFacts → CellFacts
@@ -47,6 +55,8 @@ cell_stepped step c = record {
   workspace = record c.workspace { outs = put_out step c.workspace.outs };
   ctl = step.after;
   mail = None;
+  depth = c.depth;
+  turn = None;
   done = None;
 }
 
@@ -55,7 +65,7 @@ abbrev pub cell_after : Aloft → List Loan → CellFacts → CellFacts
 cell_after a loans c =
     if flies a c.workspace
     then cell_stepped (step_of a (cell_gathered a.placed loans c)) (cell_gathered a.placed loans c)
-    else record c { mail = None; done = None }
+    else record c { mail = None; turn = None; done = None }
 
 -- What the updates work on together: the hardware; what is told so far, and the serials of those whose update failed.
 pub record Flying : Type 0 where
@@ -98,15 +108,19 @@ cells_after a (c ∷ cs) f = cell_after a f.hardware.loans c ∷ cells_after a c
 
 -- ---- Together
 
--- the cell where it is updated, once its states and its references are read
+-- the cell once its states and its references are read, and it knows when it is updated, if it is
 abbrev pub cell_read : Aloft → List Loan → CellFacts → CellFacts
-cell_read a loans c = if flies a c.workspace then cell_gathered a.placed loans c else c
+cell_read a loans c =
+    if flies a c.workspace
+    then record (cell_gathered a.placed loans c) { turn = Some (tick_at a c.workspace) }
+    else record c { turn = None }
 
--- and once its step is made, of which nothing is put yet; where it is not updated its mail is lost
-abbrev pub cell_run : Aloft → CellFacts → CellFacts
-cell_run a c =
-    if flies a c.workspace then record (cell_stepped (step_of a c) c) { done = Some (step_of a c).done }
-    else record c { mail = None; done = None }
+-- and once its step is made, of which nothing is put yet; if it is not updated its mail is lost
+abbrev pub cell_run : CellFacts → CellFacts
+cell_run c = elim c.turn [
+  | None ↦ record c { mail = None; turn = None; done = None }
+  | Some tick ↦ record (cell_stepped (step_at tick c) c) { done = Some (step_at tick c).done }
+]
 
 -- and once all of it is put
 abbrev pub cell_put : CellFacts → CellFacts
@@ -191,6 +205,13 @@ pub record CanStep (relations : Related) (period_us : ℕ) (c : CellFacts) : Typ
   pub led : c.workspace.place < length relations.leaders
   pub in_time : IsInTime period_us c.workspace
   pub mail : IfSome c.mail (CanTake c.ctl)
+
+-- If it is updated in the cycle it can make its step then, and can take its mail.
+abbrev pub CanMakeStep : CellFacts → Type 0
+CanMakeStep c =
+    IfSome c.turn
+    (λ tick. CanBeStepped c.ctl tick (length c.workspace.states) (length c.workspace.references)
+    (length c.workspace.outs) c.mail)
 
 -- Besides it stands on a board of so many interfaces, and claims and reads fewer than 256 each.
 pub record CanFly (placed : Placed) (related : Related) (period_us board : ℕ) (c : CellFacts) : Type 0 where

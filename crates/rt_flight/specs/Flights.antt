@@ -1,6 +1,6 @@
 -- A flight: one cycle that has left the desk. What it is of a state, and what it makes of it.
-use Rattle.std.specs.Prelude.{◌≡◌, ℕ, ◌<◌, ◌≤◌, ◌==◌, Bool, true, false, List, [], ◌∷◌, length, map, is_some}
-use Rattle.std.specs.Prelude.{vec_capacity, Option, None, Some, IfSome, IsSomeAnd}
+use Rattle.std.specs.Prelude.{◌≡◌, ℕ, ◌<◌, ◌≤◌, ◌==◌, Bool, true, false, List, [], ◌∷◌, length, map}
+use Rattle.std.specs.Prelude.{vec_capacity, Option, None, Some, IfSome}
 use Rattle.std.specs.List.{All, AllByRecursion, IsDistinct}
 use Rattle.joint_body.specs.declared.TheConstants.{LONGEST_STEP}
 use Rattle.cm_document.specs.Valid.{IsValid}
@@ -25,13 +25,14 @@ use Rattle.stop_plan.specs.declared.ending.Ending.{Ending}
 use Rattle.switch_plan.specs.Relations.{Related, relations_of}
 use Rattle.rt_flight.specs.Workspaces.{WorkspaceFacts, IsFitted}
 use Rattle.rt_flight.specs.Cells.{CellFacts, CanFly, CanTell}
+use Rattle.rt_flight.specs.Progress.{Progress}
 use Rattle.rt_flight.specs.declared.context.CycleContext.{CycleContext}
 use Rattle.rt_flight.specs.declared.robot.Robot.{Robot}
 
 -- What is seen of a flight: the number of its cycle; its cells in the order of updates; the hardware, with what is
 -- worked out of the description; the sets of the end, and whether something failed; the serials of the controllers
--- whose update failed; the lists of the hardware, which are written down as it is computed; and the record of the
--- cycle, once it is.
+-- whose update failed; the lists of the hardware, which are written down as it is computed; how far it is, once it was
+-- started; and the record of the cycle, once it is computed.
 pub record FlightFacts : Type 0 where
   pub number : ℕ
   pub cells : List CellFacts
@@ -40,6 +41,7 @@ pub record FlightFacts : Type 0 where
   pub lists : Lists
   pub has_failed : Bool
   pub erred : List ℕ
+  pub progress : Option Progress
   pub outcome : Option Happened
 
 -- ---- Of a state
@@ -76,10 +78,14 @@ pub record IsAloftOver (s : State) (count : ℕ) (cell_facts : List CellFacts) (
   pub hardware : IsHardwareOf s g.hardware
   pub cells : AreCellsOf s.mails (configuration s).running cell_facts
 
--- The flight is that of the cycle which is aloft in the state, not yet computed.
+-- it was not started, and so is not computed
+abbrev pub MayBeComputed : FlightFacts → Type 0
+MayBeComputed f = (f.progress ≡ None) × (f.outcome ≡ None)
+
+-- The flight is that of the cycle which is aloft in the state, not yet started.
 pub record IsAloft (s : State) (f : FlightFacts) : Type 0 where
   pub over : IsAloftOver s f.number f.cells f.robot
-  pub not_yet : f.outcome ≡ None
+  pub not_yet : MayBeComputed f
 
 -- Another state of the same cycle: steady, with serials that differ, and with the same core. A call of a console
 -- between a begin and its end leads to such a one.
@@ -191,17 +197,9 @@ pub record IsReady (number : ℕ) (cells : List CellFacts) (members : List Membe
     pub settles : CanSettle g.relations members r
     pub empty : TellsNothing r
 
--- With this context, a flight has room to tell of its cycle until it has the record of it, and no update failed yet.
--- Room that is left then tells nothing.
-pub record IsFlight (number : ℕ) (cells : List CellFacts) (k : CycleContext) : Type 0 where
-  pub equipped : IsEquipped cells k.order.items k.robot k.ending k.lists (vec_capacity k.erred)
-  pub none_erred : is_some k.record ≡ false → k.erred.items ≡ []
-  pub ready : is_some k.record ≡ false → IsSomeAnd k.room (IsReady number cells k.order.items k.robot)
-  pub left : is_some k.record ≡ true → IfSome k.room TellsNothing
-
--- what is seen of it
-abbrev pub facts_with : ℕ → List CellFacts → CycleContext → FlightFacts
-facts_with number cells k = record {
+-- what is seen of a flight with these cells and this context, which is so far
+abbrev pub facts_with : ℕ → List CellFacts → CycleContext → Option Progress → FlightFacts
+facts_with number cells k progress = record {
   number = number;
   cells = cells;
   robot = k.robot;
@@ -209,6 +207,7 @@ facts_with number cells k = record {
   lists = k.lists;
   has_failed = k.has_failed;
   erred = k.erred.items;
+  progress = progress;
   outcome = k.record;
 }
 

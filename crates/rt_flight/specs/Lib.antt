@@ -2,5 +2,9 @@
 -- flight, and what calls ask and leave.
 pub mod Workspaces
 pub mod Cells
+pub mod Depths
+pub mod Progress
 pub mod Flights
+pub mod UnderWay
 pub mod Calls
+pub mod Lending

@@ -1,11 +1,11 @@
 //! A running controller in its cell.
 
-ghost use Rattle.std.specs.Prelude.{◌≡◌, [], ◌∷◌, ◌++◌, ◌+◌, ◌<◌, ◌≤◌, ◌==◌, length, vec_len, vec_capacity, None, Some};
+ghost use Rattle.std.specs.Prelude.{◌≡◌, [], ◌∷◌, ◌++◌, ◌+◌, ◌<◌, ◌≤◌, ◌==◌, length, vec_len, vec_capacity, None, Some, is_some};
 ghost use Rattle.std.specs.List.{list_any};
 ghost use Rattle.cm_document.specs.declared.life.Life.TheVariants.{Active};
-ghost use Rattle.cm_slots.specs.Lives.{IsKept};
+ghost use Rattle.cm_slots.specs.Lives.{CanBeStepped, IsKept};
 ghost use Rattle.cm_slots.specs.Updates.{IsTimely};
-ghost use Rattle.rt_flight.specs.Cells.{flying, flying_put, cell_read, cell_run, cell_put, cell_stepped, step_of, post_of, numbers_of, precedes_in, CanFly, CanStep};
+ghost use Rattle.rt_flight.specs.Cells.{flying, flying_put, cell_read, cell_run, cell_put, cell_stepped, step_at, post_of, numbers_of, precedes_in, CanFly, CanMakeStep};
 ghost use Rattle.rt_flight.specs.Calls.Cells.{CanPut, LeavesPut};
 
 use crate::round::Round;
@@ -13,6 +13,7 @@ use crate::running::Running;
 use crate::workspace::Workspace;
 use cm_document::Mail;
 use cm_hardware::ResourceManager;
+use cm_model::Tick;
 use cm_places::CtlPlaces;
 use cm_storage::{Done, RanRoom};
 use ctl_trait::Controller;
@@ -25,6 +26,10 @@ pub struct Cell<C: Controller> {
     workspace: Workspace,
     running: Running<C>,
     mail: Option<Mail>,
+    /// Its depth among the running controllers, once the flight started.
+    depth: u32,
+    /// When it is updated in the cycle, once it has read and until its step. Without it, it is not updated.
+    turn: Option<Tick>,
     /// How its update went, while that is not told yet.
     done: Option<Done>,
 }
@@ -34,19 +39,35 @@ impl<C: Controller> Model for Cell<C> {
 
     ghost Value = { CellFacts };
 
-    ghost view = { λ c. record { workspace = c.workspace; ctl = c.running; mail = c.mail; done = c.done } };
+    ghost view = { λ c. record {
+      workspace = c.workspace;
+      ctl = c.running;
+      mail = c.mail;
+      depth = c.depth;
+      turn = c.turn;
+      done = c.done;
+    } };
 }
 
 impl<C: Controller> Cell<C> {
     /// A controller that runs comes to its workspace, with the mail that goes aloft for it. It takes no memory.
     pub fn new(workspace: Workspace, ctl: C, mail: Option<Mail>) -> Cell<C>
         requires { IsKept Active (C.meaning ctl) }
-        ensures { result ≡ record { workspace = workspace; ctl = C.meaning ctl; mail = mail; done = None } }
+        ensures { result ≡ record {
+          workspace = workspace;
+          ctl = C.meaning ctl;
+          mail = mail;
+          depth = 0;
+          turn = None;
+          done = None;
+        } }
     {
         Cell {
             workspace,
             running: Running::new(ctl),
             mail,
+            depth: 0,
+            turn: None,
             done: None,
         }
     }
@@ -60,42 +81,68 @@ impl<C: Controller> Cell<C> {
         (self.workspace, self.running.into_ctl())
     }
 
-    /// Where it is updated in the cycle, its states and its references are read, as the interfaces hold them now. It takes no memory.
+    /// Its depth among the running controllers, once the flight started: 0 if none of them precedes it, else one more than the greatest
+    /// depth of one that does.
+    pub fn depth(&self) -> u32
+        ensures { result ≡ self.now.depth }
+    {
+        self.depth
+    }
+
+    /// Its depth is put down.
+    pub(crate) fn set_depth(&mut self, depth: u32)
+        ensures { self.new ≡ record self.old { depth = depth } }
+    {
+        self.depth = depth;
+    }
+
+    /// If it is updated in the cycle, its states and its references are read, as the interfaces hold them now, and from then on it knows
+    /// when that is. It takes no memory.
     pub(crate) fn gather(&mut self, round: &Round<'_>, hardware: &ResourceManager)
-        requires { CanFly round.now.placed round.now.related round.now.period_us (length hardware.now.loans)
+        requires timely { IsTimely round.now }
+        requires can { CanFly round.now.placed round.now.related round.now.period_us (length hardware.now.loans)
             self.old }
         ensures { self.new ≡ cell_read round.now hardware.now.loans self.old }
     {
+        self.turn = None;
         if round.updates(&self.workspace) {
+            self.turn = Some(round.tick(&self.workspace));
             self.workspace.gather(round.places, hardware);
         }
     }
 
-    /// Where it is updated in the cycle, it takes its mail and makes its step from what was read; else its mail is lost. It takes no memory.
-    pub(crate) fn step(&mut self, round: &Round<'_>)
-        requires timely { IsTimely round.now }
-        requires can { CanStep round.now.related round.now.period_us self.old }
-        ensures run { self.new ≡ cell_run round.now self.old }
+    /// Whether it is updated in the cycle and has still to make its step.
+    pub fn is_to_step(&self) -> bool
+        ensures { result ≡ is_some self.now.turn }
+    {
+        self.turn.is_some()
+    }
+
+    /// It makes its step in the cycle: if it is updated, it takes its mail and is updated from what was read for it; else its mail is
+    /// lost. It needs nothing but the cell, which can go to another thread if its box can, and takes no memory.
+    pub fn step(&mut self)
+        requires { CanMakeStep self.old }
+        ensures run { self.new ≡ cell_run self.old }
         ensures post { post_of self.new ≡ post_of self.old }
     {
         self.done = None;
-        if round.updates(&self.workspace) {
-            self.run(round);
+        if let Some(tick) = self.turn.take() {
+            self.run(tick);
         }
         self.mail = None;
     }
 
-    /// Its step.
-    fn run(&mut self, round: &Round<'_>)
-        requires timely { IsTimely round.now }
-        requires can { CanStep round.now.related round.now.period_us self.old }
-        ensures run { self.new ≡ record (cell_stepped (step_of round.now self.old) self.old) {
-          done = Some (step_of round.now self.old).done;
+    /// Its step at this time.
+    fn run(&mut self, tick: Tick)
+        requires { CanBeStepped self.old.ctl tick (length self.old.workspace.states)
+            (length self.old.workspace.references) (length self.old.workspace.outs) self.old.mail }
+        ensures run { self.new ≡ record (cell_stepped (step_at tick self.old) self.old) {
+          turn = self.old.turn;
+          done = Some (step_at tick self.old).done;
         } }
         ensures post { post_of self.new ≡ post_of self.old }
     {
         let mail = self.mail.take();
-        let tick = round.tick(&self.workspace);
         self.done = Some(self.workspace.step(&mut self.running, tick, mail));
     }
 

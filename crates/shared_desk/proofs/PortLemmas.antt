@@ -318,7 +318,7 @@ module _ {K : Type 0} {g : Ghosts K Entry State} (lock : TurnLock K Entry State)
   -- the answers of a begin
   pub begun_so : {E : Type 0} (p q : TurnPass K Entry State g) (r : Result FlightFacts E) → IsLoopPass lock first p → OnOk r (BeginsThere lock first p q) → IfOk r (IsOut (history_of first.opening q))
       → IfOk r (λ flight. Begins (loop_console_of first p) (loop_console_of first q) × IsAtHand (history_of first.opening q) flight × (flight.outcome ≡ None))
-  begun_so p q (Ok flight) is there out = (begins_here p q is there, out_at_hand (history_of first.opening q) flight out, out.not_yet)
+  begun_so p q (Ok flight) is there out = (begins_here p q is there, out_at_hand (history_of first.opening q) flight out, out.not_yet.1)
   begun_so p q (Err fault) is there out = tt
 
   pub stays_so : {A E : Type 0} (p q : TurnPass K Entry State g) (r : Result A E) → IsLoopPass lock first p → OnErr r (Stays lock first p q) → OnErr r (loop_console_of first q ≡ loop_console_of first p)

@@ -5,7 +5,8 @@ use Rattle.cm_storage.specs.Ran.{Filling}
 use Rattle.cm_places.specs.Placed.{Placed}
 use Rattle.cm_slots.specs.Updates.{Aloft, IsTimely}
 use Rattle.rt_flight.specs.Workspaces.{IsConnectedTo}
-use Rattle.rt_flight.specs.Cells.{CellFacts, Flying, cells_after, all_flown, post_of, CanFly, CanTell, CanBeTold}
+use Rattle.rt_flight.specs.Cells.{CellFacts, Flying, cell_run, cells_after, all_flown, post_of, CanFly, CanTell}
+use Rattle.rt_flight.specs.Cells.{CanBeTold}
 
 -- What a cell gave out can be put on a board of so many interfaces, and told; there is room for its serial beside so
 -- many others.
@@ -48,4 +49,16 @@ pub record CanTurn (a : Aloft) (board : ℕ) (cs : List CellFacts) (room : Filli
 pub record HaveTurned (a : Aloft) (cs cs' : List CellFacts) (f f' : Flying) : Type 0 where
   pub cells : cs' ≡ cells_after a cs f
   pub flying : f' ≡ all_flown a cs f
+  pub posts : map post_of cs' ≡ map post_of cs
+
+-- ---- Steps
+
+-- This cell made its step: who stands there, and how much room there is, is as before.
+pub record HasStepped (c c' : CellFacts) : Type 0 where
+  pub cell : c' ≡ cell_run c
+  pub post : post_of c' ≡ post_of c
+
+-- Each of these cells made its step.
+pub record HaveStepped (cs cs' : List CellFacts) : Type 0 where
+  pub cells : cs' ≡ map cell_run cs
   pub posts : map post_of cs' ≡ map post_of cs

@@ -89,7 +89,7 @@ returns-clause-off g c = λ s is.
       stands = omega (arith, ap (λ (b : CycleResources). vec_capacity b.buffers.workspaces) c.send_out.ensures.resources, c.fill_cells.ensures.workspaces.room, stands_room s _ _ _ _ _ _ _ _ is, c.args.resources.now.buffers.workspaces.ok.0);
       lines = lines_stay s _ c.send_out.new.self.lists is.lines (c.send_out.ensures.components, c.send_out.ensures.loans);
       shown = c.send_out.ensures.shown;
-      flight = rw (c.take_off.ensures) (record { over = rw (cells, c.send_out.ensures.robot) (aloft_over s _ _ _ _ _ _ _ _ is); not_yet = refl });
+      flight = rw (c.take_off.ensures) (record { over = rw (cells, c.send_out.ensures.robot) (aloft_over s _ _ _ _ _ _ _ _ is); not_yet = (refl, refl) });
     }
 
 pub returns-clause-room : goal.returns-clause-room

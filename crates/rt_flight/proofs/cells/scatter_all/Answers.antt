@@ -6,6 +6,31 @@ use Rattle.rt_flight.specs.Workspaces.{IsConnectedTo}
 use Rattle.rt_flight.specs.Cells.{CellFacts, Flying, flying, cell_put, all_put, all_outs, all_numbers}
 use Rattle.rt_flight.proofs.cells.scatter_all.Goals as goal
 
+-- the next one is told, as all that are left can be
+pub scatter-requires : goal.scatter-requires
+scatter-requires g c =
+    let l = c.loop-cell in
+    let i = l.cell-index in
+    let item : CellFacts = slice_index_or l.cells i c.cell-item.result in
+    let placed = c.args.places.now in
+    let later : List CellFacts = drop (i + 1) l.cells in
+    let within : i < length l.cells = omega (arith, c.loop-cell-test.true) in
+    let left : drop i l.cells ≡ item ∷ later = drop_more l.cells i c.cell-item.result within in
+    let values : all_outs (item ∷ later) ≡ all_outs (drop i l.cells) = ap all_outs (sym left) in
+    let numbers : all_numbers (item ∷ later) ≡ all_numbers (drop i l.cells) = ap all_numbers (sym left) in
+    let count : length (item ∷ later) ≡ length (drop i l.cells) = ap (λ (ds : List CellFacts). length ds) (sym left) in
+    record {
+      connected = (subst (λ (ds : List CellFacts). AllByRecursion (λ d. IsConnectedTo placed (length l.hardware.loans) d.workspace) ds) left l.invariant.connected).0;
+      few_states = (subst (λ (ds : List CellFacts). AllByRecursion (λ d. length d.workspace.states < 2 ^ 8) ds) left l.invariant.few_states).0;
+      few_outs = (subst (λ (ds : List CellFacts). AllByRecursion (λ d. length d.workspace.outs < 2 ^ 8) ds) left l.invariant.few_outs).0;
+      told = record {
+        heads = omega (arith, l.invariant.heads, count);
+        values = omega (arith, l.invariant.values, values);
+        numbers = omega (arith, l.invariant.numbers, numbers);
+      };
+      erred = omega (arith, l.invariant.erred, count);
+    }
+
 pub loop-cell-preserved : goal.loop-cell-preserved
 loop-cell-preserved g c =
     let l = c.loop-cell in

@@ -10,5 +10,5 @@ pub returns-clause-begun : goal.returns-clause-begun
 returns-clause-begun g c = (
   begins_there c.args.self.now.desk c.begin.new.self c.is_right.ensures c.in_ok-flight.ensures.made,
   out_at_hand c.begin.new.self c.in_ok-flight.flight c.in_ok-flight.ensures.flight,
-  c.in_ok-flight.ensures.flight.not_yet,
+  c.in_ok-flight.ensures.flight.not_yet.1,
 )

@@ -3,7 +3,13 @@ use Rattle.cm_desk.proofs.BegunLemmas.{computed_at_hand}
 use Rattle.rows_desk.proofs.TableLemmas.{is_out, at_hand, held}
 use Rattle.rows_desk.proofs.tables.Table.compute_aside.Goals as goal
 
--- the flight was out, and now it is computed
+-- the flight was out,
+pub flown_aside-requires : goal.flown_aside-requires
+flown_aside-requires g c =
+    let at = held c.self.inside.desk c.self.inside.flight c.in-Some.flight c.self.invariant (sym c.take.ensures.value ∙ c.in-Some.is) in
+    (is_out c.self.inside.desk c.in-Some.flight at (sym c.computed.ensures ∙ c.if-computed.false)).not_yet.0
+
+-- and now it is computed
 pub invariant_of-self-2 : goal.invariant_of-self-2
 invariant_of-self-2 g c =
     let at = held c.self.inside.desk c.self.inside.flight c.in-Some.flight c.self.invariant (sym c.take.ensures.value ∙ c.in-Some.is) in

@@ -1,0 +1,5 @@
+use Rattle.rows_desk.proofs.looping.DeskLoopLoopPort.compute.Goals as goal
+
+-- a flight at hand that is not computed was not started
+pub compute-requires : goal.compute-requires
+compute-requires g c = (c.requires.0.before c.requires.1).not_yet.0
