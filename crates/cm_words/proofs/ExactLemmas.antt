@@ -1,6 +1,6 @@
--- Without its option the command takes no other words than a job's, with or without hyphens.
+-- Without an option the command takes no other words than a job's, with or without hyphens.
 use Rattle.std.proofs.Common.{◌≡◌, ◌⊎◌, ◌∙◌, ℕ, Bool, cond, true, false, zero, refl, sym, ap, ap₂, subst, List, [], ◌∷◌, length, inl, inr, true≢false, Option, Some, None, Result, Ok, Err, codes}
-use Rattle.std.proofs.lemmas.Bool.{cases_Bool}
+use Rattle.std.proofs.lemmas.Bool.{cases_Bool, or_parts}
 use Rattle.std.proofs.lemmas.Slice.Eq.{bytes_eq-Decides}
 use Rattle.std.specs.Option.{option_map_or}
 use Rattle.std.specs.Prelude.{◌||◌, option_and_then, slice_get}
@@ -11,8 +11,8 @@ use Rattle.clap.specs.Simple.{Shape, built, filled, with_index}
 use Rattle.clap.specs.Walk.{Held, Row, Rule, Step, Text, Walk, after_flag, after_step, bundle_met, bundle_step, finished, first_of, idle, long_or_other, nothing_held, plain, rows_after, short_or_plain, trailing, value, walked, word_met}
 use Rattle.clap.specs.Words.{fault_of, matches_of}
 use Rattle.clap.specs.Lexer.{long_of, short_of}
-use Rattle.cm_words.specs.Accepted.{HasNoOption, IsAround, IsListed, gives_make, word_for}
-use Rattle.cm_words.specs.Words.{asked, command, given, job_of, kind_named, make_rule, unless_at_fault}
+use Rattle.cm_words.specs.Accepted.{HasNoOption, IsAround, IsListed, gives_option, is_option, word_for}
+use Rattle.cm_words.specs.Words.{asked, command, given, job_of, kind_named, make_rule, unless_at_fault, workers_rule}
 use Rattle.cm_words.specs.declared.job.Job.{Job}
 use Rattle.cm_words.specs.declared.job.JobKind.{JobKind}
 use Rattle.cm_words.specs.declared.job.JobKind.TheVariants.{Run, Steps, Live, Upgrade, Check, Plan}
@@ -57,28 +57,35 @@ plain_short None rows pending v e = refl
 plain_short (Some []) rows pending v e = refl
 plain_short (Some (x ∷ xs)) rows pending v e = plain_first (slice_get (chars (x ∷ xs)) 0) (x ∷ xs) (length xs) rows pending v e
 
--- the option, as the command reads it
-abbrev option : Rule
-option = with_index 2 (filled make_rule)
+-- the options, as the command reads them
+abbrev first_option : Rule
+first_option = with_index 2 (filled make_rule)
 
--- a long word that is not the option is refused
-not_the_option : (b : Bool) (rule : Rule) (text : Option Text) (h : Held) → b ≡ false → long_fault top.rules false (cond (b || false) (Some rule) None) text h ≡ [] → ⊥
-not_the_option true rule text h other e = absurd (true≢false other)
-not_the_option false rule text h other e = cc
+abbrev last_option : Rule
+last_option = with_index 3 (filled workers_rule)
+
+-- a long word that is neither option is refused
+not_an_option : (b d : Bool) (first last : Rule) (text : Option Text) (h : Held) → b ≡ false → d ≡ false
+    → long_fault top.rules false (cond (b || false) (Some first) (cond (d || false) (Some last) None)) text h ≡ [] → ⊥
+not_an_option true d first last text h other neither e = absurd (true≢false other)
+not_an_option false true first last text h other neither e = absurd (true≢false neither)
+not_an_option false false first last text h other neither e = cc
 
 plain_long : (long : Option (Text × Option Text)) (rows : List Row) (pending : Option (Text × List Text)) (v : Text)
-    → option_map_or (λ named. bytes_eq (codes "make") named.0) long false ≡ false → flag_word_fault top.rules false long v (holds rows pending) ≡ []
+    → option_map_or (λ named. is_option named.0) long false ≡ false → flag_word_fault top.rules false long v (holds rows pending) ≡ []
     → long_or_other top.rules idle v long (holds rows pending) ≡ (holds rows pending, value)
-plain_long (Some p) rows pending v no_option e = absurd (not_the_option (bytes_eq (codes "make") p.0) option p.1 (holds rows pending) no_option e)
+plain_long (Some p) rows pending v no_option e =
+    let parts = or_parts (bytes_eq (codes "make") p.0) (bytes_eq (codes "workers") p.0) no_option in
+    absurd (not_an_option (bytes_eq (codes "make") p.0) (bytes_eq (codes "workers") p.0) first_option last_option p.1 (holds rows pending) parts.0 parts.1 e)
 plain_long None rows pending v no_option e = plain_short (short_of v) rows pending v e
 
 unless_hyphens : (b : Bool) (long : Option (Text × Option Text)) (rows : List Row) (pending : Option (Text × List Text)) (position : ℕ) (v : Text) → b ≡ false
-    → option_map_or (λ named. bytes_eq (codes "make") named.0) long false ≡ false → cond b [] (flag_word_fault top.rules false long v (holds rows pending)) ≡ []
+    → option_map_or (λ named. is_option named.0) long false ≡ false → cond b [] (flag_word_fault top.rules false long v (holds rows pending)) ≡ []
     → cond b (holds rows pending, trailing position) (long_or_other top.rules idle v long (holds rows pending)) ≡ (holds rows pending, value)
 unless_hyphens true long rows pending position v other no_option e = absurd (true≢false other)
 unless_hyphens false long rows pending position v other no_option e = plain_long long rows pending v no_option e
 
-plain_met : (rows : List Row) (pending : Option (Text × List Text)) (position : ℕ) (v : Text) → bytes_eq v hyphens ≡ false → gives_make v ≡ false
+plain_met : (rows : List Row) (pending : Option (Text × List Text)) (position : ℕ) (v : Text) → bytes_eq v hyphens ≡ false → gives_option v ≡ false
     → word_fault top [] false idle v (holds rows pending) ≡ [] → word_met top.rules [] false idle position v (holds rows pending) ≡ (holds rows pending, value)
 plain_met rows pending position v other no_option e = unless_hyphens (bytes_eq v hyphens) (long_of v) rows pending position v other no_option e
 
@@ -103,7 +110,7 @@ one_more (v ∷ vs) e =
     inr (v, ap (λ t. v ∷ t) (ends v vs rest))
 
 -- a second word is refused
-second : (u v : Text) → bytes_eq v hyphens ≡ false → gives_make v ≡ false → turn_fault top [] (after false u) v ≡ [] → ⊥
+second : (u v : Text) → bytes_eq v hyphens ≡ false → gives_option v ≡ false → turn_fault top [] (after false u) v ≡ [] → ⊥
 second u v other no_option e =
     let met = word_met top.rules [] false idle 2 v (after false u).held in
     let parts = both_none (word_fault top [] false idle v (after false u).held) (step_fault top 2 met.0 met.1) e in
@@ -124,7 +131,7 @@ hyphens_after u (v ∷ vs) free e = elim (cases_Bool (bytes_eq v hyphens)) [
 ]
 
 -- the first word
-first_step : (v : Text) → bytes_eq v hyphens ≡ false → gives_make v ≡ false → turn_fault top [] (before false) v ≡ [] → walked top.rules [] (before false) v ≡ after false v
+first_step : (v : Text) → bytes_eq v hyphens ≡ false → gives_option v ≡ false → turn_fault top [] (before false) v ≡ [] → walked top.rules [] (before false) v ≡ after false v
 unfolding walked
 first_step v other no_option e =
     let met = word_met top.rules [] false idle 1 v nothing_held in
@@ -137,9 +144,10 @@ first_step v other no_option e =
 abbrev read_of : Text → List Text → Option Text
 read_of id words = first_of id (rows_after top.rules [] words)
 
--- a word is read for the job, and none for the option
+-- a word is read for the job, and none for an option
 abbrev IsJob : Text → List Text → Type 0
-IsJob v words = (read_of (codes "job") words ≡ Some v) × (read_of (codes "make") words ≡ None)
+IsJob v words =
+    (read_of (codes "job") words ≡ Some v) × ((read_of (codes "make") words ≡ None) × (read_of (codes "workers") words ≡ None))
 
 -- no word is read for the job, or the words are around it
 abbrev IsRead : List Text → Type 0
@@ -147,17 +155,22 @@ IsRead words = ((words ≡ []) ⊎ (words ≡ hyphens ∷ [])) ⊎ ((v : Text) �
 
 read_behind_hyphens : (v : Text) → IsJob v (hyphens ∷ v ∷ [])
 unfolding walked
-read_behind_hyphens v = (refl, refl)
+read_behind_hyphens v = (refl, (refl, refl))
 
 read_alone : (v : Text) → walked top.rules [] (before false) v ≡ after false v → IsJob v (v ∷ [])
-read_alone v step =
-    (ap (λ (w : Walk). first_of (codes "job") (finished top.rules w.held)) step, ap (λ (w : Walk). first_of (codes "make") (finished top.rules w.held)) step)
+read_alone v step = (
+  ap (λ (w : Walk). first_of (codes "job") (finished top.rules w.held)) step,
+  (ap (λ (w : Walk). first_of (codes "make") (finished top.rules w.held)) step, ap (λ (w : Walk). first_of (codes "workers") (finished top.rules w.held)) step),
+)
 
 read_before_hyphens : (v : Text) → walked top.rules [] (before false) v ≡ after false v → IsJob v (v ∷ hyphens ∷ [])
 unfolding walked
 read_before_hyphens v step = (
   ap (λ (w : Walk). first_of (codes "job") (finished top.rules (walked top.rules [] w hyphens).held)) step,
-  ap (λ (w : Walk). first_of (codes "make") (finished top.rules (walked top.rules [] w hyphens).held)) step,
+  (
+    ap (λ (w : Walk). first_of (codes "make") (finished top.rules (walked top.rules [] w hyphens).held)) step,
+    ap (λ (w : Walk). first_of (codes "workers") (finished top.rules (walked top.rules [] w hyphens).held)) step,
+  ),
 )
 
 reads : (words : List Text) → HasNoOption words → walk_fault top [] (before false) words ≡ [] → IsRead words
@@ -189,29 +202,33 @@ reads (v ∷ vs) free e = elim (cases_Bool (bytes_eq v hyphens)) [
 
 -- ---- The job
 
--- the job of what was given for it and for the option
-abbrev of_given : Option Text → Option Text → Result Job WordsFault
-of_given word make = job_of (option_and_then kind_named word) make
+-- the job of what was given for it and for the options
+abbrev of_given : Option Text → Option Text → Option Text → Result Job WordsFault
+of_given word make workers = job_of (option_and_then kind_named word) make workers
 
-taken : (kinds : Kinds) (word make : Option Text) (job : Job) → of_given (unless_at_fault kinds word) (unless_at_fault kinds make) ≡ Ok job
-    → (kinds ≡ []) × (of_given word make ≡ Ok job)
-taken [] word make job e = (refl, e)
-taken (k ∷ ks) word make job e = cc
+taken : (kinds : Kinds) (word make workers : Option Text) (job : Job)
+    → of_given (unless_at_fault kinds word) (unless_at_fault kinds make) (unless_at_fault kinds workers) ≡ Ok job
+    → (kinds ≡ []) × (of_given word make workers ≡ Ok job)
+taken [] word make workers job e = (refl, e)
+taken (k ∷ ks) word make workers job e = cc
 
 abbrev job_in : Result Job WordsFault → Job
 job_in (Ok job) = job
-job_in (Err fault) = record { kind = Run; make = None }
+job_in (Err fault) = record { kind = Run; make = None; workers = 1 }
 
--- a word is that of its job, where no document is made
+-- a word is that of its job, which makes no document and has one worker
 abbrev Names : Text → Job → Type 0
-Names v job = (v ≡ word_for job.kind) × (job.make ≡ None)
+Names v job = (v ≡ word_for job.kind) × ((job.make ≡ None) × (job.workers ≡ 1))
 
 -- a word that is a kind's names the job of this kind
-names : (kind : JobKind) (v : Text) (job : Job) → v ≡ word_for kind → job_of (Some kind) None ≡ Ok job → Names v job
-names kind v job is e = (is ∙ ap (λ (r : Result Job WordsFault). word_for (job_in r).kind) e, ap (λ (r : Result Job WordsFault). (job_in r).make) (sym e))
+names : (kind : JobKind) (v : Text) (job : Job) → v ≡ word_for kind → job_of (Some kind) None None ≡ Ok job → Names v job
+names kind v job is e = (
+  is ∙ ap (λ (r : Result Job WordsFault). word_for (job_in r).kind) e,
+  (ap (λ (r : Result Job WordsFault). (job_in r).make) (sym e), ap (λ (r : Result Job WordsFault). (job_in r).workers) (sym e)),
+)
 
 which : (a b d u k l : Bool) (v : Text) (job : Job) → (a ≡ true → v ≡ codes "run") → (b ≡ true → v ≡ codes "steps") → (d ≡ true → v ≡ codes "live") → (u ≡ true → v ≡ codes "upgrade") → (k ≡ true → v ≡ codes "check") → (l ≡ true → v ≡ codes "plan")
-    → job_of (cond a (Some Run) (cond b (Some Steps) (cond d (Some Live) (cond u (Some Upgrade) (cond k (Some Check) (cond l (Some Plan) None)))))) None ≡ Ok job → Names v job
+    → job_of (cond a (Some Run) (cond b (Some Steps) (cond d (Some Live) (cond u (Some Upgrade) (cond k (Some Check) (cond l (Some Plan) None)))))) None None ≡ Ok job → Names v job
 which true b d u k l v job run steps live upgrade check plan e = names Run v job (run refl) e
 which false true d u k l v job run steps live upgrade check plan e = names Steps v job (steps refl) e
 which false false true u k l v job run steps live upgrade check plan e = names Live v job (live refl) e
@@ -220,14 +237,21 @@ which false false false false true l v job run steps live upgrade check plan e =
 which false false false false false true v job run steps live upgrade check plan e = names Plan v job (plan refl) e
 which false false false false false false v job run steps live upgrade check plan e = cc
 
-named : (v : Text) (job : Job) → of_given (Some v) None ≡ Ok job → Names v job
+named : (v : Text) (job : Job) → of_given (Some v) None None ≡ Ok job → Names v job
 named v job e =
     which (bytes_eq v (codes "run")) (bytes_eq v (codes "steps")) (bytes_eq v (codes "live")) (bytes_eq v (codes "upgrade")) (bytes_eq v (codes "check")) (bytes_eq v (codes "plan")) v job
     (bytes_eq-Decides v (codes "run")).0 (bytes_eq-Decides v (codes "steps")).0 (bytes_eq-Decides v (codes "live")).0 (bytes_eq-Decides v (codes "upgrade")).0 (bytes_eq-Decides v (codes "check")).0 (bytes_eq-Decides v (codes "plan")).0 e
 
 -- what is given of words
 abbrev given_of : List Text → Result Job WordsFault
-given_of words = of_given (read_of (codes "job") words) (read_of (codes "make") words)
+given_of words = of_given (read_of (codes "job") words) (read_of (codes "make") words) (read_of (codes "workers") words)
+
+-- what is given where a word is read for the job, and none for an option
+alone_given : (v : Text) (words : List Text) (job : Job) → IsJob v words → given_of words ≡ Ok job → of_given (Some v) None None ≡ Ok job
+alone_given v words job read e =
+    subst (λ (n : Option Text). of_given (Some v) None n ≡ Ok job) read.1.1
+    (subst (λ (m : Option Text). of_given (Some v) m (read_of (codes "workers") words) ≡ Ok job) read.1.0
+    (subst (λ (w : Option Text). of_given w (read_of (codes "make") words) (read_of (codes "workers") words) ≡ Ok job) read.0 e))
 
 listed : (words : List Text) (job : Job) → IsRead words → given_of words ≡ Ok job → IsListed words job
 unfolding walked
@@ -236,14 +260,14 @@ listed words job (inl (inl none)) e =
 listed words job (inl (inr alone)) e =
     let no : given_of (hyphens ∷ []) ≡ Ok job = subst (λ (t : List Text). given_of t ≡ Ok job) alone e in cc
 listed words job (inr (v, read, around)) e =
-    let given_so : of_given (Some v) None ≡ Ok job = subst (λ (m : Option Text). of_given (Some v) m ≡ Ok job) read.1 (subst (λ (w : Option Text). of_given w (read_of (codes "make") words) ≡ Ok job) read.0 e) in
-    let is = named v job given_so in
-    record { around = subst (λ (w : Text). IsAround w words) is.0 around; reads = is.1 }
+    let is = named v job (alone_given v words job read e) in
+    record { around = subst (λ (w : Text). IsAround w words) is.0 around; reads = is.1.0; alone = is.1.1 }
 
 pub accepted_alone : (words : List Text) (job : Job) → HasNoOption words → asked words ≡ Ok job → IsListed words job
 unfolding given
 accepted_alone words job free e =
     let line = codes "cm" ∷ words in
-    let got = taken (fault_of command line) (first_of (codes "job") (matches_of command line)) (first_of (codes "make") (matches_of command line)) job e in
+    let got = taken (fault_of command line) (first_of (codes "job") (matches_of command line)) (first_of (codes "make") (matches_of command line))
+    (first_of (codes "workers") (matches_of command line)) job e in
     let walk = both_none (walk_fault top [] (before false) words) _ got.0 in
     listed words job (reads words free walk.0) got.1

@@ -1,5 +1,5 @@
 -- The lists of words that ask for a job, told one by one.
-use Rattle.std.specs.Prelude.{◌≡◌, ◌⊎◌, Bool, false, List, [], ◌∷◌, None, codes}
+use Rattle.std.specs.Prelude.{◌≡◌, ◌⊎◌, ◌||◌, Bool, false, List, [], ◌∷◌, None, codes}
 use Rattle.std.specs.List.{AllByRecursion}
 use Rattle.std.specs.Option.{option_map_or}
 use Rattle.std.specs.Str.{bytes_eq}
@@ -22,15 +22,21 @@ word_for Plan = codes "plan"
 abbrev pub IsAround : Text → List Text → Type 0
 IsAround word words = (words ≡ word ∷ []) ⊎ ((words ≡ codes "--" ∷ word ∷ []) ⊎ (words ≡ word ∷ codes "--" ∷ []))
 
--- The words of a job that reads its document: its word, with or without the two hyphens that end the options.
+-- The words of a job that reads its document and has one worker: its word, with or without the two hyphens that end the
+-- options.
 pub record IsListed (words : List Text) (job : Job) : Type 0 where
   pub around : IsAround (word_for job.kind) words
   pub reads : job.make ≡ None
+  pub alone : job.workers ≡ 1
 
--- a word is the option `--make`, alone or with a text behind `=`
-abbrev pub gives_make : Text → Bool
-gives_make word = option_map_or (λ named. bytes_eq (codes "make") named.0) (long_of word) false
+-- a name is that of an option
+abbrev pub is_option : Text → Bool
+is_option name = bytes_eq (codes "make") name || bytes_eq (codes "workers") name
 
--- no word is the option
+-- a word is an option, alone or with a text behind `=`
+abbrev pub gives_option : Text → Bool
+gives_option word = option_map_or (λ named. is_option named.0) (long_of word) false
+
+-- no word is an option
 abbrev pub HasNoOption : List Text → Type 0
-HasNoOption words = AllByRecursion (λ word. gives_make word ≡ false) words
+HasNoOption words = AllByRecursion (λ word. gives_option word ≡ false) words

@@ -9,6 +9,9 @@ pub const MOST_ROUNDS: u32 = 1_000;
 /// The most digits of a number of rounds; zeros may lead it.
 pub const MOST_DIGITS_OF_ROUNDS: usize = 4;
 
+/// The most workers that can be asked for.
+pub const MOST_WORKERS: u32 = 8;
+
 /// What is done with a document.
 #[derive(Clone, Copy, Debug, PartialEq, Eq)]
 pub enum JobKind {
@@ -33,13 +36,15 @@ pub struct Job {
     /// Of how many rounds the document is made that is run, from 1 to `MOST_ROUNDS`. Without it the document is read. An upgrade, a
     /// check and a plan have none.
     pub make: Option<u32>,
+    /// How many workers share the controllers of each depth of a cycle, from 1 to `MOST_WORKERS`. A job that runs nothing has one.
+    pub workers: u32,
 }
 
 /// Why words ask for nothing.
 #[derive(Clone, Copy, Debug, PartialEq, Eq, Error)]
 pub enum WordsFault {
     /// They are not accepted.
-    #[error("usage: cm run|steps|live|upgrade|check|plan [--make N]")]
+    #[error("usage: cm run|steps|live|upgrade|check|plan [--make N] [--workers N]")]
     Usage,
     /// Memory ran out.
     #[error("out of memory")]

@@ -1,7 +1,7 @@
 //! The words of the command line: which are accepted, and the job that they ask for.
 #![tactic(auto)]
 
-pub use job::{Job, JobKind, MOST_ROUNDS, WordsFault};
+pub use job::{Job, JobKind, MOST_ROUNDS, MOST_WORKERS, WordsFault};
 pub use words::asked;
 
 mod job;

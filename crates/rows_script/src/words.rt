@@ -17,7 +17,8 @@ fn want_of_memory_prints_as_its_line(rt: HostRuntime) -> Result<(), Fail> {
     Ok(())
 }
 
-/// Tells the job that words ask for, between which bars stand, and how many rounds are made; or why they are refused.
+/// Tells the job that words ask for, between which bars stand, how many rounds are made, and how many workers there are if not one; or why
+/// they are refused.
 #[derive(Clone, Copy)]
 struct Asks;
 
@@ -32,11 +33,14 @@ impl Teller for Asks {
 }
 
 fn told_of(alloc: Global, job: &Job) -> Result<String, Fail> {
-    let name = name_of(job.kind);
-    match job.make {
-        Some(rounds) => Ok(format!(in alloc; "{name}, {rounds} made")?),
-        None => Ok(String::from_str(alloc, name)?),
+    let mut told = String::from_str(alloc, name_of(job.kind))?;
+    if let Some(rounds) = job.make {
+        write!(told, ", {rounds} made")?;
     }
+    if job.workers != 1 {
+        write!(told, ", {} workers", job.workers)?;
+    }
+    Ok(told)
 }
 
 fn name_of(kind: JobKind) -> &'static str {
@@ -92,59 +96,88 @@ run|--make|05 => run, 5 made
 steps|--make|0012 => steps, 12 made
 live|--make|5 => live, 5 made
 --make=1000|live => live, 1000 made
- => usage: cm run|steps|live|upgrade|check|plan [--make N]
-walk => usage: cm run|steps|live|upgrade|check|plan [--make N]
-Run => usage: cm run|steps|live|upgrade|check|plan [--make N]
-run\s => usage: cm run|steps|live|upgrade|check|plan [--make N]
-runs => usage: cm run|steps|live|upgrade|check|plan [--make N]
-| => usage: cm run|steps|live|upgrade|check|plan [--make N]
-run|run => usage: cm run|steps|live|upgrade|check|plan [--make N]
-run|steps => usage: cm run|steps|live|upgrade|check|plan [--make N]
--- => usage: cm run|steps|live|upgrade|check|plan [--make N]
---|-- => usage: cm run|steps|live|upgrade|check|plan [--make N]
---|run|-- => usage: cm run|steps|live|upgrade|check|plan [--make N]
-- => usage: cm run|steps|live|upgrade|check|plan [--make N]
---help => usage: cm run|steps|live|upgrade|check|plan [--make N]
-run|--help => usage: cm run|steps|live|upgrade|check|plan [--make N]
--h => usage: cm run|steps|live|upgrade|check|plan [--make N]
---version => usage: cm run|steps|live|upgrade|check|plan [--make N]
-help => usage: cm run|steps|live|upgrade|check|plan [--make N]
-Live => usage: cm run|steps|live|upgrade|check|plan [--make N]
-lives => usage: cm run|steps|live|upgrade|check|plan [--make N]
-run|live => usage: cm run|steps|live|upgrade|check|plan [--make N]
-Upgrade => usage: cm run|steps|live|upgrade|check|plan [--make N]
-upgrades => usage: cm run|steps|live|upgrade|check|plan [--make N]
-upgrade|run => usage: cm run|steps|live|upgrade|check|plan [--make N]
-upgrade|--make|5 => usage: cm run|steps|live|upgrade|check|plan [--make N]
---make=5|upgrade => usage: cm run|steps|live|upgrade|check|plan [--make N]
-upgrade|--make|1001 => usage: cm run|steps|live|upgrade|check|plan [--make N]
-upgrade|--make => usage: cm run|steps|live|upgrade|check|plan [--make N]
-Check => usage: cm run|steps|live|upgrade|check|plan [--make N]
-checks => usage: cm run|steps|live|upgrade|check|plan [--make N]
-check|run => usage: cm run|steps|live|upgrade|check|plan [--make N]
-check|--make|5 => usage: cm run|steps|live|upgrade|check|plan [--make N]
-Plan => usage: cm run|steps|live|upgrade|check|plan [--make N]
-plan|run => usage: cm run|steps|live|upgrade|check|plan [--make N]
-plan|--make|5 => usage: cm run|steps|live|upgrade|check|plan [--make N]
---make=5|check => usage: cm run|steps|live|upgrade|check|plan [--make N]
-live|--make => usage: cm run|steps|live|upgrade|check|plan [--make N]
-live|--make|0 => usage: cm run|steps|live|upgrade|check|plan [--make N]
-live|--make|1001 => usage: cm run|steps|live|upgrade|check|plan [--make N]
---make|5 => usage: cm run|steps|live|upgrade|check|plan [--make N]
-run|--make => usage: cm run|steps|live|upgrade|check|plan [--make N]
-run|--make= => usage: cm run|steps|live|upgrade|check|plan [--make N]
-run|--mak|5 => usage: cm run|steps|live|upgrade|check|plan [--make N]
-run|--make|0 => usage: cm run|steps|live|upgrade|check|plan [--make N]
-run|--make|0000 => usage: cm run|steps|live|upgrade|check|plan [--make N]
-run|--make|1001 => usage: cm run|steps|live|upgrade|check|plan [--make N]
-run|--make|00001 => usage: cm run|steps|live|upgrade|check|plan [--make N]
-run|--make|+5 => usage: cm run|steps|live|upgrade|check|plan [--make N]
-run|--make|-5 => usage: cm run|steps|live|upgrade|check|plan [--make N]
-run|--make|5x => usage: cm run|steps|live|upgrade|check|plan [--make N]
-run|--make|\s5 => usage: cm run|steps|live|upgrade|check|plan [--make N]
-run|--make|five => usage: cm run|steps|live|upgrade|check|plan [--make N]
---make|run => usage: cm run|steps|live|upgrade|check|plan [--make N]
---make|run|5 => usage: cm run|steps|live|upgrade|check|plan [--make N]
-run|--make|1|--make|2 => usage: cm run|steps|live|upgrade|check|plan [--make N]
-run|--make|1|--make|1 => usage: cm run|steps|live|upgrade|check|plan [--make N]
-run|--|--make|5 => usage: cm run|steps|live|upgrade|check|plan [--make N]";
+run|--workers|1 => run
+run|--workers|2 => run, 2 workers
+steps|--workers|8 => steps, 8 workers
+live|--workers=3 => live, 3 workers
+--workers|4|run => run, 4 workers
+run|--make|1|--workers|4 => run, 1 made, 4 workers
+run|--workers=4|--make=1 => run, 1 made, 4 workers
+ => usage: cm run|steps|live|upgrade|check|plan [--make N] [--workers N]
+walk => usage: cm run|steps|live|upgrade|check|plan [--make N] [--workers N]
+Run => usage: cm run|steps|live|upgrade|check|plan [--make N] [--workers N]
+run\s => usage: cm run|steps|live|upgrade|check|plan [--make N] [--workers N]
+runs => usage: cm run|steps|live|upgrade|check|plan [--make N] [--workers N]
+| => usage: cm run|steps|live|upgrade|check|plan [--make N] [--workers N]
+run|run => usage: cm run|steps|live|upgrade|check|plan [--make N] [--workers N]
+run|steps => usage: cm run|steps|live|upgrade|check|plan [--make N] [--workers N]
+-- => usage: cm run|steps|live|upgrade|check|plan [--make N] [--workers N]
+--|-- => usage: cm run|steps|live|upgrade|check|plan [--make N] [--workers N]
+--|run|-- => usage: cm run|steps|live|upgrade|check|plan [--make N] [--workers N]
+- => usage: cm run|steps|live|upgrade|check|plan [--make N] [--workers N]
+--help => usage: cm run|steps|live|upgrade|check|plan [--make N] [--workers N]
+run|--help => usage: cm run|steps|live|upgrade|check|plan [--make N] [--workers N]
+-h => usage: cm run|steps|live|upgrade|check|plan [--make N] [--workers N]
+--version => usage: cm run|steps|live|upgrade|check|plan [--make N] [--workers N]
+help => usage: cm run|steps|live|upgrade|check|plan [--make N] [--workers N]
+Live => usage: cm run|steps|live|upgrade|check|plan [--make N] [--workers N]
+lives => usage: cm run|steps|live|upgrade|check|plan [--make N] [--workers N]
+run|live => usage: cm run|steps|live|upgrade|check|plan [--make N] [--workers N]
+Upgrade => usage: cm run|steps|live|upgrade|check|plan [--make N] [--workers N]
+upgrades => usage: cm run|steps|live|upgrade|check|plan [--make N] [--workers N]
+upgrade|run => usage: cm run|steps|live|upgrade|check|plan [--make N] [--workers N]
+upgrade|--make|5 => usage: cm run|steps|live|upgrade|check|plan [--make N] [--workers N]
+--make=5|upgrade => usage: cm run|steps|live|upgrade|check|plan [--make N] [--workers N]
+upgrade|--make|1001 => usage: cm run|steps|live|upgrade|check|plan [--make N] [--workers N]
+upgrade|--make => usage: cm run|steps|live|upgrade|check|plan [--make N] [--workers N]
+Check => usage: cm run|steps|live|upgrade|check|plan [--make N] [--workers N]
+checks => usage: cm run|steps|live|upgrade|check|plan [--make N] [--workers N]
+check|run => usage: cm run|steps|live|upgrade|check|plan [--make N] [--workers N]
+check|--make|5 => usage: cm run|steps|live|upgrade|check|plan [--make N] [--workers N]
+Plan => usage: cm run|steps|live|upgrade|check|plan [--make N] [--workers N]
+plan|run => usage: cm run|steps|live|upgrade|check|plan [--make N] [--workers N]
+plan|--make|5 => usage: cm run|steps|live|upgrade|check|plan [--make N] [--workers N]
+plan|--workers|2 => usage: cm run|steps|live|upgrade|check|plan [--make N] [--workers N]
+--make=5|check => usage: cm run|steps|live|upgrade|check|plan [--make N] [--workers N]
+live|--make => usage: cm run|steps|live|upgrade|check|plan [--make N] [--workers N]
+live|--make|0 => usage: cm run|steps|live|upgrade|check|plan [--make N] [--workers N]
+live|--make|1001 => usage: cm run|steps|live|upgrade|check|plan [--make N] [--workers N]
+--make|5 => usage: cm run|steps|live|upgrade|check|plan [--make N] [--workers N]
+run|--make => usage: cm run|steps|live|upgrade|check|plan [--make N] [--workers N]
+run|--make= => usage: cm run|steps|live|upgrade|check|plan [--make N] [--workers N]
+run|--mak|5 => usage: cm run|steps|live|upgrade|check|plan [--make N] [--workers N]
+run|--make|0 => usage: cm run|steps|live|upgrade|check|plan [--make N] [--workers N]
+run|--make|0000 => usage: cm run|steps|live|upgrade|check|plan [--make N] [--workers N]
+run|--make|1001 => usage: cm run|steps|live|upgrade|check|plan [--make N] [--workers N]
+run|--make|00001 => usage: cm run|steps|live|upgrade|check|plan [--make N] [--workers N]
+run|--make|+5 => usage: cm run|steps|live|upgrade|check|plan [--make N] [--workers N]
+run|--make|-5 => usage: cm run|steps|live|upgrade|check|plan [--make N] [--workers N]
+run|--make|5x => usage: cm run|steps|live|upgrade|check|plan [--make N] [--workers N]
+run|--make|\s5 => usage: cm run|steps|live|upgrade|check|plan [--make N] [--workers N]
+run|--make|five => usage: cm run|steps|live|upgrade|check|plan [--make N] [--workers N]
+--make|run => usage: cm run|steps|live|upgrade|check|plan [--make N] [--workers N]
+--make|run|5 => usage: cm run|steps|live|upgrade|check|plan [--make N] [--workers N]
+run|--make|1|--make|2 => usage: cm run|steps|live|upgrade|check|plan [--make N] [--workers N]
+run|--make|1|--make|1 => usage: cm run|steps|live|upgrade|check|plan [--make N] [--workers N]
+run|--|--make|5 => usage: cm run|steps|live|upgrade|check|plan [--make N] [--workers N]
+run|--workers => usage: cm run|steps|live|upgrade|check|plan [--make N] [--workers N]
+run|--workers= => usage: cm run|steps|live|upgrade|check|plan [--make N] [--workers N]
+run|--workers|0 => usage: cm run|steps|live|upgrade|check|plan [--make N] [--workers N]
+run|--workers|9 => usage: cm run|steps|live|upgrade|check|plan [--make N] [--workers N]
+run|--workers|10 => usage: cm run|steps|live|upgrade|check|plan [--make N] [--workers N]
+run|--workers|02 => usage: cm run|steps|live|upgrade|check|plan [--make N] [--workers N]
+run|--workers|+2 => usage: cm run|steps|live|upgrade|check|plan [--make N] [--workers N]
+run|--workers|-2 => usage: cm run|steps|live|upgrade|check|plan [--make N] [--workers N]
+run|--workers|2x => usage: cm run|steps|live|upgrade|check|plan [--make N] [--workers N]
+run|--workers|\s2 => usage: cm run|steps|live|upgrade|check|plan [--make N] [--workers N]
+run|--workers|two => usage: cm run|steps|live|upgrade|check|plan [--make N] [--workers N]
+run|--worker|2 => usage: cm run|steps|live|upgrade|check|plan [--make N] [--workers N]
+run|--workers|2|--workers|2 => usage: cm run|steps|live|upgrade|check|plan [--make N] [--workers N]
+run|--workers|9|--make|1 => usage: cm run|steps|live|upgrade|check|plan [--make N] [--workers N]
+--workers|2 => usage: cm run|steps|live|upgrade|check|plan [--make N] [--workers N]
+--workers|run => usage: cm run|steps|live|upgrade|check|plan [--make N] [--workers N]
+upgrade|--workers|1 => usage: cm run|steps|live|upgrade|check|plan [--make N] [--workers N]
+upgrade|--workers|2 => usage: cm run|steps|live|upgrade|check|plan [--make N] [--workers N]
+check|--workers|1 => usage: cm run|steps|live|upgrade|check|plan [--make N] [--workers N]
+--workers=8|check => usage: cm run|steps|live|upgrade|check|plan [--make N] [--workers N]
+run|--|--workers|2 => usage: cm run|steps|live|upgrade|check|plan [--make N] [--workers N]";
