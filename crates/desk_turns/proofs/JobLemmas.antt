@@ -1,7 +1,7 @@
 -- What a call of the loop makes of a job.
 use Rattle.std.proofs.Common.{◌≡◌, ℕ, true, false, List, Option, Some, None, refl, sym, ap, subst, ◌∙◌, arith}
-use Rattle.std.specs.Prelude.{map, not, ◌==◌, ◌&&◌, nat_lt, IfSome}
-use Rattle.std.proofs.lemmas.Bool.{and_parts}
+use Rattle.std.specs.Prelude.{map, not, ◌==◌, ◌&&◌, nat_lt, is_some, IfSome, IsSomeAnd}
+use Rattle.std.proofs.lemmas.Bool.{and_parts, true≢false}
 use Rattle.std.proofs.lemmas.Bool.Decides.{nat_tests}
 use Rattle.cm_document.specs.declared.call.Call.{Call}
 use Rattle.cm_document.specs.declared.call.Call.TheVariants.{Begin, End, Close}
@@ -11,11 +11,13 @@ use Rattle.cm_model.specs.Scheduled.{Session, Progress, with_entry, looped}
 use Rattle.cm_model.specs.State.{State}
 use Rattle.cm_model.specs.declared.entry.Entry.{Entry}
 use Rattle.cm_model.specs.declared.reply.Reply.{Reply}
-use Rattle.cm_desk.specs.Desk.{History, now_of, Grows, IsOut, MayLand, IsFlown}
-use Rattle.cm_desk.proofs.BegunLemmas.{may_land}
-use Rattle.rt_flight.specs.Flights.{FlightFacts, IsAloft, IsComputed}
+use Rattle.cm_desk.specs.Desk.{History, now_of, Grows, IsOut, IsAtHand, MayLand, IsAloftAlike}
+use Rattle.cm_desk.proofs.BegunLemmas.{out_at_hand}
+use Rattle.cm_storage.specs.Happened.{Happened}
+use Rattle.rt_flight.specs.Flights.{FlightFacts, StaysAloft, StaysComputed}
+use Rattle.rt_flight.specs.Progress.{Progress as Way}
 use Rattle.console_session.specs.Sessions.{left_of}
-use Rattle.desk_turns.specs.Jobs.{JobFacts, progress_of, GoesOn, loop_call, looped_on}
+use Rattle.desk_turns.specs.Jobs.{HasFlight, IsComputedOnce, JobFacts, progress_of, GoesOn, loop_call, looped_on}
 use Rattle.cm_model.proofs.HistoryLemmas.{sessions_stay}
 
 -- ---- The loop
@@ -73,23 +75,55 @@ end_number s n can = same_number s.ended n (and_parts s.aloft (s.ended == n) can
 
 -- ---- The flight
 
--- the flight that began and is computed may land
-pub flight_out : (h : History) (o : Option FlightFacts) (f f' : FlightFacts) → o ≡ Some f' → IsOut h f → ((s : State) → IsAloft s f → IsComputed s f')
-    → (now_of h).aloft ≡ true → IsFlown h o
-flight_out h o f f' same out made up = subst (λ (k : Option FlightFacts). IsFlown h k) (sym same) (record { there = sym up; lands = may_land h f f' out made })
+-- the flight that began is at hand
+pub flight_out : (h : History) (o : Option FlightFacts) (f : FlightFacts) → o ≡ Some f → IsOut h f → (now_of h).aloft ≡ true → HasFlight h o
+flight_out h o f same out up = subst (λ (k : Option FlightFacts). HasFlight h k) (sym same) (record { there = sym up; at_hand = out_at_hand h f out })
 
 -- where a cycle is aloft there is one,
-pub flight_there : (h : History) (o : Option FlightFacts) → IsFlown h o → o ≡ None → (now_of h).aloft ≡ true → ⊥
+pub flight_there : (h : History) (o : Option FlightFacts) → HasFlight h o → o ≡ None → (now_of h).aloft ≡ true → ⊥
 flight_there h None is none up = let both : false ≡ true = is.there ∙ up in cc
 flight_there h (Some f) is none up = cc
 
--- which may land,
-pub flight_lands : (h : History) (o : Option FlightFacts) (f : FlightFacts) → IsFlown h o → o ≡ Some f → MayLand h f
-flight_lands h o f is same = subst (λ (k : Option FlightFacts). IfSome k (MayLand h)) same is.lands
+-- which may land once it is computed,
+pub flight_lands : (h : History) (o : Option FlightFacts) (f f' : FlightFacts) → HasFlight h o → o ≡ Some f → IsComputedOnce f f' → MayLand h f'
+flight_lands h o f f' is same once =
+    let hand = subst (λ (k : Option FlightFacts). IfSome k (IsAtHand h)) same is.at_hand in
+    (once.at_hand h hand).after (once.computed h hand)
+
+-- if it was started it is computed
+pub started_computed : (h : History) (f : FlightFacts) → IsAtHand h f → is_some f.progress ≡ true → is_some f.outcome ≡ true
+started_computed h f hand started = by_end f.outcome refl
+  where
+    by_end : (o : Option Happened) → f.outcome ≡ o → is_some f.outcome ≡ true
+    by_end (Some told) is = ap (λ (o : Option Happened). is_some o) is
+    by_end None is =
+        let none = ap (λ (o : Option Way). is_some o) (hand.before is).not_yet.0 in absurd (true≢false (sym started ∙ none))
 
 -- and none is left once it has
-pub flight_gone : (h : History) (o : Option FlightFacts) → o ≡ None → (now_of h).aloft ≡ false → IsFlown h o
-flight_gone h o none down = subst (λ (k : Option FlightFacts). IsFlown h k) (sym none) (record { there = sym down; lands = tt })
+pub flight_gone : (h : History) (o : Option FlightFacts) → o ≡ None → (now_of h).aloft ≡ false → HasFlight h o
+flight_gone h o none down = subst (λ (k : Option FlightFacts). HasFlight h k) (sym none) (record { there = sym down; at_hand = tt })
+
+-- the flight stays that of the cycle that is aloft
+pub flight_alike : (old new : History) (o : Option FlightFacts) → IsAloftAlike old new → HasFlight old o → HasFlight new o
+flight_alike old new o alike is = record { there = is.there ∙ sym alike.aloft; at_hand = each o is.at_hand }
+  where
+    each : (o : Option FlightFacts) → IfSome o (IsAtHand old) → IfSome o (IsAtHand new)
+    each None hand = tt
+    each (Some f) hand = record {
+      before = λ none. record {
+        aloft = subst (λ (b : Option State). IsSomeAnd b (λ begun. StaysAloft begun f)) (sym alike.begun) (hand.before none).aloft;
+        not_yet = (hand.before none).not_yet;
+      };
+      after = λ some. subst (λ (b : Option State). IsSomeAnd b (λ begun. StaysComputed begun f)) (sym alike.begun) (hand.after some);
+    }
+
+-- where no cycle is aloft there is none
+pub none_flies : (old new : History) (o : Option FlightFacts) → HasFlight old o → (now_of old).aloft ≡ false → (now_of new).aloft ≡ false → HasFlight new o
+none_flies old new o is before after = record { there = is.there ∙ before ∙ sym after; at_hand = each o (is.there ∙ before) }
+  where
+    each : (o : Option FlightFacts) → is_some o ≡ false → IfSome o (IsAtHand new)
+    each None none = tt
+    each (Some f) none = cc
 
 -- ---- The loop's next call
 

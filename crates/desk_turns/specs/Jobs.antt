@@ -1,11 +1,15 @@
 -- How far a job has come, and a move of it.
-use Rattle.std.specs.Prelude.{◌≡◌, ℕ, suc, nat_lt, Bool, if◌then◌else◌, List, [], ◌∷◌, length, map, is_none}
+use Rattle.std.specs.Prelude.{◌≡◌, ℕ, suc, nat_lt, Bool, true, if◌then◌else◌, List, [], ◌∷◌, length, map, is_none}
+use Rattle.std.specs.Prelude.{Option, is_some, IfSome}
 use Rattle.std.specs.List.{list_all}
 use Rattle.cm_document.specs.declared.call.Call.{Call}
 use Rattle.cm_document.specs.declared.call.Call.TheVariants.{Begin, End, Close}
 use Rattle.cm_model.specs.Scheduled.{Session, Advanced, Progress, looped}
 use Rattle.cm_model.specs.State.{State}
-use Rattle.cm_desk.specs.Desk.{History, now_of, IsAloftAlike}
+use denote.Ref.{MutBor}
+use denote.Param.Members.{Shared}
+use Rattle.cm_desk.specs.Desk.{History, now_of, IsAloftAlike, IsAtHand}
+use Rattle.rt_flight.specs.Flights.{FlightFacts}
 use Rattle.console_session.specs.Sessions.{SessionState, at_first, left_of, next_of}
 
 -- how far the run has come where a session that stands so advances over a desk of this history
@@ -45,6 +49,23 @@ progress_of j = record { state = now_of j.desk; made = j.desk.made; sessions = m
 pub record GoesOn (change : Progress → Progress) (old new : JobFacts) : Type 0 where
   pub opening : new.desk.opening ≡ old.desk.opening
   pub moved : progress_of new ≡ change (progress_of old)
+
+-- Where a cycle is aloft in a desk of this history, its flight is here and at hand: computed, or not yet.
+pub record HasFlight (h : History) (flight : Option FlightFacts) : Type 0 where
+  pub there : is_some flight ≡ (now_of h).aloft
+  pub at_hand : IfSome flight (IsAtHand h)
+
+-- A flight was computed where it was not: if it was at hand it still is, and it is computed.
+pub record IsComputedOnce (old new : FlightFacts) : Type 0 where
+  pub at_hand : (h : History) → IsAtHand h old → IsAtHand h new
+  pub computed : (h : History) → IsAtHand h old → is_some new.outcome ≡ true
+
+module _ {J F : Type 0} (facts : J → JobFacts)
+    (g : Shared F (MutBor J × Unit {0}) (Unit {0} × (MutBor J × Unit {0}))) where
+  -- What a caller does between two moves of a job: it can be done at any time, and the job is as far as before.
+  pub record LeavesJob (between : F) : Type 0 where
+    pub takes : (p : MutBor J) → g.pre between (p, tt)
+    pub leaves : (p q : MutBor J) → g.post between (p, tt) (tt, (q, tt)) → facts q.now ≡ facts p.now
 
 -- none of these sessions has a call left
 abbrev pub are_through : List SessionState → Bool

@@ -13,11 +13,11 @@ returns-in_ok-flight g c =
     let number = begin_number (now_of c.self.inside.desk) c.args.number can in
     rw (← c.self.view_is) (loop_made (Begin c.args.number) _ _ _ (rw number at c.in_ok-flight.ensures.made) refl)
 
--- and its flight may land
+-- and its flight is at hand
 pub invariant_of-self-then-can_begin : goal.invariant_of-self-then-can_begin
 invariant_of-self-then-can_begin g c = (
   sessions_over c.self.inside.desk _ _ (search rules) c.self.invariant.0,
-  flight_out c.begin.new.self c.replace.new.self c.in_ok-flight.flight c.compute.new.self c.replace.ensures.after c.in_ok-flight.ensures.flight c.compute.ensures.cycle
+  flight_out c.begin.new.self c.replace.new.self c.in_ok-flight.flight c.replace.ensures.after c.in_ok-flight.ensures.flight
       (begun_aloft c.self.inside.desk c.begin.new.self _ _ _ c.in_ok-flight.ensures.made),
 )
 

@@ -1,9 +1,9 @@
 use Rattle.std.proofs.Common.{rules, refl, sym, ◌∙◌}
 use Rattle.cm_document.specs.declared.call.Call.TheVariants.{Close}
 use Rattle.desk_turns.proofs.NumberLemmas.{sessions_over}
-use Rattle.desk_turns.proofs.JobLemmas.{close_waits, loop_made}
+use Rattle.desk_turns.proofs.JobLemmas.{close_waits, loop_made, none_flies}
 use Rattle.cm_desk.specs.Desk.{now_of}
-use Rattle.cm_desk.proofs.BegunLemmas.{closed_alike, none_flies, down_there}
+use Rattle.cm_desk.proofs.BegunLemmas.{closed_alike, down_there}
 use Rattle.desk_turns.proofs.jobs.RunningJob.close.Goals as goal
 
 -- the loop closed

@@ -14,14 +14,14 @@ returns-in-Some g c =
     let number = end_number (now_of c.self.inside.desk) c.args.number can in
     rw (← c.self.view_is) (loop_made (End c.args.number) _ _ _ (rw number at c.land.ensures.made) refl)
 
--- its flight is here, and may land
+-- its flight is here, and may land once it is computed
 pub unreachable-requires : goal.unreachable-requires
 unreachable-requires g c =
     let can = rw (← c.self.view_is) at (sym c.can_end.ensures ∙ c.if-can_end.true) in
     flight_there c.self.inside.desk c.self.inside.flight c.self.invariant.1 (sym c.take.ensures.value ∙ c.in_default.is) (and_parts (now_of c.self.inside.desk).aloft _ can).0
 
 pub land-requires : goal.land-requires
-land-requires g c = record { flight = flight_lands c.self.inside.desk c.self.inside.flight c.in-Some.flight c.self.invariant.1 (sym c.take.ensures.value ∙ c.in-Some.is) }
+land-requires g c = record { flight = flight_lands c.self.inside.desk c.self.inside.flight c.in-Some.flight c.compute_once.new.flight c.self.invariant.1 (sym c.take.ensures.value ∙ c.in-Some.is) c.compute_once.ensures }
 
 -- and then it is gone
 pub invariant_of-self : goal.invariant_of-self
