@@ -231,7 +231,11 @@ fn draw_document<K: Sink, C: Controller>(
     } else {
         JobKind::Run
     };
-    let job = Job { kind, make: None };
+    let job = Job {
+        kind,
+        make: None,
+        workers: 1,
+    };
     match run_document(alloc, job, document, &mut Unkept, stock) {
         (Status::Ok, Some(book)) => {
             write_page(alloc, asked, sink, &described, book.history.as_slice())

@@ -1,11 +1,12 @@
 -- A live run over a shared desk: what it starts from, and what it comes to.
-use Rattle.std.specs.Prelude.{◌≡◌, ℕ, List, [], length}
+use Rattle.std.specs.Prelude.{◌≡◌, ℕ, true, List, [], length, is_some}
 use Rattle.std.specs.List.{AllZip}
 use Rattle.cm_desk.specs.Desk.{History}
 use Rattle.cm_model.specs.Sessions.{calls_of, entries_by, loop_calls, Follows}
 use Rattle.cm_model.specs.State.{State, boot}
 use Rattle.cm_model.specs.declared.entry.Entry.{Entry}
 use Rattle.console_session.specs.Sessions.{SessionState}
+use Rattle.rt_flight.specs.Flights.{FlightFacts, IsAloft, IsComputed}
 use Rattle.shared_desk.specs.Calls.Home.{AreHandedIn}
 use Rattle.shared_desk.specs.Calls.Share.{Shares}
 use Rattle.turn_lock.specs.Passes.{view}
@@ -13,6 +14,11 @@ use Rattle.turn_lock.specs.declared.kept.Kept.{Ghosts}
 use Rattle.turn_lock.specs.declared.lock.TurnLock.{TurnLock}
 use Rattle.turn_lock.specs.declared.pass.TurnPass.{TurnPass}
 use Rattle.desk_turns.specs.Jobs.{AreAtFirst}
+
+-- A flight was computed: of each state of which it was, it is the computed one.
+pub record WasComputed (old new : FlightFacts) : Type 0 where
+  pub cycle : (s : State) → IsAloft s old → IsComputed s new
+  pub computed : is_some new.outcome ≡ true
 
 module _ {K : Type 0} {g : Ghosts K Entry State} where
   -- A live run can start: the desk was shared as it was booted, these are all its passes, which have seen nothing, and

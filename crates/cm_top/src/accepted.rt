@@ -1,6 +1,6 @@
 //! The run of an accepted document on one thread: its job is made, its trace or summary written, and its book handed out.
 
-ghost use Rattle.std.specs.Prelude.{◌≡◌, ◌≢◌, ◌⊎◌, option_map, true, Err, IfOk, OnErr, OnOk, Some};
+ghost use Rattle.std.specs.Prelude.{◌≡◌, ◌≢◌, ◌⊎◌, option_map, true, Err, IfOk, None, OnErr, OnOk, Some};
 ghost use Rattle.std.specs.Io.KnownBytes.{Appends, Keeps};
 ghost use Rattle.outside_io.specs.Bytes.{AllFlushed, AppendsPrefix};
 ghost use Rattle.outside_io.specs.Faults.{IsToldAs};
@@ -17,14 +17,15 @@ use cm_document::{Checked, Document, Script};
 use cm_words::JobKind;
 use ctl_rack::Stock;
 use ctl_trait::Controller;
-use desk_turns::{run_in_steps, run_job};
+use desk_turns::{run_in_steps, run_in_steps_by, run_job, run_job_by};
 use fixed_num::Memory;
 use outside_io::Sink;
 use std::alloc::Global;
+use std::thread::Threads;
 use summary_text::write_summary;
 use trace_text::{OutFault, write_trace};
 
-/// Runs an accepted document by the job `run` or `steps`, writes its trace or its summary, and hands out its book.
+/// Runs an accepted document by the job `run` or `steps` on one thread, writes its trace or its summary, and hands out its book.
 pub fn run_document<K: Sink, C: Controller>(
     alloc: Global,
     asked: cm_words::Job,
@@ -50,6 +51,37 @@ pub fn run_document<K: Sink, C: Controller>(
     }
 }
 
+/// The same, where as many workers as the job has share each cycle.
+pub(crate) fn run_document_by<R, K, C>(
+    rt: &R,
+    alloc: Global,
+    asked: cm_words::Job,
+    document: Document,
+    sink: &mut K,
+    stock: Stock<C>,
+) -> (Status, Option<Book<C>>)
+where
+    R: Threads + Sync,
+    K: Sink,
+    C: Controller + Send,
+    requires runs { RunsAlone asked.kind }
+    requires rules { MeetsRules document.script }
+    ensures ran { RanDocument (task_of asked stock) document stock
+        (record { old = K.taken sink.old; new = K.taken sink.new; flushed = K.flushed sink.new })
+        result.0 (option_map (book_facts C.meaning) result.1) }
+    ensures outside { MindsSink (sink_facts K.taken K.flushed K.faults sink.old)
+        (sink_facts K.taken K.flushed K.faults sink.new) result.0 }
+{
+    let Document {
+        description,
+        script,
+    } = document;
+    match made_among(rt, alloc, asked, description, &script, stock) {
+        Ok(desk) => write_out(alloc, sink, asked.make, desk, &script),
+        Err(Memory) => (Status::Memory, None),
+    }
+}
+
 /// The desk of a job that is not live, made to its end over a checked description and a script.
 fn made<C: Controller>(
     alloc: Global,
@@ -66,6 +98,30 @@ fn made<C: Controller>(
     match kind {
         JobKind::Run => Ok(run_job(alloc, checked, script, stock)?.into_desk()),
         JobKind::Steps => Ok(run_in_steps(alloc, checked, script, stock)?.into_desk()),
+        JobKind::Live | JobKind::Upgrade | JobKind::Check | JobKind::Plan => unreachable!(),
+    }
+}
+
+/// The same, where as many workers as the job has share each cycle.
+fn made_among<R: Threads + Sync, C: Controller + Send>(
+    rt: &R,
+    alloc: Global,
+    asked: cm_words::Job,
+    checked: Checked,
+    script: &Script,
+    stock: Stock<C>,
+) -> Result<Desk<C>, Memory>
+    requires runs { RunsAlone asked.kind }
+    requires rules { MeetsRules script.now }
+    ensures { IfOk result
+        (IsDone (made_by asked.kind stock) stock (record { description = checked; script = script.now })) }
+{
+    let workers = asked.workers;
+    match asked.kind {
+        JobKind::Run => Ok(run_job_by(rt, alloc, workers, checked, script, stock)?.into_desk()),
+        JobKind::Steps => {
+            Ok(run_in_steps_by(rt, alloc, workers, checked, script, stock)?.into_desk())
+        }
         JobKind::Live | JobKind::Upgrade | JobKind::Check | JobKind::Plan => unreachable!(),
     }
 }

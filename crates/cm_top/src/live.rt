@@ -1,6 +1,6 @@
 //! The job `live`: the loop and the sessions beside one another, each on a thread of its own, over one desk that they share.
 
-ghost use Rattle.std.specs.Prelude.{◌≡◌, ◌≢◌, ◌+◌, ◌≤◌, ◌++◌, All, length, map, option_map, vec_capacity, vec_len, IfOk};
+ghost use Rattle.std.specs.Prelude.{◌≡◌, ◌≢◌, ◌+◌, ◌≤◌, ◌++◌, All, length, map, option_map, vec_capacity, vec_len, IfOk, None};
 ghost use Rattle.cm_document.specs.ScriptLaws.{MeetsRules};
 ghost use Rattle.cm_document.specs.declared.document.Document.{Document};
 ghost use Rattle.cm_words.specs.declared.job.Job.{Job};
@@ -8,7 +8,7 @@ ghost use Rattle.cm_words.specs.declared.job.JobKind.TheVariants as kind;
 ghost use Rattle.shared_desk.specs.Passes.{IsSessionPass};
 ghost use Rattle.cm_top.specs.Book.{IsDone, book_facts, made_by, task_of};
 ghost use Rattle.cm_top.specs.Calls.Run.{sink_facts, MindsSink};
-ghost use Rattle.cm_top.specs.Live.{CanStart, HasRun};
+ghost use Rattle.cm_top.specs.Live.{CanStart, HasRun, WasComputed};
 ghost use Rattle.cm_top.specs.Status.{RanDocument};
 
 use crate::accepted::write_out;
@@ -20,8 +20,10 @@ use ctl_rack::Stock;
 use ctl_trait::Controller;
 use desk_turns::waiting;
 use fixed_num::Memory;
-use live_run::live;
+use live_run::live_by;
 use outside_io::{Gate, Pace, Sink};
+use par_update::compute_by;
+use rt_flight::Flight;
 use shared_desk::{LoopEnd, LoopPass, Pass, SessionPort, SharedDesk};
 use std::alloc::Global;
 use std::sync::Wait;
@@ -32,6 +34,7 @@ pub fn run_document_live<R, K, P, G, C>(
     rt: &R,
     alloc: Global,
     make: Option<u32>,
+    workers: u32,
     document: Document,
     sink: &mut K,
     stock: Stock<C>,
@@ -45,8 +48,8 @@ where
     G: Gate,
     C: Controller + Send,
     requires rules { MeetsRules document.script }
-    ensures ran { RanDocument (task_of (record { kind = kind.Live; make = make }) stock) document stock
-        (record { old = K.taken sink.old; new = K.taken sink.new; flushed = K.flushed sink.new })
+    ensures ran { RanDocument (task_of (record { kind = kind.Live; make = make; workers = workers }) stock) document
+        stock (record { old = K.taken sink.old; new = K.taken sink.new; flushed = K.flushed sink.new })
         result.0 (option_map (book_facts C.meaning) result.1) }
     ensures outside { MindsSink (sink_facts K.taken K.flushed K.faults sink.old)
         (sink_facts K.taken K.flushed K.faults sink.new) result.0 }
@@ -55,7 +58,7 @@ where
         description,
         script,
     } = document;
-    match made(rt, alloc, description, &script, stock, pace, gate) {
+    match made(rt, alloc, workers, description, &script, stock, pace, gate) {
         Ok(desk) => write_out(alloc, sink, make, desk, &script),
         Err(Memory) => (Status::Memory, None),
     }
@@ -65,6 +68,7 @@ where
 fn made<R, P, G, C>(
     rt: &R,
     alloc: Global,
+    workers: u32,
     checked: Checked,
     script: &Script,
     stock: Stock<C>,
@@ -86,15 +90,16 @@ where
     let desk = Desk::boot(alloc, checked, stock, texts.len() as u32)?;
     let (shared, looping, passes) = SharedDesk::share(alloc, desk)?;
     let (looping, passes) = run_over(
-        rt, alloc, &shared, sessions, looping, passes, cycles, pace, gate,
+        rt, alloc, workers, &shared, sessions, looping, passes, cycles, pace, gate,
     )?;
     Ok(shared.home(looping, passes))
 }
 
-/// The loop and all sessions over a shared desk, to their ends: their passes come back.
+/// The loop and all sessions over a shared desk, to their ends: their passes come back. So many workers compute a flight.
 fn run_over<R, P, G, C>(
     rt: &R,
     alloc: Global,
+    workers: u32,
     shared: &SharedDesk<C>,
     sessions: Vec<Session>,
     looping: LoopPass<C>,
@@ -116,7 +121,11 @@ where
     let room = Vec::with_capacity(alloc, passes.len())?;
     let pairs = with_ports(rt, alloc, shared, sessions, passes)?;
     let mut end = LoopEnd::make(shared, rt, looping);
-    let ports = live(rt, alloc, pairs, &mut end, cycles, pace, gate)?;
+    let compute = |console: &mut LoopEnd<'_, R, C>, flight: &mut Flight<C>|
+        requires { flight.now.progress ≡ None }
+        ensures { (console.exit.now ≡ console.entry.now) × WasComputed flight.entry.now flight.exit.now }
+    { compute_by(rt, flight, workers) };
+    let ports = live_by(rt, alloc, pairs, &mut end, cycles, pace, gate, &compute)?;
     Ok((end.into_pass(), passes_of(ports, room)))
 }
 

@@ -12,7 +12,7 @@ pub enum Status {
     #[error("ok")]
     Ok,
     /// The words are not accepted.
-    #[error("usage: cm run|steps|live|upgrade|check|plan [--make N]")]
+    #[error("usage: cm run|steps|live|upgrade|check|plan [--make N] [--workers N]")]
     BadWords,
     /// The description is not accepted; its first fault.
     #[error("description: {0}")]

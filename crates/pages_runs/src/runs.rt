@@ -105,7 +105,11 @@ pub fn run_by<C: Controller, K: Sink>(
     requires blank { All (λ c. IsBlank (C.meaning c)) blanks.items }
     requires few { length blanks.items < 2 ^ 32 }
 {
-    let job = Job { kind, make: None };
+    let job = Job {
+        kind,
+        make: None,
+        workers: 1,
+    };
     run_alone(alloc, &job, source, sink, Stock::make(blanks))
 }
 

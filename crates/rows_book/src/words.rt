@@ -78,22 +78,28 @@ loop close: none
 
 /// How a run of it ends by words, between which a bar stands.
 const WORDS: &str = r"run => ok
+run|--workers|2 => ok
+run|--workers|1 => ok
 run|-- => ok
 --|run => ok
 steps => ok
 --|steps => ok
- => usage: cm run|steps|live|upgrade|check|plan [--make N]
-walk => usage: cm run|steps|live|upgrade|check|plan [--make N]
-run|run => usage: cm run|steps|live|upgrade|check|plan [--make N]
-run|steps => usage: cm run|steps|live|upgrade|check|plan [--make N]
-Run => usage: cm run|steps|live|upgrade|check|plan [--make N]
-run\s => usage: cm run|steps|live|upgrade|check|plan [--make N]
---help => usage: cm run|steps|live|upgrade|check|plan [--make N]
-run|--make => usage: cm run|steps|live|upgrade|check|plan [--make N]
-run|--make| => usage: cm run|steps|live|upgrade|check|plan [--make N]
-run|--make|0 => usage: cm run|steps|live|upgrade|check|plan [--make N]
-run|--make|1001 => usage: cm run|steps|live|upgrade|check|plan [--make N]
-run|--make|1|--make|2 => usage: cm run|steps|live|upgrade|check|plan [--make N]";
+steps|--workers=8 => ok
+ => usage: cm run|steps|live|upgrade|check|plan [--make N] [--workers N]
+walk => usage: cm run|steps|live|upgrade|check|plan [--make N] [--workers N]
+run|run => usage: cm run|steps|live|upgrade|check|plan [--make N] [--workers N]
+run|steps => usage: cm run|steps|live|upgrade|check|plan [--make N] [--workers N]
+Run => usage: cm run|steps|live|upgrade|check|plan [--make N] [--workers N]
+run\s => usage: cm run|steps|live|upgrade|check|plan [--make N] [--workers N]
+--help => usage: cm run|steps|live|upgrade|check|plan [--make N] [--workers N]
+run|--make => usage: cm run|steps|live|upgrade|check|plan [--make N] [--workers N]
+run|--make| => usage: cm run|steps|live|upgrade|check|plan [--make N] [--workers N]
+run|--make|0 => usage: cm run|steps|live|upgrade|check|plan [--make N] [--workers N]
+run|--make|1001 => usage: cm run|steps|live|upgrade|check|plan [--make N] [--workers N]
+run|--make|1|--make|2 => usage: cm run|steps|live|upgrade|check|plan [--make N] [--workers N]
+run|--workers|9 => usage: cm run|steps|live|upgrade|check|plan [--make N] [--workers N]
+upgrade|--workers|1 => usage: cm run|steps|live|upgrade|check|plan [--make N] [--workers N]
+check|--workers|2 => usage: cm run|steps|live|upgrade|check|plan [--make N] [--workers N]";
 
 /// A document without operators, so that a live run leaves nothing to its threads.
 const ALONE: &str = "version = 1
@@ -117,6 +123,16 @@ const CALLS_OF_LIVE: u64 = 2 + 3 * 2;
 /// the smallest, of two rounds, of five and of the largest.
 const MADE: &str = "\
 run|--make|1
+=> cycles 10
+entries 45
+updates 79
+asks 3 done 3 refused 0 ended 0
+joint j0 0.000000
+joint j1 0.090000
+<2..8 * joint j# 0.000000
+>
+
+run|--make|1|--workers|4
 => cycles 10
 entries 45
 updates 79
@@ -191,15 +207,19 @@ fn hold_row<R: Threads + Wait + Sync>(rt: &R, alloc: Global, row: &str) -> Resul
 
 #[test]
 fn a_live_run_calls_pace_and_gate(rt: HostRuntime) -> Result<(), Fail> {
-    let alloc = rt.alloc();
-    let words = words(alloc, "live")?;
+    hold_live(&rt, rt.alloc(), "live")?;
+    hold_live(&rt, rt.alloc(), "live|--workers|2")
+}
+
+fn hold_live<R: Threads + Wait + Sync>(rt: &R, alloc: Global, given: &str) -> Result<(), Fail> {
+    let words = words(alloc, given)?;
     let blanks = blanks(alloc, IN_STOCK)?;
     let want = Want {
         ended: "ok",
         printed: BY_LIVE,
         calls: CALLS_OF_LIVE,
     };
-    hold_words(&rt, alloc, words.as_slice(), ALONE, blanks, &want)
+    hold_words(rt, alloc, words.as_slice(), ALONE, blanks, &want)
 }
 
 #[test]

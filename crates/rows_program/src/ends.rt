@@ -58,7 +58,7 @@ pub fn end(alloc: Global, status: &Status) -> Result<String, Fail> {
 /// How each status below ends, in their order.
 const ENDS: &str = "\
 0
-2 cm: usage: cm run|steps|live|upgrade|check|plan [--make N]
+2 cm: usage: cm run|steps|live|upgrade|check|plan [--make N] [--workers N]
 3 cm: description: not_toml
 3 cm: description: bad_key controller[0].rate
 3 cm: description: bad_value component[12].joint[3].command[1]

@@ -41,21 +41,22 @@ run -- => 0
 -- steps => 0
 run --make 1 => 0
 --make=01 run => 0
- => 2 cm: usage: cm run|steps|live|upgrade|check|plan [--make N]
-walk => 2 cm: usage: cm run|steps|live|upgrade|check|plan [--make N]
-run run => 2 cm: usage: cm run|steps|live|upgrade|check|plan [--make N]
-run steps => 2 cm: usage: cm run|steps|live|upgrade|check|plan [--make N]
-run --make 0 => 2 cm: usage: cm run|steps|live|upgrade|check|plan [--make N]
-run --make 1001 => 2 cm: usage: cm run|steps|live|upgrade|check|plan [--make N]
-run --make 1 --make 2 => 2 cm: usage: cm run|steps|live|upgrade|check|plan [--make N]
-run --make => 2 cm: usage: cm run|steps|live|upgrade|check|plan [--make N]
-live live => 2 cm: usage: cm run|steps|live|upgrade|check|plan [--make N]
-live --make 0 => 2 cm: usage: cm run|steps|live|upgrade|check|plan [--make N]
---help => 2 cm: usage: cm run|steps|live|upgrade|check|plan [--make N]
-Run => 2 cm: usage: cm run|steps|live|upgrade|check|plan [--make N]
-\xFF => 2 cm: usage: cm run|steps|live|upgrade|check|plan [--make N]
-run \xFF => 2 cm: usage: cm run|steps|live|upgrade|check|plan [--make N]
-run\xFF => 2 cm: usage: cm run|steps|live|upgrade|check|plan [--make N]";
+ => 2 cm: usage: cm run|steps|live|upgrade|check|plan [--make N] [--workers N]
+walk => 2 cm: usage: cm run|steps|live|upgrade|check|plan [--make N] [--workers N]
+run run => 2 cm: usage: cm run|steps|live|upgrade|check|plan [--make N] [--workers N]
+run steps => 2 cm: usage: cm run|steps|live|upgrade|check|plan [--make N] [--workers N]
+run --make 0 => 2 cm: usage: cm run|steps|live|upgrade|check|plan [--make N] [--workers N]
+run --make 1001 => 2 cm: usage: cm run|steps|live|upgrade|check|plan [--make N] [--workers N]
+run --make 1 --make 2 => 2 cm: usage: cm run|steps|live|upgrade|check|plan [--make N] [--workers N]
+run --make => 2 cm: usage: cm run|steps|live|upgrade|check|plan [--make N] [--workers N]
+run --workers 9 => 2 cm: usage: cm run|steps|live|upgrade|check|plan [--make N] [--workers N]
+live live => 2 cm: usage: cm run|steps|live|upgrade|check|plan [--make N] [--workers N]
+live --make 0 => 2 cm: usage: cm run|steps|live|upgrade|check|plan [--make N] [--workers N]
+--help => 2 cm: usage: cm run|steps|live|upgrade|check|plan [--make N] [--workers N]
+Run => 2 cm: usage: cm run|steps|live|upgrade|check|plan [--make N] [--workers N]
+\xFF => 2 cm: usage: cm run|steps|live|upgrade|check|plan [--make N] [--workers N]
+run \xFF => 2 cm: usage: cm run|steps|live|upgrade|check|plan [--make N] [--workers N]
+run\xFF => 2 cm: usage: cm run|steps|live|upgrade|check|plan [--make N] [--workers N]";
 
 #[test]
 fn words_of_jobs_run_and_others_are_refused(rt: HostRuntime) -> Result<(), Fail> {

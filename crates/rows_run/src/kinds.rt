@@ -1,6 +1,7 @@
 //! Whole runs of pids, trajectories and broadcasters: chains of controllers, and who may command whom.
 
 use pages_cases::pages::hold;
+use pages_runs::documents::SIX_JOINTS;
 use pages_runs::runs::OF_PROGRAM;
 use std::test::Fail;
 
@@ -525,7 +526,7 @@ loop end 6: run plan ok 0.250000; run pid ok 0.451192; joint j1 0.028915 0.45119
 loop close: none"#;
 
 /// Points count from the cycle that takes them, and lead from the states of that cycle, also where those before are not
-/// finished. Six joints at 500 hertz, beside a broadcaster, which publishes what was read before the joints moved.
+/// finished.
 const TRAJECTORIES: &str = r#"version = 1
 update_rate = 100
 cycles = 7
@@ -572,59 +573,6 @@ loop begin 5: none
 loop end 5: run traj ok 0.030000; joint j1 0.030000 1.000000 0.000000
 loop begin 6: none
 loop end 6: run traj ok 0.030000; joint j1 0.030000 0.000000 0.000000
-loop close: none
-
-version = 1
-update_rate = 500
-cycles = 4
-[[component]]
-name = "ur_arm"
-kind = "system"
-<1..7 * [[component.joint]]
-name = "joint_#"
-vmax = "3.15"
-command = ["position"]
-state = ["position", "velocity"]
->\
-[[controller]]
-name = "joint_state_broadcaster"
-type = "broadcaster"
-reads = "all"
-[[controller]]
-name = "joint_trajectory_controller"
-type = "trajectory"
-claims = [<1..7 * "joint_#/position", >]
-reads = [<1..7 * "joint_#/position", >]
---- script ---
-session a
-load joint_state_broadcaster
-load joint_trajectory_controller
-configure joint_state_broadcaster
-configure joint_trajectory_controller
-switch strict +joint_state_broadcaster +joint_trajectory_controller
-send joint_trajectory_controller @4000 0.01 0 0 0 0 0
-=> ok
-a load joint_state_broadcaster: ok 0
-a load joint_trajectory_controller: ok 1
-a configure joint_state_broadcaster: ok
-a configure joint_trajectory_controller: ok
-a switch strict +joint_state_broadcaster +joint_trajectory_controller: queued 0
-loop begin 0: 0 done
-loop end 0: run joint_state_broadcaster ok<0..12 *  0.000000>; run joint_trajectory_controller ok<0..6 *  0.000000>\
-<1..7 * ; joint joint_# 0.000000 0.000000 0.000000>
-a told 0: done
-a send joint_trajectory_controller @4000 0.010000<0..5 *  0.000000>: ok
-loop begin 1: none
-loop end 1: run joint_state_broadcaster ok<0..12 *  0.000000>; run joint_trajectory_controller ok<0..6 *  0.000000>\
-<1..7 * ; joint joint_# 0.000000 0.000000 0.000000>
-loop begin 2: none
-loop end 2: run joint_state_broadcaster ok<0..12 *  0.000000>; \
-run joint_trajectory_controller ok 0.005000<0..5 *  0.000000>; joint joint_1 0.005000 2.500000 0.000000\
-<2..7 * ; joint joint_# 0.000000 0.000000 0.000000>
-loop begin 3: none
-loop end 3: run joint_state_broadcaster ok 0.005000 2.500000<0..10 *  0.000000>; \
-run joint_trajectory_controller ok 0.010000<0..5 *  0.000000>; joint joint_1 0.010000 2.500000 0.000000\
-<2..7 * ; joint joint_# 0.000000 0.000000 0.000000>
 loop close: none"#;
 
 #[test]
@@ -634,5 +582,6 @@ fn controllers_that_compute_run_in_chains(rt: HostRuntime) -> Result<(), Fail> {
     hold(alloc, &OF_PROGRAM, ARM, OWNERS)?;
     hold(alloc, &OF_PROGRAM, ARM, MAIL)?;
     hold(alloc, &OF_PROGRAM, "", PIDS)?;
-    hold(alloc, &OF_PROGRAM, "", TRAJECTORIES)
+    hold(alloc, &OF_PROGRAM, "", TRAJECTORIES)?;
+    hold(alloc, &OF_PROGRAM, "", SIX_JOINTS)
 }

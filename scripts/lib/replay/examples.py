@@ -4,6 +4,7 @@ Each NAME.cm of the folder is run with the words of NAME.cm.args, one a line, or
 NAME.cm.stdout, its status 0, and standard error empty, but for the examples that are refused. A live run prints another trace each
 time, so what it prints and what is stored (NAME.cm.stdout.2 too) are judged each, as `scripts/replay live` does. With `--write` the output of a document
 that ends with status 0 is stored, if it differs or is not there yet: read it first. That of a live run is stored if there is none.
+With `--workers N` the jobs that run a document have so many workers, and print the same.
 Prints a line an example, and last `N passed, M failed`. The exit status is 1 if one failed, or if the folder has no document.
 """
 
@@ -15,6 +16,8 @@ from . import live, programs
 
 EXAMPLES = TOP / "examples"
 LIVE = "live"
+# The jobs that may have several workers.
+SHARED = ("run", "steps", LIVE)
 # The examples that are refused: the status, and the line on standard error.
 REFUSED = {
     "a_float.cm": (3, b"cm: description: float_given component[0].joint[0].vmax\n"),
@@ -27,6 +30,7 @@ REFUSED = {
 def options(parser):
     parser.add_argument("folder", nargs="?", type=Path, default=EXAMPLES, metavar="FOLDER", help="in place of examples/")
     parser.add_argument("--write", action="store_true", help="stores the output of each that differs")
+    parser.add_argument("--workers", metavar="N", help="how many workers share a cycle, from 1 to 8")
     programs.options(parser)
 
 
@@ -39,9 +43,11 @@ def words_of(document):
     return args.read_text().split("\n")[:-1] if args.exists() else ["run"]
 
 
-def reason(document, program, writes):
+def reason(document, program, writes, workers=None):
     """Returns what is wrong with the run of an example, or None."""
     words = words_of(document)
+    if workers and words[0] in SHARED:
+        words += ["--workers", workers]
     status, output, told = programs.ran([program, *words], document.read_bytes())
     wanted = REFUSED.get(document.name, (0, b"")) if document.parent == EXAMPLES else (0, b"")
     if (status, told) != wanted:
@@ -70,5 +76,5 @@ def main(asked):
     program, tally, folder = programs.program(asked), Tally(), asked.folder.resolve()
     for document in sorted(folder.glob("*.cm")):
         name = document.relative_to(TOP) if TOP in document.parents else document
-        tally.tell(name, reason(document, program, asked.write))
+        tally.tell(name, reason(document, program, asked.write, asked.workers))
     return tally.end()

@@ -36,7 +36,7 @@ CYCLES = 2_000
 LONG = LEAST.replace(b"cycles = 0", b"cycles = %d" % CYCLES)
 LONG_TRACE = b"".join(b"loop begin %d: none\nloop end %d: none\n" % (k, k) for k in range(CYCLES)) + LEAST_TRACE
 WELL, READ, MEMORY, WRITE = (0, b""), (5, b"cm: read fault\n"), (7, b"cm: out of memory\n"), (8, b"cm: write fault\n")
-USAGE = (2, b"cm: usage: cm run|steps|live|upgrade|check|plan [--make N]\n")
+USAGE = (2, b"cm: usage: cm run|steps|live|upgrade|check|plan [--make N] [--workers N]\n")
 MISSING = (3, b"cm: description: bad_key version\n")
 
 

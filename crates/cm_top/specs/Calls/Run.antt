@@ -59,10 +59,11 @@ ReadsPlainly kind.Check = ⊥
 ReadsPlainly kind.Plan = ⊥
 ReadsPlainly _ = Unit {0}
 
--- A job that one thread can do: it is not live, and its document, if it is made, has as many rounds as one can have. An
--- upgrade, a check and a plan read theirs.
+-- A job that one thread can do: it is not live and has one worker, and its document, if it is made, has as many rounds
+-- as one can have. An upgrade, a check and a plan read theirs.
 pub record CanRunAlone (job : Job) : Type 0 where
   pub alone : job.kind ≢ kind.Live
+  pub one : job.workers ≡ 1
   pub rounds : IfSome job.make (λ rounds. (1 ≤ rounds) × (rounds ≤ MOST_ROUNDS))
   pub unmade : can_make job.kind ≡ false → job.make ≡ None
 

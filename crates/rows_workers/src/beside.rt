@@ -1,0 +1,99 @@
+//! Two controllers of one depth that wait for each other in their updates.
+
+ghost use Rattle.std.specs.Prelude.{◌<◌, ◌^◌, length};
+ghost use Rattle.std.specs.List.{All};
+ghost use Rattle.cm_model.specs.Controllers.{IsBlank};
+
+use crate::meeting::Meeting;
+use crate::running::ran;
+use crate::watching::watching;
+use ctl_trait::Controller;
+use pages_calls::stocks::blanks;
+use sequence::Shared;
+use std::alloc::Global;
+use std::sync::Wait;
+use std::test::Fail;
+use std::thread::Threads;
+
+/// Two mocks, of which neither has to do with the other: both have depth 0. The session asks for them in its fifth line.
+const DOCUMENT: &str = r#"version = 1
+update_rate = 100
+cycles = 3
+[[controller]]
+name = "left"
+type = "mock"
+[[controller]]
+name = "right"
+type = "mock"
+--- script ---
+session a
+load left
+load right
+configure left
+configure right
+switch strict +left +right
+"#;
+
+/// The line of the switch, counted from 0 in its session.
+const SWITCH: u32 = 4;
+
+/// The words of runs by several workers.
+const BY_SEVERAL: &str = "run|--workers|2
+run|--workers=8
+steps|--workers|2
+live|--workers|2
+live|--workers|8";
+
+/// By one worker the first of them waits in vain.
+const BY_ONE: &str = "run
+live|--workers|1";
+
+#[test]
+fn two_of_one_depth_are_updated_beside_one_another(rt: HostRuntime) -> Result<(), Fail> {
+    for words in BY_SEVERAL.lines() {
+        hold(&rt, rt.alloc(), words, true)?;
+    }
+    Ok(())
+}
+
+#[test]
+fn one_worker_updates_them_one_after_the_other(rt: HostRuntime) -> Result<(), Fail> {
+    for words in BY_ONE.lines() {
+        hold(&rt, rt.alloc(), words, false)?;
+    }
+    Ok(())
+}
+
+/// Fails unless the run goes well, and the two meet in it or not.
+fn hold<R: Threads + Wait + Sync>(
+    rt: &R,
+    alloc: Global,
+    words: &str,
+    meet: bool,
+) -> Result<(), Fail> {
+    let meeting = Shared::new(alloc, Meeting::new())?;
+    let two = watching(alloc, blanks(alloc, 2)?, &meeting)?;
+    let told = ran_over(rt, alloc, words, two)?;
+    if !told.starts_with("ok\n") {
+        return Err(Fail::new(told));
+    }
+    if meeting.get().has_been() != meet {
+        return Err(Fail::new(format!(in alloc; "other workers: {words}")?));
+    }
+    Ok(())
+}
+
+/// The run over these blanks.
+fn ran_over<R: Threads + Wait + Sync, C: Controller + Send>(
+    rt: &R,
+    alloc: Global,
+    words: &str,
+    blanks: Vec<C>,
+) -> Result<String, Fail>
+    requires blank { All (λ c. IsBlank (C.meaning c)) blanks.items }
+{
+    if blanks.len() > 1_000 {
+        return Err(Fail::new("a stock too large"));
+    }
+    ran(rt, alloc, words, DOCUMENT, SWITCH, blanks)
+}
