@@ -39,13 +39,13 @@ one_word plan (turns, seed, two, rest) = cc
 three_words : IsNoPlan (codes "1" ∷ codes "7" ∷ codes "7" ∷ [])
 three_words plan (turns, seed, two, rest) = cc
 
-hundred_runs : AskForRuns (codes "live" ∷ codes "100" ∷ []) 100
+hundred_runs : AskForRuns (codes "live") (codes "live" ∷ codes "100" ∷ []) 100
 hundred_runs = (codes "live", codes "100", refl, (refl, omega arith, search rules))
 
-no_runs : AskForNoRuns (codes "live" ∷ codes "0" ∷ [])
+no_runs : AskForNoRuns (codes "live") (codes "live" ∷ codes "0" ∷ [])
 no_runs n (word, runs, two, (live, some, (numeral, fits, value))) =
     let none : runs ≡ codes "0" = cc in
     let zero : 0 ≡ n = subst (λ w. digits_value 10 (without_leading_plus w) ≡ n) none value in omega (arith, some, zero)
 
-another_word : AskForNoRuns (codes "live" ∷ codes "100" ∷ codes "7" ∷ [])
+another_word : AskForNoRuns (codes "live") (codes "live" ∷ codes "100" ∷ codes "7" ∷ [])
 another_word n (word, runs, two, rest) = cc

@@ -1,5 +1,5 @@
 -- Which words are a plan.
-use Rattle.std.specs.Prelude.{◌≡◌, ℕ, ◌<◌, ◌^◌, List, [], ◌∷◌, codes}
+use Rattle.std.specs.Prelude.{◌≡◌, ℕ, ◌<◌, ◌^◌, List, [], ◌∷◌}
 use Rattle.std.specs.Str.Parse.{IsNumeral, digits_value, without_leading_plus}
 use Rattle.cm_bench.specs.declared.plan.TurnsAsked.{TurnsAsked}
 
@@ -28,18 +28,18 @@ IsPlan words plan = (turns : List ℕ) × (seed : List ℕ) × (words ≡ turns 
 abbrev pub IsNoPlan : List (List ℕ) → Type 0
 IsNoPlan words = (plan : TurnsAsked) → ¬ IsPlan words plan
 
--- the word for live runs, and one that stands for so many, which are some
-abbrev pub AreRuns : List ℕ → List ℕ → ℕ → Type 0
-AreRuns word runs n = (word ≡ codes "live") × (0 < n) × StandsFor runs n
+-- this word, and one that stands for so many runs, which are some
+abbrev pub AreRuns : List ℕ → List ℕ → List ℕ → ℕ → Type 0
+AreRuns asked word runs n = (word ≡ asked) × (0 < n) × StandsFor runs n
 
 -- or for none at all
-abbrev pub AreNoRuns : List ℕ → List ℕ → Type 0
-AreNoRuns word runs = (n : ℕ) → ¬ AreRuns word runs n
+abbrev pub AreNoRuns : List ℕ → List ℕ → List ℕ → Type 0
+AreNoRuns asked word runs = (n : ℕ) → ¬ AreRuns asked word runs n
 
--- two words that ask for so many live runs
-abbrev pub AskForRuns : List (List ℕ) → ℕ → Type 0
-AskForRuns words n = (word : List ℕ) × (runs : List ℕ) × (words ≡ word ∷ runs ∷ []) × AreRuns word runs n
+-- two words, of which this is the first, that ask for so many runs
+abbrev pub AskForRuns : List ℕ → List (List ℕ) → ℕ → Type 0
+AskForRuns asked words n = (word : List ℕ) × (runs : List ℕ) × (words ≡ word ∷ runs ∷ []) × AreRuns asked word runs n
 
 -- words that ask for none
-abbrev pub AskForNoRuns : List (List ℕ) → Type 0
-AskForNoRuns words = (n : ℕ) → ¬ AskForRuns words n
+abbrev pub AskForNoRuns : List ℕ → List (List ℕ) → Type 0
+AskForNoRuns asked words = (n : ℕ) → ¬ AskForRuns asked words n

@@ -18,7 +18,8 @@ use std::sync::Wait;
 use std::thread::Threads;
 use steps::{FastStep, PlainStep};
 use timing::{Title, Trial};
-use words::{live_runs_of, plan_of};
+use words::{plan_of, runs_of};
+use workers::tell_workers;
 
 mod bodies;
 mod callers;
@@ -35,17 +36,23 @@ mod ranks;
 mod steps;
 mod timing;
 mod words;
+mod workers;
+mod working;
 
-/// Compares the bodies, or times live runs. The status is 0 if all answers were the same, 1 if some differ or a call
+/// Compares the bodies, or times live runs, or runs by several workers. The status is 0 if all answers were the same, 1 if some differ or a call
 /// failed, and 2 for words that are no plan.
 fn main(rt: HostRuntime) -> anyhow::Result<ExitCode> {
     let words: Vec<String> = env::args(&rt)?.skip(1).collect(rt.alloc())?;
-    if let Some(runs) = live_runs_of(words.as_slice()) {
+    if let Some(runs) = runs_of(words.as_slice(), "live") {
         tell_live(&rt, runs)?;
         return Ok(ExitCode::SUCCESS);
     }
+    if let Some(runs) = runs_of(words.as_slice(), "workers") {
+        tell_workers(&rt, runs)?;
+        return Ok(ExitCode::SUCCESS);
+    }
     let Some(plan) = plan_of(words.as_slice()) else {
-        eprintln!(rt; "cm_bench: usage: cm_bench TURNS SEED | live RUNS")?;
+        eprintln!(rt; "cm_bench: usage: cm_bench TURNS SEED | live RUNS | workers RUNS")?;
         return Ok(ExitCode::from(2));
     };
     match compare_all(&rt, plan)? {

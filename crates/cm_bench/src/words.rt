@@ -27,20 +27,21 @@ fn plan_of_two(turns: &str, seed: &str) -> Option<TurnsAsked>
     Some(TurnsAsked { turns, seed })
 }
 
-/// How many live runs the words `live RUNS` ask for, decimal and not 0. `None` for any others.
-pub fn live_runs_of(words: &[String]) -> Option<u64>
-    ensures { MatchOption result (AskForNoRuns (map string_bytes words.now)) (AskForRuns (map string_bytes words.now)) }
+/// How many runs the words ask for that are this one and a number, decimal and not 0. `None` for any others.
+pub fn runs_of(words: &[String], asked: &str) -> Option<u64>
+    ensures { MatchOption result (AskForNoRuns asked.now (map string_bytes words.now))
+        (AskForRuns asked.now (map string_bytes words.now)) }
 {
     if words.len() != 2 {
         return None;
     }
-    live_runs_of_two(words[0].as_str(), words[1].as_str())
+    runs_of_two(asked, words[0].as_str(), words[1].as_str())
 }
 
-fn live_runs_of_two(word: &str, runs: &str) -> Option<u64>
-    ensures { MatchOption result (AreNoRuns word.now runs.now) (AreRuns word.now runs.now) }
+fn runs_of_two(asked: &str, word: &str, runs: &str) -> Option<u64>
+    ensures { MatchOption result (AreNoRuns asked.now word.now runs.now) (AreRuns asked.now word.now runs.now) }
 {
-    if word != "live" {
+    if word != asked {
         return None;
     }
     let runs = number_of(runs)?;

@@ -1,11 +1,11 @@
 use Rattle.std.proofs.Common.{arith}
 use Rattle.cm_bench.proofs.WordLemmas.{list_of_two, of_two}
 use Rattle.cm_bench.specs.Words.{AreRuns}
-use Rattle.cm_bench.proofs.words.live_runs_of.Goals as goal
+use Rattle.cm_bench.proofs.words.runs_of.Goals as goal
 
 -- the two words are all that there are
 pub returns : goal.returns
 returns c =
     let two = list_of_two c.args.words.now c.index-words-0.result c.index-words-1.result (omega (arith, c.if-words-ne2.false)) c.index-words-0.is c.index-words-1.is in
-    let are = rw (c.as_str.ensures.value, c.as_str-2.ensures.value) at c.live_runs_of_two.ensures in
-    rw two (of_two AreRuns _ _ _ are)
+    let are = rw (c.as_str.ensures.value, c.as_str-2.ensures.value) at c.runs_of_two.ensures in
+    rw two (of_two (AreRuns c.args.asked.now) _ _ _ are)

@@ -1,0 +1,94 @@
+"""Answers: what do several workers cost, and from which work on do they pay? Prints what docs/SPEED.md has between its marks.
+
+First it runs the built program with 1, 2, 4 and 8 workers on documents of 20,000 cycles, each with 16 controllers of one kind, of which
+none has to do with another. The least of five runs counts. Then it runs cm_bench with `workers`: eight controllers compute for 0, 20, 100
+and 500 microseconds in each cycle. Of what threads cost where there is no work it tells from which work on a number of workers pays.
+If cm_bench is missing, it is proved and built first.
+"""
+
+import os
+import re
+import subprocess
+import tempfile
+from pathlib import Path
+
+from ..replay import programs
+from . import bodies
+from .program import tell_table, time_of_a_run
+
+BY = (1, 2, 4, 8)
+MANY, CYCLES, RUNS, BENCH_RUNS = 16, 20_000, 5, 20
+TOLD = re.compile(r"(\d+) of (\d+) us by (\d+): (\d+) ns a cycle")
+CLAIMS, READS = 'claims = ["l{0}/position"]\n', 'reads = ["l{0}/position"]\n'
+KINDS = {
+    "forward": CLAIMS,
+    "passthrough": CLAIMS,
+    "pid": 'claims = ["l{0}/velocity"]\n' + READS + "kp = 2\nomax = 10\n",
+    "trajectory": CLAIMS + READS,
+    "broadcaster": READS,
+    "mock": CLAIMS,
+    "transmission": CLAIMS + "reduction = 2\n",
+    "differential": 'claims = ["l{0}/position", "r{0}/position"]\nreduction1 = 2\nreduction2 = 2\n',
+    "limiter": CLAIMS + READS + "min = -1\nmax = 1\nvmax = 1\namax = 100\n",
+}
+
+
+def options(parser):
+    parser.add_argument("--bench", type=Path, metavar="PATH", help="another program than the built cm_bench")
+    programs.options(parser)
+
+
+def document(kind):
+    """A document with as many controllers of a kind as components, which one session switches on."""
+    text = f"version = 1\nupdate_rate = 1000\ncycles = {CYCLES}\n"
+    for k in range(MANY):
+        text += f'[[component]]\nname = "c{k}"\nkind = "system"\n'
+        for side in "lr":
+            text += f'[[component.joint]]\nname = "{side}{k}"\nvmax = 1\n'
+            text += 'command = ["position", "velocity"]\nstate = ["position"]\n'
+    for k in range(MANY):
+        text += f'[[controller]]\nname = "m{k}"\ntype = "{kind}"\n' + KINDS[kind].format(k)
+    text += "--- script ---\nsession a\n" + "".join(f"load m{k}\nconfigure m{k}\n" for k in range(MANY))
+    return text + "switch strict" + "".join(f" +m{k}" for k in range(MANY)) + "\n"
+
+
+def of_kind(program, kind, path):
+    """Returns the row of a kind: the least time of a cycle by each number of workers."""
+    times = (min(time_of_a_run(program, ["run", "--workers", str(n)], path) for _ in range(RUNS)) for n in BY)
+    return kind, *(f"{it / CYCLES * 1e6:.2f} us" for it in times)
+
+
+def of_work(bench):
+    """Returns for each work, in microseconds, the nanoseconds of a cycle by each number of workers; and how many controllers work."""
+    told = subprocess.run([bench, "workers", str(BENCH_RUNS)], stdout=subprocess.PIPE, text=True, check=True).stdout
+    times, count = {}, 0
+    for line in told.splitlines():
+        count, micros, workers, nanos = map(int, TOLD.fullmatch(line).groups())
+        times.setdefault(micros, {})[workers] = nanos
+    return times, count
+
+
+def tell_gain(times, count):
+    """Prints from which work of a controller on each number of workers pays, as far as there are processors."""
+    for workers in BY[1:]:
+        cost = (times[0][workers] - times[0][1]) / 1000
+        at_once = min(workers, os.cpu_count())
+        if at_once > 1:
+            print(f"{workers} workers pay from some {cost / count / (1 - 1 / at_once):.0f} us a controller on.")
+
+
+def main(asked):
+    program, bench = programs.program(asked), str(asked.bench or bodies.measuring())
+    with tempfile.TemporaryDirectory() as folder:
+        rows = []
+        for kind in KINDS:
+            path = Path(folder, kind)
+            path.write_text(document(kind))
+            rows.append(of_kind(program, kind, path))
+    tell_table((f"{MANY} controllers", *(f"By {n}" for n in BY)), *rows)
+    times, count = of_work(bench)
+    tell_table(
+        (f"{count} controllers that compute", *(f"By {n}" for n in BY)),
+        *((f"{micros} us", *(f"{times[micros][n] / 1000:.1f} us" for n in BY)) for micros in times))
+    tell_gain(times, count)
+    return 0
