@@ -84,16 +84,16 @@ answer-OfBytes job blanks given w (status.NotLegal line expected) (inr (text, is
 answer-OfBytes job blanks given w (status.CannotSpawn reason) (inr (text, is, wrote)) = absurd wrote
 
 -- bytes that are short enough ask for the status of what they are accepted as
-short_for : (blanks : Blanks) (bytes : List ℕ) → IsShort bytes → status_for upgrading blanks bytes ≡ status_of_accepted upgrading blanks (accepted_by upgrading bytes)
-short_for blanks bytes short = let few : nat_lt LONGEST_DOCUMENT (length bytes) ≡ false = grind (arith, nat_tests) in rw few refl
+pub short_for : (job : Answering) (blanks : Blanks) (bytes : List ℕ) → IsShort bytes → status_for job blanks bytes ≡ status_of_accepted job blanks (accepted_by job bytes)
+short_for job blanks bytes short = let few : nat_lt LONGEST_DOCUMENT (length bytes) ≡ false = grind (arith, nat_tests) in rw few refl
 
 answered-exact : (blanks : Blanks) (bytes : List ℕ) (w : Written) (ended : Status) (read write : Type 0)
     → AnsweredWith upgrading blanks bytes w ended → (ended ≡ status.ReadFault → read) → (ended ≡ status.WriteFault → write)
     → ¬ read → ¬ write → (ended ≡ status_for upgrading blanks bytes) ⊎ (ended ≡ status.Memory)
-answered-exact blanks bytes w status.Ok read write ran rose risen still kept = inl (rw (short_for blanks bytes ran.short, ran.accepted) refl)
+answered-exact blanks bytes w status.Ok read write ran rose risen still kept = inl (rw (short_for upgrading blanks bytes ran.short, ran.accepted) refl)
 answered-exact blanks bytes w status.BadWords read write ran rose risen still kept = absurd ran
-answered-exact blanks bytes w (status.BadDescription p) read write ran rose risen still kept = inl (rw (short_for blanks bytes ran.0, ran.1) refl)
-answered-exact blanks bytes w (status.BadScript f) read write ran rose risen still kept = inl (rw (short_for blanks bytes ran.0, ran.1) refl)
+answered-exact blanks bytes w (status.BadDescription p) read write ran rose risen still kept = inl (rw (short_for upgrading blanks bytes ran.0, ran.1) refl)
+answered-exact blanks bytes w (status.BadScript f) read write ran rose risen still kept = inl (rw (short_for upgrading blanks bytes ran.0, ran.1) refl)
 answered-exact blanks bytes w status.ReadFault read write ran rose risen still kept = absurd (still (rose refl))
 answered-exact blanks bytes w status.TooLong read write ran rose risen still kept =
     let long : nat_lt LONGEST_DOCUMENT (length bytes) ≡ true = grind (arith, nat_tests) in inl (rw long refl)
@@ -104,12 +104,12 @@ answered-exact blanks bytes w (status.CannotSpawn reason) read write ran rose ri
 
 -- ---- Of a source
 
--- an upgrade takes what is a document
-upgrade_takes : (bytes : List ℕ) (d : Document) → document whole_grammar bytes ≡ Ok d → accepted_by upgrading bytes ≡ Ok (untraced d)
-upgrade_takes bytes d accepted = ap (λ (r : Result Document DocumentFault). r >>= λ d. Ok (untraced d)) accepted
+-- a document that is read for a job without a trace is given without one, and a fault stays
+pub taken_untraced : (read : Result Document DocumentFault) (d : Document) → read ≡ Ok d → (read >>= λ d. Ok (untraced d)) ≡ Ok (untraced d)
+taken_untraced read d accepted = ap (λ (r : Result Document DocumentFault). r >>= λ d. Ok (untraced d)) accepted
 
-upgrade_leaves : (bytes : List ℕ) (f : DocumentFault) → document whole_grammar bytes ≡ Err f → accepted_by upgrading bytes ≡ Err f
-upgrade_leaves bytes f refused = ap (λ (r : Result Document DocumentFault). r >>= λ d. Ok (untraced d)) refused
+pub refused_untraced : (read : Result Document DocumentFault) (f : DocumentFault) → read ≡ Err f → (read >>= λ d. Ok (untraced d)) ≡ Err f
+refused_untraced read f refused = ap (λ (r : Result Document DocumentFault). r >>= λ d. Ok (untraced d)) refused
 
 did-AnswersFrom : (blanks : Blanks) (source source' : SourceFacts) (d : Document) (sink sink' : SinkFacts) (ended : Status) (book : Option BookFacts)
     → Reads source source' (Ok d) → book ≡ None → WroteAnswer upgrading blanks (untraced d) (written sink sink') ended → IsToldAs status.WriteFault ended sink.faults sink'.faults
@@ -120,13 +120,13 @@ did-AnswersFrom blanks source source' d sink sink' ended book reads none wrote t
     let its = reads.accepted in
     record {
       no_book = none;
-      ran = some_known source.left _ _ (λ bytes read. answer-AnsweredWith upgrading blanks bytes (untraced d) w ended read.0 (upgrade_takes bytes d read.1) wrote) reads.read;
-      answers = answered-Answers upgrading blanks its.0 w ended (answer-AnsweredWith upgrading blanks its.0 (untraced d) w ended its.1.0 (upgrade_takes its.0 d its.1.1) wrote);
+      ran = some_known source.left _ _ (λ bytes read. answer-AnsweredWith upgrading blanks bytes (untraced d) w ended read.0 (taken_untraced (document whole_grammar bytes) d read.1) wrote) reads.read;
+      answers = answered-Answers upgrading blanks its.0 w ended (answer-AnsweredWith upgrading blanks its.0 (untraced d) w ended its.1.0 (taken_untraced (document whole_grammar its.0) d its.1.1) wrote);
       never_words = λ words. rw words at comes.0;
       read_whole = λ well. reads.read_whole;
       plain = comes.1;
       exact = some_known source.left _ _ (λ bytes read. answered-exact blanks bytes w ended (Rose source.faults source'.faults) (Rose sink.faults sink'.faults)
-          (answer-AnsweredWith upgrading blanks bytes (untraced d) w ended read.0 (upgrade_takes bytes d read.1) wrote) (λ failed. absurd (rw failed at comes.0))
+          (answer-AnsweredWith upgrading blanks bytes (untraced d) w ended read.0 (taken_untraced (document whole_grammar bytes) d read.1) wrote) (λ failed. absurd (rw failed at comes.0))
           (told-Rose status.WriteFault ended sink.faults sink'.faults told)) reads.read;
     }
 
@@ -134,8 +134,8 @@ unread-AnsweredWith : (blanks : Blanks) (bytes : List ℕ) (taken : Option (List
     → ReadAs bytes (Err ended) → AnsweredWith upgrading blanks bytes (record { old = taken; new = taken; flushed = flushed }) ended
 unread-AnsweredWith blanks bytes taken flushed status.Ok read = absurd read
 unread-AnsweredWith blanks bytes taken flushed status.BadWords read = absurd read
-unread-AnsweredWith blanks bytes taken flushed (status.BadDescription p) read = (read.0, upgrade_leaves bytes (fault.Description p) read.1)
-unread-AnsweredWith blanks bytes taken flushed (status.BadScript f) read = (read.0, upgrade_leaves bytes (fault.Script f) read.1)
+unread-AnsweredWith blanks bytes taken flushed (status.BadDescription p) read = (read.0, refused_untraced (document whole_grammar bytes) (fault.Description p) read.1)
+unread-AnsweredWith blanks bytes taken flushed (status.BadScript f) read = (read.0, refused_untraced (document whole_grammar bytes) (fault.Script f) read.1)
 unread-AnsweredWith blanks bytes taken flushed status.ReadFault read = tt
 unread-AnsweredWith blanks bytes taken flushed status.TooLong read = read
 unread-AnsweredWith blanks bytes taken flushed status.Memory read = inl (Keeps-refl taken)

@@ -5,6 +5,5 @@ pub mod ReadLemmas
 pub mod AnswerLemmas
 pub mod LiveLemmas
 pub mod TracedLemmas
-pub mod CheckLemmas
-pub mod PlanLemmas
+pub mod BytesLemmas
 pub mod BehindLemmas

@@ -1,5 +1,4 @@
 pub mod Run
 pub mod Read
-pub mod Check
-pub mod Plan
+pub mod Answer
 pub mod Parts

@@ -5,7 +5,7 @@ ghost use Rattle.cm_document.specs.ScriptLaws.{MeetsRules};
 ghost use Rattle.cm_document.specs.declared.document.Document.{Document};
 ghost use Rattle.cm_document.specs.declared.limits.TheConstants.{LONGEST_DOCUMENT};
 ghost use Rattle.cm_top.specs.Answering.{checking};
-ghost use Rattle.cm_top.specs.Calls.Check.{ChecksBytes, ChecksDocument};
+ghost use Rattle.cm_top.specs.Calls.Answer.{AnswersBytes, AnswersGiven};
 ghost use Rattle.cm_top.specs.Calls.Run.{sink_facts, source_facts, written, AnswersFrom, MindsFaults, MindsSink};
 ghost use Rattle.cm_top.specs.Status.{ComesBeforeWriting};
 
@@ -45,7 +45,7 @@ pub fn check_alone<S: Source, K: Sink>(
 /// Judges the trace in the document that these bytes are.
 fn check_bytes<K: Sink>(alloc: Global, bytes: &[u8], sink: &mut K, blanks: &Blanks) -> Status
     requires { length bytes.now ≤ LONGEST_DOCUMENT }
-    ensures checks { ChecksBytes blanks.now bytes.now
+    ensures checks { AnswersBytes checking blanks.now bytes.now
         (written (sink_facts K.taken K.flushed K.faults sink.old) (sink_facts K.taken K.flushed K.faults sink.new))
         result }
     ensures outside { MindsSink (sink_facts K.taken K.flushed K.faults sink.old)
@@ -68,7 +68,7 @@ fn check_document<K: Sink>(
     blanks: &Blanks,
 ) -> Status
     requires { (length traced.now.trace.now ≤ LONGEST_DOCUMENT) × MeetsRules traced.now.document.script }
-    ensures checked { ChecksDocument blanks.now
+    ensures checked { AnswersGiven checking blanks.now
         (record { document = traced.now.document; trace = traced.now.trace.now })
         (written (sink_facts K.taken K.flushed K.faults sink.old) (sink_facts K.taken K.flushed K.faults sink.new))
         result }

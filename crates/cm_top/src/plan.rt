@@ -2,8 +2,8 @@
 
 ghost use Rattle.std.specs.Prelude.{◌≡◌, ◌⊎◌, ◌≤◌, length, None, Ok, Err, MatchResult};
 ghost use Rattle.cm_document.specs.declared.limits.TheConstants.{LONGEST_DOCUMENT};
-ghost use Rattle.cm_top.specs.Answering.{planning};
-ghost use Rattle.cm_top.specs.Calls.Plan.{PlansBytes, PlansDocument};
+ghost use Rattle.cm_top.specs.Answering.{planning, untraced};
+ghost use Rattle.cm_top.specs.Calls.Answer.{AnswersBytes, AnswersGiven};
 ghost use Rattle.cm_top.specs.Calls.Run.{sink_facts, source_facts, written, AnswersFrom, MindsFaults, MindsSink};
 ghost use Rattle.cm_top.specs.Status.{ComesBeforeWriting};
 ghost use Rattle.cm_top.specs.Wished.{planned_text};
@@ -45,7 +45,7 @@ pub fn plan_alone<S: Source, K: Sink>(
 /// Plans what the document wants that these bytes are.
 fn plan_bytes<K: Sink>(alloc: Global, bytes: &[u8], sink: &mut K, blanks: &Blanks) -> Status
     requires { length bytes.now ≤ LONGEST_DOCUMENT }
-    ensures plans { PlansBytes blanks.now bytes.now
+    ensures plans { AnswersBytes planning blanks.now bytes.now
         (written (sink_facts K.taken K.flushed K.faults sink.old) (sink_facts K.taken K.flushed K.faults sink.new))
         result }
     ensures outside { MindsSink (sink_facts K.taken K.flushed K.faults sink.old)
@@ -67,7 +67,7 @@ fn plan_document<K: Sink>(
     sink: &mut K,
     blanks: &Blanks,
 ) -> Status
-    ensures planned { PlansDocument blanks.now document.now
+    ensures planned { AnswersGiven planning blanks.now (untraced document.now)
         (written (sink_facts K.taken K.flushed K.faults sink.old) (sink_facts K.taken K.flushed K.faults sink.new))
         result }
     ensures outside { MindsSink (sink_facts K.taken K.flushed K.faults sink.old)
