@@ -1,9 +1,6 @@
 -- What holds once a flight was started: its cells have their depths, and its components were read.
-use Rattle.std.proofs.Common.{◌≡◌, ℕ, ◌+◌, ◌<◌, ◌≤◌, true, List, [], ◌∷◌, ◌++◌, length, map, Option, Some, None, refl, sym, ap, subst, ◌∙◌, arith}
-use Rattle.std.specs.Prelude.{vec_capacity, IsSomeAnd}
+use Rattle.std.proofs.Common.{◌≡◌, ℕ, ◌+◌, ◌<◌, ◌≤◌, true, List, [], ◌∷◌, ◌++◌, length, map, Some, refl, sym, ap, subst, ◌∙◌, arith}
 use Rattle.std.specs.List.{AllByRecursion}
-use Rattle.std.proofs.lemmas.List.{length-map}
-use Rattle.cm_model.specs.Cycle.{active_order}
 use Rattle.cm_model.specs.Components.{is_listed}
 use Rattle.cm_model.specs.Order.{depth}
 use Rattle.cm_model.specs.Sound.{Running}
@@ -15,15 +12,12 @@ use Rattle.cm_hardware.specs.Wiring.{IsSameBuild, Wired, writes_to_fail}
 use Rattle.cm_places.specs.Placed.{Placed}
 use Rattle.chain_order.specs.Links.{linked}
 use Rattle.switch_plan.specs.Relations.{Related}
-use Rattle.rt_flight.specs.Calls.Turns.{Begins}
 use Rattle.rt_flight.specs.Cells.{CellFacts, post_of, CanFly}
-use Rattle.rt_flight.specs.Depths.{depths_of, places_in, AreDeepened, RanksDepths, StandBy}
+use Rattle.rt_flight.specs.Depths.{places_in, AreDeepened, RanksDepths, StandBy}
 use Rattle.rt_flight.specs.Flights.{member_in, AreCellsOf, IsAloftOver, IsReady}
-use Rattle.rt_flight.specs.Progress.{round_in}
 use Rattle.rt_flight.specs.UnderWay.{HasBegun, HasBegunOf, HasRoomFor, IsFresh}
 use Rattle.rt_flight.specs.Workspaces.{IsFitted}
 use Rattle.rt_flight.specs.declared.context.CycleContext.{CycleContext}
-use Rattle.rt_flight.specs.declared.robot.Robot.{Robot}
 use Rattle.rt_flight.proofs.CycleLemmas.{can_fly_each, lines_read}
 use Rattle.rt_flight.proofs.PutDownLemmas.{all_deepened, deepened_map, deepened_places, layered}
 use Rattle.rt_flight.proofs.RankLemmas.{depths_ranked}

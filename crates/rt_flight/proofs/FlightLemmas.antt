@@ -11,10 +11,9 @@ use Rattle.cm_places.specs.Placed.{Placed}
 use Rattle.rt_flight.specs.Calls.Parts.{waiting_of, with_waiting, CanComplete, CanGather, HasGathered, HasScattered, HasStarted, Waits}
 use Rattle.rt_flight.specs.Calls.Turns.{Begins, HaveAllTurned, Scatters}
 use Rattle.rt_flight.specs.Cells.{CellFacts, Flying, all_put, cell_put, cell_read, flying_put, CanMakeStep}
-use Rattle.rt_flight.specs.Depths.{depths_of}
 use Rattle.rt_flight.specs.Flights.{FlightFacts, facts_with}
 use Rattle.rt_flight.specs.Progress.{Progress, flying_in, round_in, shown}
-use Rattle.rt_flight.specs.UnderWay.{with_lent, HasBegun, HasBegunOf, IsDone, IsFlight, IsFresh, IsTurning, IsUnderWay}
+use Rattle.rt_flight.specs.UnderWay.{with_lent, HasBegunOf, IsDone, IsFlight, IsFresh, IsTurning, IsUnderWay}
 use Rattle.rt_flight.specs.declared.context.CycleContext.{CycleContext}
 use Rattle.rt_flight.proofs.PartsLemmas.{lent_back}
 use Rattle.rt_flight.proofs.WayLemmas.{all_turned, at_first, can_step, lent}

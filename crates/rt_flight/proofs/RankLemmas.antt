@@ -1,7 +1,7 @@
 -- The depths of controllers are ranks of the places at which they stand; and what is put down one by one are such ranks.
 use Rattle.std.proofs.Common.{◌≡◌, ℕ, zero, suc, ◌+◌, ◌-◌, ◌<◌, ◌≤◌, ◌^◌, Bool, true, false, List, [], ◌∷◌, ◌++◌, length, map, None, inl, inr, refl, sym, ap, subst, ◌∙◌, arith}
-use Rattle.std.specs.Prelude.{◌==◌, ◌&&◌, ◌||◌, max, filter, if◌then◌else◌}
-use Rattle.std.specs.List.{AllByRecursion, Contains, list_any}
+use Rattle.std.specs.Prelude.{◌==◌, ◌&&◌, ◌||◌, filter, if◌then◌else◌}
+use Rattle.std.specs.List.{AllByRecursion, Contains}
 use Rattle.std.proofs.lemmas.Bool.{cases_lt, and_parts, and_from, eq-eqb, eqb-true, true≢false, or_parts}
 use Rattle.std.proofs.lemmas.List.{get_or_past, map-append}
 use Rattle.cm_document.specs.Links.{first_in_loop}
@@ -10,8 +10,8 @@ use Rattle.cm_document.proofs.ValidParts.{parts_of_valid}
 use Rattle.cm_model.proofs.StillLemmas.{none_below}
 use Rattle.cm_model.specs.Components.{is_listed}
 use Rattle.cm_model.specs.Cycle.{active_order}
-use Rattle.cm_model.specs.Order.{by_rank, depth, greatest_below, precedes_at, some_below}
-use Rattle.cm_model.specs.Sound.{running_part, configuration}
+use Rattle.cm_model.specs.Order.{by_rank, depth, greatest_below, precedes_at}
+use Rattle.cm_model.specs.Sound.{running_part}
 use Rattle.cm_model.specs.State.{State, Loaded, MailAloft, is_active, active}
 use Rattle.chain_order.proofs.DepthLemmas.{depth-most, depth-rises, depth-settled}
 use Rattle.chain_order.proofs.LinkLemmas.{linked-rows_of, length-each_below}

@@ -1,28 +1,24 @@
 -- The way of a flight that was started: what it keeps from call to call.
-use Rattle.std.proofs.Common.{◌≡◌, ℕ, zero, suc, ◌+◌, ◌<◌, ◌≤◌, ◌^◌, Bool, true, false, List, [], ◌∷◌, ◌++◌, length, map, take, drop, Option, Some, None, refl, sym, ap, ap₂, subst, ◌∙◌, arith, append_assoc, true≢false}
-use Rattle.std.specs.Prelude.{vec_len, vec_capacity, is_some, if◌then◌else◌, IfSome, IsSomeAnd}
+use Rattle.std.proofs.Common.{◌≡◌, ℕ, zero, suc, ◌+◌, ◌<◌, ◌≤◌, ◌^◌, true, false, List, [], ◌∷◌, ◌++◌, length, map, take, drop, Option, Some, None, refl, sym, ap, ap₂, subst, ◌∙◌, arith, append_assoc, true≢false}
+use Rattle.std.specs.Prelude.{vec_len, vec_capacity, is_some, if◌then◌else◌, IsSomeAnd}
 use Rattle.std.specs.List.{AllByRecursion}
 use Rattle.std.proofs.lemmas.List.{append-nil, drop-map, drop_all, length-append, length-drop, length-map, length-take-le, map-append, take-append-drop, take-map}
 use Rattle.std.proofs.Math.Seq.{drop-append_seam, take-add, take-append_seam}
-use Rattle.cm_storage.specs.Ran.{Filling}
 use Rattle.cm_storage.specs.declared.record.FailedPart.{FailedPart}
 use Rattle.cm_storage.specs.declared.record_room.RecordRoom.{RecordRoom}
 use Rattle.cm_places.specs.Placed.{Placed, placed_of}
 use Rattle.cm_slots.specs.Updates.{Aloft, IsTimely}
-use Rattle.loan_board.specs.declared.board.Loan.{Loan}
-use Rattle.sequence.proofs.ListLemmas.{all_append}
 use Rattle.switch_plan.specs.Relations.{Related}
-use Rattle.rt_flight.specs.Calls.Cells.{CanPutAll, CanTurn, HaveTurned, LeavesPut}
+use Rattle.rt_flight.specs.Calls.Cells.{CanPutAll, CanTurn, LeavesPut}
 use Rattle.rt_flight.specs.Calls.Depths.{StartsElsewhere}
 use Rattle.rt_flight.specs.Calls.Parts.{waiting_of, with_waiting, HaveMadeSteps}
 use Rattle.rt_flight.specs.Calls.Turns.{Scatters, HaveAllTurned}
 use Rattle.rt_flight.specs.Cells.{CellFacts, Flying, Post, all_flown, all_numbers, all_outs, all_put, cell_put, cell_read, cell_run, cells_after, flying, post_of, CanFly, CanMakeStep, CanStep, NonePrecedes, TellsApart}
 use Rattle.rt_flight.specs.Depths.{depths_of, IsLayered}
-use Rattle.rt_flight.specs.Progress.{Progress, failed_in_room, flying_in, rans_in_room, round_in}
+use Rattle.rt_flight.specs.Progress.{Progress, failed_in_room, flying_in, round_in}
 use Rattle.rt_flight.specs.UnderWay.{HasBegun, HasRoomFor, HasTurned, IsTurning, TellsBut}
 use Rattle.rt_flight.specs.Workspaces.{IsConnectedTo}
 use Rattle.rt_flight.specs.declared.context.CycleContext.{CycleContext}
-use Rattle.rt_flight.specs.declared.robot.Robot.{Robot}
 use Rattle.rt_flight.proofs.ApartLemmas.{tells_apart}
 use Rattle.rt_flight.proofs.LayerLemmas.{all_apart, reads_itself, together, IsTogether}
 use Rattle.rt_flight.proofs.PutDownLemmas.{deeper_from, layered_parts, none_in_layer, none_left}

@@ -1,6 +1,6 @@
 -- A flight that is under way: of which state it is, and what it keeps until it is computed.
 use Rattle.std.specs.Prelude.{◌≡◌, ℕ, ◌+◌, ◌<◌, ◌≤◌, ◌==◌, Bool, true, false, List, [], ◌++◌, length, map, take, drop}
-use Rattle.std.specs.Prelude.{vec_len, vec_capacity, Option, None, Some, is_some, IfSome, IsSomeAnd}
+use Rattle.std.specs.Prelude.{vec_len, vec_capacity, None, Some, is_some, IfSome, IsSomeAnd}
 use Rattle.std.specs.List.{AllByRecursion, IsDistinct}
 use Rattle.joint_body.specs.declared.TheConstants.{LONGEST_STEP}
 use Rattle.cm_document.specs.Valid.{IsValid}

@@ -1,6 +1,5 @@
-use Rattle.std.proofs.Common.{◌≡◌, List, [], Bool, true, Some, length, refl, sym, ap, subst, ◌∙◌, arith}
+use Rattle.std.proofs.Common.{◌≡◌, List, [], true, Some, length, refl, sym, ap, subst, ◌∙◌, arith}
 use Rattle.std.proofs.lemmas.List.{nil_from_length}
-use Rattle.cm_hardware.specs.Shown.{HasLinesFor}
 use Rattle.cm_model.specs.declared.member.Member.{Member}
 use Rattle.stop_plan.specs.Ending.{HasFlags}
 use Rattle.switch_plan.specs.Relations.{Related}
@@ -8,7 +7,6 @@ use Rattle.rt_flight.specs.Calls.Cycles.{Decides}
 use Rattle.rt_flight.specs.Calls.Turns.{Ends}
 use Rattle.rt_flight.specs.Cells.{CellFacts}
 use Rattle.rt_flight.specs.Flights.{CanSettle}
-use Rattle.rt_flight.specs.declared.context.CycleContext.{CycleContext}
 use Rattle.rt_flight.specs.declared.robot.Robot.{Robot}
 use Rattle.rt_flight.proofs.CycleLemmas.{flags_after, ran_after}
 use Rattle.rt_flight.proofs.EndLemmas.{computed, equipped, few_failures, few_joints, flagged, lines, nobody_told, none_there, same_count, settles, some_time}
@@ -88,6 +86,7 @@ returns g c =
       room = c.told.new.room;
       left_over = c.told.new.left_over;
       «record» = Some c.told.result;
+      standing = c.told.new.standing;
     })) (sym has.robot) (record {
       done = record {
         equipped = equipped number c.requires.0 cells c.requires.1.0 k room c.requires.1.1 c.in-Some.is w made has.finished has.told ending c.show.new.lists flags has_lines;

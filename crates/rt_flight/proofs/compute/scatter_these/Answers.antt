@@ -1,4 +1,4 @@
-use Rattle.std.proofs.Common.{List, Option, Some, length, refl, sym, ap, subst, ◌∙◌}
+use Rattle.std.proofs.Common.{List, Option, Some, length, sym, ap, subst, ◌∙◌}
 use Rattle.std.specs.Prelude.{vec_len, vec_capacity, IsSomeAnd}
 use Rattle.cm_storage.specs.Ran.{Ran}
 use Rattle.cm_storage.specs.declared.record_room.RecordRoom.{RecordRoom}
@@ -6,7 +6,6 @@ use Rattle.rt_flight.specs.Calls.Cells.{CanPutAll, LeavesPut}
 use Rattle.rt_flight.specs.Cells.{all_put, all_outs, all_numbers, flying}
 use Rattle.rt_flight.specs.Progress.{rans_in_room}
 use Rattle.rt_flight.specs.UnderWay.{TellsBut}
-use Rattle.rt_flight.specs.declared.context.CycleContext.{CycleContext}
 use Rattle.rt_flight.specs.declared.robot.Robot.{Robot}
 use Rattle.rt_flight.proofs.compute.scatter_these.Goals as goal
 
