@@ -11,7 +11,7 @@ ghost use Rattle.console_session.specs.Sessions.{AreLines, left_of};
 ghost use Rattle.desk_turns.specs.Jobs.{AreSessionsOf, IsComputedOnce, IsSameDesk, are_through, at, progress_of};
 
 use crate::port::DeskPort;
-use crate::waiting::waiting;
+use crate::sessions::waiting;
 use cm_desk::Desk;
 use cm_document::{Checked, Script, Turn};
 use console_session::{Progress, Session};

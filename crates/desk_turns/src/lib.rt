@@ -4,9 +4,9 @@
 pub use jobs::RunningJob;
 pub use looping::{run_in_steps, run_in_steps_by, run_job, run_job_by};
 pub use port::DeskPort;
-pub use waiting::waiting;
+pub use sessions::waiting;
 
 mod jobs;
 mod looping;
 mod port;
-mod waiting;
+mod sessions;

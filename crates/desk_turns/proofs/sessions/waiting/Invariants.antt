@@ -1,6 +1,6 @@
 use Rattle.std.proofs.Common.{◌≡◌, map, take}
 use Rattle.desk_turns.specs.Jobs.{AreAtFirst}
-use Rattle.desk_turns.proofs.waiting.waiting.Given as goal
+use Rattle.desk_turns.proofs.sessions.waiting.Given as goal
 
 -- the sessions so far
 abbrev pub invariant-loop-text : goal.invariant-loop-text

@@ -1,7 +1,7 @@
 use Rattle.std.proofs.Common.{◌≡◌, ◌++◌, ◌∷◌, [], rules, refl, ap, ◌∙◌}
 use Rattle.console_session.specs.Sessions.{SessionState}
 use Rattle.desk_turns.proofs.NumberLemmas.{first_made, first_more, lines_more}
-use Rattle.desk_turns.proofs.waiting.waiting.Goals as goal
+use Rattle.desk_turns.proofs.sessions.waiting.Goals as goal
 
 -- the lines are those of a text
 pub make-requires : goal.make-requires

@@ -1,5 +1,5 @@
 use Rattle.std.proofs.Common.{◌≡◌, take}
-use Rattle.desk_turns.proofs.waiting.lines_again.Given as goal
+use Rattle.desk_turns.proofs.sessions.lines_again.Given as goal
 
 -- the lines so far
 abbrev pub invariant-loop-line : goal.invariant-loop-line
