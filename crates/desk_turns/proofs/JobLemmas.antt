@@ -90,12 +90,6 @@ flight_lands h o f f' is same once =
     let hand = subst (λ (k : Option FlightFacts). IfSome k (IsAtHand h)) same is.at_hand in
     (once.at_hand h hand).after (once.computed h hand)
 
--- and which stays that of this cycle
-pub flight_computed : (h : History) (o : Option FlightFacts) (f f' : FlightFacts) → HasFlight h o → o ≡ Some f → IsComputedOnce f f' → HasFlight h (Some f')
-flight_computed h o f f' is same once =
-    let some = ap (λ (k : Option FlightFacts). is_some k) same in
-    record { there = sym some ∙ is.there; at_hand = once.at_hand h (subst (λ (k : Option FlightFacts). IfSome k (IsAtHand h)) same is.at_hand) }
-
 -- if it was started it is computed
 pub started_computed : (h : History) (f : FlightFacts) → IsAtHand h f → is_some f.progress ≡ true → is_some f.outcome ≡ true
 started_computed h f hand started = by_end f.outcome refl
