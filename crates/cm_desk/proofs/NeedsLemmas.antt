@@ -1,8 +1,9 @@
 -- What a cycle can tell, of the hardware of a state.
-use Rattle.std.proofs.Common.{◌≡◌, ◌+◌, true, List, [], ◌∷◌, ◌++◌, length, map, refl, sym, ap, ap₂, ◌∙◌, arith}
+use Rattle.std.proofs.Common.{◌≡◌, ◌+◌, true, List, [], ◌∷◌, ◌++◌, length, map, refl, sym, ap, ap₂, subst, ◌∙◌, arith}
 use Rattle.std.specs.Prelude.{◌==◌, Option, None, Some, IfSome, IsSomeAnd}
 use Rattle.cm_document.specs.declared.description.Description.{Description}
 use Rattle.sequence.proofs.ListLemmas.{all_push}
+use Rattle.cm_storage.proofs.RanLemmas.{no_item}
 use Rattle.cm_model.specs.declared.member.Member.{Member}
 use Rattle.cm_storage.specs.declared.record_room.RecordRoom.{RecordRoom}
 use Rattle.cm_hardware.specs.Wiring.{Wired, Mounted, most_failures, all_joints, can_fail, one_if}
@@ -34,10 +35,10 @@ pub tells_nothing : (d : Description) (placed : Placed) (order : List Member) (r
 tells_nothing d placed order r has = record { no_failure = has.no_failure; none_ran = has.none_ran; no_body = has.no_body; none_stopped = has.none_stopped }
 
 -- room in which nothing is told is enough where nobody flies, if it is for the hardware
-pub room_stays : (d : Description) (placed : Placed) (s : HardwareSize) (order : List Member) (o : Option RecordRoom) → IsSizeOf d s → (length order == 0) ≡ true → IfSome o TellsNothing
-    → IsSomeAnd o (HasRoomOf s) → IsSomeAnd o (HasRoom d placed order)
-room_stays d placed s [] None size nobody tells has = absurd has
-room_stays d placed s [] (Some r) size nobody tells has = record {
+enough_for_none : (d : Description) (placed : Placed) (s : HardwareSize) (o : Option RecordRoom) → IsSizeOf d s → IfSome o TellsNothing → IsSomeAnd o (HasRoomOf s)
+    → IsSomeAnd o (HasRoom d placed [])
+enough_for_none d placed s None size tells has = absurd has
+enough_for_none d placed s (Some r) size tells has = record {
   no_failure = tells.no_failure;
   failures = omega (arith, size.failures, has.failures);
   no_body = tells.no_body;
@@ -49,7 +50,11 @@ room_stays d placed s [] (Some r) size nobody tells has = record {
   none_stopped = tells.none_stopped;
   stops = omega arith;
 }
-room_stays d placed s (m ∷ ms) o size nobody tells has = cc
+
+pub room_stays : (d : Description) (placed : Placed) (s : HardwareSize) (order : List Member) (o : Option RecordRoom) → IsSizeOf d s → (length order == 0) ≡ true → IfSome o TellsNothing
+    → IsSomeAnd o (HasRoomOf s) → IsSomeAnd o (HasRoom d placed order)
+room_stays d placed s order o size nobody tells has =
+    subst (λ (ms : List Member). IsSomeAnd o (HasRoom d placed ms)) (sym (no_item order nobody)) (enough_for_none d placed s o size tells has)
 
 -- ---- Workspaces
 
