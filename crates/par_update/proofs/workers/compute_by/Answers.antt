@@ -11,8 +11,10 @@ loop-depth-init g c = record {
 }
 
 pub update_by-requires : goal.update_by-requires
-update_by-requires g c =
-    λ κs lives. can_gather c.args.flight.now c.loop-depth.depth c.layers-depths.result c.loop-depth.flight c.loop-depth.invariant.past (omega (arith, c.loop-depth-test.true))
+update_by-requires g c = (
+  c.type_bounds.send-C,
+  (c.type_bounds.sync-R, can_gather c.args.flight.now c.loop-depth.depth c.layers-depths.result c.loop-depth.flight c.loop-depth.invariant.past (omega (arith, c.loop-depth-test.true))),
+)
 
 pub loop-depth-preserved : goal.loop-depth-preserved
 loop-depth-preserved g c = record {

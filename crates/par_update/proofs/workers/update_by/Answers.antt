@@ -8,8 +8,10 @@ cells-requires g c =
 
 pub step_among-requires : goal.step_among-requires
 step_among-requires g c =
-    let known = some_and c.args.flight.now.progress _ c.requires.1 in
-    λ κs lives. steps_there c.args.depth known.0 c.args.flight.now c.gather.new.self c.requires (c.gather.ensures known.0 known.1.0) c.cells.result.now c.cells.ensures.value c.cells.ensures.steps
+    let known = some_and c.args.flight.now.progress _ c.requires.1 in (
+      c.type_bounds.send-C,
+      (c.type_bounds.sync-R, steps_there c.args.depth known.0 c.args.flight.now c.gather.new.self c.requires (c.gather.ensures known.0 known.1.0) c.cells.result.now c.cells.ensures.value c.cells.ensures.steps),
+    )
 
 pub scatter-requires-clause-waits : goal.scatter-requires-clause-waits
 scatter-requires-clause-waits g c =
