@@ -43,7 +43,7 @@ run_alone-requires g c = record {
 
 -- the script of a document that was read meets the rules
 pub run_document_by-requires-clause-rules : goal.run_document_by-requires-clause-rules
-run_document_by-requires-clause-rules g c = reads-Rules _ _ _ _ c.in-Ok.ensures.reads
+run_document_by-requires-clause-rules g c = λ κs lives. reads-Rules _ _ _ _ c.in-Ok.ensures.reads
 
 -- its run is that of its source
 pub returns-in-Ok-clause-runs : goal.returns-in-Ok-clause-runs

@@ -5,7 +5,7 @@ use Rattle.desk_turns.proofs.jobs.compute_once_by.Goals as goal
 
 -- it was not started before
 pub compute_by-requires : goal.compute_by-requires
-compute_by-requires g c = (c.started.ensures.fresh c.if-not-started.true).0
+compute_by-requires g c = (c.type_bounds.send-C, (c.type_bounds.sync-R, (c.started.ensures.fresh c.if-not-started.true).0))
 
 -- and is computed now,
 pub returns-then-not-started : goal.returns-then-not-started
