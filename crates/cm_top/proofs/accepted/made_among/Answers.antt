@@ -3,17 +3,17 @@ use Rattle.cm_top.proofs.TopLemmas.{run_done, steps_done}
 use Rattle.cm_top.proofs.accepted.made_among.Goals as goal
 
 -- a script that meets the rules has few sessions, with lines that they can make
-pub run_job_by-requires-clause-few : goal.run_job_by-requires-clause-few
-run_job_by-requires-clause-few g c = λ κs lives. rules_few _ c.requires.rules
+pub run_job_by-requires : goal.run_job_by-requires
+run_job_by-requires g c = (
+  c.type_bounds.send-C,
+  (c.type_bounds.sync-R, (rules_few _ c.requires.rules, rules_lines _ c.requires.rules)),
+)
 
-pub run_job_by-requires-clause-lines : goal.run_job_by-requires-clause-lines
-run_job_by-requires-clause-lines g c = λ κs lives. rules_lines _ c.requires.rules
-
-pub run_in_steps_by-requires-clause-few : goal.run_in_steps_by-requires-clause-few
-run_in_steps_by-requires-clause-few g c = λ κs lives. rules_few _ c.requires.rules
-
-pub run_in_steps_by-requires-clause-lines : goal.run_in_steps_by-requires-clause-lines
-run_in_steps_by-requires-clause-lines g c = λ κs lives. rules_lines _ c.requires.rules
+pub run_in_steps_by-requires : goal.run_in_steps_by-requires
+run_in_steps_by-requires g c = (
+  c.type_bounds.send-C,
+  (c.type_bounds.sync-R, (rules_few _ c.requires.rules, rules_lines _ c.requires.rules)),
+)
 
 -- the job was made to its end
 pub returns-in_ok-run_job_by-in-Run : goal.returns-in_ok-run_job_by-in-Run

@@ -1,6 +1,6 @@
 use denote.Exit as exit
 use denote.Param.{param}
-use denote.Param.Send.{sendable, param_send, arg_send}
+use denote.Param.Send.{sendable, param_send, param_sync, arg_send, arg_sync}
 use Rattle.std.proofs.Common.{◌≡◌, length, refl, sym, ap, subst, ◌∙◌, arith}
 use Rattle.std.proofs.lemmas.List.{length-map}
 use Rattle.std.proofs.lemmas.Slice.Zip.{AllZip-long}
@@ -40,7 +40,10 @@ live_by-requires-clause-looping g c =
     λ κs lives. record {
       first = first;
       computes = record {
-        takes = λ l x is. (is.0.before is.1).not_yet.0;
+        takes = λ l x is. (
+          (is.0.before is.1).not_yet.0,
+          (param_send 1 _ (arg_send _ exit.no _ c.type_bounds.send-C), param_sync 0 _ (arg_sync _ exit.no _ c.type_bounds.sync-R)),
+        );
         leaves = λ l k x y is call. record {
           out = subst (λ p. IsAtHand (history_of p.desk.now.at_first.value.opening p.pass.pass) y.now) (sym call.0)
               (computed_at_hand _ x.now y.now (is.0.before is.1) call.1.cycle call.1.computed);

@@ -36,7 +36,7 @@ books Plan runs = absurd runs
 pub run_alone-requires : goal.run_alone-requires
 run_alone-requires g c = record {
   alone = not_live c.args.job.now.kind c.requires.0;
-  one = c.if-workers.true;
+  one = c.if-job-eq1.true;
   rounds = c.requires.1.rounds;
   unmade = λ no. absurd (true≢false (sym (makes c.args.job.now.kind c.requires.0) ∙ no));
 }
