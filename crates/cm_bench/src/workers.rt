@@ -5,7 +5,7 @@ ghost use Rattle.cm_bench.specs.declared.workers.TheConstants.{CONTROLLERS};
 ghost use Rattle.std.specs.List.{All};
 ghost use Rattle.cm_model.specs.Controllers.{IsBlank};
 
-use crate::working::{mixed, working};
+use crate::working::{all_working, mixed};
 use cm_top::{Status, run};
 use ctl_mock::Mock;
 use ctl_rack::Stock;
@@ -131,7 +131,7 @@ fn run_once<R>(
 where
     R: Threads + Wait + Sync,
 {
-    let blanks = working(alloc, mocks(alloc)?, turns)?;
+    let blanks = all_working(alloc, mocks(alloc)?, turns)?;
     if blanks.len() > CONTROLLERS as usize {
         return Err(anyhow::anyhow!("a stock too large"));
     }

@@ -94,7 +94,7 @@ pub fn mixed(seed: u64, turns: u64) -> u64 {
 const FACTOR: u64 = 6_364_136_223_846_793_005;
 
 /// Blanks that work in each update.
-pub fn working<C: Controller>(
+pub fn all_working<C: Controller>(
     alloc: Global,
     mut blanks: Vec<C>,
     turns: u64,

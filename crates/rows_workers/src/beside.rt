@@ -6,7 +6,7 @@ ghost use Rattle.cm_model.specs.Controllers.{IsBlank};
 
 use crate::meeting::Meeting;
 use crate::running::ran;
-use crate::watching::watching;
+use crate::watching::all_watching;
 use ctl_trait::Controller;
 use pages_calls::stocks::blanks;
 use sequence::Shared;
@@ -72,7 +72,7 @@ fn hold<R: Threads + Wait + Sync>(
     meet: bool,
 ) -> Result<(), Fail> {
     let meeting = Shared::new(alloc, Meeting::new())?;
-    let two = watching(alloc, blanks(alloc, 2)?, &meeting)?;
+    let two = all_watching(alloc, blanks(alloc, 2)?, &meeting)?;
     let told = ran_over(rt, alloc, words, two)?;
     if !told.starts_with("ok\n") {
         return Err(Fail::new(told));

@@ -85,7 +85,7 @@ impl<C: Controller> Controller for Watching<C> {
 }
 
 /// Blanks that come to a meeting, as the first and as the second in turn.
-pub fn watching<C: Controller>(
+pub fn all_watching<C: Controller>(
     alloc: Global,
     mut blanks: Vec<C>,
     meeting: &Shared<Meeting>,

@@ -1,7 +1,7 @@
 use Rattle.std.specs.Prelude.{length}
 use Rattle.std.specs.List.{All}
 use Rattle.cm_model.specs.Controllers.{IsBlank}
-use Rattle.cm_bench.proofs.working.working.Given as goal
+use Rattle.cm_bench.proofs.working.all_working.Given as goal
 
 -- those that are left are blank, and so are those that work
 abbrev pub invariant-loop-blank : goal.invariant-loop-blank
