@@ -12,7 +12,7 @@ what it leaves out is what the system does, above all memory that is touched for
 - made: `run --make`, a round more of which is ten cycles.
 
 Beside each stands what the page has. The exit status is 1 if a job takes more than that by over a twentieth; the page is then to say why,
-or the program to be mended.
+or the program to be mended. With `--parts` it also prints how many of them the begin, the flight, the landing and the trace take.
 """
 
 import re
@@ -23,7 +23,6 @@ import tempfile
 from ..replay import programs
 from ..tree import TOP
 
-options = programs.options
 PAGE = TOP / "docs/SPEED.md"
 WORSE = 1.05  # times what the page has
 POINTS = 16  # of each trajectory
@@ -31,6 +30,16 @@ CHAINS = 31
 SWITCHED = 16  # chains that are switched
 LOADED = 32  # controllers that are listed
 CYCLES_OF_A_ROUND = 10  # of a made document
+# The functions of the parts of a cycle, each with all that it calls. The end is the flight and its landing.
+PARTS = {
+    "begin": "cm_desk::desk::Desk::begin::", "end": "desk_turns::jobs::RunningJob::end::", "landing": "cm_desk::desk::Desk::land::",
+    "trace": "cm_top::accepted::write_out::",
+}
+
+
+def options(parser):
+    parser.add_argument("--parts", action="store_true", help="tells the parts of a cycle, too")
+    programs.options(parser)
 
 
 def head(rate, cycles):
@@ -124,10 +133,10 @@ JOBS = {
 }
 
 
-def counted(program, document):
-    """The instructions of a run over the document, or of so many made rounds."""
+def counted(program, document, profile="/dev/null"):
+    """The instructions of a run over the document, or of so many made rounds. They are told by function in the file `profile`."""
     words = ["run"] if isinstance(document, str) else ["run", "--make", str(document)]
-    counter = ["valgrind", "--tool=callgrind", "--callgrind-out-file=/dev/null", program, *words]
+    counter = ["valgrind", "--tool=callgrind", f"--callgrind-out-file={profile}", program, *words]
     with tempfile.TemporaryFile("w+") as given:
         given.write(document if isinstance(document, str) else "")
         given.seek(0)
@@ -136,6 +145,25 @@ def counted(program, document):
     if ran.returncode or not found:
         sys.exit(f"{program} was not counted: {ran.stderr.strip()[-300:]}")
     return int(found[1])
+
+
+def parts(program, document):
+    """The instructions of each part in a run over the document, by the part's name."""
+    with tempfile.NamedTemporaryFile() as profile:
+        counted(program, document, profile.name)
+        told = subprocess.run(
+            ["callgrind_annotate", "--inclusive=yes", "--threshold=100", profile.name], stdout=subprocess.PIPE, text=True, check=True
+        ).stdout
+    lines = {part: re.findall(rf"(?m)^ *([\d,]+) \(.*:{name}", told) for part, name in PARTS.items()}
+    return {part: sum(int(count.replace(",", "")) for count in counts) for part, counts in lines.items()}
+
+
+def print_parts(program):
+    print("| Job | The begin | The flight | The landing | The trace |\n|---|---|---|---|---|")
+    for job, (document, few, more) in JOBS.items():
+        less, all_of_it = parts(program, document(few)), parts(program, document(more))
+        begin, end, landing, trace = ((all_of_it[part] - less[part]) / (more - few) for part in PARTS)
+        print(f"| {job} | {begin:,.0f} | {end - landing:,.0f} | {landing:,.0f} | {trace:,.0f} |", flush=True)
 
 
 def on_page(job):
@@ -152,6 +180,8 @@ def main(asked):
         print(f"| {job} | {each:,.0f} | {f'{known:,}' if known else 'none'} |", flush=True)
         if known and each > WORSE * known:
             worse.append(f"{job} takes {each / known:.2f} times what {PAGE.name} has")
+    if asked.parts:
+        print_parts(program)
     for line in worse:
         print(line, file=sys.stderr)
     return 1 if worse else 0
