@@ -11,7 +11,7 @@ flown_aside-requires g c =
     let at = held c.self.inside.desk c.self.inside.flight c.in-Some.flight c.self.invariant (sym c.take.ensures.value ∙ c.in-Some.is) in (
       c.type_bounds.static-C,
       (
-        param_send 1 _ (arg_send _ exit.no _ c.type_bounds.send-C),
+        param_send 1 _ (arg_send _ exit.yes _ c.type_bounds.send-C),
         (is_out c.self.inside.desk c.in-Some.flight at (sym c.computed.ensures ∙ c.if-computed.false)).not_yet.0,
       ),
     )
