@@ -1,8 +1,8 @@
 """The page of wrong bodies, docs/WRONG_BODIES.md: which edits there are, and what each does.
 
-Those of the must-fail folders are tried by `rt ci`, those of scripts/wrong_bodies by hand, but for the ones with a line `# tried by the
-gate`, which `.ci/run` tries. Those of scripts/wrong_definitions name a row, a law or both, which are there, and those of
-scripts/refused_by_tests a test, or a row of `scripts/replay sizes`.
+Those of scripts/wrong_bodies are tried by hand, but for the ones with a line `# tried by the gate`, which `.ci/run` tries. Those of
+scripts/wrong_definitions name a row, a law or both, which are there, and those of scripts/refused_by_tests a test, or a row of
+`scripts/replay sizes`.
 """
 
 import functools
@@ -24,7 +24,7 @@ class WrongBody(Edit):
     def __init__(self, path, folder, tried_by):
         super().__init__(path)
         self.name, self.title = path.relative_to(TOP), path.stem
-        self.tried_by = ".ci/run" if self.is_of_gate and tried_by == "hand" else tried_by
+        self.tried_by = ".ci/run" if self.is_of_gate else tried_by
         self.texts, faults = self.applied(folder)
         self.faults = [*([] if self.crime else ["does not begin with a line 'crime: '"]), *faults]
 
@@ -78,22 +78,21 @@ class RefusedByTests(WrongBody):
 
 
 def edits_of(crate):
-    for folder, tried_by in ((TOP / "crates" / crate / "must-fail", "rt ci"), (BODIES / crate, "hand")):
-        yield from (WrongBody(path, TOP / "crates" / crate, tried_by) for path in sorted(folder.glob("*.edit")))
+    return [WrongBody(path, TOP / "crates" / crate, "hand") for path in sorted((BODIES / crate).glob("*.edit"))]
 
 
 @functools.cache
 def every_edit():
     """Returns the wrong bodies of each crate, those that tests refuse, and the wrong definitions."""
-    bodies = {crate: of_crate for crate in crates() if (of_crate := list(edits_of(crate)))}
+    bodies = {crate: of_crate for crate in crates() if (of_crate := edits_of(crate))}
     by_tests = [RefusedByTests(path) for path in sorted(BY_TESTS.glob("*/*.edit"))]
     return bodies, by_tests, [WrongDefinition(path) for path in sorted(DEFINITIONS.glob("*.edit"))]
 
 
 def tables(edits):
     every = [edit for of_crate in edits.values() for edit in of_crate]
-    counted = {tried_by: sum(edit.tried_by == tried_by for edit in every) for tried_by in ("rt ci", ".ci/run", "hand")}
-    yield f"\n{len(every)} wrong bodies: {counted['rt ci']} are tried by `rt ci`, {counted['.ci/run']} more by `.ci/run`, {counted['hand']} by hand.\n\n"
+    of_gate = sum(edit.is_of_gate for edit in every)
+    yield f"\n{len(every)} wrong bodies: {of_gate} are tried by `.ci/run`, {len(every) - of_gate} by hand.\n\n"
     for crate, of_crate in edits.items():
         rows = "\n".join(edit.row() for edit in of_crate)
         yield f"## `{crate}`\n\n| What the body does | Edit | Tried by | Changes |\n|---|---|---|---|\n{rows}\n\n"

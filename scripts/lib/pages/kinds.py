@@ -11,7 +11,7 @@ from .repository import Repository
 
 WATCHED, MOST_FILES = "Differential", 10
 NO_KINDS = {"ctl_trait", "ctl_rack", "ctl_any"}  # crates of the family ctl_ that have no kind
-APART = re.compile(r"crates/(?:rows|pages)_|crates/made_laws/|Rows\.antt$|/must-fail/")
+APART = re.compile(r"crates/(?:rows|pages)_|crates/made_laws/|Rows\.antt$")
 BY_KIND = r"declared\.(?:description|any_kind)\.(?:CtlKind|Params|AnyKind)\.TheVariants"
 
 
