@@ -25,11 +25,18 @@ SOON = 0.1  # seconds in which a run that does not wait has gone on
 SLEEPS, STOPPED = "S", "T"  # states of a process
 
 
+def mind_each():
+    """A shell lets what it runs in the background ignore some signals, which a child then ignores too: here each has its effect again."""
+    for number in ENDING:
+        signal.signal(number, signal.SIG_DFL)
+
+
 class Run:
     """A run that is under way, over a pipe that gives its document and one that takes its trace."""
 
     def __init__(self, command, document=b"", is_whole=True, stdout=subprocess.PIPE):
-        self.child = subprocess.Popen(command, stdin=subprocess.PIPE, stdout=stdout, stderr=subprocess.PIPE, bufsize=0)
+        self.child = subprocess.Popen(
+            command, stdin=subprocess.PIPE, stdout=stdout, stderr=subprocess.PIPE, bufsize=0, preexec_fn=mind_each)
         self.give(document)
         if is_whole:
             self.child.stdin.close()
