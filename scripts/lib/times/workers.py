@@ -1,12 +1,11 @@
 """Answers: what do several workers cost, and from which work on do they pay? Prints what docs/SPEED.md has between its marks.
 
-First it runs the built program with 1, 2, 4 and 8 workers on documents of 20,000 cycles, each with 16 controllers of one kind, of which
-none has to do with another. The least of five runs counts. Then it runs cm_bench with `workers`: eight controllers compute for 0, 20, 100
-and 500 microseconds in each cycle. Of what threads cost where there is no work it tells from which work on a number of workers pays.
+First it runs the built program with 1, 2, 4 and 8 workers on documents of 5,000 cycles, each with 16 controllers of one kind, of which
+none has to do with another. The least of three runs counts. Then it runs cm_bench with `workers`: eight controllers compute for 0, 20, 100
+and 500 microseconds in each cycle. Between these works it tells from which one on a number of workers pays.
 If cm_bench is missing, it is proved and built first.
 """
 
-import os
 import re
 import subprocess
 import tempfile
@@ -17,7 +16,7 @@ from . import bodies
 from .program import tell_table, time_of_a_run
 
 BY = (1, 2, 4, 8)
-MANY, CYCLES, RUNS, BENCH_RUNS = 16, 20_000, 5, 20
+MANY, CYCLES, RUNS, BENCH_RUNS = 16, 5_000, 3, 20
 TOLD = re.compile(r"(\d+) of (\d+) us by (\d+): (\d+) ns a cycle")
 CLAIMS, READS = 'claims = ["l{0}/position"]\n', 'reads = ["l{0}/position"]\n'
 KINDS = {
@@ -68,13 +67,13 @@ def of_work(bench):
     return times, count
 
 
-def tell_gain(times, count):
-    """Prints from which work of a controller on each number of workers pays, as far as there are processors."""
-    for workers in BY[1:]:
-        cost = (times[0][workers] - times[0][1]) / 1000
-        at_once = min(workers, os.cpu_count())
-        if at_once > 1:
-            print(f"{workers} workers pay from some {cost / count / (1 - 1 / at_once):.0f} us a controller on.")
+def pays_from(times, workers):
+    """Returns from which work on so many workers take less time than one, between the works that were measured, or None if they never do."""
+    for less, more in zip(times, [*times][1:]):
+        lost, gained = times[less][workers] - times[less][1], times[more][1] - times[more][workers]
+        if lost > 0 and gained >= 0:
+            return less + (more - less) * lost / (lost + gained)
+    return None
 
 
 def main(asked):
@@ -89,6 +88,6 @@ def main(asked):
     times, count = of_work(bench)
     tell_table(
         (f"{count} controllers that compute", *(f"By {n}" for n in BY)),
-        *((f"{micros} us", *(f"{times[micros][n] / 1000:.1f} us" for n in BY)) for micros in times))
-    tell_gain(times, count)
+        *((f"{micros} us", *(f"{times[micros][n] / 1000:.1f} us" for n in BY)) for micros in times),
+        ("pay from some", "", *("never" if (work := pays_from(times, n)) is None else f"{work:.0f} us" for n in BY[1:])))
     return 0
