@@ -5,7 +5,7 @@ import sys
 
 STAGE = "r16"  # of the documents that it makes
 JUDGED = "r18"  # what it is told that a document may have: every kind of controller
-PLANNED = "r19"  # and that plans are asked for: the program has no later job
+PLANNED = "r20"  # and that plans and workers are asked for: the program has no later word
 
 
 @functools.cache
