@@ -15,7 +15,7 @@ ANSWERS = (
     ("draw", "examples/failures.cm", "docs/pictures/failures.svg", 0),
 )
 COMMANDS = ("cm", "try", "draw", "spawn", "test")
-LINES_OF_HELP = 14
+LINES_OF_HELP = 20
 
 
 def reason(word, document, expected, lines):
