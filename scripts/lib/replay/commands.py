@@ -15,7 +15,7 @@ ANSWERS = (
     ("draw", "examples/failures.cm", "docs/pictures/failures.svg", 0),
 )
 COMMANDS = ("cm", "try", "draw", "spawn", "test")
-LINES_OF_HELP = 20
+LINES_OF_HELP = 15
 
 
 def reason(word, document, expected, lines):
@@ -26,7 +26,7 @@ def reason(word, document, expected, lines):
 
 
 def lacks_help(command):
-    """Whoever asks for help gets a usage line and a dozen more on standard output."""
+    """Whoever asks for help gets a usage line and up to fourteen more on standard output."""
     status, output, said = programs.ran([TOP / command, "--help"])
     is_so = status == 0 and not said and f"usage: ./{command}".encode() in output and output.count(b"\n") <= LINES_OF_HELP
     return None if is_so else "it does not help"
