@@ -17,7 +17,7 @@ use Rattle.cm_document.specs.declared.description.CtlKind.{CtlKind}
 use Rattle.cm_document.specs.declared.description.Description.{Description}
 use Rattle.cm_document.specs.declared.description.GroupDesc.{GroupDesc}
 use Rattle.cm_document.specs.declared.description.Params.{Params}
-use Rattle.cm_document.specs.declared.description.Params.TheVariants.{Pid}
+use Rattle.cm_document.specs.declared.description.Params.TheVariants.{Forward}
 use Rattle.cm_document.specs.declared.limits.TheConstants.{HIGHEST_RATE, MOST_FALLBACKS}
 use Rattle.cm_document.specs.declared.shape.Shape.{Shape}
 use Rattle.cm_document.proofs.GivenLemmas.{Gives, filled_gives, next_key, any_key, defaulted_gives, walk_gives, tables_give, anything}
@@ -98,7 +98,7 @@ both_true first b one other = rw (one, other) refl
 
 -- no controller may have more claims than any may
 pub at_most : (params : Params) → most_claims params ≤ 32
-at_most (Pid kp ki kd imax omax) = omega arith
+at_most (Forward outs) = omega arith
 at_most _ = omega arith
 
 -- as many as may be are counted

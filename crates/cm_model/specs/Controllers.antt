@@ -1,7 +1,7 @@
 -- The table of controllers: what each kind begins with when it is activated, what mail makes of it, and what an update
 -- gives.
-use Rattle.std.specs.Prelude.{◌≡◌, ℕ, ◌-◌, ◌≤◌, ℤ, pos, ◌+ℤ◌, Bool, true, false, ◌&&◌, if◌then◌else◌, List, [], ◌∷◌}
-use Rattle.std.specs.Prelude.{map, replicate, Option, Some, None, option_map, IsSomeAnd}
+use Rattle.std.specs.Prelude.{◌≡◌, ℕ, ◌-◌, ◌≤◌, ℤ, pos, ◌+ℤ◌, Bool, true, false, not, ◌&&◌, if◌then◌else◌}
+use Rattle.std.specs.Prelude.{List, [], ◌∷◌, map, replicate, Option, Some, None, is_none, option_map, IsSomeAnd}
 use Rattle.fixed_num.specs.declared.value.Value.{Value}
 use Rattle.fixed_num.specs.declared.value.Value.TheVariants.{Unset, Num}
 use Rattle.cm_document.specs.Params.{kind_of, shape_of}
@@ -12,8 +12,7 @@ use Rattle.cm_document.specs.declared.description.Params.{Params}
 use Rattle.cm_document.specs.declared.description.Params.TheVariants.{Pid, Trajectory, Broadcaster}
 use Rattle.cm_document.specs.declared.description.Params.TheVariants.{Transmission, Differential, Limiter}
 use Rattle.cm_model.specs.State.{fresh}
-use Rattle.cm_model.specs.Kinds.{has_references, publishes, follows_points, tuning_of, bounds_of}
-use Rattle.cm_model.specs.Kinds.{is_over_values}
+use Rattle.cm_model.specs.Kinds.{has_references, publishes, follows_points}
 use Rattle.cm_model.specs.Kinds.{AreItsReads, are_ranged, is_ready_in, fails_in, takes}
 use Rattle.cm_model.specs.Limiters.{Bounds, reach_of, between, wanted_step, new_step}
 use Rattle.cm_model.specs.Pids.{Tuning, error_of, integrated, derivative_of, corrected}
@@ -153,6 +152,25 @@ bounded_update None chained set at step dt_us targets = gives (run.Limiter chain
 -- the states that are read become what was published last
 abbrev pub publishes_states : List ℤ → Updated
 publishes_states states = record { run = run.Broadcaster states; outs = []; published = states; done = done.Ok }
+
+-- the gains and the limits of a controller that closes a loop
+abbrev pub tuning_of : Params → Option Tuning
+tuning_of (Pid kp ki kd imax omax) = Some (record { kp = kp; ki = ki; kd = kd; imax = imax; omax = omax })
+tuning_of _ = None
+
+-- the bounds of a controller that leads a position
+abbrev pub bounds_of : Params → Option Bounds
+bounds_of (Limiter lowest highest vmax amax) =
+    Some (record { lowest = lowest; highest = highest; speed = vmax; acceleration = amax })
+bounds_of _ = None
+
+-- every other kind gives what it makes of values that are set
+abbrev pub is_over_values : Params → Bool
+is_over_values params =
+    is_none (tuning_of params)
+    && is_none (bounds_of params)
+    && not (follows_points (kind_of params))
+    && not (publishes (kind_of params))
 
 -- what runs gives this if it is of the kind that the parameters are of, else nothing
 abbrev pub only_if : Bool → RunData → Updated → Updated

@@ -1,6 +1,6 @@
 -- The kinds of controllers, by their parameters: what each has, with which parameters it is configured, and which mail
 -- it takes.
-use Rattle.std.specs.Prelude.{◌≡◌, ℕ, ℤ, Bool, true, false, not, ◌&&◌, ◌==◌, List, length, Option, Some, None, is_none}
+use Rattle.std.specs.Prelude.{◌≡◌, ℕ, ℤ, Bool, true, false, not, ◌&&◌, ◌==◌, List, length, Option, Some, None}
 use Rattle.std.specs.List.{list_all}
 use Rattle.cm_document.specs.Links.{exports_any}
 use Rattle.cm_document.specs.Params.{kind_of, exports_of, limits_at, may_carry, shape_of}
@@ -10,10 +10,8 @@ use Rattle.cm_document.specs.declared.call.Mail.TheVariants.{Values, Points}
 use Rattle.cm_document.specs.declared.description.CtlKind.{CtlKind}
 use Rattle.cm_document.specs.declared.description.CtlKind.TheVariants as kind
 use Rattle.cm_document.specs.declared.description.Params.{Params}
-use Rattle.cm_document.specs.declared.description.Params.TheVariants.{Pid, Trajectory, Broadcaster, Mock, Limiter}
+use Rattle.cm_document.specs.declared.description.Params.TheVariants.{Trajectory, Broadcaster, Mock}
 use Rattle.cm_model.specs.Components.{is_listed}
-use Rattle.cm_model.specs.Limiters.{Bounds}
-use Rattle.cm_model.specs.Pids.{Tuning}
 
 -- ---- What a controller has
 
@@ -30,25 +28,6 @@ publishes _ = false
 abbrev pub follows_points : CtlKind → Bool
 follows_points kind.Trajectory = true
 follows_points _ = false
-
--- the gains and the limits of a controller that closes a loop
-abbrev pub tuning_of : Params → Option Tuning
-tuning_of (Pid kp ki kd imax omax) = Some (record { kp = kp; ki = ki; kd = kd; imax = imax; omax = omax })
-tuning_of _ = None
-
--- the bounds of a controller that leads a position
-abbrev pub bounds_of : Params → Option Bounds
-bounds_of (Limiter lowest highest vmax amax) =
-    Some (record { lowest = lowest; highest = highest; speed = vmax; acceleration = amax })
-bounds_of _ = None
-
--- every other kind gives what it makes of values that are set
-abbrev pub is_over_values : Params → Bool
-is_over_values params =
-    is_none (tuning_of params)
-    && is_none (bounds_of params)
-    && not (follows_points (kind_of params))
-    && not (publishes (kind_of params))
 
 -- so many states are as many as it reads
 abbrev pub AreItsReads : Option ℕ → ℕ → Type 0

@@ -12,7 +12,7 @@ use Rattle.cm_document.specs.declared.description.Description.{Description}
 use Rattle.cm_document.specs.declared.description.Params.{Params}
 use Rattle.cm_document.specs.declared.description.Exports.{Exports}
 use Rattle.cm_document.specs.declared.description.Exports.TheVariants.{Nothing, FirstRead, EachClaim}
-use Rattle.cm_document.specs.declared.description.Params.TheVariants.{Pid}
+use Rattle.cm_document.specs.declared.description.Params.TheVariants.{Forward}
 use Rattle.cm_document.specs.declared.shape.Shape.{Shape}
 use Rattle.cm_document.proofs.OwnLemmas.{told_claims_are, told_reads_are, reads_of, shape_is}
 use Rattle.cm_model.proofs.RangedLemmas.{at_most, IsShaped, described_shapes, controller_in_range, ranged_parts}
@@ -34,7 +34,7 @@ few_by p n fits =
 
 -- parameters that tell of no claims are of a kind that has as many at least as at most
 settled : (p : Params) → (is_some (told_claims p) || nat_le (most_claims p) (fewest_claims p)) ≡ true
-settled (Pid kp ki kd imax omax) = refl
+settled (Forward outs) = refl
 settled _ = refl
 
 -- what exports a reference for what it reads first reads something
@@ -43,7 +43,7 @@ reads_first FirstRead reads = option_map_or (nat_le 1) reads false
 reads_first _ reads = true
 
 reads_some : (p : Params) → reads_first (exports_of p) (reads_of p) ≡ true
-reads_some (Pid kp ki kd imax omax) = refl
+reads_some (Forward outs) = refl
 reads_some _ = refl
 
 -- ---- The counts

@@ -1,25 +1,20 @@
 -- What the calls of a switch and of a cycle make of what is kept of a loaded controller.
-use Rattle.std.proofs.Common.{◌≡◌, ℕ, ℤ, Bool, true, false, List, [], ◌∷◌, Option, Some, None, refl, sym, ap, ◌∙◌}
+use Rattle.std.proofs.Common.{◌≡◌, ℕ, ℤ, Bool, true, false, ◌&&◌, List, [], Option, Some, None, refl, sym, ap, ◌∙◌}
 use Rattle.std.specs.Prelude.{IsSomeAnd, IfSome, if◌then◌else◌}
-use Rattle.cm_model.proofs.ControllerLemmas.{only_so, mail_keeps_tells, update_keeps_tells, step_keeps_params}
-use Rattle.cm_model.proofs.KindLemmas.{starts_as}
+use Rattle.cm_model.proofs.ControllerLemmas.{step_keeps_params}
+use Rattle.cm_model.proofs.KindLemmas.{starts_as, mail_keeps, update_gives}
 use Rattle.fixed_num.specs.declared.value.Value.{Value}
-use Rattle.fixed_num.specs.declared.value.Value.TheVariants.{Unset, Num}
 use Rattle.cm_document.specs.Params.{kind_of, shape_of}
 use Rattle.cm_document.specs.declared.call.Mail.{Mail}
-use Rattle.cm_document.specs.declared.call.Point2.{Point2}
 use Rattle.cm_document.specs.declared.description.CtlKind.{CtlKind}
 use Rattle.cm_document.specs.declared.description.Params.{Params}
 use Rattle.cm_document.specs.declared.life.Life.{Life}
 use Rattle.cm_document.specs.declared.life.Life.TheVariants.{Unconfigured, Inactive, Active, Finalized}
-use Rattle.cm_model.specs.Controllers.{Stepped, Updated, started, with_mail, pid_update, loop_update, limiter_update, bounded_update, set_update, trajectory_update, publishes_states, only_if, updated, activated, deactivated, mailed, step_with, update_step, ctl_step, IsIdle, IsRunning, CanBeActivated, CanBeUpdated}
-use Rattle.cm_model.specs.Kinds.{publishes, follows_points, tuning_of, bounds_of, is_over_values, fails_in, AreItsReads}
-use Rattle.cm_model.specs.Limiters.{Bounds}
-use Rattle.cm_model.specs.Pids.{Tuning}
+use Rattle.cm_model.specs.Controllers.{Stepped, started, with_mail, updated, activated, deactivated, mailed, step_with, update_step, ctl_step, IsIdle, IsRunning, CanBeActivated, CanBeUpdated}
+use Rattle.cm_model.specs.Kinds.{publishes, AreItsReads}
 use Rattle.cm_model.specs.Scene.{is_running}
 use Rattle.cm_model.specs.declared.data.CtlData.{CtlData}
 use Rattle.cm_model.specs.declared.data.RunData.{RunData}
-use Rattle.cm_model.specs.declared.data.RunData.TheVariants as run
 use Rattle.cm_storage.specs.declared.ran.Done.TheVariants as done
 use Rattle.cm_model.specs.declared.tick.Tick.{Tick}
 use Rattle.cm_slots.specs.Lives.{IsIn, IsKept, RunsAs, once_taken, published_by}
@@ -40,11 +35,11 @@ runs_as_started : (k : CtlKind) (p : Params) (states : List ℤ) (chained : Bool
 runs_as_started k p states chained e = sym ((starts_as p states chained).tells ∙ ap publishes e)
 
 runs_as_mailed : (k : CtlKind) (part : RunData) (mail : Mail) → RunsAs k part → RunsAs k (with_mail part mail)
-runs_as_mailed k part mail h = h ∙ sym (mail_keeps_tells part mail)
+runs_as_mailed k part mail h = h ∙ sym (mail_keeps part mail).tells
 
 runs_as_updated : (k : CtlKind) (p : Params) (part : RunData) (tick : Tick) (states : List ℤ) (refs : List Value) → RunsAs k part
     → RunsAs k (updated p part tick states refs).run
-runs_as_updated k p part tick states refs h = h ∙ sym (update_keeps_tells p part tick states refs)
+runs_as_updated k p part tick states refs h = h ∙ sym (update_gives p part tick states refs).sort.tells
 
 kept_activated : (ctl : CtlData) (p : Option Params) (states : List ℤ) (chained : Bool) → ctl.params ≡ p → IsSomeAnd p (λ x. Unit {0}) → IfSome p (λ q. kind_of q ≡ ctl.kind)
     → IsKept Active (activated ctl states chained)
@@ -173,56 +168,18 @@ kept_once_stepped life ctl tick states refs mail n m k h can =
 
 -- ---- What it publishes
 
-pid_publishes_none : (tuning : Tuning) (chained : Bool) (set : Value) (integral : ℤ) (last : Option ℤ) (dt_us : ℕ) (targets : List Value) (states : List ℤ)
-    → (pid_update tuning chained set integral last dt_us targets states).published ≡ []
-pid_publishes_none tuning chained set integral last dt_us [] states = refl
-pid_publishes_none tuning chained set integral last dt_us (Unset ∷ targets) states = refl
-pid_publishes_none tuning chained set integral last dt_us (Num target ∷ targets) [] = refl
-pid_publishes_none tuning chained set integral last dt_us (Num target ∷ targets) (state ∷ states) = refl
-
-trajectory_publishes_none : (time_us : ℕ) (states hold : List ℤ) (fresh : Bool) (start_us : ℕ) (from : List ℤ) (points : List Point2)
-    → (trajectory_update time_us states hold fresh start_us from points).published ≡ []
-trajectory_publishes_none time_us states hold true start_us from points = refl
-trajectory_publishes_none time_us states hold false start_us from points = refl
-
-set_publishes_none : (failing : Bool) (part : RunData) (outs : List Value) → (set_update failing part outs).published ≡ []
-set_publishes_none true part outs = refl
-set_publishes_none false part outs = refl
-
-loop_publishes_none : (own : Option Tuning) (chained : Bool) (set : Value) (integral : ℤ) (last : Option ℤ) (dt_us : ℕ) (targets : List Value) (states : List ℤ)
-    → (loop_update own chained set integral last dt_us targets states).published ≡ []
-loop_publishes_none None chained set integral last dt_us targets states = refl
-loop_publishes_none (Some tuning) chained set integral last dt_us targets states = pid_publishes_none tuning chained set integral last dt_us targets states
-
-limiter_publishes_none : (own : Option Bounds) (chained : Bool) (set : Value) (at step : ℤ) (dt_us : ℕ) (targets : List Value)
-    → (bounded_update own chained set at step dt_us targets).published ≡ []
-limiter_publishes_none None chained set at step dt_us targets = refl
-limiter_publishes_none (Some bounds) chained set at step dt_us [] = refl
-limiter_publishes_none (Some bounds) chained set at step dt_us (target ∷ targets) = refl
-
--- a kind that does not publish publishes nothing
-none_published : (k : CtlKind) (states : List ℤ) → publishes k ≡ false → [] ≡ published_by k states
-none_published k states none = rw none refl
-
-own_published : (own : Bool) (last states : List ℤ) → (only_if own (run.Broadcaster last) (publishes_states states)).published ≡ (if own then states else [])
-own_published true last states = refl
-own_published false last states = refl
+-- what is published where both say so
+by_either : (b : Bool) (states : List ℤ) → (if b && b then states else []) ≡ (if b then states else [])
+by_either true states = refl
+by_either false states = refl
 
 published_updated : (k : CtlKind) (p : Params) (part : RunData) (tick : Tick) (states : List ℤ) (refs : List Value) → kind_of p ≡ k → RunsAs k part
     → (updated p part tick states refs).published ≡ published_by k states
-published_updated k p (run.Set chained set) tick states refs e h =
-    only_so (λ given. given.published ≡ []) (is_over_values p) (run.Set chained set) _ (set_publishes_none (fails_in p tick.cycle) (run.Set chained set) _) refl
-    ∙ none_published k states h
-published_updated k p (run.Pid chained set integral last) tick states refs e h =
-    loop_publishes_none (tuning_of p) chained set integral last tick.dt_us _ states ∙ none_published k states h
-published_updated k p (run.Trajectory hold fresh start_us from points) tick states refs e h =
-    only_so (λ given. given.published ≡ []) (follows_points (kind_of p)) (run.Trajectory hold fresh start_us from points) _
-    (trajectory_publishes_none tick.time_us states hold fresh start_us from points) refl
-    ∙ none_published k states h
-published_updated k p (run.Limiter chained set at step) tick states refs e h =
-    limiter_publishes_none (bounds_of p) chained set at step tick.dt_us _ ∙ none_published k states h
-published_updated k p (run.Broadcaster last) tick states refs e h =
-    own_published (publishes (kind_of p)) last states ∙ ap (λ (kind : CtlKind). published_by kind states) e
+published_updated k p part tick states refs e h =
+    (update_gives p part tick states refs).published
+    ∙ ap (λ (tells : Bool). if tells && publishes (kind_of p) then states else []) (sym h)
+    ∙ ap (λ (kind : CtlKind). if publishes k && publishes kind then states else []) e
+    ∙ by_either (publishes k) states
 
 published_stepped : (ctl : CtlData) (p : Option Params) (r : Option RunData) (tick : Tick) (states : List ℤ) (refs : List Value)
     → IsSomeAnd p (λ x. Unit {0}) → IsSomeAnd r (λ x. Unit {0}) → IfSome p (λ q. kind_of q ≡ ctl.kind) → IfSome r (RunsAs ctl.kind)
@@ -247,57 +204,11 @@ published_is life ctl tick states refs mail n m k h can =
 
 -- ---- What it gives out after an error
 
--- it gave nothing, if it failed
-abbrev GivesNone : Updated → Type 0
-GivesNone given = given.done ≡ done.Error → given.outs ≡ []
-
-set_gives_none : (failing : Bool) (part : RunData) (outs : List Value) → GivesNone (set_update failing part outs)
-set_gives_none true part outs = λ e. refl
-set_gives_none false part outs = λ e. cc
-
-pid_never_errs : (tuning : Tuning) (chained : Bool) (set : Value) (integral : ℤ) (last : Option ℤ) (dt_us : ℕ) (targets : List Value) (states : List ℤ)
-    → (pid_update tuning chained set integral last dt_us targets states).done ≡ done.Error → ⊥
-pid_never_errs tuning chained set integral last dt_us [] states e = cc
-pid_never_errs tuning chained set integral last dt_us (Unset ∷ targets) states e = cc
-pid_never_errs tuning chained set integral last dt_us (Num target ∷ targets) [] e = cc
-pid_never_errs tuning chained set integral last dt_us (Num target ∷ targets) (state ∷ states) e = cc
-
-trajectory_never_errs : (time_us : ℕ) (states hold : List ℤ) (fresh : Bool) (start_us : ℕ) (from : List ℤ) (points : List Point2)
-    → (trajectory_update time_us states hold fresh start_us from points).done ≡ done.Error → ⊥
-trajectory_never_errs time_us states hold true start_us from points e = cc
-trajectory_never_errs time_us states hold false start_us from points e = cc
-
-loop_gives_none : (own : Option Tuning) (chained : Bool) (set : Value) (integral : ℤ) (last : Option ℤ) (dt_us : ℕ) (targets : List Value) (states : List ℤ)
-    → GivesNone (loop_update own chained set integral last dt_us targets states)
-loop_gives_none None chained set integral last dt_us targets states = λ e. refl
-loop_gives_none (Some tuning) chained set integral last dt_us targets states = λ e. absurd (pid_never_errs tuning chained set integral last dt_us targets states e)
-
-limiter_never_errs : (bounds : Bounds) (chained : Bool) (set : Value) (at step : ℤ) (dt_us : ℕ) (targets : List Value)
-    → (limiter_update bounds chained set at step dt_us targets).done ≡ done.Error → ⊥
-limiter_never_errs bounds chained set at step dt_us [] e = cc
-limiter_never_errs bounds chained set at step dt_us (target ∷ targets) e = cc
-
-limiter_gives_none : (own : Option Bounds) (chained : Bool) (set : Value) (at step : ℤ) (dt_us : ℕ) (targets : List Value)
-    → GivesNone (bounded_update own chained set at step dt_us targets)
-limiter_gives_none None chained set at step dt_us targets = λ e. refl
-limiter_gives_none (Some bounds) chained set at step dt_us targets = λ e. absurd (limiter_never_errs bounds chained set at step dt_us targets e)
-
-erred_updated : (p : Params) (part : RunData) (tick : Tick) (states : List ℤ) (refs : List Value) → GivesNone (updated p part tick states refs)
-erred_updated p (run.Set chained set) tick states refs =
-    only_so GivesNone (is_over_values p) (run.Set chained set) _ (set_gives_none (fails_in p tick.cycle) (run.Set chained set) _) (λ e. refl)
-erred_updated p (run.Pid chained set integral last) tick states refs = loop_gives_none (tuning_of p) chained set integral last tick.dt_us _ states
-erred_updated p (run.Trajectory hold fresh start_us from points) tick states refs =
-    only_so GivesNone (follows_points (kind_of p)) (run.Trajectory hold fresh start_us from points) _
-    (λ e. absurd (trajectory_never_errs tick.time_us states hold fresh start_us from points e)) (λ e. refl)
-erred_updated p (run.Limiter chained set at step) tick states refs = limiter_gives_none (bounds_of p) chained set at step tick.dt_us _
-erred_updated p (run.Broadcaster last) tick states refs =
-    only_so GivesNone (publishes (kind_of p)) (run.Broadcaster last) (publishes_states states) (λ e. refl) (λ e. refl)
-
 erred_stepped : (ctl : CtlData) (p : Option Params) (r : Option RunData) (tick : Tick) (states : List ℤ) (refs : List Value)
     → (step_with ctl p r tick states refs).done ≡ done.Error → (step_with ctl p r tick states refs).outs ≡ []
 erred_stepped ctl None r tick states refs e = refl
 erred_stepped ctl (Some q) None tick states refs e = refl
-erred_stepped ctl (Some q) (Some x) tick states refs e = erred_updated q x tick states refs e
+erred_stepped ctl (Some q) (Some x) tick states refs e = (update_gives q x tick states refs).erred e
 
 -- after an error it gives nothing
 pub erred_gives_none : (ctl : CtlData) (tick : Tick) (states : List ℤ) (refs : List Value) (mail : Option Mail)
