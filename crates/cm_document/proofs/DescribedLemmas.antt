@@ -8,7 +8,7 @@ use Rattle.cm_document.specs.Forms.{fault_in, word_in}
 use Rattle.cm_document.specs.Tables.{walk}
 use Rattle.cm_document.specs.Described.{joint_table, component_table, controller_table, controller_form, group_table, top_table, described_states, is_second, description_form, description_in, all_faults, fits_description}
 use Rattle.cm_document.specs.declared.description.CtlKind.{CtlKind}
-use Rattle.cm_document.specs.declared.description.CtlKind.TheVariants.{Pid}
+use Rattle.cm_document.specs.declared.description.CtlKind.TheVariants.{Forward}
 use Rattle.cm_document.proofs.FormLemmas.{Tells, Tells-first, Tells-fits, IsSound, IsSoundTable, sound_parts, walk-IsSound, chosen-Tells}
 
 joint-IsSound : IsSoundTable joint_table
@@ -21,7 +21,7 @@ component-IsSound = search (sound_parts, joint-IsSound) depth 20
 
 controller_table-IsSound : (states : List IfaceName) (kind : CtlKind) → IsSoundTable (controller_table states kind)
 unfolding controller_table
-controller_table-IsSound states Pid = search sound_parts depth 20
+controller_table-IsSound states Forward = search sound_parts depth 20
 controller_table-IsSound states _ = search sound_parts depth 20
 
 -- a controller: its type says which table

@@ -10,6 +10,7 @@ pub mod GivenLemmas
 pub mod ValueLemmas
 pub mod OwnLemmas
 pub mod KindLemmas
+pub mod BoundedLemmas
 pub mod ValidLemmas
 pub mod ValidParts
 pub mod PickLemmas

@@ -1,22 +1,13 @@
--- What each type's own keys give, and what the claims and the reads tell of parameters.
-use Rattle.std.proofs.Common.{◌≡◌, ℕ, pos, Bool, List, [], Option, Some, None, option_map, refl, sym, ap, ◌∙◌, arith}
-use Rattle.std.specs.Prelude.{IfSome, codes}
+-- What the claims and the reads tell of parameters.
+use Rattle.std.proofs.Common.{◌≡◌, ℕ, List, Option, Some, None, option_map, refl, sym, ap, ◌∙◌}
+use Rattle.std.specs.Prelude.{IfSome}
 use Rattle.std.specs.Option.{option_map_or}
-use Rattle.std.proofs.lemmas.Int.{ints}
 use Rattle.std.proofs.lemmas.Option.{same_Some}
-use Rattle.fixed_num.specs.Micro.{IsInRange, largest}
 use Rattle.iface_names.specs.declared.interface.IfaceName.{IfaceName}
-use Rattle.cm_document.specs.Described.{own_keys}
-use Rattle.cm_document.specs.Forms.{one, list_of, whole_in, quantity_in}
-use Rattle.cm_document.specs.Given.{AreWholes, AreNumbers}
+use Rattle.cm_document.specs.Given.{AreNumbers}
 use Rattle.cm_document.specs.Params.{count, reads_beside, exports_of, told_claims, told_reads, made_of, claims_of, references_by, shape_of, AreMadeOf}
-use Rattle.cm_document.specs.Tables.{required, defaulted}
-use Rattle.cm_document.specs.declared.description.CtlKind.{CtlKind}
-use Rattle.cm_document.specs.declared.description.CtlKind.TheVariants.{Forward, Pid, Mock, Transmission, Differential, Limiter}
 use Rattle.cm_document.specs.declared.description.Params.{Params}
 use Rattle.cm_document.specs.declared.description.Params.TheVariants as params
-use Rattle.cm_document.proofs.GivenLemmas.{Gives, filled_gives, next_key, any_key, required_gives, defaulted_gives}
-use Rattle.cm_document.proofs.ValueLemmas.{quantity_gives, wholes_give}
 
 -- ---- What claims and reads tell
 
@@ -58,45 +49,9 @@ pub shape_is : (own : Params) → shape_of own ≡ record { claims = claims_of o
 shape_is (params.Forward outs) = refl
 shape_is _ = refl
 
--- ---- What own keys give
+-- ---- Numbers
 
 -- what claims and reads tell is none of these
 pub made_numbers : (own : Params) (claims reads : List IfaceName) → AreNumbers own → AreNumbers (made_of own claims reads)
 made_numbers (params.Forward outs) claims reads numbers = record { within = numbers.within; wholes = numbers.wholes }
 made_numbers _ claims reads numbers = record { within = numbers.within; wholes = numbers.wholes }
-
--- a quantity
-quantity_key : (key : List ℕ) → Gives (required key (one quantity_in)).form.read IsInRange
-quantity_key key = required_gives key (one quantity_in) IsInRange quantity_gives
-
--- one that may be missing
-quantity_or_zero : (key : List ℕ) → Gives (defaulted key (one quantity_in) (pos 0)).form.read IsInRange
-quantity_or_zero key = defaulted_gives key (one quantity_in) (pos 0) IsInRange quantity_gives (omega (arith, ints), omega (arith, ints))
-
--- cycles
-cycles_key : (key : List ℕ) → Gives (defaulted key (list_of whole_in) []).form.read AreWholes
-cycles_key key = defaulted_gives key (list_of whole_in) [] AreWholes wholes_give tt
-
-pub own_give : (kind : CtlKind) → Gives (own_keys kind).form.read AreNumbers
-own_give Pid =
-    next_key _ _ IsInRange AreNumbers (next_key _ _ IsInRange _ (next_key _ _ IsInRange _ (next_key _ _ IsInRange _ (next_key _ _ IsInRange _
-    (filled_gives _ _ (λ kp p ki i kd d imax m omax o. record { within = (p, (i, (d, (m, (o, tt))))); wholes = tt }))
-    (quantity_or_zero (codes "kp"))) (quantity_or_zero (codes "ki"))) (quantity_or_zero (codes "kd"))) (quantity_or_zero (codes "imax")))
-    (defaulted_gives (codes "omax") (one quantity_in) largest IsInRange quantity_gives (omega (arith, ints), omega (arith, ints)))
-own_give Mock =
-    next_key _ _ AreWholes AreNumbers (next_key _ _ AreWholes _ (any_key {A = Bool} _ _ _
-    (filled_gives _ _ (λ refuse_config not_ready r fail_update f. record { within = tt; wholes = (r, (f, tt)) })))
-    (cycles_key (codes "not_ready"))) (cycles_key (codes "fail_update"))
-own_give Transmission =
-    next_key _ _ IsInRange AreNumbers (next_key _ _ IsInRange _
-    (filled_gives _ _ (λ reduction r offset o. record { within = (r, (o, tt)); wholes = tt }))
-    (quantity_key (codes "reduction"))) (quantity_or_zero (codes "offset"))
-own_give Differential =
-    next_key _ _ IsInRange AreNumbers (next_key _ _ IsInRange _ (next_key _ _ IsInRange _ (next_key _ _ IsInRange _
-    (filled_gives _ _ (λ reduction1 r reduction2 s offset1 o offset2 p. record { within = (r, (s, (o, (p, tt)))); wholes = tt }))
-    (quantity_key (codes "reduction1"))) (quantity_key (codes "reduction2"))) (quantity_or_zero (codes "offset1"))) (quantity_or_zero (codes "offset2"))
-own_give Limiter =
-    next_key _ _ IsInRange AreNumbers (next_key _ _ IsInRange _ (next_key _ _ IsInRange _ (next_key _ _ IsInRange _
-    (filled_gives _ _ (λ lowest l highest h vmax v amax a. record { within = (l, (h, (v, (a, tt)))); wholes = tt }))
-    (quantity_key (codes "min"))) (quantity_key (codes "max"))) (quantity_key (codes "vmax"))) (quantity_key (codes "amax"))
-own_give _ = filled_gives _ _ (record { within = tt; wholes = tt })

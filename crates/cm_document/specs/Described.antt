@@ -11,7 +11,7 @@ use Rattle.iface_names.specs.declared.interface.IfaceName.{IfaceName}
 use Rattle.iface_names.specs.declared.interface.IfaceName.TheVariants.{Joint}
 use Rattle.iface_names.specs.declared.kind.Kind.{Kind}
 use Rattle.iface_names.specs.declared.kind.Kind.TheVariants.{Position}
-use Rattle.cm_document.specs.Params.{made_of}
+use Rattle.cm_document.specs.Params.{claims_asked, reads_asked, made_of}
 use Rattle.cm_document.specs.Reading.{◌>>=◌}
 use Rattle.cm_document.specs.Vocabulary.{component_kinds, lives, lives_on_error, controller_kinds}
 use Rattle.cm_document.specs.Forms.{Form, one, list_of, list_after, tables_of, all_or_list, whole_in, quantity_in}
@@ -27,6 +27,8 @@ use Rattle.cm_document.specs.declared.description.CtlKind.TheVariants.{Limiter}
 use Rattle.cm_document.specs.declared.description.Description.{Description}
 use Rattle.cm_document.specs.declared.description.GroupDesc.{GroupDesc}
 use Rattle.cm_document.specs.declared.description.JointDesc.{JointDesc}
+use Rattle.cm_document.specs.declared.description.KeyAsked.{KeyAsked}
+use Rattle.cm_document.specs.declared.description.KeyAsked.TheVariants.{NoKey, Optional, Listed, ListedOrAll}
 use Rattle.cm_document.specs.declared.description.Params.{Params}
 use Rattle.cm_document.specs.declared.description.Params.TheVariants as params
 use Rattle.cm_document.specs.declared.faults.DescFault.{DescFault}
@@ -133,20 +135,21 @@ common make = filled (λ name type rate fallback. make (record { name = name; ra
     & defaulted (codes "update_rate") (one whole_in) 0
     & defaulted (codes "fallback") (list_of name_in) []
 
--- the key of its claims: a broadcaster has none, and a mock may leave it out
-abbrev pub claims_key : CtlKind → Table (List IfaceName)
-claims_key Broadcaster = filled []
-claims_key Mock = defaulted (codes "claims") (list_of interface_in) []
-claims_key _ = required (codes "claims") (list_of interface_in)
+-- the key of a list of interfaces, by what is asked there: the form of the list, and the form where `all` may stand
+abbrev pub links_key : KeyAsked → List ℕ → Form Data (List IfaceName) → Form Data (List IfaceName)
+    → Table (List IfaceName)
+links_key NoKey key list all = filled []
+links_key Optional key list all = defaulted key list []
+links_key Listed key list all = required key list
+links_key ListedOrAll key list all = required key all
 
--- the key of its reads, which a forward and what shapes a command have not; `all` stands for these states
+-- the key of its claims, for which `all` never stands
+abbrev pub claims_key : CtlKind → Table (List IfaceName)
+claims_key kind = links_key (claims_asked kind) (codes "claims") (list_of interface_in) (list_of interface_in)
+
+-- the key of its reads; `all` stands for these states
 abbrev pub reads_key : List IfaceName → CtlKind → Table (List IfaceName)
-reads_key states Pid = required (codes "reads") (list_of state_in)
-reads_key states Trajectory = required (codes "reads") (list_of state_in)
-reads_key states Limiter = required (codes "reads") (list_of state_in)
-reads_key states Broadcaster = required (codes "reads") (all_or_list states)
-reads_key states Mock = defaulted (codes "reads") (list_of state_in) []
-reads_key states _ = filled []
+reads_key states kind = links_key (reads_asked kind) (codes "reads") (list_of state_in) (all_or_list states)
 
 -- The keys that a type alone has give its own parameters. Those that its claims and reads tell are filled in behind.
 abbrev pub own_keys : CtlKind → Table Params

@@ -10,6 +10,8 @@ use Rattle.cm_document.specs.declared.description.CtlKind.{CtlKind}
 use Rattle.cm_document.specs.declared.description.CtlKind.TheVariants as kind
 use Rattle.cm_document.specs.declared.description.Exports.{Exports}
 use Rattle.cm_document.specs.declared.description.Exports.TheVariants.{Nothing, FirstRead, EachClaim}
+use Rattle.cm_document.specs.declared.description.KeyAsked.{KeyAsked}
+use Rattle.cm_document.specs.declared.description.KeyAsked.TheVariants.{NoKey, Optional, Listed, ListedOrAll}
 use Rattle.cm_document.specs.declared.description.Params.{Params}
 use Rattle.cm_document.specs.declared.description.Params.TheVariants.{Forward, Passthrough, Pid, Trajectory}
 use Rattle.cm_document.specs.declared.description.Params.TheVariants.{Broadcaster, Mock, Transmission, Differential}
@@ -65,6 +67,22 @@ same_controller_kind kind.Transmission kind.Transmission = true
 same_controller_kind kind.Differential kind.Differential = true
 same_controller_kind kind.Limiter kind.Limiter = true
 same_controller_kind _ _ = false
+
+-- what a description says at the key of its claims: a broadcaster has no such key, a mock may leave it out
+abbrev pub claims_asked : CtlKind → KeyAsked
+claims_asked kind.Broadcaster = NoKey
+claims_asked kind.Mock = Optional
+claims_asked _ = Listed
+
+-- What it says at the key of its reads: a pid, a trajectory and a limiter list them, a broadcaster may say `all`, and a
+-- mock may leave the key out. Every other kind has no such key.
+abbrev pub reads_asked : CtlKind → KeyAsked
+reads_asked kind.Pid = Listed
+reads_asked kind.Trajectory = Listed
+reads_asked kind.Limiter = Listed
+reads_asked kind.Broadcaster = ListedOrAll
+reads_asked kind.Mock = Optional
+reads_asked _ = NoKey
 
 -- how many claims a controller has at least: a broadcaster has none, a mock may have none, and a differential has two
 abbrev pub fewest_claims : Params → ℕ

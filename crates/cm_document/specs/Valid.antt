@@ -164,6 +164,11 @@ all_bounded prefix [] = Ok tt
 all_bounded prefix (each ∷ others) =
     ranged (is_bounded each) (prefix ++ each.key) >>= λ _. all_bounded prefix others
 
+-- the key of the first of these numbers that is below its least
+abbrev pub first_below : List Bounded → Option (List ℕ)
+first_below [] = None
+first_below (each ∷ others) = if is_bounded each then first_below others else Some each.key
+
 -- no limit is below its least
 abbrev pub limits_ranged : List ℕ → Params → Result (Unit {0}) CheckFault
 limits_ranged prefix params = all_bounded prefix (limits_at params)

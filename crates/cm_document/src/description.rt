@@ -1,11 +1,11 @@
 //! The description of a robot: its components with their joints, and its controllers.
 
-ghost use Rattle.std.specs.Prelude.{◌≡◌, take, IfOk};
-ghost use Rattle.cm_document.specs.Links.{exported_for, reference_for};
-ghost use Rattle.cm_document.specs.Params.{kind_of, exports_of, fewest_claims, most_claims, reads_beside};
-ghost use Rattle.cm_document.specs.Params.{claimed_kind, read_kind, may_carry, told_claims, told_reads, made_of};
-ghost use Rattle.cm_document.specs.Places.{kinds_of};
+ghost use Rattle.std.specs.Prelude.{◌≡◌, option_map};
+ghost use Rattle.cm_document.specs.Params.{kind_of, claims_asked, reads_asked, exports_of, fewest_claims, most_claims, reads_beside};
+ghost use Rattle.cm_document.specs.Params.{claimed_kind, read_kind, may_carry, limits_at, told_claims, told_reads, made_of};
+ghost use Rattle.cm_document.specs.Valid.{first_below};
 
+use crate::bounded::first_below;
 use crate::carried::{count, first_kind, is_motion};
 use crate::cycles::Cycles;
 use crate::life::Life;
@@ -13,7 +13,6 @@ use crate::limits::MOST_CLAIMS_OF_ONE;
 use fixed_num::Fx;
 use iface_names::{IfaceName, Kind, Name};
 use sequence::{Seq, Shared};
-use std::alloc::AllocError;
 
 /// What is described: the manager's rate, how long it runs, the components and the controllers.
 #[derive(Clone, Debug, PartialEq, Eq, Drop)]
@@ -92,19 +91,6 @@ pub struct JointDesc {
     pub states: Seq<Kind>,
 }
 
-impl JointDesc {
-    /// The kinds of its command interfaces, or else of its state interfaces.
-    pub fn kinds(&self, is_command: bool) -> &[Kind]
-        ensures { result.now ≡ kinds_of is_command self.now }
-    {
-        if is_command {
-            self.commands.as_slice()
-        } else {
-            self.states.as_slice()
-        }
-    }
-}
-
 /// What a controller computes.
 #[derive(Clone, Copy, Debug, PartialEq, Eq)]
 pub enum CtlKind {
@@ -155,6 +141,44 @@ pub enum Exports {
     EachClaim,
 }
 
+/// What a description has to say at the key of a controller's claims, or of its reads.
+#[derive(Clone, Copy, Debug, PartialEq, Eq)]
+pub enum KeyAsked {
+    /// Controllers of the kind have no such key.
+    NoKey,
+    /// A list, or nothing.
+    Optional,
+    /// A list.
+    Listed,
+    /// A list, or `all`.
+    ListedOrAll,
+}
+
+impl CtlKind {
+    /// What stands at the key of its claims.
+    pub fn claims_asked(self) -> KeyAsked
+        ensures { result ≡ claims_asked self }
+    {
+        match self {
+            CtlKind::Broadcaster => KeyAsked::NoKey,
+            CtlKind::Mock => KeyAsked::Optional,
+            _ => KeyAsked::Listed,
+        }
+    }
+
+    /// What stands at the key of its reads.
+    pub fn reads_asked(self) -> KeyAsked
+        ensures { result ≡ reads_asked self }
+    {
+        match self {
+            CtlKind::Pid | CtlKind::Trajectory | CtlKind::Limiter => KeyAsked::Listed,
+            CtlKind::Broadcaster => KeyAsked::ListedOrAll,
+            CtlKind::Mock => KeyAsked::Optional,
+            _ => KeyAsked::NoKey,
+        }
+    }
+}
+
 /// A described controller.
 #[derive(Clone, Debug, PartialEq, Eq, Drop)]
 pub struct CtlDesc {
@@ -171,45 +195,6 @@ pub struct CtlDesc {
     pub reads: Shared<Seq<IfaceName>>,
     /// What it computes, with its parameters.
     pub params: Params,
-}
-
-impl CtlDesc {
-    /// The state interfaces that it reads, in written order.
-    pub fn reads(&self) -> &[IfaceName]
-        ensures { result.now ≡ self.now.reads }
-    {
-        self.reads.get().as_slice()
-    }
-
-    /// The interfaces for which it exports references, one for each.
-    pub fn exported_for(&self) -> &[IfaceName]
-        ensures { result.now ≡ exported_for self.now.params self.now }
-    {
-        match self.params.exports() {
-            Exports::Nothing => &[],
-            Exports::FirstRead => first(self.reads()),
-            Exports::EachClaim => self.claims.as_slice(),
-        }
-    }
-
-    /// The reference that it exports for one of these.
-    pub fn reference_for(&self, own: &IfaceName) -> Result<IfaceName, AllocError>
-        ensures { IfOk result (λ reference. reference ≡ reference_for self.now.name own.now) }
-    {
-        let (IfaceName::Joint { joint, kind } | IfaceName::Reference { joint, kind, .. }) = own;
-        Ok(IfaceName::Reference {
-            controller: self.name.clone()?,
-            joint: joint.clone()?,
-            kind: *kind,
-        })
-    }
-}
-
-/// The first of these alone, or none where there is none.
-fn first(interfaces: &[IfaceName]) -> &[IfaceName]
-    ensures { result.now ≡ take 1 interfaces.now }
-{
-    &interfaces[..interfaces.len().min(1)]
 }
 
 /// A controller's parameters, by its kind. A count of claims or reads is their number, or 4,294,967,295 where that is smaller.
@@ -378,6 +363,39 @@ impl Params {
     {
         match self {
             Params::Limiter { .. } => Some(Kind::Position),
+            _ => None,
+        }
+    }
+
+    /// The key of the first of its numbers that is below the least that it may be; None if there is none.
+    pub fn below_least(&self) -> Option<&'static str>
+        ensures { option_map (λ key. key.now) result ≡ first_below (limits_at self.now) }
+    {
+        match self {
+            Params::Pid { imax, omax, .. } => {
+                first_below(&[("imax", 0, imax.micro()), ("omax", 0, omax.micro())])
+            }
+            Params::Transmission { reduction, .. } => {
+                first_below(&[("reduction", 1, reduction.micro())])
+            }
+            Params::Differential {
+                reduction1,
+                reduction2,
+                ..
+            } => first_below(&[
+                ("reduction1", 1, reduction1.micro()),
+                ("reduction2", 1, reduction2.micro()),
+            ]),
+            Params::Limiter {
+                min,
+                max,
+                vmax,
+                amax,
+            } => first_below(&[
+                ("max", min.micro(), max.micro()),
+                ("vmax", 0, vmax.micro()),
+                ("amax", 0, amax.micro()),
+            ]),
             _ => None,
         }
     }

@@ -8,7 +8,7 @@ pub use checked::Checked;
 pub use cycles::Cycles;
 pub use description::{
     CONTROLLER_KINDS, CompDesc, CompKind, CtlDesc, CtlKind, Description, Exports, GroupDesc,
-    JointDesc, NUMBER_OF_KINDS, Params,
+    JointDesc, KeyAsked, NUMBER_OF_KINDS, Params,
 };
 pub use document::Document;
 pub use faults::{CheckFault, DescFault, DescProblem, DocumentFault, ScriptFault, What, Wrong};
@@ -26,6 +26,7 @@ pub use shape::Shape;
 pub use text::Text;
 pub use vocabulary::{COMPONENT_KINDS, LIVES, LIVES_ON_ERROR, STRICTNESSES, VERBS, meaning_of};
 
+mod bounded;
 mod call;
 mod carried;
 mod checked;
@@ -37,6 +38,7 @@ mod faults;
 pub mod laws;
 mod life;
 mod limits;
+mod linked;
 mod picks;
 mod script;
 mod shape;

@@ -1,6 +1,6 @@
 //! Numbers and numbers of items within their ranges, in the order of the walk.
 
-ghost use Rattle.std.specs.Prelude.{◌≡◌, ◌++◌, codes, length, pos, int_le, IfOk};
+ghost use Rattle.std.specs.Prelude.{◌≡◌, ◌++◌, codes, length, IfOk};
 ghost use Rattle.std.specs.List.{list_all};
 ghost use Rattle.sequence.specs.Answers.{Answers};
 ghost use Rattle.iface_names.specs.Interfaces.{same_kind};
@@ -207,45 +207,14 @@ fn reads_fit(params: &Params, claims: usize, count: usize) -> bool
     }
 }
 
-/// No limit of a pid or a limiter is negative, the ends of a limiter are in order, and a reduction is above 0.
+/// No limit of a controller is below its least: else BadRange of the first that is.
 fn limits_ranged(alloc: Global, prefix: &str, params: &Params) -> Result<(), CheckFault>
     ensures { Answers CheckFault.Memory (limits_ranged prefix.now params.now) result }
 {
-    match params {
-        Params::Pid { imax, omax, .. } => {
-            ranged(alloc, not_negative(*imax), prefix, "imax")?;
-            ranged(alloc, not_negative(*omax), prefix, "omax")
-        }
-        Params::Transmission { reduction, .. } => {
-            ranged(alloc, is_positive(*reduction), prefix, "reduction")
-        }
-        Params::Differential {
-            reduction1,
-            reduction2,
-            ..
-        } => {
-            ranged(alloc, is_positive(*reduction1), prefix, "reduction1")?;
-            ranged(alloc, is_positive(*reduction2), prefix, "reduction2")
-        }
-        Params::Limiter {
-            min,
-            max,
-            vmax,
-            amax,
-        } => {
-            ranged(alloc, min.micro() <= max.micro(), prefix, "max")?;
-            ranged(alloc, not_negative(*vmax), prefix, "vmax")?;
-            ranged(alloc, not_negative(*amax), prefix, "amax")
-        }
-        _ => Ok(()),
+    match params.below_least() {
+        Some(key) => ranged(alloc, false, prefix, key),
+        None => Ok(()),
     }
-}
-
-/// Above 0, which is one micro-unit at least.
-fn is_positive(number: Fx) -> bool
-    ensures { result ≡ int_le (pos 1) number }
-{
-    1 <= number.micro()
 }
 
 /// The ranges of each group.

@@ -1,31 +1,32 @@
--- The tables of controllers are read back, kind by kind.
-use Rattle.std.proofs.Common.{◌≡◌, ℕ, ◌≤◌, ℤ, pos, Bool, true, false, List, [], ◌++◌, length, None, Ok, refl, ap, ◌∙◌, arith}
+-- The tables of controllers are read back, by what each type asks at its keys.
+use Rattle.std.proofs.Common.{◌≡◌, ℕ, zero, suc, ◌≤◌, Bool, true, false, List, [], ◌++◌, length, Option, Some, None, Ok, refl, sym, ap, ◌∙◌, arith}
 use Rattle.std.specs.Prelude.{codes, nat_le, ◌==◌, ◌&&◌}
 use Rattle.std.specs.List.{AllByRecursion}
+use Rattle.std.specs.Option.{option_map_or}
 use Rattle.std.proofs.lemmas.Bool.{leb-true, eqb-true, and_parts}
 use Rattle.std.proofs.lemmas.List.{nil_from_length}
 use Rattle.toml.specs.Data.{Members, string, get_member}
-use Rattle.fixed_num.specs.Micro.{largest, IsInRange}
 use Rattle.iface_names.specs.Interfaces.{interface_text}
 use Rattle.iface_names.specs.declared.interface.IfaceName.{IfaceName}
-use Rattle.iface_names.specs.declared.kind.Kind.TheVariants.{Position}
-use Rattle.cm_document.specs.Given.{IsName, IsWhole, IsNamed, IsOfJoint, AreNumbers}
-use Rattle.cm_document.specs.Params.{kind_of, fewest_claims, most_claims, made_of}
+use Rattle.cm_document.specs.Given.{IsName, IsWhole, IsNamed, IsOfJoint}
+use Rattle.cm_document.specs.Params.{kind_of, claims_asked, reads_asked, fewest_claims, most_claims, reads_beside, made_of}
 use Rattle.cm_document.specs.Reading.{◌>>=◌}
 use Rattle.cm_document.specs.Vocabulary.{controller_kinds, controller_word}
-use Rattle.cm_document.specs.Forms.{one, list_of, all_or_list, whole_in, quantity_in, boolean_in, name_in, word_in, interface_in, state_in}
+use Rattle.cm_document.specs.Forms.{one, list_of, all_or_list, whole_in, name_in, word_in, interface_in, state_in}
 use Rattle.cm_document.specs.Tables.{required_read, defaulted_read, unlisted, walk}
-use Rattle.cm_document.specs.Described.{Headed, a_headed, claims_key, reads_key, own_keys, controller_table, type_of, controller_form}
+use Rattle.cm_document.specs.Described.{Headed, a_headed, links_key, claims_key, reads_key, own_keys, controller_table, type_of, controller_form}
 use Rattle.cm_document.specs.declared.description.CtlDesc.{CtlDesc}
 use Rattle.cm_document.specs.declared.description.CtlKind.{CtlKind}
 use Rattle.cm_document.specs.declared.description.CtlKind.TheVariants as kind
+use Rattle.cm_document.specs.declared.description.KeyAsked.{KeyAsked}
+use Rattle.cm_document.specs.declared.description.KeyAsked.TheVariants.{NoKey, Optional, Listed, ListedOrAll}
 use Rattle.cm_document.specs.declared.description.Params.{Params}
 use Rattle.cm_document.specs.declared.description.Params.TheVariants as params
-use Rattle.cm_document.specs.declared.limits.TheConstants.{MOST_CLAIMS_OF_ONE}
-use Rattle.desc_text.specs.Printed.{Row, table_of, text, whole, names, quantity, interfaces, controller_rows, controller_tree}
+use Rattle.desc_text.specs.Printed.{Row, table_of, text, whole, names, interfaces, reads_value, controller_tree}
 use Rattle.desc_text.specs.Readable.{Fits, ControllerIsReadable}
 use Rattle.desc_text.proofs.RowLemmas.{value_at, none_besides}
-use Rattle.desc_text.proofs.BackLemmas.{name_back, whole_back, quantity_back, controller_word_back, interface_back, state_back, each_so, array_back, list_back, full_list_back, cycles_back, required_at, defaulted_at, one_back}
+use Rattle.desc_text.proofs.BackLemmas.{name_back, whole_back, controller_word_back, interface_back, state_back, each_so, array_back, list_back, full_list_back, required_at, defaulted_at, one_back}
+use Rattle.desc_text.proofs.OwnKeyLemmas.{rows_of, own_at}
 
 -- ---- What every type has
 
@@ -74,14 +75,6 @@ ClaimsRead prefix ms claims = required_read (list_of interface_in) (prefix ++ co
 abbrev ReadsRead : List ℕ → Members → List IfaceName → Type 0
 ReadsRead prefix ms reads = required_read (list_of state_in) (prefix ++ codes "reads") (get_member (codes "reads") ms) ≡ Ok reads
 
--- a quantity of a table is read as this
-abbrev QuantityRead : List ℕ → List ℕ → Members → ℤ → Type 0
-QuantityRead key prefix ms q = required_read (one quantity_in) (prefix ++ key) (get_member key ms) ≡ Ok q
-
--- so is one that may be missing
-abbrev QuantityOr : ℤ → List ℕ → List ℕ → Members → ℤ → Type 0
-QuantityOr default key prefix ms q = defaulted_read (one quantity_in) default (prefix ++ key) (get_member key ms) ≡ Ok q
-
 -- claims are read back
 claims_back : (rows : List Row) (prefix : List ℕ) (claims : List IfaceName) → AllByRecursion IsNamed claims → 1 ≤ length claims
     → value_at (codes "claims") rows None ≡ interfaces claims → ClaimsRead prefix (table_of rows) claims
@@ -98,148 +91,156 @@ reads_back rows prefix reads named some e =
     (ap (required_read (list_of state_in) (prefix ++ codes "reads")) e
     ∙ full_list_back state_in (λ i. string (interface_text i)) (prefix ++ codes "reads") reads (each_so IsOfJoint _ state_back reads named) some)
 
--- a quantity is read back
-quantity_at : (key : List ℕ) (rows : List Row) (prefix : List ℕ) (q : ℤ) → IsInRange q → value_at key rows None ≡ quantity q
-    → QuantityRead key prefix (table_of rows) q
-quantity_at key rows prefix q within e =
-    required_at key (one quantity_in) rows (prefix ++ key) q (ap (required_read (one quantity_in) (prefix ++ key)) e ∙ one_back _ _ _ (quantity_back q within))
-
--- so is one that may be missing
-quantity_or : (default : ℤ) (key : List ℕ) (rows : List Row) (prefix : List ℕ) (q : ℤ) → IsInRange q → value_at key rows None ≡ quantity q
-    → QuantityOr default key prefix (table_of rows) q
-quantity_or default key rows prefix q within e =
-    defaulted_at key (one quantity_in) default rows (prefix ++ key) q
-    (ap (defaulted_read (one quantity_in) default (prefix ++ key)) e ∙ one_back _ _ _ (quantity_back q within))
-
 -- ---- What depends on the type
-
--- the table of a controller with this head and these parameters
-abbrev rows_of : Headed → List IfaceName → List IfaceName → Params → List Row
-rows_of head claims reads p = controller_rows (a_headed head claims reads p)
-
--- a controller of a type without a key for them reads nothing,
-no_reads : (reads : List IfaceName) → (length reads == 0) ≡ true → reads ≡ []
-no_reads reads none = nil_from_length reads (eqb-true (length reads) 0 none)
-
--- and one that may claim nothing claims nothing
-no_claims : (claims : List IfaceName) → (nat_le 0 (length claims) && nat_le (length claims) 0) ≡ true → claims ≡ []
-no_claims claims none = nil_from_length claims (omega (arith, leb-true (length claims) 0 (and_parts (nat_le 0 (length claims)) (nat_le (length claims) 0) none).1))
 
 -- the head of a printed table is read back
 head_at : (head : Headed) (claims reads : List IfaceName) (p : Params) → HeadIsReadable head → (prefix : List ℕ)
     → HeadReads prefix (table_of (rows_of head claims reads p)) head (kind_of p)
-head_at head claims reads (params.Pid kp ki kd imax omax) can prefix = head_back head can kind.Pid (rows_of head claims reads (params.Pid kp ki kd imax omax)) prefix refl refl refl refl
+head_at head claims reads (params.Forward outs) can prefix = head_back head can kind.Forward (rows_of head claims reads (params.Forward outs)) prefix refl refl refl refl
 head_at head claims reads p can prefix = head_back head can (kind_of p) (rows_of head claims reads p) prefix refl refl refl refl
+
+-- these interfaces, if there is a key for them
+abbrev kept : KeyAsked → List IfaceName → List IfaceName
+kept NoKey links = []
+kept _ links = links
+
+-- so many claims are as many as is asked at their key
+abbrev suits_claims : KeyAsked → ℕ → ℕ → Bool
+suits_claims NoKey fewest most = most == 0
+suits_claims Optional fewest most = true
+suits_claims _ fewest most = nat_le 1 fewest
+
+claims_suit : (p : Params) → suits_claims (claims_asked (kind_of p)) (fewest_claims p) (most_claims p) ≡ true
+claims_suit (params.Forward outs) = refl
+claims_suit _ = refl
+
+-- no reads are none, if there is no key for them,
+abbrev suits_none : KeyAsked → Option ℕ → Bool
+suits_none NoKey beside = option_map_or (λ reads. reads == 0) beside false
+suits_none _ beside = true
+
+none_suit : (p : Params) (claims : ℕ) → suits_none (reads_asked (kind_of p)) (reads_beside p claims) ≡ true
+none_suit (params.Forward outs) claims = refl
+none_suit _ claims = refl
+
+-- and at least so many, by what is asked at their key,
+abbrev fewest_read : KeyAsked → ℕ
+fewest_read Listed = 1
+fewest_read _ = 0
+
+-- where there is a claim for each,
+some_claimed : (p : Params) → fewest_read (reads_asked (kind_of p)) ≤ fewest_claims p
+some_claimed (params.Forward outs) = omega arith
+some_claimed _ = omega arith
+
+-- beside any number of these
+some_beside : (p : Params) (others : ℕ) → fewest_read (reads_asked (kind_of p)) ≤ option_map_or (λ reads. reads) (reads_beside p (suc others)) 0
+some_beside (params.Forward outs) others = omega arith
+some_beside _ others = omega arith
+
+-- what is claimed has a key,
+claims_kept : (asked : KeyAsked) (fewest most : ℕ) (claims : List IfaceName) → suits_claims asked fewest most ≡ true
+    → (nat_le fewest (length claims) && nat_le (length claims) most) ≡ true → claims ≡ kept asked claims
+claims_kept NoKey fewest most claims suits fits =
+    let both = and_parts (nat_le fewest (length claims)) (nat_le (length claims) most) fits in
+    nil_from_length claims (omega (arith, eqb-true most 0 suits, leb-true (length claims) most both.1))
+claims_kept _ fewest most claims suits fits = refl
+
+-- so has what is read
+reads_kept : (asked : KeyAsked) (beside : Option ℕ) (reads : List IfaceName) → suits_none asked beside ≡ true
+    → option_map_or (λ n. length reads == n) beside true ≡ true → reads ≡ kept asked reads
+reads_kept NoKey None reads suits fits = cc
+reads_kept NoKey (Some n) reads suits fits = nil_from_length reads (omega (arith, eqb-true n 0 suits, eqb-true (length reads) n fits))
+reads_kept _ beside reads suits fits = refl
+
+-- a table of what has a key has no other key
+listed_kept : (states : List IfaceName) (head : Headed) (claims reads : List IfaceName) (p : Params)
+    → unlisted (controller_table states (kind_of p)).keys
+    (table_of (rows_of head (kept (claims_asked (kind_of p)) claims) (kept (reads_asked (kind_of p)) reads) p)) ≡ []
+unfolding controller_table
+listed_kept states head claims reads (params.Forward outs) =
+    none_besides (controller_table states kind.Forward).keys (rows_of head claims [] (params.Forward outs)) refl
+listed_kept states head claims reads p =
+    none_besides (controller_table states (kind_of p)).keys (rows_of head (kept (claims_asked (kind_of p)) claims) (kept (reads_asked (kind_of p)) reads) p) refl
 
 -- it has no key but those of its type
 listed_at : (states : List IfaceName) (head : Headed) (claims reads : List IfaceName) (p : Params) → Fits p claims reads
     → unlisted (controller_table states (kind_of p)).keys (table_of (rows_of head claims reads p)) ≡ []
-unfolding controller_table
-listed_at states head claims reads (params.Pid kp ki kd imax omax) fits = none_besides (controller_table states kind.Pid).keys (rows_of head claims reads (params.Pid kp ki kd imax omax)) refl
-listed_at states head claims reads (params.Trajectory outs) fits = none_besides (controller_table states kind.Trajectory).keys (rows_of head claims reads (params.Trajectory outs)) refl
-listed_at states head claims reads (params.Limiter lowest highest vmax amax) fits =
-    none_besides (controller_table states kind.Limiter).keys (rows_of head claims reads (params.Limiter lowest highest vmax amax)) refl
-listed_at states head claims reads (params.Mock outs refuse_config not_ready fail_update) fits =
-    none_besides (controller_table states kind.Mock).keys (rows_of head claims reads (params.Mock outs refuse_config not_ready fail_update)) refl
-listed_at states head claims reads (params.Broadcaster ins) fits =
-    rw (no_claims claims fits.claims) (none_besides (controller_table states kind.Broadcaster).keys (rows_of head [] reads (params.Broadcaster ins)) refl)
 listed_at states head claims reads p fits =
-    rw (no_reads reads fits.reads) (none_besides (controller_table states (kind_of p)).keys (rows_of head claims [] p) refl)
+    let keys = (controller_table states (kind_of p)).keys in
+    let claimed = claims_kept (claims_asked (kind_of p)) (fewest_claims p) (most_claims p) claims (claims_suit p) fits.claims in
+    let read = reads_kept (reads_asked (kind_of p)) (reads_beside p (length claims)) reads (none_suit p (length claims)) fits.reads in
+    ap (λ (cs : List IfaceName). unlisted keys (table_of (rows_of head cs reads p))) claimed
+    ∙ ap (λ (rs : List IfaceName). unlisted keys (table_of (rows_of head (kept (claims_asked (kind_of p)) claims) rs p))) read
+    ∙ listed_kept states head claims reads p
 
--- its claims are read back
+-- the row of its claims
+claims_row : (head : Headed) (claims reads : List IfaceName) (p : Params) → value_at (codes "claims") (rows_of head claims reads p) None ≡ interfaces claims
+claims_row head claims reads (params.Forward outs) = refl
+claims_row head claims reads p = refl
+
+-- they are read back, whatever is asked at their key
+claims_by : (asked : KeyAsked) (rows : List Row) (prefix : List ℕ) (claims : List IfaceName) (fewest most : ℕ) → suits_claims asked fewest most ≡ true
+    → (nat_le fewest (length claims) && nat_le (length claims) most) ≡ true → AllByRecursion IsNamed claims → value_at (codes "claims") rows None ≡ interfaces claims
+    → (links_key asked (codes "claims") (list_of interface_in) (list_of interface_in)).form.read prefix (table_of rows) ≡ Ok claims
+claims_by NoKey rows prefix claims fewest most suits fits named e = ap Ok (sym (claims_kept NoKey fewest most claims suits fits))
+claims_by Optional rows prefix claims fewest most suits fits named e =
+    defaulted_at (codes "claims") (list_of interface_in) [] rows (prefix ++ codes "claims") claims
+    (ap (defaulted_read (list_of interface_in) [] (prefix ++ codes "claims")) e
+    ∙ list_back interface_in (λ i. string (interface_text i)) (prefix ++ codes "claims") claims (each_so IsNamed _ interface_back claims named))
+claims_by _ rows prefix claims fewest most suits fits named e =
+    let both = and_parts (nat_le fewest (length claims)) (nat_le (length claims) most) fits in
+    claims_back rows prefix claims named (omega (arith, leb-true 1 fewest suits, leb-true fewest (length claims) both.0)) e
+
 claims_at : (head : Headed) (claims reads : List IfaceName) (p : Params) → Fits p claims reads → AllByRecursion IsNamed claims → (prefix : List ℕ)
     → (claims_key (kind_of p)).form.read prefix (table_of (rows_of head claims reads p)) ≡ Ok claims
-claims_at head claims reads (params.Broadcaster ins) fits named prefix = rw (no_claims claims fits.claims) refl
-claims_at head claims reads (params.Mock outs refuse_config not_ready fail_update) fits named prefix =
-    defaulted_at (codes "claims") (list_of interface_in) [] (rows_of head claims reads (params.Mock outs refuse_config not_ready fail_update)) (prefix ++ codes "claims") claims
-    (list_back interface_in (λ i. string (interface_text i)) (prefix ++ codes "claims") claims (each_so IsNamed _ interface_back claims named))
 claims_at head claims reads p fits named prefix =
-    let both = and_parts (nat_le (fewest_claims p) (length claims)) (nat_le (length claims) (most_claims p)) fits.claims in
-    claims_back (rows_of head claims reads p) prefix claims named (omega (arith, leb-true (fewest_claims p) (length claims) both.0)) refl
+    claims_by (claims_asked (kind_of p)) (rows_of head claims reads p) prefix claims (fewest_claims p) (most_claims p) (claims_suit p) fits.claims named (claims_row head claims reads p)
 
--- and its reads, which are as many as beside its claims
+-- the row of its reads
+reads_there : (head : Headed) (claims reads : List IfaceName) (p : Params)
+    → value_at (codes "reads") (rows_of head claims reads p) None ≡ reads_value (reads_asked (kind_of p)) reads
+reads_there head claims reads (params.Forward outs) = refl
+reads_there head claims reads p = refl
+
+-- as many are read as are told of
+told_read : (beside : Option ℕ) (reads : List IfaceName) → 1 ≤ option_map_or (λ n. n) beside 0 → option_map_or (λ n. length reads == n) beside true ≡ true → 1 ≤ length reads
+told_read None reads some read = absurd (omega (arith, some))
+told_read (Some n) reads some read = omega (arith, some, eqb-true (length reads) n read)
+
+-- reads that must be listed are some
+some_listed : (fewest most claims : ℕ) (beside : ℕ → Option ℕ) (reads : List IfaceName) → 1 ≤ fewest
+    → ((others : ℕ) → 1 ≤ option_map_or (λ n. n) (beside (suc others)) 0) → (nat_le fewest claims && nat_le claims most) ≡ true
+    → option_map_or (λ n. length reads == n) (beside claims) true ≡ true → 1 ≤ length reads
+some_listed fewest most zero beside reads claimed some fits read =
+    absurd (omega (arith, claimed, leb-true fewest 0 (and_parts (nat_le fewest 0) (nat_le 0 most) fits).0))
+some_listed fewest most (suc others) beside reads claimed some fits read = told_read (beside (suc others)) reads (some others) read
+
+-- they are read back, whatever is asked at their key
+reads_by : (asked : KeyAsked) (states : List IfaceName) (rows : List Row) (prefix : List ℕ) (claims reads : List IfaceName) (fewest most : ℕ) (beside : ℕ → Option ℕ)
+    → suits_none asked (beside (length claims)) ≡ true → fewest_read asked ≤ fewest
+    → ((others : ℕ) → fewest_read asked ≤ option_map_or (λ n. n) (beside (suc others)) 0)
+    → (nat_le fewest (length claims) && nat_le (length claims) most) ≡ true → option_map_or (λ n. length reads == n) (beside (length claims)) true ≡ true
+    → AllByRecursion IsOfJoint reads → value_at (codes "reads") rows None ≡ reads_value asked reads
+    → (links_key asked (codes "reads") (list_of state_in) (all_or_list states)).form.read prefix (table_of rows) ≡ Ok reads
+reads_by NoKey states rows prefix claims reads fewest most beside none claimed some fits read named e =
+    ap Ok (sym (reads_kept NoKey (beside (length claims)) reads none read))
+reads_by Optional states rows prefix claims reads fewest most beside none claimed some fits read named e =
+    defaulted_at (codes "reads") (list_of state_in) [] rows (prefix ++ codes "reads") reads
+    (ap (defaulted_read (list_of state_in) [] (prefix ++ codes "reads")) e
+    ∙ list_back state_in (λ i. string (interface_text i)) (prefix ++ codes "reads") reads (each_so IsOfJoint _ state_back reads named))
+reads_by Listed states rows prefix claims reads fewest most beside none claimed some fits read named e =
+    reads_back rows prefix reads named (some_listed fewest most (length claims) beside reads claimed some fits read) e
+reads_by ListedOrAll states rows prefix claims reads fewest most beside none claimed some fits read named e =
+    required_at (codes "reads") (all_or_list states) rows (prefix ++ codes "reads") reads
+    (ap (required_read (all_or_list states) (prefix ++ codes "reads")) e
+    ∙ array_back state_in (λ i. string (interface_text i)) (prefix ++ codes "reads") reads (each_so IsOfJoint _ state_back reads named))
+
 reads_at : (states : List IfaceName) (head : Headed) (claims reads : List IfaceName) (p : Params) → Fits p claims reads → AllByRecursion IsOfJoint reads → (prefix : List ℕ)
     → (reads_key states (kind_of p)).form.read prefix (table_of (rows_of head claims reads p)) ≡ Ok reads
-reads_at states head claims reads (params.Pid kp ki kd imax omax) fits named prefix =
-    reads_back (rows_of head claims reads (params.Pid kp ki kd imax omax)) prefix reads named (omega (arith, eqb-true (length reads) 1 fits.reads)) refl
-reads_at states head claims reads (params.Limiter lowest highest vmax amax) fits named prefix =
-    reads_back (rows_of head claims reads (params.Limiter lowest highest vmax amax)) prefix reads named (omega (arith, eqb-true (length reads) 1 fits.reads)) refl
-reads_at states head claims reads (params.Trajectory outs) fits named prefix =
-    let both = and_parts (nat_le 1 (length claims)) (nat_le (length claims) MOST_CLAIMS_OF_ONE) fits.claims in
-    reads_back (rows_of head claims reads (params.Trajectory outs)) prefix reads named
-    (omega (arith, leb-true 1 (length claims) both.0, eqb-true (length reads) (length claims) fits.reads)) refl
-reads_at states head claims reads (params.Broadcaster ins) fits named prefix =
-    required_at (codes "reads") (all_or_list states) (rows_of head claims reads (params.Broadcaster ins)) (prefix ++ codes "reads") reads
-    (array_back state_in (λ i. string (interface_text i)) (prefix ++ codes "reads") reads (each_so IsOfJoint _ state_back reads named))
-reads_at states head claims reads (params.Mock outs refuse_config not_ready fail_update) fits named prefix =
-    defaulted_at (codes "reads") (list_of state_in) [] (rows_of head claims reads (params.Mock outs refuse_config not_ready fail_update)) (prefix ++ codes "reads") reads
-    (list_back state_in (λ i. string (interface_text i)) (prefix ++ codes "reads") reads (each_so IsOfJoint _ state_back reads named))
-reads_at states head claims reads p fits named prefix = rw (no_reads reads fits.reads) refl
-
--- ---- The keys that a type alone has
-
-pid_read : (prefix : List ℕ) (ms : Members) (kp ki kd imax omax : ℤ)
-    → QuantityOr (pos 0) (codes "kp") prefix ms kp → QuantityOr (pos 0) (codes "ki") prefix ms ki → QuantityOr (pos 0) (codes "kd") prefix ms kd
-    → QuantityOr (pos 0) (codes "imax") prefix ms imax → QuantityOr largest (codes "omax") prefix ms omax
-    → (own_keys kind.Pid).form.read prefix ms ≡ Ok (params.Pid kp ki kd imax omax)
-pid_read prefix ms kp ki kd imax omax p i d m o = rw (p, i, d, m, o) refl
-
-mock_read : (prefix : List ℕ) (ms : Members) (refuse_config : Bool) (not_ready fail_update : List ℕ)
-    → defaulted_read (one boolean_in) false (prefix ++ codes "refuse_config") (get_member (codes "refuse_config") ms) ≡ Ok refuse_config
-    → defaulted_read (list_of whole_in) [] (prefix ++ codes "not_ready") (get_member (codes "not_ready") ms) ≡ Ok not_ready
-    → defaulted_read (list_of whole_in) [] (prefix ++ codes "fail_update") (get_member (codes "fail_update") ms) ≡ Ok fail_update
-    → (own_keys kind.Mock).form.read prefix ms ≡ Ok (params.Mock 0 refuse_config not_ready fail_update)
-mock_read prefix ms refuse_config not_ready fail_update r n f = rw (r, n, f) refl
-
-transmission_read : (prefix : List ℕ) (ms : Members) (reduction offset : ℤ)
-    → QuantityRead (codes "reduction") prefix ms reduction → QuantityOr (pos 0) (codes "offset") prefix ms offset
-    → (own_keys kind.Transmission).form.read prefix ms ≡ Ok (params.Transmission Position reduction offset)
-transmission_read prefix ms reduction offset r o = rw (r, o) refl
-
-differential_read : (prefix : List ℕ) (ms : Members) (reduction1 reduction2 offset1 offset2 : ℤ)
-    → QuantityRead (codes "reduction1") prefix ms reduction1 → QuantityRead (codes "reduction2") prefix ms reduction2
-    → QuantityOr (pos 0) (codes "offset1") prefix ms offset1 → QuantityOr (pos 0) (codes "offset2") prefix ms offset2
-    → (own_keys kind.Differential).form.read prefix ms ≡ Ok (params.Differential Position reduction1 reduction2 offset1 offset2)
-differential_read prefix ms reduction1 reduction2 offset1 offset2 r s o p = rw (r, s, o, p) refl
-
-limiter_read : (prefix : List ℕ) (ms : Members) (lowest highest vmax amax : ℤ)
-    → QuantityRead (codes "min") prefix ms lowest → QuantityRead (codes "max") prefix ms highest
-    → QuantityRead (codes "vmax") prefix ms vmax → QuantityRead (codes "amax") prefix ms amax
-    → (own_keys kind.Limiter).form.read prefix ms ≡ Ok (params.Limiter lowest highest vmax amax)
-limiter_read prefix ms lowest highest vmax amax l h v a = rw (l, h, v, a) refl
-
--- What stands at a type's own keys is read back, without what claims and reads tell.
-own_at : (head : Headed) (claims reads : List IfaceName) (p : Params) → AreNumbers p → (prefix : List ℕ)
-    → (own_keys (kind_of p)).form.read prefix (table_of (rows_of head claims reads p)) ≡ Ok (made_of p [] [])
-own_at head claims reads (params.Pid kp ki kd imax omax) numbers prefix =
-    let rows = rows_of head claims reads (params.Pid kp ki kd imax omax) in
-    let q = numbers.within in
-    pid_read prefix (table_of rows) kp ki kd imax omax (quantity_or (pos 0) (codes "kp") rows prefix kp q.0 refl) (quantity_or (pos 0) (codes "ki") rows prefix ki q.1.0 refl)
-    (quantity_or (pos 0) (codes "kd") rows prefix kd q.1.1.0 refl) (quantity_or (pos 0) (codes "imax") rows prefix imax q.1.1.1.0 refl)
-    (quantity_or largest (codes "omax") rows prefix omax q.1.1.1.1.0 refl)
-own_at head claims reads (params.Mock outs refuse_config not_ready fail_update) numbers prefix =
-    let rows = rows_of head claims reads (params.Mock outs refuse_config not_ready fail_update) in
-    mock_read prefix (table_of rows) refuse_config not_ready fail_update
-    (defaulted_at (codes "refuse_config") (one boolean_in) false rows (prefix ++ codes "refuse_config") refuse_config refl)
-    (defaulted_at (codes "not_ready") (list_of whole_in) [] rows (prefix ++ codes "not_ready") not_ready (cycles_back (prefix ++ codes "not_ready") not_ready numbers.wholes.0))
-    (defaulted_at (codes "fail_update") (list_of whole_in) [] rows (prefix ++ codes "fail_update") fail_update
-    (cycles_back (prefix ++ codes "fail_update") fail_update numbers.wholes.1.0))
-own_at head claims reads (params.Transmission carried reduction offset) numbers prefix =
-    let rows = rows_of head claims reads (params.Transmission carried reduction offset) in
-    let q = numbers.within in
-    transmission_read prefix (table_of rows) reduction offset (quantity_at (codes "reduction") rows prefix reduction q.0 refl) (quantity_or (pos 0) (codes "offset") rows prefix offset q.1.0 refl)
-own_at head claims reads (params.Differential carried reduction1 reduction2 offset1 offset2) numbers prefix =
-    let rows = rows_of head claims reads (params.Differential carried reduction1 reduction2 offset1 offset2) in
-    let q = numbers.within in
-    differential_read prefix (table_of rows) reduction1 reduction2 offset1 offset2 (quantity_at (codes "reduction1") rows prefix reduction1 q.0 refl)
-    (quantity_at (codes "reduction2") rows prefix reduction2 q.1.0 refl) (quantity_or (pos 0) (codes "offset1") rows prefix offset1 q.1.1.0 refl)
-    (quantity_or (pos 0) (codes "offset2") rows prefix offset2 q.1.1.1.0 refl)
-own_at head claims reads (params.Limiter lowest highest vmax amax) numbers prefix =
-    let rows = rows_of head claims reads (params.Limiter lowest highest vmax amax) in
-    let q = numbers.within in
-    limiter_read prefix (table_of rows) lowest highest vmax amax (quantity_at (codes "min") rows prefix lowest q.0 refl) (quantity_at (codes "max") rows prefix highest q.1.0 refl)
-    (quantity_at (codes "vmax") rows prefix vmax q.1.1.0 refl) (quantity_at (codes "amax") rows prefix amax q.1.1.1.0 refl)
-own_at head claims reads _ numbers prefix = refl
+reads_at states head claims reads p fits named prefix =
+    reads_by (reads_asked (kind_of p)) states (rows_of head claims reads p) prefix claims reads (fewest_claims p) (most_claims p) (reads_beside p) (none_suit p (length claims)) (some_claimed p)
+    (some_beside p) fits.claims fits.reads named (reads_there head claims reads p)
 
 -- ---- Every type
 

@@ -3,6 +3,7 @@ pub mod TreeLemmas
 mod RowLemmas
 mod BackLemmas
 mod PartsBackLemmas
+mod OwnKeyLemmas
 mod ControllersBackLemmas
 mod PrintLemmas
 pub mod ReadableLemmas

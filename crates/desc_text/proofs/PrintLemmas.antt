@@ -8,7 +8,7 @@ use Rattle.toml.specs.Parse.{parse_document}
 use Rattle.toml.specs.View.{items_of}
 use Rattle.iface_names.specs.Interfaces.{interface_text, kind_word}
 use Rattle.sequence.proofs.ListLemmas.{all_append}
-use Rattle.cm_document.specs.Params.{flags, quantities, cycle_lists}
+use Rattle.cm_document.specs.Params.{kind_of, reads_asked, flags, quantities, cycle_lists}
 use Rattle.cm_document.specs.Forms.{one, tables_of, whole_in}
 use Rattle.cm_document.specs.Tables.{none_unlisted, walk}
 use Rattle.cm_document.specs.Described.{component_table, component_key, controller_form, group_table, states_of, top_table, described_states, is_two, is_second, description_form, description_in, tree_of}
@@ -17,8 +17,9 @@ use Rattle.cm_document.specs.declared.description.CtlDesc.{CtlDesc}
 use Rattle.cm_document.specs.declared.description.Description.{Description}
 use Rattle.cm_document.specs.declared.description.GroupDesc.{GroupDesc}
 use Rattle.cm_document.specs.declared.description.JointDesc.{JointDesc}
+use Rattle.cm_document.specs.declared.description.KeyAsked.{KeyAsked}
+use Rattle.cm_document.specs.declared.description.KeyAsked.TheVariants.{ListedOrAll}
 use Rattle.cm_document.specs.declared.description.Params.{Params}
-use Rattle.cm_document.specs.declared.description.Params.TheVariants as params
 use Rattle.cm_document.specs.declared.limits.TheConstants.{SECOND_VERSION}
 use Rattle.desc_text.specs.Printed.{listed, joint_rows, joint_tree, component_rows, component_tree, reads_row, flag_row, quantity_row, cycles_row, params_rows, controller_rows, controller_tree, group_rows, group_tree, description_rows, description_tree}
 use Rattle.desc_text.specs.Readable.{ComponentIsReadable, ControllerIsReadable, GroupIsReadable, IsReadable}
@@ -97,9 +98,9 @@ group_within g =
     omega (arith, inside)
 
 -- what a controller reads
-reads_within : (c : CtlDesc) (p : Params) → RowIsWithin 3 (reads_row c p)
-reads_within c (params.Broadcaster ins) = omega (arith, items_within 0 (λ i. string (interface_text i)) (λ _. flat 0) c.reads)
-reads_within c _ = list_within 2 (codes "reads") (λ interface. string (interface_text interface)) (λ _. flat 2) c.reads
+reads_within : (asked : KeyAsked) (c : CtlDesc) → RowIsWithin 3 (reads_row asked c)
+reads_within ListedOrAll c = omega (arith, items_within 0 (λ i. string (interface_text i)) (λ _. flat 0) c.reads)
+reads_within _ c = list_within 2 (codes "reads") (λ interface. string (interface_text interface)) (λ _. flat 2) c.reads
 
 -- its parameters
 flags_within : (fs : List (List ℕ × Bool)) → AllByRecursion (RowIsWithin 3) (map flag_row fs)
@@ -130,7 +131,7 @@ controller_within c =
           flat 3,
           (
             list_within 2 (codes "fallback") string (λ _. flat 2) c.fallback,
-            (list_within 2 (codes "claims") (λ interface. string (interface_text interface)) (λ _. flat 2) c.claims, (reads_within c c.params, params_within c.params)),
+            (list_within 2 (codes "claims") (λ interface. string (interface_text interface)) (λ _. flat 2) c.claims, (reads_within (reads_asked (kind_of c.params)) c, params_within c.params)),
           ),
         ),
       ),

@@ -4,38 +4,40 @@ use Rattle.std.specs.Prelude.{IfOk, codes, nat_le, flat_map}
 use Rattle.std.specs.List.{AllByRecursion}
 use Rattle.std.proofs.lemmas.Bool.{leb-true, eqb-true, and_parts}
 use Rattle.std.proofs.lemmas.Int.{ints}
-use Rattle.toml.specs.Data.{Members}
+use Rattle.toml.specs.Data.{Data, Members}
 use Rattle.fixed_num.specs.Micro.{IsInRange}
 use Rattle.fixed_num.specs.declared.TheConstants.{MICRO}
 use Rattle.iface_names.specs.declared.interface.IfaceName.{IfaceName}
 use Rattle.iface_names.specs.declared.interface.IfaceName.TheVariants.{Joint}
 use Rattle.iface_names.specs.declared.kind.Kind.{Kind}
 use Rattle.sequence.proofs.ListLemmas.{all_append}
-use Rattle.cm_document.specs.Forms.{one, list_of, tables_of, all_or_list, item_path, inside, whole_in, quantity_in, name_in, word_in, interface_in, state_in}
+use Rattle.cm_document.specs.Forms.{Form, one, list_of, tables_of, all_or_list, item_path, inside, whole_in, quantity_in, name_in, word_in, interface_in, state_in}
 use Rattle.cm_document.specs.Tables.{required, defaulted, walk}
 use Rattle.cm_document.specs.Vocabulary.{lives_on_error}
-use Rattle.cm_document.specs.Described.{a_joint, a_component, a_description, a_grouped, a_group, joint_table, component_table, component_key, states_of_joint, states_of, claims_key, reads_key, controller_table, controller_form, type_of, group_table, top_table, described_states, is_second, description_form}
+use Rattle.cm_document.specs.Described.{a_joint, a_component, a_description, a_grouped, a_group, joint_table, component_table, component_key, states_of_joint, states_of, links_key, claims_key, reads_key, controller_table, controller_form, type_of, group_table, top_table, described_states, is_second, description_form}
 use Rattle.cm_document.specs.Given.{IsName, IsWhole, AreWholes, IsNamed, IsOfJoint, AreNumbers}
-use Rattle.cm_document.specs.Params.{AreMadeOf}
+use Rattle.cm_document.specs.Params.{claims_asked, reads_asked, AreMadeOf}
 use Rattle.cm_document.specs.Valid.{ranged, each_ranged, component_ranged, joint_count_fits, controller_ranged, claims_fit, reads_fit, links_ranged, claims_carried, group_ranged, IsDescribed, IsValid}
 use Rattle.cm_document.specs.declared.description.CompDesc.{CompDesc}
 use Rattle.cm_document.specs.declared.description.CompKind.{CompKind}
 use Rattle.cm_document.specs.declared.description.CompKind.TheVariants.{Sensor, Actuator, System}
 use Rattle.cm_document.specs.declared.description.CtlDesc.{CtlDesc}
 use Rattle.cm_document.specs.declared.description.CtlKind.{CtlKind}
-use Rattle.cm_document.specs.declared.description.CtlKind.TheVariants as kind
 use Rattle.cm_document.specs.declared.description.Description.{Description}
 use Rattle.cm_document.specs.declared.description.GroupDesc.{GroupDesc}
 use Rattle.cm_document.specs.declared.description.JointDesc.{JointDesc}
+use Rattle.cm_document.specs.declared.description.KeyAsked.{KeyAsked}
+use Rattle.cm_document.specs.declared.description.KeyAsked.TheVariants.{NoKey, Optional, Listed, ListedOrAll}
 use Rattle.cm_document.specs.declared.limits.TheConstants.{SECOND_VERSION, HIGHEST_RATE, MOST_FALLBACKS, MOST_MEMBERS}
 use Rattle.cm_document.specs.declared.life.Life.{Life}
 use Rattle.cm_document.specs.declared.life.Life.TheVariants.{Unconfigured}
 use Rattle.cm_document.proofs.GivenLemmas.{Gives, filled_gives, next_key, any_key, required_gives, defaulted_gives, walk_gives, tables_give, anything}
 use Rattle.cm_document.proofs.KindLemmas.{KindsOnce, IsDescribed-DescribesOnce}
-use Rattle.cm_document.proofs.OwnLemmas.{made_once, made_numbers, own_give}
+use Rattle.cm_document.proofs.OwnLemmas.{made_once, made_numbers}
 use Rattle.cm_document.proofs.ReadingLemmas.{bind_keeps, bind_Ok}
 use Rattle.cm_document.proofs.ValidParts.{in_range_passes, parts_of_valid}
 use Rattle.cm_document.proofs.ValueLemmas.{name_gives, names_give, whole_gives, wholes_give, quantity_gives, interfaces_give, states_give, all_or_list_gives, IsOnError, on_error_gives}
+use Rattle.desc_text.proofs.OwnKeyLemmas.{own_give}
 use Rattle.desc_text.specs.Readable.{JointIsReadable, ComponentIsReadable, ControllerIsReadable, GroupIsReadable, IsReadable}
 
 -- ---- What a walk gives: components
@@ -155,20 +157,23 @@ rate_key = defaulted_gives (codes "update_rate") (one whole_in) 0 IsWhole whole_
 abbrev fallback_key : Gives (defaulted (codes "fallback") (list_of name_in) []).form.read (AllByRecursion IsName)
 fallback_key = defaulted_gives (codes "fallback") (list_of name_in) [] (AllByRecursion IsName) names_give tt
 
+-- what is read at the key of a list of interfaces, whatever is asked there
+links_give : (asked : KeyAsked) (key : List ℕ) (list all : Form Data (List IfaceName)) (P : List IfaceName → Type 0) → Gives list.read P → Gives all.read P → P []
+    → Gives (links_key asked key list all).form.read P
+links_give NoKey key list all P gives others none = filled_gives [] P none
+links_give Optional key list all P gives others none = defaulted_gives key list [] P gives none
+links_give Listed key list all P gives others none = required_gives key list P gives
+links_give ListedOrAll key list all P gives others none = required_gives key all P others
+
 -- the claims of a type are named by names
 claims_give : (kind : CtlKind) → Gives (claims_key kind).form.read (AllByRecursion IsNamed)
-claims_give kind.Broadcaster = filled_gives [] (AllByRecursion IsNamed) tt
-claims_give kind.Mock = defaulted_gives (codes "claims") (list_of interface_in) [] (AllByRecursion IsNamed) interfaces_give tt
-claims_give _ = required_gives (codes "claims") (list_of interface_in) (AllByRecursion IsNamed) interfaces_give
+claims_give kind =
+    links_give (claims_asked kind) (codes "claims") (list_of interface_in) (list_of interface_in) (AllByRecursion IsNamed) interfaces_give interfaces_give tt
 
 -- and its reads are of joints
 reads_give : (states : List IfaceName) → AllByRecursion IsOfJoint states → (kind : CtlKind) → Gives (reads_key states kind).form.read (AllByRecursion IsOfJoint)
-reads_give states all kind.Pid = required_gives (codes "reads") (list_of state_in) (AllByRecursion IsOfJoint) states_give
-reads_give states all kind.Trajectory = required_gives (codes "reads") (list_of state_in) (AllByRecursion IsOfJoint) states_give
-reads_give states all kind.Limiter = required_gives (codes "reads") (list_of state_in) (AllByRecursion IsOfJoint) states_give
-reads_give states all kind.Broadcaster = required_gives (codes "reads") (all_or_list states) (AllByRecursion IsOfJoint) (all_or_list_gives states all)
-reads_give states all kind.Mock = defaulted_gives (codes "reads") (list_of state_in) [] (AllByRecursion IsOfJoint) states_give tt
-reads_give states all _ = filled_gives [] (AllByRecursion IsOfJoint) tt
+reads_give states all kind =
+    links_give (reads_asked kind) (codes "reads") (list_of state_in) (all_or_list states) (AllByRecursion IsOfJoint) states_give (all_or_list_gives states all) tt
 
 table_gives : (states : List IfaceName) → AllByRecursion IsOfJoint states → (kind : CtlKind) → Gives (controller_table states kind).form.read ControllerIsRead
 unfolding controller_table

@@ -9,15 +9,16 @@ use Rattle.fixed_num.specs.Text.{spelled}
 use Rattle.iface_names.specs.Interfaces.{interface_text, kind_word}
 use Rattle.iface_names.specs.declared.interface.IfaceName.{IfaceName}
 use Rattle.iface_names.specs.declared.kind.Kind.{Kind}
-use Rattle.cm_document.specs.Params.{kind_of, flags, quantities, cycle_lists}
+use Rattle.cm_document.specs.Params.{kind_of, reads_asked, flags, quantities, cycle_lists}
 use Rattle.cm_document.specs.Vocabulary.{component_word, controller_word, life_word}
 use Rattle.cm_document.specs.declared.description.CompDesc.{CompDesc}
 use Rattle.cm_document.specs.declared.description.CtlDesc.{CtlDesc}
 use Rattle.cm_document.specs.declared.description.Description.{Description}
 use Rattle.cm_document.specs.declared.description.GroupDesc.{GroupDesc}
 use Rattle.cm_document.specs.declared.description.JointDesc.{JointDesc}
+use Rattle.cm_document.specs.declared.description.KeyAsked.{KeyAsked}
+use Rattle.cm_document.specs.declared.description.KeyAsked.TheVariants.{ListedOrAll}
 use Rattle.cm_document.specs.declared.description.Params.{Params}
-use Rattle.cm_document.specs.declared.description.Params.TheVariants as params
 
 -- ---- Tables
 
@@ -119,11 +120,14 @@ head_rows c =
     ∷ (codes "fallback", names c.fallback)
     ∷ (codes "claims", interfaces c.claims) ∷ []
 
--- the row of its reads: a broadcaster has it also where it reads nothing
-abbrev pub reads_row : CtlDesc → Params → Row
-reads_row c (params.Broadcaster ins) =
-    (codes "reads", Some (array (items_of (map (λ interface. string (interface_text interface)) c.reads))))
-reads_row c _ = (codes "reads", interfaces c.reads)
+-- what stands for the interfaces that are read: where `all` may stand, a list also if there are none
+abbrev pub reads_value : KeyAsked → List IfaceName → Option Data
+reads_value ListedOrAll reads = Some (array (items_of (map (λ interface. string (interface_text interface)) reads)))
+reads_value _ reads = interfaces reads
+
+-- the row of its reads, by what is asked at their key
+abbrev pub reads_row : KeyAsked → CtlDesc → Row
+reads_row asked c = (codes "reads", reads_value asked c.reads)
 
 -- a flag, a quantity or a list of cycles, each at its key
 abbrev pub flag_row : List ℕ × Bool → Row
@@ -142,7 +146,7 @@ params_rows p =
 
 -- the rows of a controller
 abbrev pub controller_rows : CtlDesc → List Row
-controller_rows c = head_rows c ++ reads_row c c.params ∷ params_rows c.params
+controller_rows c = head_rows c ++ reads_row (reads_asked (kind_of c.params)) c ∷ params_rows c.params
 
 abbrev pub controller_tree : CtlDesc → Members
 controller_tree c = table_of (controller_rows c)

@@ -14,7 +14,7 @@ use crate::own_keys::{none_but_listed, own_at};
 use crate::states::{AllOrList, ReadList};
 use crate::values::{Interface, Named, Whole};
 use crate::words::{ControllerKinds, WordOf};
-use cm_document::{CtlDesc, CtlKind, DescFault};
+use cm_document::{CtlDesc, CtlKind, DescFault, KeyAsked};
 use iface_names::{IfaceName, Name};
 use sequence::{Seq, Shared};
 use std::alloc::{AllocError, Global};
@@ -79,10 +79,10 @@ fn claims_at(keys: &Keys<'_>, kind: CtlKind) -> Result<Seq<IfaceName>, DescFault
     ensures { Answers DescFault.Memory
         ((claims_key kind).form.read keys.now.prefix.now (table_view keys.now.table.now)) result }
 {
-    match kind {
-        CtlKind::Broadcaster => Ok(Seq::new(keys.alloc)),
-        CtlKind::Mock => keys.defaulted("claims", &ListOf(Interface), Seq::new(keys.alloc)),
-        _ => keys.required("claims", &ListOf(Interface)),
+    match kind.claims_asked() {
+        KeyAsked::NoKey => Ok(Seq::new(keys.alloc)),
+        KeyAsked::Optional => keys.defaulted("claims", &ListOf(Interface), Seq::new(keys.alloc)),
+        KeyAsked::Listed | KeyAsked::ListedOrAll => keys.required("claims", &ListOf(Interface)),
     }
 }
 
@@ -95,14 +95,14 @@ fn reads_at(
     ensures { Answers DescFault.Memory
         ((reads_key all.now kind).form.read keys.now.prefix.now (table_view keys.now.table.now)) result }
 {
-    match kind {
-        CtlKind::Pid | CtlKind::Trajectory | CtlKind::Limiter => keys.required("reads", &ReadList),
-        CtlKind::Broadcaster => keys.required("reads", &AllOrList { all }),
-        CtlKind::Mock => {
+    match kind.reads_asked() {
+        KeyAsked::NoKey => Ok(no_reads(keys.alloc)?),
+        KeyAsked::Optional => {
             let none = no_reads(keys.alloc)?;
             keys.defaulted("reads", &ReadList, none)
         }
-        _ => Ok(no_reads(keys.alloc)?),
+        KeyAsked::Listed => keys.required("reads", &ReadList),
+        KeyAsked::ListedOrAll => keys.required("reads", &AllOrList { all }),
     }
 }
 

@@ -1,6 +1,6 @@
 //! The keys that each type of controller has: how its own are read, and how they are printed.
 
-ghost use Rattle.std.specs.Prelude.{◌≡◌, ◌∷◌, [], List, codes, Some, OnOk};
+ghost use Rattle.std.specs.Prelude.{◌≡◌, ◌∷◌, [], List, map, codes, Some, OnOk};
 ghost use Rattle.sequence.specs.Answers.{Answers};
 ghost use Rattle.toml.specs.Data.{boolean};
 ghost use Rattle.toml.specs.View.{table_view};
@@ -98,21 +98,28 @@ const LIMITER: [&str; 10] = [
 ];
 
 /// The table has no keys but those of a controller of this type.
-#[tactic(auto, unfolding(cm_document::specs::Described::controller_table))]
 pub(crate) fn none_but_listed(keys: &Keys<'_>, kind: CtlKind) -> Result<(), DescFault>
     ensures { (states : List IfaceName) → Answers DescFault.Memory
         (none_unlisted keys.now.prefix.now
         (unlisted (controller_table states kind).keys (table_view keys.now.table.now))) result }
 {
+    keys.none_but(keys_of(kind))
+}
+
+/// The keys that a controller of this type may have, whatever `all` stands for.
+#[tactic(auto, unfolding(cm_document::specs::Described::controller_table))]
+fn keys_of(kind: CtlKind) -> &'static [&'static str]
+    ensures { map (λ k. k.now) result.now ≡ (controller_table [] kind).keys }
+{
     match kind {
-        CtlKind::Forward | CtlKind::Passthrough => keys.none_but(&CLAIMING),
-        CtlKind::Pid => keys.none_but(&PID),
-        CtlKind::Trajectory => keys.none_but(&TRAJECTORY),
-        CtlKind::Broadcaster => keys.none_but(&BROADCASTER),
-        CtlKind::Mock => keys.none_but(&MOCK),
-        CtlKind::Transmission => keys.none_but(&TRANSMISSION),
-        CtlKind::Differential => keys.none_but(&DIFFERENTIAL),
-        CtlKind::Limiter => keys.none_but(&LIMITER),
+        CtlKind::Forward | CtlKind::Passthrough => &CLAIMING,
+        CtlKind::Pid => &PID,
+        CtlKind::Trajectory => &TRAJECTORY,
+        CtlKind::Broadcaster => &BROADCASTER,
+        CtlKind::Mock => &MOCK,
+        CtlKind::Transmission => &TRANSMISSION,
+        CtlKind::Differential => &DIFFERENTIAL,
+        CtlKind::Limiter => &LIMITER,
     }
 }
 

@@ -2,12 +2,13 @@
 
 ghost use Rattle.std.specs.Prelude.{◌≡◌, IfOk, OnOk};
 ghost use Rattle.toml.specs.View.{table_view};
+ghost use Rattle.cm_document.specs.Params.{kind_of, reads_asked};
 ghost use Rattle.desc_text.specs.Printed.{controller_tree, head_rows, reads_row, with_row, with_rows};
 ghost use Rattle.desc_text.specs.Readable.{ControllerIsReadable};
 
 use crate::own_keys::put_params;
 use crate::print::rows::{interface_texts, put, put_interfaces, put_names, put_text, put_whole};
-use cm_document::{CtlDesc, Params};
+use cm_document::{CtlDesc, KeyAsked};
 use fixed_num::Memory;
 use std::alloc::Global;
 use toml::{Table, Value};
@@ -36,13 +37,13 @@ fn put_head(alloc: Global, made: &mut Table, controller: &CtlDesc) -> Result<(),
     put_interfaces(alloc, made, "claims", controller.claims.as_slice())
 }
 
-/// Puts in what it reads: of a broadcaster also where that is nothing.
+/// Puts in what it reads: where `all` may stand, also nothing.
 fn put_reads(alloc: Global, made: &mut Table, controller: &CtlDesc) -> Result<(), Memory>
     ensures { OnOk result (table_view made.new
-        ≡ with_row (reads_row controller.now controller.now.params) (table_view made.old)) }
+        ≡ with_row (reads_row (reads_asked (kind_of controller.now.params)) controller.now) (table_view made.old)) }
 {
-    match &controller.params {
-        Params::Broadcaster { .. } => {
+    match controller.params.kind().reads_asked() {
+        KeyAsked::ListedOrAll => {
             let texts = interface_texts(alloc, controller.reads())?;
             put(alloc, made, "reads", Value::Array(texts))
         }
