@@ -6,7 +6,7 @@ ghost use Rattle.cm_document.specs.ScriptLaws.{MeetsRules};
 ghost use Rattle.cm_document.specs.declared.description.TheConstants.{NUMBER_OF_KINDS};
 ghost use Rattle.cm_model.specs.Blanks.{blanks_of};
 ghost use Rattle.trace_laws.specs.Judged.{judged};
-ghost use Rattle.trace_laws.specs.Stocks.{at_most, lessened};
+ghost use Rattle.trace_laws.specs.Stocks.{at_most, at_most_of};
 ghost use Rattle.trace_check.specs.Checks.{Judges, Tells};
 
 use crate::fault::{TraceFault, WrongLine};
@@ -99,16 +99,16 @@ fn lines_in(text: &[u8]) -> u32
 fn at_most(counts: &Blanks, most: u32) -> Blanks
     ensures { result ≡ at_most most counts.now }
 {
-    let mut few = Blanks::of_each(0);
-    lessen(&mut few, counts, most, &CONTROLLER_KINDS);
-    few
+    at_most_of(counts, most, &CONTROLLER_KINDS)
 }
 
-/// Sets the counts of these kinds to those, but at most to so many.
-fn lessen(few: &mut Blanks, counts: &Blanks, most: u32, kinds: &[(&str, CtlKind)])
-    ensures { few.new ≡ lessened most counts.now few.old (map (λ row. row.1) kinds.now) }
+/// The same of these kinds, and none of the others.
+fn at_most_of(counts: &Blanks, most: u32, kinds: &[(&str, CtlKind)]) -> Blanks
+    ensures { result ≡ at_most_of most counts.now (map (λ row. row.1) kinds.now) }
 {
+    let mut few = Blanks::of_each(0);
     for row in kinds {
-        *few = few.with(row.1, most.min(counts.of(row.1)));
+        few = few.with(row.1, most.min(counts.of(row.1)));
     }
+    few
 }

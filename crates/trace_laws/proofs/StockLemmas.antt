@@ -1,6 +1,7 @@
 -- States that differ in their blanks alone, of which each has enough for what is to come, make the same steps.
 use Rattle.std.proofs.Common.{◌≡◌, ℕ, suc, ◌≤◌, Bool, true, false, List, [], ◌∷◌, ◌++◌, Option, Some, None, refl, sym, ap, subst, ◌∙◌, inl, inr, ◌⊎◌, arith}
-use Rattle.std.specs.Prelude.{◌==◌, ◌-◌, map, min, option_map, slice_get, if◌then◌else◌}
+use Rattle.std.specs.Prelude.{◌==◌, ◌-◌, ◌||◌, map, min, option_map, slice_get, if◌then◌else◌}
+use Rattle.std.specs.List.{list_any}
 use Rattle.std.specs.Option.{option_map_or}
 use Rattle.std.proofs.lemmas.Bool.Decides.{nat_tests}
 use Rattle.cm_document.specs.Params.{kind_of, same_controller_kind}
@@ -10,11 +11,12 @@ use Rattle.cm_document.specs.declared.description.CtlDesc.{CtlDesc}
 use Rattle.cm_document.specs.declared.description.CtlKind.{CtlKind}
 use Rattle.cm_document.specs.declared.description.CtlKind.TheVariants as kind
 use Rattle.cm_document.specs.declared.description.TheConstants.{CONTROLLER_KINDS}
+use Rattle.cm_document.proofs.VocabularyLemmas.{same_kind_is}
 use Rattle.cm_document.specs.declared.life.Life.{Life}
 use Rattle.cm_document.specs.declared.call.SwitchRequest.{SwitchRequest}
 use Rattle.cm_model.specs.BestEffort.{decided, stays_within}
 use Rattle.cm_storage.specs.Kept.{load_name}
-use Rattle.cm_model.specs.Blanks.{blanks_of, counted_by, no_blanks, with_one_less}
+use Rattle.cm_model.specs.Blanks.{blanks_of, counted_by, no_blanks, with_count, with_one_less}
 use Rattle.cm_model.specs.Boundary.{request_effect, Concluded, with_switch, component_place, move_fault, with_move_unless, with_move, concluded, with_outcome, all_concluded, stood_in, standing_in, after_standing_in, after_fallbacks, waiting, boundary, told_of_fallbacks, decisions_between}
 use Rattle.cm_model.specs.Commit.{scene_of, commit}
 use Rattle.cm_model.specs.Console.{unless_refused, place_of, slot_of, where_done, with_slot, with_changed, without_slot, configured_with, description_of, after_configure, after_cleanup, after_rate, after_send}
@@ -24,8 +26,8 @@ use Rattle.cm_model.specs.Order.{Places}
 use Rattle.cm_model.specs.State.{State, Loaded}
 use Rattle.cm_model.specs.Switches.{Decided, refused, done}
 use Rattle.cm_model.specs.declared.blanks.Blanks.{Blanks}
-use Rattle.cm_model.proofs.BlankLemmas.{count_is}
-use Rattle.trace_laws.specs.Stocks.{at_most, lessened}
+use Rattle.cm_model.proofs.BlankLemmas.{count_is, same_counts}
+use Rattle.trace_laws.specs.Stocks.{at_most, at_most_of}
 use Rattle.cm_model.specs.declared.cause.Cause.{Cause}
 use Rattle.cm_model.specs.declared.cause.Decision.{Decision}
 use Rattle.cm_model.specs.declared.reply.Reply.{Reply}
@@ -175,13 +177,45 @@ enough_fewer loads all some enough = λ k. fewer (enough k)
     fewer (inl same) = inl same
     fewer (inr (some, all)) = inr (omega (arith, some), omega (arith, all))
 
--- at most so many of each kind
-lessened_at : (most : ℕ) (counts : Blanks) (k : CtlKind) → blanks_of (lessened most counts no_blanks (map (λ row. row.1) CONTROLLER_KINDS)) k ≡ min most (blanks_of counts k)
-lessened_at most counts kind.Forward = refl
-lessened_at most counts _ = refl
+-- these blanks, but of each kind that is listed as many as are counted of it, at most so many
+abbrev pub lessened : ℕ → Blanks → Blanks → List CtlKind → Blanks
+lessened most counts b kinds =
+    counted_by (λ kind. if list_any (same_controller_kind kind) kinds then min most (blanks_of counts kind) else blanks_of b kind)
 
-pub all_lessened : (most : ℕ) (counts : Blanks) → lessened most counts no_blanks (map (λ row. row.1) CONTROLLER_KINDS) ≡ at_most most counts
-all_lessened most counts = λ i. counted_by (λ k. lessened_at most counts k i)
+lessened_or : (is listed : Bool) (less was one : ℕ) → (is ≡ true → one ≡ less)
+    → (if listed then less else (if is then one else was)) ≡ (if is || listed then less else was)
+lessened_or true true less was one same = refl
+lessened_or true false less was one same = same refl
+lessened_or false true less was one same = refl
+lessened_or false false less was one same = refl
+
+-- first this kind is lessened, and then those behind it
+pub one_lessened : (most : ℕ) (counts b : Blanks) (kind : CtlKind) (kinds : List CtlKind)
+    → lessened most counts (with_count b kind (min most (blanks_of counts kind))) kinds ≡ lessened most counts b (kind ∷ kinds)
+one_lessened most counts b kind kinds =
+    let less : CtlKind → ℕ = λ k. min most (blanks_of counts k) in
+    let now : CtlKind → ℕ = λ k. if same_controller_kind k kind then less kind else blanks_of b k in
+    same_counts (λ k. if list_any (same_controller_kind k) kinds then less k else blanks_of (counted_by now) k)
+    (λ k. if same_controller_kind k kind || list_any (same_controller_kind k) kinds then less k else blanks_of b k)
+    (λ k. ap (λ n. if list_any (same_controller_kind k) kinds then less k else n) (count_is now k)
+    ∙ lessened_or (same_controller_kind k kind) (list_any (same_controller_kind k) kinds) (less k) (blanks_of b k) (less kind) (λ yes. ap less (sym (same_kind_is k kind yes))))
+
+-- if there was none before, there is none of the kinds that are not listed
+pub none_lessened : (most : ℕ) (counts : Blanks) (kinds : List CtlKind) → lessened most counts no_blanks kinds ≡ at_most_of most counts kinds
+none_lessened most counts kinds =
+    same_counts (λ k. if list_any (same_controller_kind k) kinds then min most (blanks_of counts k) else blanks_of no_blanks k)
+    (λ k. if list_any (same_controller_kind k) kinds then min most (blanks_of counts k) else 0)
+    (λ k. ap (λ n. if list_any (same_controller_kind k) kinds then min most (blanks_of counts k) else n) (count_is (λ kind. 0) k))
+
+-- every kind is listed
+each_listed : (k : CtlKind) → list_any (same_controller_kind k) (map (λ row. row.1) CONTROLLER_KINDS) ≡ true
+each_listed kind.Forward = refl
+each_listed _ = refl
+
+pub all_listed : (most : ℕ) (counts : Blanks) → at_most_of most counts (map (λ row. row.1) CONTROLLER_KINDS) ≡ at_most most counts
+all_listed most counts =
+    same_counts (λ k. if list_any (same_controller_kind k) (map (λ row. row.1) CONTROLLER_KINDS) then min most (blanks_of counts k) else 0)
+    (λ k. min most (blanks_of counts k)) (λ k. rw (each_listed k) refl)
 
 -- one blank of a kind is taken of both
 enough_taken : (loads : ℕ) (all some : Blanks) (taken : CtlKind) → AreEnough (suc loads) all some → AreEnough loads (with_one_less all taken) (with_one_less some taken)
