@@ -3,8 +3,9 @@ use Rattle.std.proofs.lemmas.List.{drop_all}
 use Rattle.cm_document.specs.declared.description.CtlKind.TheVariants.{Forward}
 use Rattle.ctl_any.specs.Stocks.{with_some_of}
 use Rattle.ctl_any.specs.contracts.any_kind.AnyKindController.TheImpl.{ghosts}
-use Rattle.ctl_any.proofs.CountLemmas.{next_kind}
+use Rattle.ctl_any.proofs.CountLemmas.{next_kind, no_kind_left}
 use Rattle.ctl_rack.specs.Stocks.{AreBlanks}
+use Rattle.ctl_rack.proofs.StockLemmas.{blanks_counted}
 use Rattle.ctl_any.proofs.stock.add_counted.Goals as goal
 
 pub loop-row-init : goal.loop-row-init
@@ -21,4 +22,6 @@ pub returns : goal.returns
 returns c = λ b are.
     let before = c.loop-row.invariant b are in
     let none = drop_all c.loop-row.row-index c.args.kinds.now (omega (arith, c.loop-row-test.false)) in
-    subst (AreBlanks ghosts.meaning c.loop-row.blanks.items) (sym (ap (λ rows. with_some_of c.args.counts.now before.0 (map (λ row. row.1) rows)) none) ∙ before.2) before.1
+    let all = sym (no_kind_left c.args.counts.now before.0 (blanks_counted ghosts.meaning c.loop-row.blanks.items before.0 before.1))
+    ∙ sym (ap (λ rows. with_some_of c.args.counts.now before.0 (map (λ row. row.1) rows)) none) ∙ before.2 in
+    subst (AreBlanks ghosts.meaning c.loop-row.blanks.items) all before.1
