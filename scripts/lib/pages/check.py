@@ -7,7 +7,7 @@
 - No line of a source of Rust is wider than 120 columns, and no public name of a library stands in two crates.
 - Each crate has a README, each example its place, and each crate its minutes in docs/SPEED.md.
 - No sentence, cell of a table or page is longer than its limit, and a number that is quoted with docs/SPEED.md stands there.
-- Another kind of controller touches at most ten files, which `scripts/pages kinds` prints.
+- Another kind of controller touches at most ten files, which `scripts/pages kinds` prints and docs/CHANGING.md lists.
 - What `scripts/pages contracts` finds, and what the pages lack that `scripts/pages write` makes.
 Prints a line a finding, and last how many. The exit status is 1 if there is one.
 """
