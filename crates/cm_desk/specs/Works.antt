@@ -1,10 +1,11 @@
 -- What the desk keeps, and how it answers.
 use Rattle.std.specs.Prelude.{◌≡◌, ℕ, ◌+◌, ◌<◌, ◌≤◌, ◌^◌, Bool, true, false, not, List, [], ◌∷◌, length, map, slice_get}
-use Rattle.std.specs.Prelude.{is_some, Some, option_map, Result, Ok, Err}
-use Rattle.std.specs.List.{All}
+use Rattle.std.specs.Prelude.{◌&&◌, is_some, Some, option_map, Result, Ok, Err}
+use Rattle.std.specs.List.{All, list_any}
 use Rattle.cm_document.specs.Params.{kind_of}
 use Rattle.cm_document.specs.Valid.{IsValid}
 use Rattle.cm_document.specs.declared.call.Mail.{Mail}
+use Rattle.cm_document.specs.declared.description.CtlDesc.{CtlDesc}
 use Rattle.cm_document.specs.declared.description.Description.{Description}
 use Rattle.cm_document.specs.declared.description.Params.{Params}
 use Rattle.cm_model.specs.Commit.{commit}
@@ -14,7 +15,7 @@ use Rattle.cm_model.specs.Cycle.{period}
 use Rattle.cm_model.specs.Kinds.{takes, takes_none}
 use Rattle.cm_model.specs.Machine.{load_refusals}
 use Rattle.cm_model.specs.Order.{Places, set_of}
-use Rattle.cm_model.specs.State.{State, Loaded}
+use Rattle.cm_model.specs.State.{State, Loaded, is_active, precedes_described}
 use Rattle.cm_model.specs.Steady.{IsInOrder, AreLoaded, AreConfigured}
 use Rattle.cm_model.specs.Sound.{CanRunTogether}
 use Rattle.cm_model.specs.declared.blanks.Blanks.{Blanks}
@@ -66,6 +67,10 @@ state_with description blanks sessions loads slots asked base ended closed = wit
 -- the controller is of the kind that is described at its place
 abbrev pub IsAsDescribed : Description → Loaded → Type 0
 IsAsDescribed d l = option_map (λ c. kind_of c.params) (slice_get d.controllers l.place) ≡ Some l.ctl.kind
+
+-- One of these that is active claims a reference of the controller.
+abbrev pub has_precedent : Description → CtlDesc → List Loaded → Bool
+has_precedent d c loaded = list_any (λ l. is_active l && precedes_described d.controllers c l) loaded
 
 -- one that has parameters is updated once in some cycles
 abbrev pub IsDivided : Loaded → Type 0

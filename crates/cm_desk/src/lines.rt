@@ -4,11 +4,12 @@ ghost use Rattle.std.specs.Prelude.{◌≡◌, ◌++◌, ◌&&◌, ◌<◌, leng
 ghost use Rattle.std.specs.Option.{option_map_or};
 ghost use Rattle.cm_model.specs.Scene.{is_chained_in};
 ghost use Rattle.cm_model.specs.State.{active, is_active, is_chained, precedes_described, controller_line, controller_lines};
+ghost use Rattle.cm_desk.specs.Works.{has_precedent};
 ghost use Rattle.chain_order.specs.Links.{leaders_of};
 
 use crate::works::Works;
 use chain_order::{Links, precedes};
-use cm_document::CtlDesc;
+use cm_document::{Checked, CtlDesc};
 use cm_model::CtlLine;
 use cm_slots::Slot;
 use ctl_trait::Controller;
@@ -62,7 +63,7 @@ impl<C: Controller> Works<C> {
                 idle_context.robot.relations.leaders(),
                 slot.place(),
             ),
-            None => self.has_precedent(controller),
+            None => has_precedent(&self.checked, self.slots.as_slice(), controller),
         }
     }
 
@@ -74,29 +75,27 @@ impl<C: Controller> Works<C> {
     {
         self.active_set.has_any(leaders.row(place as u32))
     }
+}
 
-    /// Whether an active controller claims one of its references, by names.
-    fn has_precedent(&self, controller: &CtlDesc) -> bool
-        ensures { result ≡ is_chained self.now controller.now }
-    {
-        self.slots.as_slice().iter().any(|slot| slot.is_active()
-            && self.is_precedent(slot, controller))
-    }
+/// Whether one of these that is active claims a reference of the controller, by names.
+fn has_precedent<C: Controller>(checked: &Checked, slots: &[Slot<C>], controller: &CtlDesc) -> bool
+    ensures { result ≡ has_precedent checked.now controller.now slots.now }
+{
+    slots.iter().any(|slot| slot.is_active() && is_precedent(checked, slot, controller))
+}
 
-    /// Whether the loaded controller precedes this described one: it claims one of its references.
-    fn is_precedent(&self, slot: &Slot<C>, controller: &CtlDesc) -> bool
-        ensures { result ≡ precedes_described self.now.description.controllers controller.now slot.now }
+/// Whether the loaded controller precedes this described one: it claims one of its references.
+fn is_precedent<C: Controller>(checked: &Checked, slot: &Slot<C>, controller: &CtlDesc) -> bool
+    ensures { result ≡ precedes_described checked.now.controllers controller.now slot.now }
+{
+    match checked
+        .description()
+        .controllers
+        .as_slice()
+        .get(slot.place())
     {
-        match self
-            .checked
-            .description()
-            .controllers
-            .as_slice()
-            .get(slot.place())
-        {
-            Some(other) => precedes(other, controller),
-            None => false,
-        }
+        Some(other) => precedes(other, controller),
+        None => false,
     }
 }
 
