@@ -1,6 +1,4 @@
 mod Crossing
 pub mod LimitLemmas
-pub mod LineLemmas
-mod TextLemmas
 pub mod WordLemmas
 mod WordRows

@@ -3,8 +3,6 @@
 ghost use Rattle.std.specs.Prelude.{◌≡◌};
 ghost use Rattle.shared_desk.specs.Passes.{IsSessionPass};
 
-use crate::bodies::Contender;
-use crate::cases::Case;
 use cm_desk::Desk;
 use cm_document::Call;
 use cm_model::{Entry, Reply};
@@ -93,17 +91,41 @@ impl<R: Wait, C: Controller> Caller for MutexCaller<'_, R, C> {
     }
 }
 
-/// A turn at a desk for which nobody else asks.
+/// A caller, and what it was answered so far.
 #[derive(Drop)]
-pub struct FreeTurn<A> {
-    pub caller: A,
+pub struct CallTally<A> {
+    caller: A,
+    pub sum: i64,
+    pub is_refused: bool,
 }
 
-impl<A: Caller> Contender<Case> for FreeTurn<A> {
-    fn turn(&mut self, _case: &Case) -> Result<i64, Memory> {
-        match self.caller.look()? {
-            true => Ok(1),
-            false => Ok(2),
+impl<A: Caller> CallTally<A> {
+    pub fn of(caller: A) -> CallTally<A> {
+        CallTally {
+            caller,
+            sum: 0,
+            is_refused: false,
         }
+    }
+
+    /// As many calls, which look or else list.
+    pub fn call(&mut self, calls: u64, looks: bool) {
+        for _ in 0..calls {
+            match answer(&mut self.caller, looks) {
+                Ok(weight) => self.sum = self.sum.wrapping_add(weight),
+                Err(Memory) => self.is_refused = true,
+            }
+        }
+    }
+}
+
+/// A number of what one call is answered, which looks or else lists.
+fn answer<A: Caller>(caller: &mut A, looks: bool) -> Result<i64, Memory> {
+    if !looks {
+        return caller.list();
+    }
+    match caller.look()? {
+        true => Ok(1),
+        false => Ok(2),
     }
 }

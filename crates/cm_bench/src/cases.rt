@@ -2,13 +2,11 @@
 
 ghost use Rattle.std.specs.Prelude.{◌≡◌, ◌*◌, pos, nat_abs, ◌<ℤ◌, ◌≤◌, ◌≤ℤ◌};
 ghost use Rattle.fixed_num.specs.declared.TheConstants.{LARGEST};
-ghost use Rattle.joint_body.specs.declared.TheConstants.{LONGEST_STEP};
 ghost use Rattle.cm_bench.specs.Shapes.{timed};
 ghost use Rattle.cm_bench.specs.declared.cases.TheConstants.{FAR, LOWEST, HIGHEST};
 
 use ctl_shape::Limiter;
-use fixed_num::{Fx, JointMode, LARGEST, Memory, Value};
-use joint_body::LONGEST_STEP;
+use fixed_num::{Fx, LARGEST, Memory, Value};
 use std::alloc::Global;
 
 /// How many cases a round has. They fit the nearest cache.
@@ -39,31 +37,6 @@ pub fn made(alloc: Global, seed: u64) -> Result<Vec<Case>, Memory> {
     Ok(cases)
 }
 
-/// What one step of a body is given: how its joint is driven, by which number, and for how long.
-#[derive(Clone, Copy)]
-pub struct Push {
-    pub mode: JointMode,
-    pub command: Fx,
-    pub dt_us: u32,
-    ghost some_time: { 1 ≤ dt_us },
-    ghost no_longer: { dt_us ≤ LONGEST_STEP },
-}
-
-/// As many pushes, of a seed.
-pub fn pushes(alloc: Global, seed: u64) -> Result<Vec<Push>, Memory> {
-    let mut source = SplitMix::make(seed);
-    let mut pushes = Vec::with_capacity(alloc, COUNT)?;
-    for _ in 0..COUNT {
-        pushes.push(source.push())?;
-    }
-    Ok(pushes)
-}
-
-/// So many numbers of a seed, of up to ten units either way.
-pub fn few_units(alloc: Global, seed: u64, count: usize) -> Result<Vec<Fx>, Memory> {
-    numbers(alloc, seed, count, NEAR)
-}
-
 /// So many numbers of a seed, of at most so many micro-units either way.
 fn numbers(alloc: Global, seed: u64, count: usize, far: u64) -> Result<Vec<Fx>, Memory>
     requires { far ≤ FAR }
@@ -78,7 +51,7 @@ fn numbers(alloc: Global, seed: u64, count: usize, far: u64) -> Result<Vec<Fx>, 
 
 /// The positions of a round's joints.
 pub fn positions(alloc: Global, seed: u64) -> Result<Vec<Fx>, Memory> {
-    few_units(alloc, seed, COUNT)
+    numbers(alloc, seed, COUNT, NEAR)
 }
 
 /// The ends of the limiter that is timed, in micro-units.
@@ -142,13 +115,13 @@ fn wanted_in(wanted: &[Fx], number: usize) -> Fx {
 
 /// Gives numbers without visible order: the generator known as SplitMix64.
 #[derive(Drop)]
-pub struct SplitMix {
+struct SplitMix {
     state: u64,
 }
 
 impl SplitMix {
     /// The numbers of a seed.
-    pub fn make(seed: u64) -> SplitMix {
+    fn make(seed: u64) -> SplitMix {
         SplitMix { state: seed }
     }
 
@@ -157,22 +130,6 @@ impl SplitMix {
             left: self.number(),
             right: self.number(),
             divisor: 1 + (self.next() % 1_000_000) as i64,
-        }
-    }
-
-    fn push(&mut self) -> Push {
-        Push {
-            mode: self.mode(),
-            command: self.number(),
-            dt_us: 1 + (self.next() % u64::from(LONGEST_STEP)) as u32,
-        }
-    }
-
-    fn mode(&mut self) -> JointMode {
-        match self.next() % 3 {
-            0 => JointMode::Position,
-            1 => JointMode::Velocity,
-            _ => JointMode::Effort,
         }
     }
 
@@ -189,7 +146,7 @@ impl SplitMix {
     }
 
     /// The next number of 64 bits.
-    pub fn next(&mut self) -> u64 {
+    fn next(&mut self) -> u64 {
         self.state = self.state.wrapping_add(0x9E37_79B9_7F4A_7C15);
         let mixed = (self.state ^ (self.state >> 30)).wrapping_mul(0xBF58_476D_1CE4_E5B9);
         let mixed = (mixed ^ (mixed >> 27)).wrapping_mul(0x94D0_49BB_1331_11EB);

@@ -1,17 +1,15 @@
 //! How long a cycle of a live run takes, from before its begin until it has landed, with nobody beside it and with busy
 //! sessions.
 
-use cm_top::{Status, run};
-use ctl_mock::Mock;
-use ctl_rack::Stock;
+use crate::runs::run_over;
+use crate::watch::Stopwatch;
 use fixed_num::Memory;
-use outside_io::{MemSink, MemSource, OpenGate, Pace};
 use std::alloc::Global;
+use std::io;
 use std::rt::Clock;
 use std::sync::Wait;
 use std::thread::Threads;
 use std::time::Duration;
-use std::{io, thread};
 
 /// Prints how long a cycle of so many live runs takes: alone and beside busy sessions, without a pause and at each
 /// millisecond.
@@ -29,8 +27,32 @@ fn tell_cycles<R>(rt: &R, name: &str, work: Workload, runs: u64) -> anyhow::Resu
 where
     R: Clock + Print + AllocGlobal + Threads + Wait + Sync,
 {
-    let lengths = work.lengths(rt, rt.alloc(), runs)?;
-    tell_lengths(rt, name, lengths.as_slice())?;
+    let mut watch = Stopwatch::make(rt, rt.alloc(), Duration::from_micros(work.period_us));
+    run_often(rt, rt.alloc(), work, runs, &mut watch)?;
+    watch.nanos.sort_unstable();
+    tell_lengths(rt, name, watch.nanos.as_slice())?;
+    Ok(())
+}
+
+/// So many live runs, whose cycles are timed.
+fn run_often<R>(
+    rt: &R,
+    alloc: Global,
+    work: Workload,
+    runs: u64,
+    watch: &mut Stopwatch<'_, R>,
+) -> anyhow::Result<()>
+where
+    R: Clock + Threads + Wait + Sync,
+{
+    let words = [String::from_str(alloc, "live")?];
+    let text = work.document(alloc)?;
+    for _ in 0..runs {
+        watch.forget();
+        if !run_over(rt, alloc, &words, text.as_str(), Vec::new(alloc), watch)? {
+            return Err(anyhow::anyhow!("a live run that does not end well"));
+        }
+    }
     Ok(())
 }
 
@@ -102,22 +124,6 @@ struct Workload {
 }
 
 impl Workload {
-    /// The lengths of the cycles of so many runs, in nanoseconds and in order.
-    fn lengths<R>(self, rt: &R, alloc: Global, runs: u64) -> anyhow::Result<Vec<u64>>
-    where
-        R: Clock + Threads + Wait + Sync,
-    {
-        let text = self.document(alloc)?;
-        let mut watch = Stopwatch::make(rt, alloc, Duration::from_micros(self.period_us));
-        for _ in 0..runs {
-            watch.since = None;
-            run_once(rt, alloc, text.as_str(), &mut watch)?;
-        }
-        let mut lengths = watch.nanos;
-        lengths.sort_unstable();
-        Ok(lengths)
-    }
-
     /// A document of one joint that stands, and of sessions that list the components.
     fn document(self, alloc: Global) -> Result<String, Memory> {
         let mut text = String::new(alloc);
@@ -165,92 +171,3 @@ vmax = 1
 command = [\"position\"]
 state = [\"position\"]
 ";
-
-/// One live run of the document. It fails if the run does not end well.
-fn run_once<R>(
-    rt: &R,
-    alloc: Global,
-    text: &str,
-    watch: &mut Stopwatch<'_, R>,
-) -> anyhow::Result<()>
-where
-    R: Clock + Threads + Wait + Sync,
-{
-    let words = [String::from_str(alloc, "live")?];
-    let mut source = MemSource::make(text.as_bytes().to_vec(alloc)?, ROOM, vec![in alloc]?);
-    let mut sink = MemSink::make(alloc, ROOM, ROOM, vec![in alloc]?)?;
-    let stock: Stock<Mock> = Stock::make(Vec::new(alloc));
-    match run(
-        rt,
-        alloc,
-        &words,
-        &mut source,
-        &mut sink,
-        stock,
-        watch,
-        &OpenGate,
-    ) {
-        (Status::Ok, _) => Ok(()),
-        _ => Err(anyhow::anyhow!("a live run that does not end well")),
-    }
-}
-
-/// Bytes for the trace of a run, and more.
-const ROOM: usize = 1 << 20;
-
-/// A pace that notes how long each cycle took, and lets one begin at each beat.
-#[derive(Drop)]
-struct Stopwatch<'a, R> {
-    rt: &'a R,
-    period: Duration,
-    /// When the next cycle is to begin.
-    beat: Duration,
-    /// When the cycle that goes on was let go; nobody knows of the first.
-    since: Option<Duration>,
-    nanos: Vec<u64>,
-}
-
-impl<'a, R: Clock> Stopwatch<'a, R> {
-    fn make(rt: &'a R, alloc: Global, period: Duration) -> Stopwatch<'a, R> {
-        Stopwatch {
-            rt,
-            period,
-            beat: Duration::ZERO,
-            since: None,
-            nanos: Vec::new(alloc),
-        }
-    }
-
-    /// Notes how long the cycle took that has ended now.
-    fn note(&mut self, now: Duration) {
-        if let Some(since) = self.since {
-            let nanos = now.saturating_sub(since).as_nanos();
-            let nanos = u64::try_from(nanos).unwrap_or(u64::MAX);
-            if self.nanos.push(nanos).is_err() {
-                self.since = None;
-            }
-        }
-    }
-
-    /// Waits for the next beat, and gives the time then.
-    fn wait(&mut self, now: Duration) -> Option<Duration> {
-        if self.period.is_zero() {
-            return Some(now);
-        }
-        self.beat = self.beat.saturating_add(self.period).max(now);
-        thread::sleep(self.rt, self.beat.saturating_sub(now));
-        self.rt.monotonic().ok()
-    }
-}
-
-impl<R: Clock> Pace for Stopwatch<'_, R> {
-    fn pause(&mut self, _cycle: u64) {
-        match self.rt.monotonic() {
-            Ok(now) => {
-                self.note(now);
-                self.since = self.wait(now);
-            }
-            Err(_) => self.since = None,
-        }
-    }
-}

@@ -1,24 +1,20 @@
 //! Times the fast bodies of the crates below beside plain ones, in one run over the same numbers, and compares their answers.
 #![tactic(auto)]
 
-use bodies::{FastMul, FastOver, FastText, PlainMul, PlainOver, PlainText};
+use bodies::{FastMul, FastOver, PlainMul, PlainOver};
 use cases::Case;
 use crowds::compare_callers;
 use gears::{FastGear, PlainGear};
 use limits::{FastLimiter, PlainLimiter, limiter};
-use lines::{FastLine, PlainLine};
 use lives::tell_live;
 use plan::TurnsAsked;
-use ranks::{FastOrder, PlainOrder};
-use std::alloc::Global;
 use std::env;
 use std::process::ExitCode;
 use std::rt::{Clock, Env};
 use std::sync::Wait;
 use std::thread::Threads;
-use steps::{FastStep, PlainStep};
 use timing::{Title, Trial};
-use words::{plan_of, runs_of};
+use words::{Measure, asked};
 use workers::tell_workers;
 
 mod bodies;
@@ -28,13 +24,12 @@ mod crowds;
 mod desks;
 mod gears;
 mod limits;
-mod lines;
 mod lives;
 mod plain;
 mod plan;
-mod ranks;
-mod steps;
+mod runs;
 mod timing;
+mod watch;
 mod words;
 mod workers;
 mod working;
@@ -43,57 +38,36 @@ mod working;
 /// failed, and 2 for words that are no plan.
 fn main(rt: HostRuntime) -> anyhow::Result<ExitCode> {
     let words: Vec<String> = env::args(&rt)?.skip(1).collect(rt.alloc())?;
-    if let Some(runs) = runs_of(words.as_slice(), "live") {
-        tell_live(&rt, runs)?;
-        return Ok(ExitCode::SUCCESS);
+    let asked = asked(words.as_slice());
+    drop(words);
+    match asked {
+        Measure::Live(runs) => tell_live(&rt, runs)?,
+        Measure::Workers(runs) => tell_workers(&rt, runs)?,
+        Measure::Turns(plan) => return compare_all(&rt, plan),
+        Measure::Nothing => {
+            eprintln!(rt; "cm_bench: usage: cm_bench TURNS SEED | live RUNS | workers RUNS")?;
+            return Ok(ExitCode::from(2));
+        }
     }
-    if let Some(runs) = runs_of(words.as_slice(), "workers") {
-        tell_workers(&rt, runs)?;
-        return Ok(ExitCode::SUCCESS);
-    }
-    let Some(plan) = plan_of(words.as_slice()) else {
-        eprintln!(rt; "cm_bench: usage: cm_bench TURNS SEED | live RUNS | workers RUNS")?;
-        return Ok(ExitCode::from(2));
-    };
-    match compare_all(&rt, plan)? {
+    Ok(ExitCode::SUCCESS)
+}
+
+/// Prints a line for each pair of bodies. It succeeds if all gave the same answers.
+fn compare_all<R>(rt: &R, plan: TurnsAsked) -> anyhow::Result<ExitCode>
+where
+    R: Clock + Print + AllocGlobal + Threads + Wait + Sync,
+{
+    let numbers = compare_numbers(rt, plan)?;
+    let gears = compare_gears(rt, plan)?;
+    let limits = compare_limits(rt, plan)?;
+    let callers = compare_callers(rt, plan)?;
+    match numbers && gears && limits && callers {
         true => Ok(ExitCode::SUCCESS),
         false => Ok(ExitCode::FAILURE),
     }
 }
 
-/// Prints a line for each pair of bodies, and says whether all gave the same answers.
-fn compare_all<R>(rt: &R, plan: TurnsAsked) -> anyhow::Result<bool>
-where
-    R: Clock + Print + AllocGlobal + Threads + Wait + Sync,
-{
-    let motions = compare_motions(rt, plan)?;
-    let callers = compare_callers(rt, plan)?;
-    let requests = compare_requests(rt, plan)?;
-    Ok(motions && callers && requests)
-}
-
-/// Prints the lines of what a cycle does: numbers, steps and shapes of a command.
-fn compare_motions<R>(rt: &R, plan: TurnsAsked) -> anyhow::Result<bool>
-where
-    R: Clock + Print + AllocGlobal,
-{
-    let numbers = compare_numbers(rt, plan)?;
-    let steps = compare_steps(rt, plan)?;
-    let shapes = compare_shapes(rt, plan)?;
-    Ok(numbers && steps && shapes)
-}
-
-/// Prints the lines of what is done with a description and a history: orders and traces.
-fn compare_requests<R>(rt: &R, plan: TurnsAsked) -> anyhow::Result<bool>
-where
-    R: Clock + Print + AllocGlobal,
-{
-    let orders = compare_orders(rt, plan)?;
-    let lines = compare_lines(rt, plan)?;
-    Ok(orders && lines)
-}
-
-/// Prints the lines of a product, a ratio and a number's text, over the same cases.
+/// Prints the lines of a product and of a ratio, over the same cases.
 fn compare_numbers<R>(rt: &R, plan: TurnsAsked) -> anyhow::Result<bool>
 where
     R: Clock + Print + AllocGlobal,
@@ -112,40 +86,7 @@ where
 {
     let mul = course.tell(rt, MUL, &mut PlainMul, &mut FastMul)?;
     let over = course.tell(rt, OVER, &mut PlainOver, &mut FastOver)?;
-    let text = compare_texts(rt, course)?;
-    Ok(mul && over && text)
-}
-
-/// Prints the line of a number's text.
-fn compare_texts<R>(rt: &R, course: &Trial<'_, Case>) -> anyhow::Result<bool>
-where
-    R: Clock + Print + AllocGlobal,
-{
-    let mut plain = PlainText::make(rt.alloc());
-    course.tell(rt, TEXT, &mut plain, &mut FastText::make(rt.alloc()))
-}
-
-/// Prints the line of a body's step.
-fn compare_steps<R>(rt: &R, plan: TurnsAsked) -> anyhow::Result<bool>
-where
-    R: Clock + Print + AllocGlobal,
-{
-    let pushes = cases::pushes(rt.alloc(), plan.seed)?;
-    let course = Trial {
-        cases: pushes.as_slice(),
-        turns: plan.turns,
-    };
-    course.tell(rt, STEP, &mut PlainStep::make(), &mut FastStep::make())
-}
-
-/// Prints the lines of a transmission and of a limiter.
-fn compare_shapes<R>(rt: &R, plan: TurnsAsked) -> anyhow::Result<bool>
-where
-    R: Clock + Print + AllocGlobal,
-{
-    let gears = compare_gears(rt, plan)?;
-    let limits = compare_limits(rt, plan)?;
-    Ok(gears && limits)
+    Ok(mul && over)
 }
 
 /// Prints the line of what an actuator is told.
@@ -177,47 +118,6 @@ where
 /// A step is looked for in some microseconds, so it gets one turn for so many of the others.
 const LIMIT_SHARE: u64 = 100;
 
-/// Prints the line of an order by rank.
-fn compare_orders<R>(rt: &R, plan: TurnsAsked) -> anyhow::Result<bool>
-where
-    R: Clock + Print + AllocGlobal,
-{
-    let alloc = rt.alloc();
-    let cases = [ranks::made(alloc, plan.seed)?];
-    let course = Trial {
-        cases: cases.as_slice(),
-        turns: plan.turns / ORDER_SHARE + 1,
-    };
-    course.tell(
-        rt,
-        RANKS,
-        &mut PlainOrder::make(alloc),
-        &mut FastOrder::make(alloc),
-    )
-}
-
-/// An order is made in some microseconds, so it gets one turn for so many of the others.
-const ORDER_SHARE: u64 = 20;
-
-/// Prints the line of the trace of a cycle.
-fn compare_lines<R>(rt: &R, plan: TurnsAsked) -> anyhow::Result<bool>
-where
-    R: Clock + Print + AllocGlobal,
-{
-    let alloc = rt.alloc();
-    let mut plain = PlainLine::make(alloc)?;
-    let mut fast = FastLine::make(alloc)?;
-    let cases = [lines::made(alloc, plan.seed)?];
-    let course = Trial {
-        cases: cases.as_slice(),
-        turns: plan.turns / LINE_SHARE + 1,
-    };
-    course.tell(rt, TRACE, &mut plain, &mut fast)
-}
-
-/// A line of 255 numbers is made in some microseconds, so it gets one turn for so many of the others.
-const LINE_SHARE: u64 = 200;
-
 // ---- What the lines are called
 
 const MUL: Title = Title {
@@ -230,16 +130,6 @@ const OVER: Title = Title {
     what: "answers",
 };
 
-const TEXT: Title = Title {
-    name: "text",
-    what: "bytes",
-};
-
-const STEP: Title = Title {
-    name: "step",
-    what: "answers",
-};
-
 const GEAR: Title = Title {
     name: "transmission",
     what: "answers",
@@ -248,14 +138,4 @@ const GEAR: Title = Title {
 const LIMIT: Title = Title {
     name: "limiter",
     what: "answers",
-};
-
-const RANKS: Title = Title {
-    name: "ranks",
-    what: "orders",
-};
-
-const TRACE: Title = Title {
-    name: "trace",
-    what: "bytes",
 };

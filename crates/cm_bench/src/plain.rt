@@ -1,17 +1,13 @@
 //! The plain bodies: each as its contract reads, its result under the clause of the call that it stands beside.
 
-ghost use Rattle.std.specs.Prelude.{◌≡◌, pos, ◌*ℤ◌, ◌<ℤ◌, ◌++◌, nat_abs, OnOk, string_bytes};
+ghost use Rattle.std.specs.Prelude.{◌≡◌, pos, ◌*ℤ◌, ◌<ℤ◌};
 ghost use Rattle.fixed_num.specs.Micro.{clamped};
 ghost use Rattle.fixed_num.specs.Arithmetic.{multiplied, ratio, floor_div};
-ghost use Rattle.fixed_num.specs.Text.{spelled, sign_text};
 
-use fixed_num::{Fx, Memory};
+use fixed_num::Fx;
 
 /// The largest number, in micro-units.
 const LARGEST: i128 = 1_000_000_000_000_000;
-
-/// How many micro-units are a unit.
-const MICRO: u64 = 1_000_000;
 
 /// The product, always by 128 bits.
 pub fn plain_mul(left: Fx, right: Fx) -> Fx
@@ -29,7 +25,7 @@ pub fn plain_over(number: Fx, num: i64, den: i64) -> Fx
 }
 
 /// The product of two numbers divided by a third, rounded down.
-pub fn quotient(left: i64, right: i64, den: i64) -> i128
+fn quotient(left: i64, right: i64, den: i64) -> i128
     requires positive { pos 0 <ℤ den }
     ensures { result ≡ floor_div (left *ℤ right) den }
 {
@@ -50,27 +46,4 @@ pub fn in_range(n: i128) -> Fx
     ensures { result ≡ clamped n }
 {
     Fx::from_micro(n.max(-LARGEST).min(LARGEST) as i64)
-}
-
-/// Appends the number's text, by the format of std.
-#[tactic(auto, unfolding(fixed_num::specs::Text::spelled))]
-pub fn plain_text(number: Fx, text: &mut String) -> Result<(), Memory>
-    ensures { OnOk result (string_bytes text.new ≡ string_bytes text.old ++ spelled number) }
-{
-    let sign = sign(number);
-    let size = size(number);
-    write!(text, "{sign}{}.{:06}", size / MICRO, size % MICRO)?;
-    Ok(())
-}
-
-fn sign(number: Fx) -> &'static str
-    ensures { result.now ≡ sign_text number }
-{
-    if number.micro() < 0 { "-" } else { "" }
-}
-
-fn size(number: Fx) -> u64
-    ensures { result ≡ nat_abs number }
-{
-    number.micro().unsigned_abs()
 }

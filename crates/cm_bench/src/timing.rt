@@ -112,7 +112,7 @@ impl<C> Trial<'_, C> {
         let start = Instant::now(rt)?;
         let sum = self.sum(body)?;
         let nanos = start.elapsed(rt)?.as_nanos();
-        Ok((sum, Tenths(nanos.saturating_mul(10) / self.turns as u128)))
+        Ok((sum, Tenths::of(nanos, u128::from(self.turns))))
     }
 
     /// The sum of all turns: round after round over the cases, and at last over as many as are left.
@@ -137,20 +137,12 @@ fn agree<C, P: Contender<C>, F: Contender<C>>(
     fast: &mut F,
 ) -> Result<bool, Memory> {
     for case in cases {
-        if !agree_at(case, plain, fast)? {
+        let answer = plain.turn(case)?;
+        if answer != fast.turn(case)? {
             return Ok(false);
         }
     }
     Ok(true)
-}
-
-fn agree_at<C, P: Contender<C>, F: Contender<C>>(
-    case: &C,
-    plain: &mut P,
-    fast: &mut F,
-) -> Result<bool, Memory> {
-    let answer = plain.turn(case)?;
-    Ok(answer == fast.turn(case)?)
 }
 
 /// One turn at each case, the answers added to the sum so far: so no round is the same call as another, and none is left out.

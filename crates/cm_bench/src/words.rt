@@ -6,8 +6,35 @@ ghost use Rattle.cm_bench.specs.Words.{AreRuns, AreNoRuns, AskForRuns, AskForNoR
 
 use crate::plan::TurnsAsked;
 
+/// What the words ask for.
+#[derive(Clone, Copy)]
+pub enum Measure {
+    /// So many live runs.
+    Live(u64),
+    /// So many runs by each number of workers.
+    Workers(u64),
+    /// Turns of each body.
+    Turns(TurnsAsked),
+    /// Nothing that there is.
+    Nothing,
+}
+
+/// What these words ask for.
+pub fn asked(words: &[String]) -> Measure {
+    if let Some(runs) = runs_of(words, "live") {
+        return Measure::Live(runs);
+    }
+    if let Some(runs) = runs_of(words, "workers") {
+        return Measure::Workers(runs);
+    }
+    match plan_of(words) {
+        Some(plan) => Measure::Turns(plan),
+        None => Measure::Nothing,
+    }
+}
+
 /// The plan of the words `TURNS SEED`, both decimal and the turns not 0. `None` for any others.
-pub fn plan_of(words: &[String]) -> Option<TurnsAsked>
+fn plan_of(words: &[String]) -> Option<TurnsAsked>
     ensures { MatchOption result (IsNoPlan (map string_bytes words.now)) (IsPlan (map string_bytes words.now)) }
 {
     if words.len() != 2 {
@@ -28,7 +55,7 @@ fn plan_of_two(turns: &str, seed: &str) -> Option<TurnsAsked>
 }
 
 /// How many runs the words ask for that are this one and a number, decimal and not 0. `None` for any others.
-pub fn runs_of(words: &[String], asked: &str) -> Option<u64>
+fn runs_of(words: &[String], asked: &str) -> Option<u64>
     ensures { MatchOption result (AskForNoRuns asked.now (map string_bytes words.now))
         (AskForRuns asked.now (map string_bytes words.now)) }
 {

@@ -1,17 +1,9 @@
 //! How long a cycle takes in which controllers of one depth compute for a while, by one worker and by several.
 
-ghost use Rattle.std.specs.Prelude.{◌≤◌, length, IfOk};
-ghost use Rattle.cm_bench.specs.declared.workers.TheConstants.{CONTROLLERS};
-ghost use Rattle.std.specs.List.{All};
-ghost use Rattle.cm_model.specs.Controllers.{IsBlank};
-
-use crate::working::{all_working, mixed};
-use cm_top::{Status, run};
-use ctl_mock::Mock;
-use ctl_rack::Stock;
-use ctl_trait::Controller;
+use crate::runs::run_over;
+use crate::watch::Stopwatch;
+use crate::working::{MOST_WORKING, blanks, mixed};
 use fixed_num::Memory;
-use outside_io::{MemSink, MemSource, OpenGate, YieldPace};
 use std::alloc::Global;
 use std::rt::Clock;
 use std::sync::Wait;
@@ -19,7 +11,7 @@ use std::thread::Threads;
 use std::time::Duration;
 
 /// So many controllers work in each cycle. None has to do with another, so all are of one depth.
-const CONTROLLERS: u32 = 8;
+const CONTROLLERS: u32 = MOST_WORKING;
 
 /// The cycles of a run.
 const CYCLES: u32 = 200;
@@ -68,15 +60,34 @@ fn least<R>(rt: &R, alloc: Global, workers: u32, turns: u64, runs: u64) -> anyho
 where
     R: Clock + Threads + Wait + Sync,
 {
-    let text = document(alloc)?;
     let words = words(alloc, workers)?;
     let mut least = u64::MAX;
     for _ in 0..runs {
-        let since = rt.monotonic()?;
-        run_once(rt, alloc, words.as_slice(), text.as_str(), turns)?;
-        least = least.min(a_cycle(rt.monotonic()?.saturating_sub(since)));
+        least = least.min(timed(rt, alloc, words.as_slice(), turns)?);
     }
     Ok(least)
+}
+
+/// The time of a cycle of one run, in nanoseconds.
+fn timed<R>(rt: &R, alloc: Global, words: &[String], turns: u64) -> anyhow::Result<u64>
+where
+    R: Clock + Threads + Wait + Sync,
+{
+    let mut watch = Stopwatch::make(rt, alloc, Duration::ZERO);
+    let since = rt.monotonic()?;
+    let ended = run_over(
+        rt,
+        alloc,
+        words,
+        DOCUMENT,
+        blanks(alloc, turns)?,
+        &mut watch,
+    )?;
+    let took = rt.monotonic()?.saturating_sub(since);
+    if !ended {
+        return Err(anyhow::anyhow!("a run that does not end well"));
+    }
+    Ok(a_cycle(took))
 }
 
 /// The part of a cycle of the time of a run, in nanoseconds.
@@ -93,92 +104,51 @@ fn words(alloc: Global, workers: u32) -> Result<Vec<String>, Memory> {
     Ok(words)
 }
 
-/// A document of mocks that one session switches on.
-fn document(alloc: Global) -> Result<String, Memory> {
-    let mut text = String::new(alloc);
-    write!(text, "version = 1\nupdate_rate = 100\ncycles = {CYCLES}\n")?;
-    for number in 0..CONTROLLERS {
-        write!(
-            text,
-            "[[controller]]\nname = \"m{number}\"\ntype = \"mock\"\n"
-        )?;
-    }
-    text.push_str("--- script ---\nsession a\n")?;
-    for number in 0..CONTROLLERS {
-        write!(text, "load m{number}\nconfigure m{number}\n")?;
-    }
-    push_switch(&mut text)?;
-    Ok(text)
-}
-
-fn push_switch(text: &mut String) -> Result<(), Memory> {
-    text.push_str("switch strict")?;
-    for number in 0..CONTROLLERS {
-        write!(text, " +m{number}")?;
-    }
-    text.push_str("\n")?;
-    Ok(())
-}
-
-/// One run of the document.
-fn run_once<R>(
-    rt: &R,
-    alloc: Global,
-    words: &[String],
-    text: &str,
-    turns: u64,
-) -> anyhow::Result<()>
-where
-    R: Threads + Wait + Sync,
-{
-    let blanks = all_working(alloc, mocks(alloc)?, turns)?;
-    if blanks.len() > CONTROLLERS as usize {
-        return Err(anyhow::anyhow!("a stock too large"));
-    }
-    run_over(rt, alloc, words, text, blanks)
-}
-
-/// A blank for each controller.
-fn mocks(alloc: Global) -> Result<Vec<Mock>, Memory>
-    ensures { IfOk result (λ blanks. All (λ b. IsBlank (⟦<Mock as Controller>⟧.meaning b)) blanks.items) }
-{
-    let mut blanks = Vec::new(alloc);
-    for _ in 0..CONTROLLERS {
-        blanks.push(Mock::blank())?;
-    }
-    Ok(blanks)
-}
-
-/// One run of a document over these blanks. It fails if the run does not end well.
-fn run_over<R, C: Controller + Send>(
-    rt: &R,
-    alloc: Global,
-    words: &[String],
-    text: &str,
-    blanks: Vec<C>,
-) -> anyhow::Result<()>
-where
-    R: Threads + Wait + Sync,
-    requires blank { All (λ c. IsBlank (C.meaning c)) blanks.items }
-    requires few { length blanks.items ≤ CONTROLLERS }
-{
-    let mut source = MemSource::make(text.as_bytes().to_vec(alloc)?, ROOM, vec![in alloc]?);
-    let mut sink = MemSink::make(alloc, ROOM, ROOM, vec![in alloc]?)?;
-    let stock = Stock::make(blanks);
-    match run(
-        rt,
-        alloc,
-        words,
-        &mut source,
-        &mut sink,
-        stock,
-        &mut YieldPace,
-        &OpenGate,
-    ) {
-        (Status::Ok, _) => Ok(()),
-        _ => Err(anyhow::anyhow!("a run that does not end well")),
-    }
-}
-
-/// Bytes for the trace of a run, and more.
-const ROOM: usize = 1 << 20;
+/// Eight mocks, which one session switches on.
+const DOCUMENT: &str = r#"version = 1
+update_rate = 100
+cycles = 200
+[[controller]]
+name = "m0"
+type = "mock"
+[[controller]]
+name = "m1"
+type = "mock"
+[[controller]]
+name = "m2"
+type = "mock"
+[[controller]]
+name = "m3"
+type = "mock"
+[[controller]]
+name = "m4"
+type = "mock"
+[[controller]]
+name = "m5"
+type = "mock"
+[[controller]]
+name = "m6"
+type = "mock"
+[[controller]]
+name = "m7"
+type = "mock"
+--- script ---
+session a
+load m0
+configure m0
+load m1
+configure m1
+load m2
+configure m2
+load m3
+configure m3
+load m4
+configure m4
+load m5
+configure m5
+load m6
+configure m6
+load m7
+configure m7
+switch strict +m0 +m1 +m2 +m3 +m4 +m5 +m6 +m7
+"#;
