@@ -1,13 +1,12 @@
 -- A pass of a session stays one over each of its calls; those of a desk that is shared are known, and so is that they
 -- are all when it comes home.
 use Rattle.std.proofs.Common.{◌≡◌, ℕ, zero, suc, ◌+◌, ◌<◌, Bool, true, false, List, [], ◌∷◌, ◌++◌, map, length, get_or, All, Contains, Option, Some, None, refl, sym, ap, subst, ◌∙◌, ◌⊎◌, inl, inr, ⊎_elim, arith}
-use Rattle.std.specs.Prelude.{◌≢◌, MatchOption, IfSome}
+use Rattle.std.specs.Prelude.{MatchOption, IfSome}
 use Rattle.std.proofs.lemmas.List.{get_or-map, length-map}
 use Rattle.std.proofs.lemmas.List.Elements.{All-cons, All-tail, All-contains}
 use Rattle.cm_document.specs.declared.call.Call.{Call}
 use Rattle.cm_document.specs.declared.description.Description.{Description}
 use Rattle.cm_desk.specs.Desk.{History, IsOut, MayLand, now_of}
-use Rattle.cm_model.specs.Ports.{CanBegin}
 use Rattle.cm_model.specs.State.{State, boot}
 use Rattle.cm_model.specs.declared.blanks.Blanks.{Blanks}
 use Rattle.cm_model.specs.declared.cause.Outcome.{Outcome}
@@ -15,7 +14,6 @@ use Rattle.cm_model.specs.declared.data.CtlData.{CtlData}
 use Rattle.cm_model.specs.declared.entry.Entry.{Entry}
 use Rattle.cm_model.specs.declared.reply.Reply.{Reply}
 use Rattle.cm_model.specs.declared.reply.Reply.TheVariants as reply
-use Rattle.cm_model.proofs.HistoryLemmas.{description_stays}
 use Rattle.rt_flight.specs.Flights.{FlightFacts}
 use Rattle.turn_lock.specs.declared.kept.Kept.{Ghosts}
 use Rattle.turn_lock.specs.declared.kept.Shown.{Shown}
@@ -30,7 +28,6 @@ use Rattle.shared_desk.specs.Calls.Looping.{stand_of}
 use Rattle.shared_desk.specs.Calls.Sessions.{Calls, CallsWhere, LooksInVain}
 use Rattle.shared_desk.specs.Calls.Share.{Shares}
 use Rattle.shared_desk.specs.Passes.{history_of, IsSessionPass, IsLoopPass}
-use Rattle.shared_desk.specs.Ports.{loop_console_of}
 use Rattle.shared_desk.specs.Turns.{TakesTurn, Stays}
 use Rattle.rows_share.specs.Loops.{StandsSo, IsLoopOf, AreSessions}
 use Rattle.rows_share.specs.declared.stand.Stand.{Stand}
@@ -113,20 +110,6 @@ module _ {K : Type 0} {g : Ghosts K Entry State} (lock : TurnLock K Entry State)
     out_is = subst (λ (o : Option FlightFacts). IfSome o (IsOut (history_of first.opening p))) (sym none) tt;
     computed_is = subst (λ (o : Option FlightFacts). IfSome o (MayLand (history_of first.opening p))) (sym not_computed) tt;
   }
-
-  -- so that a cycle can begin, if there is one
-  pub first_begins : (d : Description) (blanks : Blanks) (sessions : ℕ) (desk : History) (looping : TurnPass K Entry State g) (passes : List (TurnPass K Entry State g))
-      → desk ≡ record { opening = boot d blanks sessions; made = [] } → Shares desk lock first looping passes → d.cycles ≢ 0
-      → (now : History) (p : TurnPass K Entry State g) → now ≡ first → p ≡ looping → CanBegin (loop_console_of now p)
-  first_begins d blanks sessions desk looping passes booted shares some now p here same =
-      let stands = stands_at_boot d blanks sessions desk looping passes booted shares in
-      let cycles : (stand_of first looping).description.cycles ≡ first.opening.description.cycles = ap (λ (about : Description). about.cycles) (description_stays (view looping).seen first.opening) in
-      let can : CanBegin (loop_console_of first looping) = record {
-        home = sym stands.aloft;
-        not_closed = sym stands.closed;
-        left = omega (arith, stands.left, cycles, some);
-      } in
-      subst (λ (h : History). CanBegin (loop_console_of h p)) (sym here) (subst (λ (q : TurnPass K Entry State g). CanBegin (loop_console_of first q)) (sym same) can)
 
   -- ---- It comes home
 

@@ -2,8 +2,6 @@
 #![tactic(auto)]
 
 #[cfg(test)]
-mod aside;
-#[cfg(test)]
 mod crowds;
 #[cfg(test)]
 mod ends;
@@ -13,8 +11,6 @@ mod lines;
 mod looping;
 #[cfg(test)]
 mod passes;
-#[cfg(test)]
-mod ports;
 #[cfg(test)]
 mod sessions;
 /// Specs name it, so it stands beside the tests.

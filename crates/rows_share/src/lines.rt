@@ -27,7 +27,7 @@ use std::test::Fail;
 use turn_lock::Kept;
 
 /// How many sessions the desk has.
-pub const SESSIONS: u32 = 2;
+const SESSIONS: u32 = 2;
 
 /// What is told of a call of the loop that it may not make.
 const CANNOT: &str = "cannot";
@@ -36,19 +36,19 @@ const CANNOT: &str = "cannot";
 const NO_PASS: &str = "a session without a pass";
 
 /// What stands before the history in which a case ends.
-pub const FINISH: &str = "\nfinish => ";
+const FINISH: &str = "\nfinish => ";
 
 /// What stands between two entries of a history.
 const BETWEEN: &str = " / ";
 
 /// The passes of both sessions.
 #[derive(Drop)]
-pub struct Sessions<C: Controller>
+struct Sessions<C: Controller>
 where
     KeptDesk<C>: Kept<Entry = Entry, Ground = Opening>,
 {
-    pub first: Pass<C>,
-    pub second: Pass<C>,
+    first: Pass<C>,
+    second: Pass<C>,
 }
 
 /// Fails at the first line of a page of which something else is told than it says. A case is a paragraph of lines
@@ -107,7 +107,7 @@ pub fn at_boot<C: Controller>(pass: LoopPass<C>, left: u64) -> Looping<C>
 }
 
 /// The passes of two sessions.
-pub fn both<C: Controller>(mut passes: Vec<Pass<C>>) -> Result<Sessions<C>, Fail>
+fn both<C: Controller>(mut passes: Vec<Pass<C>>) -> Result<Sessions<C>, Fail>
     ensures { IfOk result (λ s. Contains passes.items s.first × Contains passes.items s.second) }
 {
     let Some(second) = passes.pop() else {
@@ -138,7 +138,7 @@ fn play_on<R: Wait, C: Controller>(
 }
 
 /// Fails at the first of these calls of which something else is told than is wanted.
-pub fn hold_lines<R: Wait, C: Controller>(
+fn hold_lines<R: Wait, C: Controller>(
     rt: &R,
     alloc: Global,
     desk: &SharedDesk<C>,
@@ -231,7 +231,7 @@ fn ask_one<R: Wait, C: Controller>(
 
 /// All passes are handed in; the history of the book is told, or that the loop has not closed.
 #[tactic(auto, using(crate::proofs::SessionLemmas::in_a_row))]
-pub fn hold_end<C: Controller>(
+fn hold_end<C: Controller>(
     alloc: Global,
     desk: SharedDesk<C>,
     sessions: Sessions<C>,

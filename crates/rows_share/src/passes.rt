@@ -1,6 +1,5 @@
-//! Two sessions and the loop at a shared desk, call by call, and a session on a thread of its own.
+//! Two sessions and the loop at a shared desk, call by call.
 
-use crate::aside::hold_aside;
 use crate::lines::hold_calls;
 use pages_calls::robots::SEVEN;
 use std::test::Fail;
@@ -188,21 +187,3 @@ command unavailable; command unavailable / \
 0 unload fwd: ok / 0 list controllers: none / 2 end 3: none / 0 switch strict +fwd: queued 8 / 1 load pid: ok 3 / \
 1 switch strict +pid: queued 9 / 2 begin 4: 8 refused fwd unknown; 9 refused pid not_configured / \
 0 told 8: refused fwd unknown / 1 told 9: refused pid not_configured / 2 end 4: none / 2 close: none";
-
-#[test]
-fn a_session_loads_on_a_thread_of_its_own_while_a_flight_is_held(
-    rt: HostRuntime,
-) -> Result<(), Fail> {
-    hold_aside(&rt, rt.alloc(), ONE, ASIDE)
-}
-
-/// The loop holds the flight until the thread has ended.
-const ASIDE: &str = "\
-loop begin => ok
-aside 0 load mk => ok 0
-1 cycles seen => 0
-loop compute => ok
-loop land => ok
-1 cycles seen => 1
-loop close => ok
-finish => 2 begin 0: none / 0 load mk: ok 0 / 2 end 0: none / 2 close: none";

@@ -77,7 +77,7 @@ fn call_desk<R: Wait, C: Controller>(
 }
 
 /// A call of a session, of words as a script has them.
-pub fn session_call(alloc: Global, verb: &str, rest: &str) -> Result<Call, Fail>
+fn session_call(alloc: Global, verb: &str, rest: &str) -> Result<Call, Fail>
     ensures { IfOk result CanBeCalled }
 {
     let call = call_of(alloc, verb, rest)?;

@@ -1,5 +1,6 @@
 use Rattle.std.proofs.Common.{List, [], ◌∷◌}
 use mir.Syntax.{Sym}
+use denote.Builtin.{u32}
 use denote.Exit as exit
 use denote.Param.{param}
 use denote.RattleType.{RattleType}
@@ -15,15 +16,21 @@ use Rattle.shared_desk.specs.contracts.shared.SharedDesk as SharedDesk
 use Rattle.shared_desk.proofs.Crossing.{console_pass_send, desk_sync}
 use Rattle.rows_share.proofs.crowds.call_all.Goals as goal
 
--- what the closure captures: the runtime, the allocator and the desk
-captured : (R C : RattleType) (m : Ghosts C.Denot) → IsSync R → IsSend C → (ν : Sym) (a b d : NamedLft)
-    → IsSync (TupleAt ν (ShrRef a.mir a.lft R ∷ ShrRef b.mir b.lft Heap.the_row ∷ ShrRef d.mir d.lft (SharedDesk.the_row C m) ∷ []))
-captured R C m r s ν a b d =
+-- what the closure captures: the runtime, the allocator, the desk and a number
+captured : (R C : RattleType) (m : Ghosts C.Denot) → IsSync R → IsSend C → (ν : Sym) (a b d e : NamedLft)
+    → IsSync (TupleAt ν (ShrRef a.mir a.lft R ∷ ShrRef b.mir b.lft Heap.the_row ∷ ShrRef d.mir d.lft (SharedDesk.the_row C m) ∷ ShrRef e.mir e.lft u32 ∷ []))
+captured R C m r s ν a b d e =
     let desk = SharedDesk.the_row C m in
-    let types : List RattleType = ShrRef a.mir a.lft R ∷ ShrRef b.mir b.lft Heap.the_row ∷ ShrRef d.mir d.lft desk ∷ [] in
+    let types : List RattleType = ShrRef a.mir a.lft R ∷ ShrRef b.mir b.lft Heap.the_row ∷ ShrRef d.mir d.lft desk ∷ ShrRef e.mir e.lft u32 ∷ [] in
     declared_sync (type_at ν types) (
       as_row_sync (row_field (ShrRef a.mir a.lft R)) (shr_sync a.mir a.lft R r),
-      (as_row_sync (row_field (ShrRef b.mir b.lft Heap.the_row)) (shr_sync b.mir b.lft Heap.the_row heap.sync), (as_row_sync (row_field (ShrRef d.mir d.lft desk)) (shr_sync d.mir d.lft desk (desk_sync C m s)), tt)),
+      (
+        as_row_sync (row_field (ShrRef b.mir b.lft Heap.the_row)) (shr_sync b.mir b.lft Heap.the_row heap.sync),
+        (
+          as_row_sync (row_field (ShrRef d.mir d.lft desk)) (shr_sync d.mir d.lft desk (desk_sync C m s)),
+          (as_row_sync (row_field (ShrRef e.mir e.lft u32)) (shr_sync e.mir e.lft u32 (search sendable)), tt),
+        ),
+      ),
     )
 
 pub map_vec-requires-send-J : goal.map_vec-requires-send-J
@@ -33,4 +40,4 @@ pub map_vec-requires-send-X : goal.map_vec-requires-send-X
 map_vec-requires-send-X g c κs within = param_send 2 _ (arg_send _ exit.no _ (console_pass_send (param 1 g.row.C) g.C.Controller (search (sendable, c.type_bounds.send-C))))
 
 pub map_vec-requires-sync-F : goal.map_vec-requires-sync-F
-map_vec-requires-sync-F g c κs within = param_sync 4 _ (arg_sync _ exit.no _ (captured _ (param 1 g.row.C) g.C.Controller c.type_bounds.sync-R (search (sendable, c.type_bounds.send-C)) _ _ _ _))
+map_vec-requires-sync-F g c κs within = param_sync 4 _ (arg_sync _ exit.no _ (captured _ (param 1 g.row.C) g.C.Controller c.type_bounds.sync-R (search (sendable, c.type_bounds.send-C)) _ _ _ _ _))
