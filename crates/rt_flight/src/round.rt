@@ -15,7 +15,7 @@ use std::marker::Model;
 use switch_plan::Relations;
 
 /// What is the same for all updates of a cycle. Contracts see it as `Aloft`.
-#[derive(Debug, Drop)]
+#[derive(Drop)]
 pub(crate) struct Round<'a> {
     /// The number of the cycle.
     pub(crate) number: u64,

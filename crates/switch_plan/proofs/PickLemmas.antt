@@ -1,6 +1,6 @@
 -- A flat list is gone through from its start: what is known once one more of it was looked at.
-use Rattle.std.proofs.Common.{◌≡◌, ℕ, ◌+◌, ◌<◌, List, [], ◌∷◌, ◌++◌, length, get_or, take, drop, append-nil, append_assoc, Option, Some, None, sym, ◌∙◌, ap}
-use Rattle.std.specs.Prelude.{option_map}
+use Rattle.std.proofs.Common.{◌≡◌, ℕ, ◌+◌, ◌<◌, List, [], ◌∷◌, ◌++◌, length, get_or, take, drop, append-nil, append_assoc, Option, Some, None, refl, sym, ◌∙◌, ap}
+use Rattle.std.specs.Prelude.{◌≢◌, option_map}
 use Rattle.std.specs.Option.{option_or}
 use Rattle.std.proofs.lemmas.List.{take_more, drop_more}
 use Rattle.std.proofs.lemmas.List.Elements.{filter_map-append}
@@ -14,6 +14,7 @@ use Rattle.cm_model.specs.declared.cause.Cause.{Cause}
 use Rattle.cm_model.specs.declared.cause.Cause.TheVariants as cause
 use Rattle.cm_model.specs.declared.cause.Dropped.{Dropped}
 use Rattle.cm_model.specs.declared.member.Member.{Member}
+use Rattle.switch_plan.specs.Lists.{first_dropped}
 
 -- the loaded controllers of one name more
 loaded_more : (scene : Scene) (name : List ℕ) (names : List (List ℕ)) → loaded_all scene (name ∷ []) ++ loaded_all scene names ≡ loaded_all scene (name ∷ names)
@@ -38,13 +39,6 @@ module _ (picks : List Pick) (i : ℕ) (pick : Pick) (name : List ℕ) (within :
   rest_more = drop_more picks i pick within ∙ ap (λ p. p ∷ rest) is
 
   module _ (fault : List (List ℕ) → List ℕ → Option Cause) where
-    -- nothing speaks against it: the first fault is that of what is left
-    pub first_fault_more : fault before name ≡ None → first_fault fault (picked_names (take (i + 1) picks)) rest ≡ first_fault fault before (drop i picks)
-    first_fault_more none =
-        ap (λ names. first_fault fault names rest) names_more
-        ∙ sym (ap (λ o. option_or (option_map (with_name name) o) (first_fault fault (before ++ name ∷ []) rest)) none)
-        ∙ ap (first_fault fault before) (sym rest_more)
-
     -- what is kept of the list, by what speaks against it
     abbrev kept : Option Cause → List (List ℕ)
     kept o = elim o [
@@ -113,3 +107,49 @@ pub found_more : (scene : Scene) (old new : List Member) (name : List ℕ) (name
 found_more scene old new name names pushed =
     ap (λ l. l ++ loaded_all scene names) pushed ∙ append_assoc old (loaded_all scene (name ∷ [])) (loaded_all scene names)
     ∙ ap (λ l. old ++ l) (loaded_more scene name names)
+
+-- ---- The first that was dropped
+
+-- it is the first fault of the list,
+pub first_of_faulty : (fault : List (List ℕ) → List ℕ → Option Cause) (before : List (List ℕ)) (picks : List Pick)
+    → first_fault fault before picks ≡ first_dropped (faulty fault before picks)
+first_of_faulty fault before [] = refl
+first_of_faulty fault before (Group name ∷ picks) = refl
+first_of_faulty fault before (One name ∷ picks) = one (fault before name) (first_of_faulty fault (before ++ name ∷ []) picks)
+  where
+    one : (o : Option Cause) → first_fault fault (before ++ name ∷ []) picks ≡ first_dropped (faulty fault (before ++ name ∷ []) picks)
+        → option_or (option_map (with_name name) o) (first_fault fault (before ++ name ∷ []) picks)
+        ≡ first_dropped (elim o [
+          | Some reason ↦ with_name name reason ∷ faulty fault (before ++ name ∷ []) picks
+          | None ↦ faulty fault (before ++ name ∷ []) picks
+        ])
+    one None rest = rest
+    one (Some reason) rest = refl
+
+-- and where none was dropped no name is left out
+pub none_left_out : (fault : List (List ℕ) → List ℕ → Option Cause) (before : List (List ℕ)) (picks : List Pick)
+    → first_dropped (faulty fault before picks) ≡ None → faultless fault before picks ≡ picked_names picks
+none_left_out fault before [] none = refl
+none_left_out fault before (Group name ∷ picks) none = cc
+none_left_out fault before (One name ∷ picks) none = one (fault before name) (none_left_out fault (before ++ name ∷ []) picks) none
+  where
+    one : (o : Option Cause) → (first_dropped (faulty fault (before ++ name ∷ []) picks) ≡ None → faultless fault (before ++ name ∷ []) picks ≡ picked_names picks)
+        → first_dropped (elim o [
+          | Some reason ↦ with_name name reason ∷ faulty fault (before ++ name ∷ []) picks
+          | None ↦ faulty fault (before ++ name ∷ []) picks
+        ]) ≡ None
+        → (elim o [
+          | Some reason ↦ faultless fault (before ++ name ∷ []) picks
+          | None ↦ name ∷ faultless fault (before ++ name ∷ []) picks
+        ]) ≡ name ∷ picked_names picks
+    one None rest none = ap (λ names. name ∷ names) (rest none)
+    one (Some reason) rest none = cc
+
+-- a list without elements has no first one, and another has
+pub no_first : (ds : List Dropped) → length ds ≡ 0 → None ≡ first_dropped ds
+no_first [] e = refl
+no_first (d ∷ ds) e = cc
+
+pub is_first : (ds : List Dropped) (d : Dropped) → length ds ≢ 0 → d ≡ get_or ds 0 d → Some d ≡ first_dropped ds
+is_first [] d some is = absurd (some refl)
+is_first (x ∷ ds) d some is = ap Some is

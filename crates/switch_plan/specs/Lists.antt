@@ -1,5 +1,5 @@
 -- The flat lists of a switch.
-use Rattle.std.specs.Prelude.{◌≡◌, ℕ, Bool, List, [], Option, Some, None}
+use Rattle.std.specs.Prelude.{◌≡◌, ℕ, Bool, List, [], ◌∷◌, Option, Some, None}
 use Rattle.cm_document.specs.Picks.{picked_names}
 use Rattle.cm_document.specs.declared.call.Pick.{Pick}
 use Rattle.cm_model.specs.Order.{Places, set_of}
@@ -7,6 +7,7 @@ use Rattle.cm_model.specs.Scene.{Scene, loaded_all}
 use Rattle.cm_model.specs.Switches.{off_cause, on_cause, off_fault, on_fault, first_fault}
 use Rattle.cm_model.specs.declared.cause.Cause.{Cause}
 use Rattle.cm_model.specs.declared.cause.Cause.TheVariants as cause
+use Rattle.cm_model.specs.declared.cause.Dropped.{Dropped}
 use Rattle.cm_model.specs.declared.seen.Seen.{Seen}
 use Rattle.switch_plan.specs.View.{HavePlaces}
 use Rattle.switch_plan.specs.declared.lists.Listed.{Listed}
@@ -22,6 +23,11 @@ abbrev pub fault_met : Option (List Bool) → Places → Option Seen → Option 
 fault_met leaving met None = Some cause.Unknown
 fault_met None met (Some seen) = off_cause (met seen.place) seen
 fault_met (Some leaving) met (Some seen) = on_cause (set_of leaving) (met seen.place) seen
+
+-- the first name that was dropped
+abbrev pub first_dropped : List Dropped → Option Dropped
+first_dropped [] = None
+first_dropped (d ∷ ds) = Some d
 
 -- a flat list was looked through: nothing speaks against it, and these are its controllers; or this comes first of what
 -- does

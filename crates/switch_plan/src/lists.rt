@@ -9,7 +9,7 @@ ghost use Rattle.cm_model.specs.BestEffort.{faulty, faultless};
 ghost use Rattle.cm_model.specs.Order.{set_of};
 ghost use Rattle.switch_plan.specs.Calls.Members.{IsLoadedAs, HaveMet};
 ghost use Rattle.switch_plan.specs.View.{scene_of, IsView, HavePlaces};
-ghost use Rattle.switch_plan.specs.Lists.{list_fault, fault_met, IsListed};
+ghost use Rattle.switch_plan.specs.Lists.{list_fault, fault_met, first_dropped, IsListed};
 
 use crate::members::{is_configured, is_running, loaded_of, push_seen};
 use crate::view::{View, controllers};
@@ -111,8 +111,7 @@ fn no_group(name: &Name) -> Result<Dropped, Memory>
     })
 }
 
-/// The controllers of a flat list, or the first of its names that something speaks against. Each controller is looked up
-/// once.
+/// The controllers of a flat list, or the first of its names that something speaks against.
 pub fn look_through(
     alloc: Global,
     view: &View,
@@ -123,26 +122,26 @@ pub fn look_through(
     ensures { IfOk result (IsListed (scene_of view.now)
         (list_fault (scene_of view.now) (option_map (λ set. set.now) leaving.entry)) picks.now) }
 {
-    let mut members = Vec::with_capacity(alloc, picks.len().min(view.loaded.len()))?;
-    let mut met = PlaceSet::none(alloc, controllers(view).len())?;
-    for (index, pick) in picks.iter().enumerate() {
-        let name = match pick {
-            Pick::One(name) => name,
-            Pick::Group(name) => return Ok(Listed::Faulty(no_group(name)?)),
-        };
-        let before = &picks[..index];
-        let seen = loaded_of(view, name);
-        if let Some(cause) = list_fault(view, leaving, before, &met, name, seen) {
-            let name = name.clone()?;
-            return Ok(Listed::Faulty(Dropped { name, cause }));
-        }
-        meet(view, before, name, seen, &mut met);
-        push_seen(view, name, seen, &mut members)?;
+    let mut dropped = Vec::new(alloc);
+    let members = sifted(alloc, view, leaving, picks, &mut dropped)?;
+    match first_dropped(dropped) {
+        Some(because) => Ok(Listed::Faulty(because)),
+        None => Ok(Listed::Faultless(members)),
     }
-    Ok(Listed::Faultless(members))
 }
 
-/// The controllers of a flat list without its faults, which are dropped.
+/// The first of these, if there is one.
+#[tactic(auto, using(crate::proofs::PickLemmas::no_first, crate::proofs::PickLemmas::is_first))]
+fn first_dropped(mut dropped: Vec<Dropped>) -> Option<Dropped>
+    ensures { result ≡ first_dropped dropped.items }
+{
+    if dropped.as_slice().len() == 0 {
+        return None;
+    }
+    Some(dropped.remove(0))
+}
+
+/// The controllers of a flat list without its faults, which are dropped. Each controller is looked up once.
 pub fn sifted(
     alloc: Global,
     view: &View,

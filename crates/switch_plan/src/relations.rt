@@ -18,7 +18,7 @@ use std::marker::Model;
 
 /// For each described controller, by place, whom and what it has to do with. It rests on the description alone, and is made once for all
 /// requests.
-#[derive(Debug, Drop)]
+#[derive(Drop)]
 pub struct Relations {
     /// Those that precede it.
     leaders: Links,
