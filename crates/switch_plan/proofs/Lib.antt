@@ -12,3 +12,4 @@ pub mod LeavingLemmas
 pub mod MaximalLemmas
 pub mod ClearLemmas
 pub mod ChangeLemmas
+pub mod KeptLemmas

@@ -8,7 +8,7 @@ ghost use Rattle.cm_model.specs.declared.cause.Outcome.TheVariants as outcome;
 ghost use Rattle.switch_plan.specs.View.{IsPlace, HavePlaces};
 ghost use Rattle.switch_plan.specs.Changes.{change_scene, after, again, IsChange};
 
-use crate::members::member;
+use crate::members::push_if;
 use crate::setting::{Setting, in_order_of};
 use chain_order::{PlaceSet, is_chained, serials};
 use cm_model::{Dropped, Member, Outcome, Planned};
@@ -88,9 +88,7 @@ fn stopped(alloc: Global, change: &Change) -> Result<Vec<Member>, Memory>
 {
     let mut list = Vec::with_capacity(alloc, change.setting.view.loaded.len())?;
     for seen in change.setting.view.loaded {
-        if is_stopped(change, seen.place) {
-            list.push(member(seen))?;
-        }
+        push_if(&mut list, seen, is_stopped(change, seen.place))?;
     }
     Ok(list)
 }
@@ -105,9 +103,7 @@ fn started(alloc: Global, change: &Change) -> Result<Vec<Member>, Memory>
 {
     let mut list = Vec::with_capacity(alloc, change.setting.view.loaded.len())?;
     for seen in change.setting.view.loaded {
-        if is_started(change, seen.place) {
-            list.push(member(seen))?;
-        }
+        push_if(&mut list, seen, is_started(change, seen.place))?;
     }
     Ok(list)
 }

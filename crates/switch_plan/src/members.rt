@@ -1,6 +1,6 @@
 //! Loaded controllers, by name.
 
-ghost use Rattle.std.specs.Prelude.{◌≡◌, ◌<◌, ◌^◌, not, ◌&&◌, ◌==◌, ◌++◌, ◌∷◌, [], length, map, filter, find, Option, option_map, IfOk, IfSome, OnOk, All};
+ghost use Rattle.std.specs.Prelude.{◌≡◌, ◌<◌, ◌^◌, not, ◌&&◌, ◌==◌, ◌++◌, ◌∷◌, [], length, if◌then◌else◌, map, filter, find, Option, option_map, IfOk, IfSome, OnOk, All};
 ghost use Rattle.std.specs.List.{list_any};
 ghost use Rattle.cm_model.specs.Scene.{controllers_in, is_running, is_configured, is_ready, loaded_of, loaded_all, member};
 ghost use Rattle.switch_plan.specs.Calls.Members.{IsLoadedAs};
@@ -64,8 +64,19 @@ pub fn push_seen(
     Ok(())
 }
 
+/// Appends a loaded controller, if it is one of those that are wanted.
+pub fn push_if(list: &mut Vec<Member>, seen: &Seen, is_wanted: bool) -> Result<(), Memory>
+    ensures { OnOk result
+        (list.new.items ≡ list.old.items ++ (if is_wanted then member seen.now ∷ [] else [])) }
+{
+    if is_wanted {
+        list.push(member(seen))?;
+    }
+    Ok(())
+}
+
 /// A loaded controller by its serial and place.
-pub fn member(seen: &Seen) -> Member
+fn member(seen: &Seen) -> Member
     ensures { result ≡ member seen.now }
 {
     Member {

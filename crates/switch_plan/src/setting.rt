@@ -7,7 +7,7 @@ ghost use Rattle.switch_plan.specs.Calls.Members.{CanOrder};
 ghost use Rattle.switch_plan.specs.View.{scene_of, IsView, HavePlaces, HasFlags};
 ghost use Rattle.switch_plan.specs.Settings.{set_scene, IsSetting};
 
-use crate::members::{is_running, member};
+use crate::members::{is_running, push_if};
 use crate::relations::Relations;
 use crate::view::{View, controllers};
 use chain_order::{Links, PlaceSet, in_order};
@@ -48,9 +48,7 @@ fn running(alloc: Global, view: &View) -> Result<Vec<Member>, Memory>
 {
     let mut list = Vec::with_capacity(alloc, view.loaded.len())?;
     for seen in view.loaded {
-        if is_running(seen.life) {
-            list.push(member(seen))?;
-        }
+        push_if(&mut list, seen, is_running(seen.life))?;
     }
     Ok(list)
 }
@@ -63,9 +61,7 @@ fn members(alloc: Global, view: &View, set: &PlaceSet) -> Result<Vec<Member>, Me
 {
     let mut list = Vec::with_capacity(alloc, view.loaded.len())?;
     for seen in view.loaded {
-        if set.has(seen.place) {
-            list.push(member(seen))?;
-        }
+        push_if(&mut list, seen, set.has(seen.place))?;
     }
     Ok(list)
 }

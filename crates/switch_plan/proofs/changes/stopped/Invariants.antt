@@ -1,14 +1,10 @@
-use Rattle.std.proofs.Common.{◌≡◌, ◌<◌, ◌++◌, length, map, drop}
-use Rattle.std.specs.Prelude.{All, filter}
+use Rattle.std.proofs.Common.{◌≡◌, take}
 use Rattle.cm_model.specs.Order.{set_of}
-use Rattle.cm_model.specs.Scene.{controllers_in, member}
 use Rattle.cm_model.specs.Switches.{is_stopped}
 use Rattle.switch_plan.specs.View.{scene_of}
+use Rattle.switch_plan.proofs.KeptLemmas.{kept}
 use Rattle.switch_plan.proofs.changes.stopped.Given as goal
 
--- those so far and those of the rest are all
+-- those so far
 abbrev pub invariant-loop-seen : goal.invariant-loop-seen
-invariant-loop-seen l = record {
-  within : All (λ m. m.place < length (controllers_in (scene_of l.change.setting.view))) l.list.items;
-  rest : l.list.items ++ map member (filter (λ s. is_stopped (scene_of l.change.setting.view) (set_of l.change.set.now) (set_of l.change.again.now) s.place) (drop l.seen-index l.change.setting.view.loaded.now)) ≡ map member (filter (λ s. is_stopped (scene_of l.change.setting.view) (set_of l.change.set.now) (set_of l.change.again.now) s.place) l.change.setting.view.loaded.now);
-}
+invariant-loop-seen l = l.list.items ≡ kept (λ s. is_stopped (scene_of l.change.setting.view) (set_of l.change.set.now) (set_of l.change.again.now) s.place) (take l.seen-index l.change.setting.view.loaded.now)

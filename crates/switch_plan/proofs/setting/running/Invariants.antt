@@ -1,12 +1,8 @@
-use Rattle.std.proofs.Common.{◌≡◌, ◌<◌, ◌++◌, length, map, drop}
-use Rattle.std.specs.Prelude.{All, filter}
-use Rattle.cm_model.specs.Scene.{controllers_in, is_running, member}
-use Rattle.switch_plan.specs.View.{scene_of}
+use Rattle.std.proofs.Common.{◌≡◌, take}
+use Rattle.cm_model.specs.Scene.{is_running}
+use Rattle.switch_plan.proofs.KeptLemmas.{kept}
 use Rattle.switch_plan.proofs.setting.running.Given as goal
 
--- the active ones so far and those of the rest are all
+-- those so far
 abbrev pub invariant-loop-seen : goal.invariant-loop-seen
-invariant-loop-seen l = record {
-  within : All (λ m. m.place < length (controllers_in (scene_of l.view))) l.list.items;
-  rest : l.list.items ++ map member (filter (λ s. is_running s.life) (drop l.seen-index l.view.loaded.now)) ≡ map member (filter (λ s. is_running s.life) l.view.loaded.now);
-}
+invariant-loop-seen l = l.list.items ≡ kept (λ s. is_running s.life) (take l.seen-index l.view.loaded.now)
