@@ -1,1 +1,2 @@
+pub mod ConsoleLemmas
 pub mod LineLemmas

@@ -5,7 +5,7 @@ ghost use Rattle.cm_model.specs.Controllers.{IsBlank};
 
 mod computing;
 mod pages;
-mod parameters;
+pub(crate) mod parameters;
 mod shaping;
 mod tried;
 
@@ -25,6 +25,7 @@ use ctl_trait::Controller;
 use ctl_traj::TrajCtl;
 use fixed_num::{Fx, Value};
 use pages_cases::pages::{Teller, hold, push_parted};
+use pages_cases::words::number;
 use sequence::Seq;
 use std::alloc::Global;
 use std::test::Fail;
@@ -385,7 +386,7 @@ fn point_of(alloc: Global, point: &str) -> Result<Point2, Fail> {
 fn numbers(alloc: Global, text: &str) -> Result<Vec<Fx>, Fail> {
     let mut numbers = Vec::new(alloc);
     for word in text.split_ascii_whitespace() {
-        numbers.push(Fx::read(word.as_bytes())?)?;
+        numbers.push(number(word, 0)?)?;
     }
     Ok(numbers)
 }
@@ -399,9 +400,10 @@ fn values(alloc: Global, text: &str) -> Result<Vec<Value>, Fail> {
     Ok(values)
 }
 
-fn value_of(word: &str) -> Result<Value, Fail> {
+/// The value of a word: a number, or `unset`.
+pub(crate) fn value_of(word: &str) -> Result<Value, Fail> {
     match word {
         "unset" => Ok(Value::Unset),
-        _ => Ok(Value::Num(Fx::read(word.as_bytes())?)),
+        _ => Ok(Value::Num(number(word, 0)?)),
     }
 }

@@ -1,5 +1,6 @@
-//! Tests of the public calls that read and check descriptions: what no clause says, as that calls succeed where there is memory, and cases
-//! beside the clauses. Most are pages of text, each with what must be told of it.
+//! Tests of the public calls that read words, that read and check descriptions, that read and print scripts, and that make documents: what
+//! no clause says, as that calls succeed where there is memory, and cases beside the clauses. Most are pages of text, each with what must be
+//! told of it.
 #![tactic(auto)]
 
 #[cfg(test)]
@@ -10,6 +11,12 @@ mod descriptions;
 mod faults;
 #[cfg(test)]
 mod largest;
+#[cfg(test)]
+mod made;
+#[cfg(test)]
+mod scripts;
+#[cfg(test)]
+mod words;
 
 #[cfg(test)]
 use pages_cases::pages;

@@ -75,8 +75,8 @@ fn differential_of(given: &str) -> Result<Params, Fail> {
     })
 }
 
-/// What it carries.
-fn carried(given: &str) -> Result<Kind, Fail> {
+/// What it carries: the kind that is the first word.
+pub fn carried(given: &str) -> Result<Kind, Fail> {
     match Kind::read(word(given, 0).as_bytes()) {
         Some(kind) => Ok(kind),
         None => Err(Fail::new("no kind")),

@@ -1,6 +1,6 @@
 use Rattle.std.proofs.Common.{All}
-use Rattle.rows_live.specs.Consoles.{IsFresh}
-use Rattle.rows_live.proofs.runs.sessions_of.Given as goal
+use Rattle.rows_callers.specs.Consoles.{IsFresh}
+use Rattle.rows_callers.proofs.runs.sessions_of.Given as goal
 
 -- each so far is before its first line
 abbrev pub invariant-loop-part : goal.invariant-loop-part

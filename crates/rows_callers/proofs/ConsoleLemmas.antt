@@ -5,7 +5,7 @@ use Rattle.cm_model.specs.Ports.{ends_in, CanBegin, CanClose, Begins, Lands, Clo
 use Rattle.cm_model.specs.Scheduled.{with_entry}
 use Rattle.cm_model.specs.declared.reply.Reply.TheVariants.{Done}
 use Rattle.live_run.proofs.LoopLemmas.{begin_ends_none, end_ends_one}
-use Rattle.rows_live.specs.Consoles.{the_loop, cycles_made, loop_console}
+use Rattle.rows_callers.specs.Consoles.{the_loop, cycles_made, loop_console}
 
 -- so many cycles have ended as were made
 ends_made : (n : ℕ) → ends_in (cycles_made n) ≡ n

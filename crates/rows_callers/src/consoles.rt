@@ -93,7 +93,7 @@ fn ticket_of(board: &Board) -> Answer {
 
 impl<'a> Port for Console<'a> {
     ghost use Rattle.std.specs.Prelude.{ℕ};
-    ghost use Rattle.rows_live.specs.Consoles.{console};
+    ghost use Rattle.rows_callers.specs.Consoles.{console};
 
     ghost Ground = { ℕ };
 
@@ -190,7 +190,7 @@ impl<'a> LoopEnd<'a> {
 
 impl<'a> LoopPort for LoopEnd<'a> {
     ghost use Rattle.std.specs.Prelude.{ℕ, ◌≤◌, true, false};
-    ghost use Rattle.rows_live.specs.Consoles.{loop_console};
+    ghost use Rattle.rows_callers.specs.Consoles.{loop_console};
 
     type Flight = Flight;
 

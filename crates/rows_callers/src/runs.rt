@@ -1,7 +1,7 @@
 //! Whole live runs: what each session and the loop have made, however their threads interleave.
 
 ghost use Rattle.std.specs.Prelude.{All, IfOk, OnOk};
-ghost use Rattle.rows_live.specs.Consoles.{IsFresh, IsFirst};
+ghost use Rattle.rows_callers.specs.Consoles.{IsFresh, IsFirst};
 
 use crate::board::Board;
 use crate::consoles::{Console, LoopEnd};

@@ -1,6 +1,7 @@
 //! Runs of a limiter. The first line of a paragraph has its limits; each further line is where a run starts and what is
 //! wanted, and the positions to which it leads.
 
+use crate::kinds::value_of;
 use ctl_shape::{LONGEST_TIME, Limits, limit_run};
 use fixed_num::{Fx, Value};
 use pages_cases::acts::{Player, hold_acts};
@@ -98,16 +99,9 @@ fn outs(alloc: Global, limits: &Limits, start: Fx, wanted: &[Value]) -> Result<V
 fn wanted(alloc: Global, act: &str) -> Result<Vec<Value>, Fail> {
     let mut values = Vec::new(alloc);
     for text in act.split(' ').skip(3) {
-        values.push(value(text)?)?;
+        values.push(value_of(text)?)?;
     }
     Ok(values)
-}
-
-fn value(text: &str) -> Result<Value, Fail> {
-    match text {
-        "unset" => Ok(Value::Unset),
-        _ => Ok(Value::Num(number(text, 0)?)),
-    }
 }
 
 fn spelled(alloc: Global, outs: &[Fx]) -> Result<String, Fail> {

@@ -1,5 +1,5 @@
 use Rattle.console_session.specs.Sessions.{AreLines}
-use Rattle.rows_live.proofs.lines.lines_of.Given as goal
+use Rattle.rows_callers.proofs.lines.lines_of.Given as goal
 
 -- what stands there so far are lines of a session
 abbrev pub invariant-loop-line : goal.invariant-loop-line

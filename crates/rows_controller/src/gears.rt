@@ -1,9 +1,9 @@
 //! Simple transmissions. The first line of a paragraph makes one; each further line is a value of the joint or of the
 //! actuator, and the value on the other side.
 
+use crate::kinds::parameters::carried;
 use ctl_shape::Simple;
 use fixed_num::Fx;
-use iface_names::Kind;
 use pages_cases::acts::{Player, hold_acts};
 use pages_cases::words::{number, word};
 use std::alloc::Global;
@@ -80,7 +80,7 @@ impl Player for Gear {
             return Err(Fail::new("a reduction that is not above zero"));
         }
         Ok(Gear {
-            gear: Simple::make(kind(head)?, reduction, offset),
+            gear: Simple::make(carried(head)?, reduction, offset),
         })
     }
 
@@ -98,12 +98,5 @@ impl Gear {
             "actuator" => Ok(self.gear.to_actuator(value)),
             _ => Ok(self.gear.to_joint(value)),
         }
-    }
-}
-
-fn kind(head: &str) -> Result<Kind, Fail> {
-    match Kind::read(word(head, 0).as_bytes()) {
-        Some(kind) => Ok(kind),
-        None => Err(Fail::new("no kind")),
     }
 }

@@ -1,2 +1,0 @@
--- What the small consoles of these tests tell.
-pub mod Consoles
