@@ -210,7 +210,7 @@ fn values_of(alloc: Global, words: &str) -> Result<Vec<Value>, Fail> {
 }
 
 /// `unset`, or a number.
-fn value_of(word: &str) -> Result<Value, Fail> {
+pub fn value_of(word: &str) -> Result<Value, Fail> {
     match word {
         "unset" => Ok(Value::Unset),
         _ => Ok(Value::Num(Fx::read(word.as_bytes())?)),

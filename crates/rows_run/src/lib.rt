@@ -1,4 +1,5 @@
-//! Tests of whole runs, as pages of documents: each with how its run ends and what is printed, by the documents' rules.
+//! Tests of whole runs, as pages of documents: each with how its run ends and what is printed, by the documents' rules; and of the pages
+//! that show runs, and of what tells in words why something was not done: what stands there.
 #![tactic(auto)]
 
 #[cfg(test)]
@@ -7,6 +8,8 @@ mod awaits;
 mod checks;
 #[cfg(test)]
 mod console;
+#[cfg(test)]
+mod drawn;
 #[cfg(test)]
 mod fallbacks;
 #[cfg(test)]
@@ -32,6 +35,12 @@ mod shaping;
 #[cfg(test)]
 mod switches;
 #[cfg(test)]
+mod titles;
+#[cfg(test)]
+mod traces;
+#[cfg(test)]
 mod turns;
 #[cfg(test)]
 mod upgrades;
+#[cfg(test)]
+mod whys;

@@ -2,7 +2,8 @@
 
 ghost use Rattle.std.specs.Prelude.{◌<◌, length};
 
-use fixed_num::{Fx, Value};
+use crate::acts::value_of;
+use fixed_num::Value;
 use loan_board::{Board, Loan};
 use pages_calls::described::described;
 use pages_cases::largest::AT_ALL_LIMITS;
@@ -85,14 +86,6 @@ fn carry_out(board: &mut Board, act: &str) -> Result<(), Fail> {
         _ => return Err(Fail::new("no such act")),
     }
     Ok(())
-}
-
-/// `unset`, or a number.
-fn value_of(word: &str) -> Result<Value, Fail> {
-    match word {
-        "unset" => Ok(Value::Unset),
-        _ => Ok(Value::Num(Fx::read(word.as_bytes())?)),
-    }
 }
 
 fn claim(board: &mut Board, place: u32, serial: u32) -> Result<(), Fail>

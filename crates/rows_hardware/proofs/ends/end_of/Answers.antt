@@ -5,7 +5,7 @@ use Rattle.cm_model.specs.declared.member.Member.{Member}
 use Rattle.chain_order.specs.Links.{places_below}
 use Rattle.chain_order.proofs.LinkLemmas.{length-each_below}
 use Rattle.stop_plan.proofs.ReportLemmas.{whole_report}
-use Rattle.rows_board.proofs.ends.end_of.Goals as goal
+use Rattle.rows_hardware.proofs.ends.end_of.Goals as goal
 
 -- each described controller has its relations, and each active one is described
 pub decided-requires : goal.decided-requires

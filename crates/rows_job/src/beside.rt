@@ -5,7 +5,7 @@ ghost use Rattle.std.specs.List.{All};
 ghost use Rattle.cm_model.specs.Controllers.{IsBlank};
 
 use crate::meeting::Meeting;
-use crate::running::ran;
+use crate::waiting::ran;
 use crate::watching::all_watching;
 use ctl_trait::Controller;
 use pages_calls::stocks::blanks;
