@@ -15,9 +15,13 @@ use std::test::Fail;
 fn numbers(alloc: Global, text: &str) -> Result<Vec<u64>, Fail> {
     let mut numbers = Vec::new(alloc);
     for word in text.split_whitespace() {
-        numbers.push(word.parse()?)?;
+        numbers.push(number_of(word)?)?;
     }
     Ok(numbers)
+}
+
+fn number_of(word: &str) -> Result<u64, Fail> {
+    Ok(word.parse()?)
 }
 
 /// A source in memory, of `STEP | FAILING READS | BYTES`.

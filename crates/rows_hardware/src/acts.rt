@@ -196,9 +196,14 @@ fn push_value(told: &mut String, value: &Value) -> Result<(), Fail> {
 fn numbers_of(alloc: Global, words: &str) -> Result<Vec<u32>, Fail> {
     let mut numbers = Vec::new(alloc);
     for word in words.split_whitespace() {
-        numbers.push(word.parse()?)?;
+        numbers.push(number_of(word)?)?;
     }
     Ok(numbers)
+}
+
+/// The whole number that a word is.
+pub fn number_of(word: &str) -> Result<u32, Fail> {
+    Ok(word.parse()?)
 }
 
 fn values_of(alloc: Global, words: &str) -> Result<Vec<Value>, Fail> {

@@ -3,6 +3,7 @@
 ghost use Rattle.stop_plan.specs.Ending.{HasFlags};
 ghost use Rattle.stop_plan.specs.Reports.{IsReport, count_in};
 
+use crate::acts::number_of;
 use crate::orders::{are_below, listed, members_of};
 use chain_order::{PlaceSet, in_order};
 use cm_document::Checked;
@@ -157,7 +158,7 @@ fn numbers_of(alloc: Global, words: &str) -> Result<Vec<u32>, Fail> {
     let mut numbers = Vec::new(alloc);
     for word in words.split_whitespace() {
         if word != "none" {
-            numbers.push(word.parse()?)?;
+            numbers.push(number_of(word)?)?;
         }
     }
     Ok(numbers)

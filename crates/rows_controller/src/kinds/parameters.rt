@@ -107,7 +107,11 @@ fn behind<'a>(parts: &'a str, words: &str) -> &'a str {
 fn wholes(alloc: Global, text: &str) -> Result<Vec<u64>, Fail> {
     let mut wholes = Vec::new(alloc);
     for word in text.split_ascii_whitespace() {
-        wholes.push(word.parse()?)?;
+        wholes.push(whole_of(word)?)?;
     }
     Ok(wholes)
+}
+
+fn whole_of(word: &str) -> Result<u64, Fail> {
+    Ok(word.parse()?)
 }
