@@ -1,2 +1,1 @@
 pub mod ConsoleLemmas
-pub mod LineLemmas

@@ -10,7 +10,7 @@ use std::alloc::Global;
 use std::test::Fail;
 
 /// The most lines of a session here.
-const MOST_LINES: usize = 10_000;
+pub const MOST_LINES: usize = 10_000;
 
 /// The lines of a session.
 pub fn lines_of(alloc: Global, text: &str) -> Result<Seq<Call>, Fail>

@@ -1,19 +1,19 @@
 //! A session over a small console, advance by advance.
 
-ghost use Rattle.std.specs.Prelude.{◌≡◌, ◌++◌, ◌∷◌, [], true, IfOk, OnOk, OnErr};
+ghost use Rattle.std.specs.Prelude.{◌≡◌, ◌++◌, ◌∷◌, [], OnOk, OnErr};
 ghost use Rattle.cm_document.specs.declared.call.Call.TheVariants as call;
-ghost use Rattle.console_session.specs.Sessions.{IsLine, AreLines};
 
+use crate::lines::{MOST_LINES, lines_of};
 use cm_document::{Call, SessionText};
 use cm_model::{Entry, Outcome, Port, Reply, Why};
 use cm_storage::KeptCall;
 use console_session::{Progress, Session};
 use fixed_num::Memory;
-use pages_calls::calls::{call_of, name_of};
+use pages_calls::calls::name_of;
 use pages_calls::replies::push_reply;
 use pages_cases::acts::{Player, hold_acts};
 use pages_cases::pages::joined;
-use sequence::{Boxed, Seq, SharedList};
+use sequence::{Boxed, SharedList};
 use std::alloc::Global;
 use std::test::Fail;
 
@@ -152,52 +152,6 @@ impl Port for Console {
 }
 
 // ---- A session
-
-/// The most lines of a session here.
-const MOST_LINES: usize = 10_000;
-
-/// The lines of a session.
-fn lines_of(alloc: Global, head: &str) -> Result<Seq<Call>, Fail>
-    ensures { IfOk result (λ lines. AreLines lines) }
-{
-    let mut lines = Seq::new(alloc);
-    for text in head.lines() {
-        add(&mut lines, session_line(alloc, text)?)?;
-    }
-    Ok(lines)
-}
-
-/// A line more.
-#[tactic(auto, using(crate::proofs::LineLemmas::one_more_line))]
-fn add(lines: &mut Seq<Call>, line: Call) -> Result<(), Fail>
-    requires { AreLines lines.old }
-    ensures { AreLines lines.new }
-{
-    if lines.as_slice().len() >= MOST_LINES || !is_line(&line) {
-        return Err(Fail::new("no line of a session"));
-    }
-    lines.push(line)?;
-    Ok(())
-}
-
-/// Whether a session may have this line.
-fn is_line(call: &Call) -> bool
-    ensures { result ≡ true → IsLine call.now }
-{
-    match call {
-        Call::Told(_) | Call::Begin(_) | Call::End(_) | Call::Close => false,
-        _ => true,
-    }
-}
-
-fn session_line(alloc: Global, text: &str) -> Result<Call, Fail> {
-    let (verb, rest) = text.split_once(" ").unwrap_or((text, ""));
-    match verb {
-        "await" => Ok(Call::Await(rest.parse()?)),
-        "list" => Ok(Call::ListControllers),
-        _ => call_of(alloc, verb, rest),
-    }
-}
 
 /// A session over its console.
 #[derive(Drop)]
