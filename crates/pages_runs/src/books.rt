@@ -1,6 +1,6 @@
 //! What a run leaves behind: its history, and its book in words.
 
-use crate::runs::{OF_PROGRAM, ample_sink, run_over};
+use crate::runs::{OF_PROGRAM, ample_sink, in_words, run_over};
 use cm_desk::Book;
 use cm_model::Entry;
 use cm_top::Status;
@@ -15,10 +15,10 @@ const ASKED: u64 = 6;
 /// How a run ended, the number of the entries of its book, and what box by box it holds, a line each.
 pub fn left_by<C: Controller>(
     alloc: Global,
-    status: &Status,
+    status: Status,
     book: Option<Book<C>>,
 ) -> Result<String, Fail> {
-    let mut told = format!(in alloc; "{status}")?;
+    let mut told = in_words(alloc, status)?;
     push_book(&mut told, book)?;
     Ok(told)
 }
@@ -57,7 +57,8 @@ pub fn history_of(alloc: Global, text: &str, in_stock: u32) -> Result<Vec<Entry>
     let mut source = OF_PROGRAM.source(alloc, text)?;
     let mut sink = ample_sink(alloc)?;
     let blanks = blanks(alloc, in_stock)?;
-    let (_, book) = run_over(alloc, &mut source, &mut sink, blanks);
+    let (status, book) = run_over(alloc, &mut source, &mut sink, blanks);
+    drop(status);
     match book {
         Some(Book { history, .. }) => Ok(history),
         None => Err(Fail::new("the run leaves no book")),

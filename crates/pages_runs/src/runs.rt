@@ -48,12 +48,18 @@ pub const BY_TURNS: Runs = Runs {
 impl Teller for Runs {
     fn told(&self, alloc: Global, text: &str) -> Result<String, Fail> {
         let mut sink = ample_sink(alloc)?;
-        let status = self.run_into(alloc, text, &mut sink)?;
-        printed(alloc, &status, sink.bytes())
+        let ended = self.ended(alloc, text, &mut sink)?;
+        printed(alloc, ended.as_str(), sink.bytes())
     }
 }
 
 impl Runs {
+    /// How the run of a document ends that prints into this sink, in words.
+    pub fn ended<K: Sink>(&self, alloc: Global, text: &str, sink: &mut K) -> Result<String, Fail> {
+        let status = self.run_into(alloc, text, sink)?;
+        in_words(alloc, status)
+    }
+
     /// How the run of a document ends that prints into this sink.
     pub fn run_into<K: Sink>(
         &self,
@@ -66,7 +72,8 @@ impl Runs {
         }
         let mut source = self.source(alloc, text)?;
         let blanks = blanks(alloc, self.in_stock)?;
-        let (status, _) = run_by(self.kind, alloc, &mut source, sink, blanks);
+        let (status, book) = run_by(self.kind, alloc, &mut source, sink, blanks);
+        drop(book);
         Ok(status)
     }
 
@@ -118,9 +125,16 @@ pub fn ample_sink(alloc: Global) -> Result<MemSink, Fail> {
     Ok(MemSink::make(alloc, AMPLE, AMPLE, vec![in alloc]?)?)
 }
 
+/// How a run ended, in words. A status has many parts, and is dropped at this one place.
+pub fn in_words(alloc: Global, status: Status) -> Result<String, Fail> {
+    let told = format!(in alloc; "{status}");
+    drop(status);
+    Ok(told?)
+}
+
 /// How a run ends, and what it printed.
-fn printed(alloc: Global, status: &Status, bytes: &[u8]) -> Result<String, Fail> {
-    let told = format!(in alloc; "{status}\n")?;
+fn printed(alloc: Global, ended: &str, bytes: &[u8]) -> Result<String, Fail> {
+    let told = joined(alloc, ended, "\n")?;
     let told = joined(alloc, told.as_str(), str::from_utf8(bytes)?)?;
     without_end(alloc, told.as_str())
 }

@@ -24,7 +24,7 @@ impl Teller for Books {
         let mut sink = ample_sink(alloc)?;
         let blanks = blanks(alloc, IN_STOCK)?;
         let (status, book) = run_by(self.kind, alloc, &mut source, &mut sink, blanks);
-        left_by(alloc, &status, book)
+        left_by(alloc, status, book)
     }
 }
 

@@ -1,11 +1,10 @@
 //! Runs whose source or sink fails in each of its calls, one after the other, and sinks of each size.
 
-use cm_top::Status;
 use outside_io::{MemSink, MemSource};
 use pages_calls::stocks::blanks;
 use pages_cases::pages::hold_told;
 use pages_runs::documents::MOVED;
-use pages_runs::runs::{AMPLE, IN_STOCK, OF_PROGRAM, run_over};
+use pages_runs::runs::{AMPLE, IN_STOCK, OF_PROGRAM, in_words, run_over};
 use std::alloc::Global;
 use std::str;
 use std::test::Fail;
@@ -43,8 +42,10 @@ fn hold_read(alloc: Global, failing: usize, status: &str, taken: &str) -> Result
     let bytes = MOVED.as_bytes().to_vec(alloc)?;
     let mut source = MemSource::make(bytes, 8, vec![in alloc; failing as u64]?);
     let mut sink = sink(alloc, AMPLE, AMPLE, NO_CALL)?;
-    let (ended, _) = run_over(alloc, &mut source, &mut sink, blanks(alloc, IN_STOCK)?);
-    hold_ended(alloc, &ended, &sink, status, taken)
+    let (ended, book) = run_over(alloc, &mut source, &mut sink, blanks(alloc, IN_STOCK)?);
+    drop(book);
+    let ended = in_words(alloc, ended)?;
+    hold_ended(alloc, ended.as_str(), &sink, status, taken)
 }
 
 /// The call behind the last piece is the flush.
@@ -108,28 +109,27 @@ fn hold_run(
     status: &str,
     taken: &str,
 ) -> Result<(), Fail> {
-    let ended = OF_PROGRAM.run_into(alloc, document, &mut sink)?;
-    hold_ended(alloc, &ended, &sink, status, taken)
+    let ended = OF_PROGRAM.ended(alloc, document, &mut sink)?;
+    hold_ended(alloc, ended.as_str(), &sink, status, taken)
 }
 
 /// Fails if a run ended otherwise, or if its sink took something else.
 fn hold_ended(
     alloc: Global,
-    ended: &Status,
+    ended: &str,
     sink: &MemSink,
     status: &str,
     taken: &str,
 ) -> Result<(), Fail> {
-    let ended = format!(in alloc; "{ended}")?;
-    hold_told(alloc, "how it ends", ended.as_str(), status)?;
+    hold_told(alloc, "how it ends", ended, status)?;
     hold_told(alloc, "what is taken", str::from_utf8(sink.bytes())?, taken)
 }
 
 /// The number of no call.
-const NO_CALL: usize = 1_000_000;
+pub const NO_CALL: usize = 1_000_000;
 
 /// A sink with so much room that takes so many bytes at a time and fails in this call.
-fn sink(alloc: Global, room: usize, step: usize, failing: usize) -> Result<MemSink, Fail> {
+pub fn sink(alloc: Global, room: usize, step: usize, failing: usize) -> Result<MemSink, Fail> {
     if step == 0 {
         return Err(Fail::new("a step of none"));
     }

@@ -106,8 +106,7 @@ impl Teller for IntoStd {
 /// How a run of `LONG` ends that is printed to a writer of std.
 fn run_into(alloc: Global, writer: &mut Keeping) -> Result<String, Fail> {
     let mut sink = StdSink::make(writer);
-    let status = OF_PROGRAM.run_into(alloc, LONG, &mut sink)?;
-    Ok(format!(in alloc; "{status}")?)
+    OF_PROGRAM.ended(alloc, LONG, &mut sink)
 }
 
 /// Appends how many bytes are written, which are the first ones of the trace.

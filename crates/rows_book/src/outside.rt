@@ -24,7 +24,7 @@ impl Teller for Fails {
         let mut sink = sink_of(alloc, row)?;
         let blanks = blanks(alloc, IN_STOCK)?;
         let (status, book) = run_over(alloc, &mut source, &mut sink, blanks);
-        let mut told = left_by(alloc, &status, book)?;
+        let mut told = left_by(alloc, status, book)?;
         push_printed(&mut told, sink.bytes())?;
         Ok(told)
     }

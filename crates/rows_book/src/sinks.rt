@@ -1,5 +1,6 @@
 //! One long trace into sinks that take a few bytes at a time, and into sinks that fail at each of its lines.
 
+use crate::each_call::{NO_CALL, sink};
 use outside_io::MemSink;
 use pages_cases::pages::{expanded, halves, hold_told, written_out};
 use pages_runs::runs::{AMPLE, OF_PROGRAM};
@@ -53,7 +54,7 @@ const LONGEST_STEP: usize = 64;
 fn a_long_trace_is_taken_whole_a_few_bytes_at_a_time(rt: HostRuntime) -> Result<(), Fail> {
     let trace = expanded(rt.alloc(), LONG_TRACE)?;
     for step in 1..LONGEST_STEP + 1 {
-        let sink = sink(rt.alloc(), step, NO_CALL)?;
+        let sink = sink(rt.alloc(), AMPLE, step, NO_CALL)?;
         hold_taken(rt.alloc(), sink, "ok", trace.as_str())?;
     }
     Ok(())
@@ -64,10 +65,10 @@ fn a_long_trace_is_taken_whole_a_few_bytes_at_a_time(rt: HostRuntime) -> Result<
 fn a_run_ends_at_the_line_whose_write_fails(rt: HostRuntime) -> Result<(), Fail> {
     let trace = expanded(rt.alloc(), LONG_TRACE)?;
     for call in 0..LINES + 1 {
-        let sink = sink(rt.alloc(), AMPLE, call)?;
+        let sink = sink(rt.alloc(), AMPLE, AMPLE, call)?;
         hold_lines_taken(rt.alloc(), sink, trace.as_str(), call)?;
     }
-    let sink = sink(rt.alloc(), AMPLE, LINES + 1)?;
+    let sink = sink(rt.alloc(), AMPLE, AMPLE, LINES + 1)?;
     hold_taken(rt.alloc(), sink, "ok", trace.as_str())
 }
 
@@ -91,25 +92,14 @@ const PARTS: &str = r"0 =>\s
 fn hold_part(alloc: Global, row: &str) -> Result<(), Fail> {
     let row = written_out(alloc, row)?;
     let (call, taken) = halves(row.as_str(), " => ")?;
-    let sink = sink(alloc, 7, call.parse()?)?;
+    let sink = sink(alloc, AMPLE, 7, call.parse()?)?;
     hold_taken(alloc, sink, "write fault", taken)
-}
-
-/// The number of no call.
-const NO_CALL: usize = 1_000_000;
-
-/// A sink with ample room that takes so many bytes at a time and fails in this call.
-fn sink(alloc: Global, step: usize, failing: usize) -> Result<MemSink, Fail> {
-    if step == 0 {
-        return Err(Fail::new("a step of none"));
-    }
-    Ok(MemSink::make(alloc, AMPLE, step, vec![in alloc; failing as u64]?)?)
 }
 
 /// Fails where a run of `LONG` ends otherwise, or something else is taken.
 fn hold_taken(alloc: Global, sink: MemSink, status: &str, taken: &str) -> Result<(), Fail> {
     let mut sink = sink;
-    let ended = run_long(alloc, &mut sink)?;
+    let ended = OF_PROGRAM.ended(alloc, LONG, &mut sink)?;
     hold_told(alloc, "how it ends", ended.as_str(), status)?;
     hold_told(alloc, "what is taken", str::from_utf8(sink.bytes())?, taken)
 }
@@ -117,7 +107,7 @@ fn hold_taken(alloc: Global, sink: MemSink, status: &str, taken: &str) -> Result
 /// Fails where a run of `LONG` ends in no write fault, or something else is taken than so many lines of its trace, with their ends.
 fn hold_lines_taken(alloc: Global, sink: MemSink, trace: &str, lines: usize) -> Result<(), Fail> {
     let mut sink = sink;
-    let ended = run_long(alloc, &mut sink)?;
+    let ended = OF_PROGRAM.ended(alloc, LONG, &mut sink)?;
     hold_told(alloc, "how it ends", ended.as_str(), "write fault")?;
     let taken = str::from_utf8(sink.bytes())?;
     if !are_lines_of(trace, taken) || taken.lines().count() != lines {
@@ -129,10 +119,4 @@ fn hold_lines_taken(alloc: Global, sink: MemSink, trace: &str, lines: usize) -> 
 /// Whether a text is a front of the trace that ends with a line.
 fn are_lines_of(trace: &str, taken: &str) -> bool {
     trace.starts_with(taken) && (taken.is_empty() || taken.ends_with("\n"))
-}
-
-/// How a run of `LONG` ends.
-fn run_long(alloc: Global, sink: &mut MemSink) -> Result<String, Fail> {
-    let status = OF_PROGRAM.run_into(alloc, LONG, sink)?;
-    Ok(format!(in alloc; "{status}")?)
 }

@@ -20,9 +20,11 @@ struct Summaries;
 impl Teller for Summaries {
     fn told(&self, alloc: Global, text: &str) -> Result<String, Fail> {
         let (description, _) = halves(text, "--- script ---\n")?;
-        let checked = described(alloc, description)?;
         let history = history_of(alloc, text, IN_STOCK)?;
-        summed_up(alloc, &checked, history.as_slice())
+        let checked = described(alloc, description)?;
+        let summary = summed_up(alloc, &checked, history.as_slice());
+        drop(checked);
+        summary
     }
 }
 

@@ -10,7 +10,7 @@ use ctl_trait::Controller;
 use outside_io::{Gate, MemSink, MemSource, Pace, Point};
 use pages_calls::stocks::blanks;
 use pages_cases::pages::{expanded, halves, hold_told, written_out};
-use pages_runs::runs::{IN_STOCK, ample_sink};
+use pages_runs::runs::{IN_STOCK, ample_sink, in_words};
 use std::alloc::Global;
 use std::str;
 use std::sync::Wait;
@@ -279,7 +279,7 @@ fn hold_words<R: Threads + Wait + Sync, C: Controller + Send>(
     let mut source = MemSource::make(bytes, 1000, vec![in alloc]?);
     let mut sink = ample_sink(alloc)?;
     let ran = run_counted(rt, alloc, words, &mut source, &mut sink, blanks);
-    hold_ran(alloc, &ran, want)?;
+    hold_ran(alloc, ran, want)?;
     hold_told(
         alloc,
         "its words",
@@ -323,14 +323,19 @@ fn run_counted<R: Threads + Wait + Sync, C: Controller + Send>(
 
 /// Fails where a run ended otherwise, or called pace and gate more or less often, or a book is there without a run or is not there with
 /// one.
-fn hold_ran(alloc: Global, ran: &Ran, want: &Want<'_>) -> Result<(), Fail> {
-    if ran.calls != want.calls {
+fn hold_ran(alloc: Global, ran: Ran, want: &Want<'_>) -> Result<(), Fail> {
+    let Ran {
+        status,
+        has_book,
+        calls,
+    } = ran;
+    let status = in_words(alloc, status)?;
+    if calls != want.calls {
         return Err(Fail::new("other calls of pace and gate"));
     }
-    if ran.has_book != (want.ended == "ok") {
+    if has_book != (want.ended == "ok") {
         return Err(Fail::new("a book without a run, or a run without a book"));
     }
-    let status = format!(in alloc; "{}", ran.status)?;
     hold_told(alloc, "its words", status.as_str(), want.ended)
 }
 

@@ -5,6 +5,7 @@ ghost use Rattle.std.specs.List.{All};
 ghost use Rattle.cm_model.specs.Controllers.{IsBlank};
 
 use crate::ordered::{InOrder, OrderedPace};
+use crate::waiting::told;
 use cm_top::{Status, run};
 use ctl_rack::Stock;
 use ctl_trait::Controller;
@@ -13,7 +14,6 @@ use pages_calls::stocks::blanks;
 use pages_cases::pages::{expanded, halves, hold_told, joined};
 use pages_runs::runs::{IN_STOCK, OF_PROGRAM, ample_sink};
 use std::alloc::Global;
-use std::str;
 use std::sync::Wait;
 use std::test::Fail;
 use std::thread::Threads;
@@ -118,15 +118,11 @@ fn run_over<R: Threads + Wait + Sync, C: Controller + Send>(
 
 /// What is told of a run that ended so, and printed these bytes.
 fn all_told(alloc: Global, ended: Ended, printed: &[u8]) -> Result<Ran, Fail> {
+    let Ended { status, pauses } = ended;
     Ok(Ran {
-        told: told(alloc, &ended.status, printed)?,
-        pauses: ended.pauses,
+        told: told(alloc, status, printed)?,
+        pauses,
     })
-}
-
-fn told(alloc: Global, status: &Status, printed: &[u8]) -> Result<String, Fail> {
-    let told = format!(in alloc; "{}\n{}", status, str::from_utf8(printed)?)?;
-    Ok(String::from_str(alloc, told.trim_end())?)
 }
 
 /// How a run ended, and how often it called its pace.

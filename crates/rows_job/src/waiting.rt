@@ -9,7 +9,7 @@ use ctl_rack::Stock;
 use ctl_trait::Controller;
 use outside_io::{Gate, Pace, Point};
 use pages_cases::pages::joined;
-use pages_runs::runs::{OF_PROGRAM, ample_sink};
+use pages_runs::runs::{OF_PROGRAM, ample_sink, in_words};
 use std::alloc::Global;
 use std::sync::Wait;
 use std::sync::atomic::AtomicBool;
@@ -89,13 +89,14 @@ pub fn ran<R: Threads + Wait + Sync, C: Controller + Send>(
         &mut pace,
         &asked,
     );
-    told(alloc, &status, sink.bytes())
+    told(alloc, status, sink.bytes())
 }
 
 /// A status, and below it what was printed, without the end of the last line.
-fn told(alloc: Global, status: &Status, printed: &[u8]) -> Result<String, Fail> {
-    let status = format!(in alloc; "{status}\n")?;
-    let told = joined(alloc, status.as_str(), str::from_utf8(printed)?)?;
+pub fn told(alloc: Global, status: Status, printed: &[u8]) -> Result<String, Fail> {
+    let ended = in_words(alloc, status)?;
+    let told = joined(alloc, ended.as_str(), "\n")?;
+    let told = joined(alloc, told.as_str(), str::from_utf8(printed)?)?;
     Ok(String::from_str(alloc, told.trim_end())?)
 }
 

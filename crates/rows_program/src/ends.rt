@@ -105,9 +105,15 @@ fn each_status_ends_with_its_number_and_line(rt: HostRuntime) -> Result<(), Fail
     hold_told(alloc, "each status", ends.as_str(), ENDS)
 }
 
-/// Appends the line of a status.
+/// Appends the line of a status, which has many parts, and is dropped at this one place.
 fn push_end(alloc: Global, ends: &mut String, status: Status) -> Result<(), Fail> {
-    let end = end(alloc, &status)?;
+    let pushed = push_line(alloc, ends, &status);
+    drop(status);
+    pushed
+}
+
+fn push_line(alloc: Global, ends: &mut String, status: &Status) -> Result<(), Fail> {
+    let end = end(alloc, status)?;
     ends.push_str(end.as_str())?;
     ends.push_str("\n")?;
     Ok(())
@@ -201,14 +207,18 @@ fn not_legal(alloc: Global) -> Status {
 /// What speaks against a plan.
 fn push_plans(alloc: Global, ends: &mut String) -> Result<(), Fail> {
     let fwd = Name::read(alloc, b"fwd")?;
-    let interface = IfaceName::read(alloc, b"pid/j1/position")?;
-    let cause = Cause::MissingFollower(Boxed::new(alloc, interface)?);
     push_plan(alloc, ends, SpawnFault::NotDescribed(fwd.clone()?))?;
     push_plan(alloc, ends, SpawnFault::Twice(fwd.clone()?))?;
     push_plan(alloc, ends, SpawnFault::NoBlank(fwd.clone()?))?;
     push_plan(alloc, ends, SpawnFault::RefusesConfig(fwd.clone()?))?;
-    push_plan(alloc, ends, SpawnFault::Never(fwd, cause))?;
+    push_never(alloc, ends, fwd)?;
     push_plan(alloc, ends, SpawnFault::NoCycle)
+}
+
+fn push_never(alloc: Global, ends: &mut String, controller: Name) -> Result<(), Fail> {
+    let interface = IfaceName::read(alloc, b"pid/j1/position")?;
+    let cause = Cause::MissingFollower(Boxed::new(alloc, interface)?);
+    push_plan(alloc, ends, SpawnFault::Never(controller, cause))
 }
 
 fn push_plan(alloc: Global, ends: &mut String, fault: SpawnFault) -> Result<(), Fail> {

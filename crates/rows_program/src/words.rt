@@ -74,7 +74,9 @@ where
     let (given, _) = halves(row, " => ")?;
     let mut sink = MemSink::make(alloc, 1000, 100, vec![in alloc]?)?;
     let status = status_of(rt, alloc, given, &mut sink)?;
-    hold_end(alloc, row, &status, sink.bytes())
+    let held = hold_end(alloc, row, &status, sink.bytes());
+    drop(status);
+    held
 }
 
 /// Fails where a run that ended so, and printed these bytes, is not what a row says.

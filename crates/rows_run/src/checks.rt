@@ -51,11 +51,19 @@ struct Checked;
 impl Teller for Checked {
     fn told(&self, alloc: Global, text: &str) -> Result<String, Fail> {
         let mut sink = ample_sink(alloc)?;
-        match CHECK.run_into(alloc, text, &mut sink)? {
-            Status::Ok => Ok(String::from_str(alloc, str::from_utf8(sink.bytes())?.trim_end())?),
-            Status::NotLegal { line, expected } => told_wrong(alloc, line, expected.as_slice()),
-            fault => Ok(format!(in alloc; "{fault}")?),
-        }
+        let status = CHECK.run_into(alloc, text, &mut sink)?;
+        let told = told_of(alloc, &status, sink.bytes());
+        drop(status);
+        told
+    }
+}
+
+/// What is told of a check that ended so, and printed these bytes.
+fn told_of(alloc: Global, status: &Status, printed: &[u8]) -> Result<String, Fail> {
+    match status {
+        Status::Ok => Ok(String::from_str(alloc, str::from_utf8(printed)?.trim_end())?),
+        Status::NotLegal { line, expected } => told_wrong(alloc, *line, expected.as_slice()),
+        fault => Ok(format!(in alloc; "{fault}")?),
     }
 }
 

@@ -112,22 +112,33 @@ pub struct Whys {
 
 impl Teller for Whys {
     fn told(&self, alloc: Global, text: &str) -> Result<String, Fail> {
-        let told = in_words(alloc, text, self.in_stock)?;
+        let told = shown(alloc, text, self.in_stock, Shown::Whys)?;
         without_end(alloc, told.as_str())
     }
 }
 
 /// The page that shows the run of a document.
 pub fn drawn(alloc: Global, text: &str) -> Result<String, Fail> {
-    let document = read(alloc, text.as_bytes())?;
-    let history = history_of(alloc, text, IN_STOCK)?;
-    page(alloc, &document, history.as_slice())
+    shown(alloc, text, IN_STOCK, Shown::Page)
 }
 
-fn in_words(alloc: Global, text: &str, in_stock: u32) -> Result<String, Fail> {
-    let document = read(alloc, text.as_bytes())?;
+/// What is shown of a run: its page, or what was not done as asked, in words.
+#[derive(Clone, Copy)]
+enum Shown {
+    Page,
+    Whys,
+}
+
+/// What is shown of the run of a document. The document has many parts, and is dropped at this one place.
+fn shown(alloc: Global, text: &str, in_stock: u32, what: Shown) -> Result<String, Fail> {
     let history = history_of(alloc, text, in_stock)?;
-    told(alloc, &document, history.as_slice())
+    let document = read(alloc, text.as_bytes())?;
+    let told = match what {
+        Shown::Page => page(alloc, &document, history.as_slice()),
+        Shown::Whys => told(alloc, &document, history.as_slice()),
+    };
+    drop(document);
+    told
 }
 
 /// The document that these bytes are.
@@ -137,7 +148,10 @@ pub fn read(alloc: Global, bytes: &[u8]) -> Result<Document, Fail> {
     }
     match read_document(alloc, bytes) {
         Ok(document) => Ok(document),
-        Err(_) => Err(Fail::new("the document is refused")),
+        Err(fault) => {
+            drop(fault);
+            Err(Fail::new("the document is refused"))
+        }
     }
 }
 

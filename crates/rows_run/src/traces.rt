@@ -1,6 +1,8 @@
 //! Where a stored trace goes wrong: it is told before what went wrong in the run up to there, and marked in the run.
 
 use crate::drawn::read;
+use cm_document::Document;
+use cm_model::Entry;
 use draw_page::{WrongTrace, trace_page_of, trace_whys_of};
 use pages_cases::pages::hold_told;
 use pages_runs::books::history_of;
@@ -32,7 +34,19 @@ fn a_wrong_line_is_marked_in_the_run(rt: HostRuntime) -> Result<(), Fail> {
 /// Fails where the page of a trace that goes wrong at a line, behind so many legal ones, lacks a bar that tells it then, or the line's
 /// number above.
 fn hold_marked(alloc: Global, legal: usize, line: u32, then: &str) -> Result<(), Fail> {
-    let document = read(alloc, DOCUMENT.as_bytes())?;
+    let page = marked(alloc, legal, line)?;
+    let title = format!(in alloc;
+        "<title>the trace goes wrong at its line {line}, {then}</title>"
+    )?;
+    hold_element(page.as_str(), format!(in alloc; "{title}</rect>")?)?;
+    hold_element(
+        page.as_str(),
+        format!(in alloc; "{title}line {line}</text>")?,
+    )
+}
+
+/// The page of a trace that goes wrong at a line, behind so many legal ones.
+fn marked(alloc: Global, legal: usize, line: u32) -> Result<String, Fail> {
     let history = history_of(alloc, DOCUMENT, IN_STOCK)?;
     let Some((told, _)) = history.as_slice().split_at_checked(legal) else {
         return Err(Fail::new("the run is shorter"));
@@ -42,17 +56,21 @@ fn hold_marked(alloc: Global, legal: usize, line: u32, then: &str) -> Result<(),
         came: b"nobody".as_slice(),
         expected: b"".as_slice(),
     };
+    let document = read(alloc, DOCUMENT.as_bytes())?;
+    let page = page_of_wrong(alloc, &document, told, wrong);
+    drop(document);
+    page
+}
+
+fn page_of_wrong(
+    alloc: Global,
+    document: &Document,
+    told: &[Entry],
+    wrong: WrongTrace<'_>,
+) -> Result<String, Fail> {
     let description = document.description.description();
     let script = &document.script;
-    let page = trace_page_of(alloc, "rows.cm", description, script, told, Some(wrong))?;
-    let title = format!(in alloc;
-        "<title>the trace goes wrong at its line {line}, {then}</title>"
-    )?;
-    hold_element(page.as_str(), format!(in alloc; "{title}</rect>")?)?;
-    hold_element(
-        page.as_str(),
-        format!(in alloc; "{title}line {line}</text>")?,
-    )
+    Ok(trace_page_of(alloc, "rows.cm", description, script, told, Some(wrong))?)
 }
 
 /// Fails where this does not stand on the page.
@@ -71,22 +89,33 @@ fn hold_wrong(
     expected: &[u8],
     want: &str,
 ) -> Result<(), Fail> {
-    let document = read(alloc, DOCUMENT.as_bytes())?;
-    let history = history_of(alloc, DOCUMENT, IN_STOCK)?;
     let wrong = WrongTrace {
         line,
         came,
         expected,
     };
-    let told = trace_whys_of(
-        alloc,
-        document.description.description(),
-        &document.script,
-        history.as_slice(),
-        Some(wrong),
-    )?;
+    let told = whys(alloc, wrong)?;
     let told = without_end(alloc, told.as_str())?;
     hold_told(alloc, "a trace", told.as_str(), want)
+}
+
+/// What is told in words of a trace that goes wrong so.
+fn whys(alloc: Global, wrong: WrongTrace<'_>) -> Result<String, Fail> {
+    let history = history_of(alloc, DOCUMENT, IN_STOCK)?;
+    let document = read(alloc, DOCUMENT.as_bytes())?;
+    let told = whys_of_wrong(alloc, &document, history.as_slice(), wrong);
+    drop(document);
+    told
+}
+
+fn whys_of_wrong(
+    alloc: Global,
+    document: &Document,
+    history: &[Entry],
+    wrong: WrongTrace<'_>,
+) -> Result<String, Fail> {
+    let description = document.description.description();
+    Ok(trace_whys_of(alloc, description, &document.script, history, Some(wrong))?)
 }
 
 const DOCUMENT: &str = r#"version = 1

@@ -5,7 +5,6 @@ use crate::groups::{FIRST_VERSION, ROBOT as GROUPED, SWITCHES as OF_GROUPS, WITH
 use crate::pages::DESCRIPTIONS;
 use crate::shaping::{CHAINED, CLAIMED, GEARED, WRIST};
 use crate::switches::{OF_MOVED, SWITCHES};
-use cm_top::Status;
 use cm_words::JobKind;
 use pages_cases::pages::{Teller, halves, hold, joined};
 use pages_runs::documents::MOVED;
@@ -60,13 +59,10 @@ impl Teller for Upgraded {
 /// The upgraded description, with the line behind it; None if the document is refused.
 fn upgraded_description(alloc: Global, text: &str) -> Result<Option<String>, Fail> {
     let mut sink = ample_sink(alloc)?;
-    if !is_ok(UPGRADE.run_into(alloc, text, &mut sink)?) {
+    let ended = UPGRADE.ended(alloc, text, &mut sink)?;
+    if ended.as_str() != "ok" {
         return Ok(None);
     }
     let described = joined(alloc, str::from_utf8(sink.bytes())?, SEPARATOR)?;
     Ok(Some(described))
-}
-
-fn is_ok(status: Status) -> bool {
-    status == Status::Ok
 }

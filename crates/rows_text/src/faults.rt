@@ -60,8 +60,9 @@ fn each_fault_prints_as_its_line(rt: HostRuntime) -> Result<(), Fail> {
 
 /// Appends the line of a fault.
 fn push(printed: &mut String, fault: DocumentFault) -> Result<(), Fail> {
-    write!(printed, "{fault}\n")?;
-    Ok(())
+    let pushed = write!(printed, "{fault}\n");
+    drop(fault);
+    Ok(pushed?)
 }
 
 fn push_text(printed: &mut String, fault: DescFault) -> Result<(), Fail> {
