@@ -158,6 +158,9 @@ fn call_desk<C: Controller>(
 ) -> Result<(), Fail>
     requires { MayCall looping.old.desk who call }
 {
-    let (reply, _) = looping.call(who, call)?;
-    push_reply(told, &reply)
+    let (reply, given) = looping.call(who, call)?;
+    drop(given);
+    let pushed = push_reply(told, &reply);
+    drop(reply);
+    pushed
 }

@@ -304,12 +304,15 @@ fn call_desk<C: Controller>(
     requires session { who < table.old.opening.sessions }
 {
     if !is_call(&call) {
+        drop(call);
         return Err(Fail::new("no call of a session"));
     }
     let Ok((reply, given)) = table.call(alloc, who, call) else {
         return Ok(Heard::Refused);
     };
-    push_answer(told, &reply, given)?;
+    let pushed = push_answer(told, &reply, given);
+    drop(reply);
+    pushed?;
     Ok(Heard::Answered)
 }
 
@@ -333,11 +336,12 @@ fn push_answer<C: Controller>(
 }
 
 fn push_outcome(told: &mut String, outcome: Option<Outcome>) -> Result<(), Fail> {
-    match outcome {
-        Some(outcome) => write!(told, "{outcome}")?,
-        None => told.push_str("not yet")?,
-    }
-    Ok(())
+    let pushed = match &outcome {
+        Some(outcome) => write!(told, "{outcome}"),
+        None => told.push_str("not yet"),
+    };
+    drop(outcome);
+    Ok(pushed?)
 }
 
 fn push_reached(told: &mut String, reached: bool) -> Result<(), Fail> {

@@ -142,18 +142,38 @@ impl Queue {
     /// The request comes to wait, and is planned behind the others; or why it does not.
     fn ask(&mut self, alloc: Global, words: &str) -> Result<String, Fail> {
         let asked = request(alloc, words)?;
-        match self.requests.ask(alloc, self.is_closed, asked)? {
-            Reply::Queued(_) => self.last_told(alloc, &self.plan(alloc)?),
+        let reply = self.requests.ask(alloc, self.is_closed, asked)?;
+        let told = self.replied(alloc, &reply);
+        drop(reply);
+        told
+    }
+
+    /// What is told of a request that is replied to so.
+    fn replied(&self, alloc: Global, reply: &Reply) -> Result<String, Fail> {
+        match reply {
+            Reply::Queued(_) => self.last_planned(alloc),
             Reply::Not(why) => Ok(format!(in alloc; "{why}")?),
             _ => Err(Fail::new("another reply")),
         }
     }
 
+    fn last_planned(&self, alloc: Global) -> Result<String, Fail> {
+        let plan = self.plan(alloc)?;
+        let told = self.last_told(alloc, &plan);
+        drop(plan);
+        told
+    }
+
     /// These are to stand in, and are planned before the requests.
     fn stand_in(&mut self, alloc: Global, words: &str) -> Result<String, Fail> {
         let request = request_of(alloc, words)?;
-        self.fallbacks = controllers_of(alloc, request.on.as_slice())?;
-        self.first_told(alloc, &self.plan(alloc)?)
+        let names = controllers_of(alloc, request.on.as_slice());
+        drop(request);
+        self.fallbacks = names?;
+        let plan = self.plan(alloc)?;
+        let told = self.first_told(alloc, &plan);
+        drop(plan);
+        told
     }
 
     fn outcome_of(&self, alloc: Global, ticket: u32) -> Result<String, Fail> {
@@ -181,13 +201,14 @@ impl Queue {
     /// The plan for those that stand in and those that wait.
     fn plan(&self, alloc: Global) -> Result<Plan, Fail> {
         let checked = &self.scene.checked;
-        let relations = Relations::of(alloc, checked)?;
-        let situation = situation_of(&self.scene)?;
         let names = self.fallbacks.clone()?;
-        Ok(
-            self.requests
-                .plan(alloc, checked, &relations, situation, names)?,
-        )
+        let situation = situation_of(&self.scene)?;
+        let relations = Relations::of(alloc, checked)?;
+        let plan = self
+            .requests
+            .plan(alloc, checked, &relations, situation, names);
+        drop(relations);
+        Ok(plan?)
     }
 
     /// What is told of those that stand in.

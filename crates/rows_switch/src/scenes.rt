@@ -56,9 +56,9 @@ impl Player for Scene {
     /// What is told of a request: the outcome, and the names of those to deactivate and to activate.
     fn told(&mut self, alloc: Global, words: &str) -> Result<String, Fail> {
         let request = request_of(alloc, words)?;
-        let planned = self.planned(alloc, &request)?;
-        self.hold_with_relations(alloc, &request, &planned)?;
-        self.told_of(alloc, &planned)
+        let told = self.answered(alloc, &request);
+        drop(request);
+        told
     }
 }
 
@@ -112,6 +112,24 @@ impl Scene {
         Ok(())
     }
 
+    /// What is told of a request, which has the same plan with the relations.
+    fn answered(&self, alloc: Global, request: &SwitchRequest) -> Result<String, Fail> {
+        let planned = self.planned(alloc, request)?;
+        let told = self.held(alloc, request, &planned);
+        drop(planned);
+        told
+    }
+
+    fn held(
+        &self,
+        alloc: Global,
+        request: &SwitchRequest,
+        planned: &Planned,
+    ) -> Result<String, Fail> {
+        self.hold_with_relations(alloc, request, planned)?;
+        self.told_of(alloc, planned)
+    }
+
     /// The plan of a request.
     fn planned(&self, alloc: Global, request: &SwitchRequest) -> Result<Planned, Fail> {
         let count = self.checked.description().controllers.as_slice().len();
@@ -155,10 +173,15 @@ impl Scene {
         planned: &Planned,
     ) -> Result<(), Fail> {
         let relations = Relations::of(alloc, &self.checked)?;
-        if self.planned_with(alloc, &relations, request)? == *planned {
-            return Ok(());
+        let other = self.planned_with(alloc, &relations, request);
+        drop(relations);
+        let other = other?;
+        let is_same = other == *planned;
+        drop(other);
+        match is_same {
+            true => Ok(()),
+            false => Err(Fail::new("with the relations it is another plan")),
         }
-        Err(Fail::new("with the relations it is another plan"))
     }
 
     fn told_of(&self, alloc: Global, planned: &Planned) -> Result<String, Fail> {
