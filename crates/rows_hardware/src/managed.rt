@@ -60,8 +60,11 @@ fn moved(alloc: Global, told: &mut String, checked: &Checked, rest: &str) -> Res
     }
     let mut hardware = ResourceManager::make(alloc, checked)?;
     let end = hardware.move_component(place, life_of(state));
-    push_end(told, end)?;
-    push_lists(alloc, told, checked.description(), &hardware)
+    let pushed = push_end(told, end);
+    let listed = push_lists(alloc, told, checked.description(), &hardware);
+    drop(hardware);
+    pushed?;
+    listed
 }
 
 /// `cycle N`: what failed, the bodies, and what stands then.
@@ -69,8 +72,11 @@ fn run(alloc: Global, told: &mut String, checked: &Checked, act: &str) -> Result
     let (_, number) = halves(act, " ")?;
     let number = number.parse()?;
     let mut hardware = ResourceManager::make(alloc, checked)?;
-    push_cycle(alloc, told, &mut hardware, number)?;
-    push_lists(alloc, told, checked.description(), &hardware)
+    let pushed = push_cycle(alloc, told, &mut hardware, number);
+    let listed = push_lists(alloc, told, checked.description(), &hardware);
+    drop(hardware);
+    pushed?;
+    listed
 }
 
 /// Runs a cycle, and appends what failed and the bodies after it.

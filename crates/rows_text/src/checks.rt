@@ -25,6 +25,7 @@ use orders::{ORDERS, ORDERS_OF_AN_ARM};
 use ranges::{RANGES, RANGES_OF_AN_ARM, RANGES_OF_THE_TOP};
 use shaping::{LIMITERS, TRANSMISSIONS};
 use std::alloc::Global;
+use std::fmt::Display;
 use std::test::Fail;
 
 /// Tells that a description is valid, or its first fault.
@@ -35,9 +36,16 @@ impl Teller for Checks {
     fn told(&self, alloc: Global, text: &str) -> Result<String, Fail> {
         match accepted(alloc, text) {
             Ok(()) => Ok(String::from_str(alloc, "valid")?),
-            Err(problem) => Ok(format!(in alloc; "{problem}")?),
+            Err(problem) => in_words(alloc, problem),
         }
     }
+}
+
+/// How a fault prints. A fault has many parts, and is dropped at this one place.
+pub fn in_words<F: Display + Drop>(alloc: Global, fault: F) -> Result<String, Fail> {
+    let told = format!(in alloc; "{fault}");
+    drop(fault);
+    Ok(told?)
 }
 
 fn accepted(alloc: Global, text: &str) -> Result<(), DescProblem> {
@@ -51,7 +59,10 @@ fn valid(alloc: Global, description: Description) -> Result<(), DescProblem>
     requires described { IsDescribed description }
 {
     match check(alloc, description) {
-        Ok(_) => Ok(()),
+        Ok(checked) => {
+            drop(checked);
+            Ok(())
+        }
         Err(fault) => Err(DescProblem::Check(fault)),
     }
 }

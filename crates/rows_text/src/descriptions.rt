@@ -8,6 +8,7 @@ mod read;
 mod syntax;
 mod values;
 
+use crate::checks::in_words;
 use crate::pages::{Teller, hold, hold_lines};
 use cm_document::DescFault;
 use desc_text::read_description;
@@ -30,8 +31,11 @@ pub struct Reads;
 impl Teller for Reads {
     fn told(&self, alloc: Global, text: &str) -> Result<String, Fail> {
         match read_description(alloc, text.as_bytes()) {
-            Ok(_) => Ok(String::from_str(alloc, "read")?),
-            Err(fault) => Ok(format!(in alloc; "{fault}")?),
+            Ok(description) => {
+                drop(description);
+                Ok(String::from_str(alloc, "read")?)
+            }
+            Err(fault) => in_words(alloc, fault),
         }
     }
 }

@@ -63,7 +63,7 @@ impl Teller for Reads {
 
 /// Fails where a description is not read or not valid.
 fn hold_valid(alloc: Global, description: &str) -> Result<(), Fail> {
-    described(alloc, description)?;
+    drop(described(alloc, description)?);
     Ok(())
 }
 

@@ -5,6 +5,7 @@ mod long;
 mod printed;
 mod sessions;
 
+use crate::checks::in_words;
 use cm_document::{Script, ScriptFault, SessionText, Turn, whole_grammar};
 use lines::{BYTES, CALLS_ON_NAMES, POINTS, SWITCHES, VALUES, WHOLE_NUMBERS};
 use long::{CALLS_AND_TURNS, LONG_LINES, SIZES_OF_CALLS};
@@ -45,10 +46,7 @@ struct EveryForm;
 
 impl Teller for EveryForm {
     fn told(&self, alloc: Global, text: &str) -> Result<String, Fail> {
-        match read_every_form(alloc, text)? {
-            Ok(script) => told(alloc, &script),
-            Err(fault) => Ok(format!(in alloc; "{fault}")?),
-        }
+        told_of(alloc, read_every_form(alloc, text)?)
     }
 }
 
@@ -58,10 +56,19 @@ struct FormsFurtherBelow;
 
 impl Teller for FormsFurtherBelow {
     fn told(&self, alloc: Global, text: &str) -> Result<String, Fail> {
-        match read_further_below(alloc, text)? {
-            Ok(script) => told(alloc, &script),
-            Err(fault) => Ok(format!(in alloc; "{fault}")?),
+        told_of(alloc, read_further_below(alloc, text)?)
+    }
+}
+
+/// What is told of a script that was read, or of its first bad line.
+fn told_of(alloc: Global, read: Result<Script, ScriptFault>) -> Result<String, Fail> {
+    match read {
+        Ok(script) => {
+            let told = told(alloc, &script);
+            drop(script);
+            told
         }
+        Err(fault) => in_words(alloc, fault),
     }
 }
 

@@ -1,5 +1,6 @@
 //! All that is read of whole descriptions.
 
+use crate::checks::in_words;
 use crate::pages::Teller;
 use cm_document::{CompDesc, CompKind, CtlDesc, Description, JointDesc, Params};
 use desc_text::read_description;
@@ -14,8 +15,12 @@ pub struct Shows;
 impl Teller for Shows {
     fn told(&self, alloc: Global, text: &str) -> Result<String, Fail> {
         match read_description(alloc, text.as_bytes()) {
-            Ok(description) => shown(alloc, &description),
-            Err(fault) => Ok(format!(in alloc; "{fault}")?),
+            Ok(description) => {
+                let shown = shown(alloc, &description);
+                drop(description);
+                shown
+            }
+            Err(fault) => in_words(alloc, fault),
         }
     }
 }

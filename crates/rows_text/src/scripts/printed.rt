@@ -14,8 +14,9 @@ pub struct Prints;
 impl Teller for Prints {
     fn told(&self, alloc: Global, text: &str) -> Result<String, Fail> {
         let script = read_every_form(alloc, text)??;
-        let printed = print_script(alloc, &script)?;
-        without_end(alloc, str::from_utf8(printed.as_slice())?)
+        let printed = print_script(alloc, &script);
+        drop(script);
+        without_end(alloc, str::from_utf8(printed?.as_slice())?)
     }
 }
 
