@@ -60,10 +60,11 @@ fn moved(alloc: Global, told: &mut String, checked: &Checked, rest: &str) -> Res
     }
     let mut hardware = ResourceManager::make(alloc, checked)?;
     let end = hardware.move_component(place, life_of(state));
-    let pushed = push_end(told, end);
-    let listed = push_lists(alloc, told, checked.description(), &hardware);
+    let listed = match push_end(told, end) {
+        Ok(()) => push_lists(alloc, told, checked.description(), &hardware),
+        Err(fail) => Err(fail),
+    };
     drop(hardware);
-    pushed?;
     listed
 }
 
@@ -72,10 +73,11 @@ fn run(alloc: Global, told: &mut String, checked: &Checked, act: &str) -> Result
     let (_, number) = halves(act, " ")?;
     let number = number.parse()?;
     let mut hardware = ResourceManager::make(alloc, checked)?;
-    let pushed = push_cycle(alloc, told, &mut hardware, number);
-    let listed = push_lists(alloc, told, checked.description(), &hardware);
+    let listed = match push_cycle(alloc, told, &mut hardware, number) {
+        Ok(()) => push_lists(alloc, told, checked.description(), &hardware),
+        Err(fail) => Err(fail),
+    };
     drop(hardware);
-    pushed?;
     listed
 }
 

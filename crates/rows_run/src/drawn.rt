@@ -112,30 +112,30 @@ pub struct Whys {
 
 impl Teller for Whys {
     fn told(&self, alloc: Global, text: &str) -> Result<String, Fail> {
-        let told = shown(alloc, text, self.in_stock, Shown::Whys)?;
+        let told = shown(alloc, text, self.in_stock, Wanted::Whys)?;
         without_end(alloc, told.as_str())
     }
 }
 
 /// The page that shows the run of a document.
 pub fn drawn(alloc: Global, text: &str) -> Result<String, Fail> {
-    shown(alloc, text, IN_STOCK, Shown::Page)
+    shown(alloc, text, IN_STOCK, Wanted::Page)
 }
 
 /// What is shown of a run: its page, or what was not done as asked, in words.
 #[derive(Clone, Copy)]
-enum Shown {
+enum Wanted {
     Page,
     Whys,
 }
 
 /// What is shown of the run of a document. The document has many parts, and is dropped at this one place.
-fn shown(alloc: Global, text: &str, in_stock: u32, what: Shown) -> Result<String, Fail> {
+fn shown(alloc: Global, text: &str, in_stock: u32, what: Wanted) -> Result<String, Fail> {
     let history = history_of(alloc, text, in_stock)?;
     let document = read(alloc, text.as_bytes())?;
     let told = match what {
-        Shown::Page => page(alloc, &document, history.as_slice()),
-        Shown::Whys => told(alloc, &document, history.as_slice()),
+        Wanted::Page => page(alloc, &document, history.as_slice()),
+        Wanted::Whys => told(alloc, &document, history.as_slice()),
     };
     drop(document);
     told
