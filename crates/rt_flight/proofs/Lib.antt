@@ -15,3 +15,4 @@ pub mod DepthLemmas
 pub mod RankLemmas
 pub mod PutDownLemmas
 pub mod FlightRows
+pub mod Crossing

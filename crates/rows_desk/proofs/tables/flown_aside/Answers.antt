@@ -1,7 +1,8 @@
 use denote.Exit as exit
 use denote.Param.{param}
 use denote.Param.Send.{sendable, param_send, arg_send}
-use Rattle.rows_desk.proofs.Crossing.{flight_send, taken_send}
+use Rattle.rows_desk.proofs.Crossing.{taken_send}
+use Rattle.rt_flight.proofs.Crossing.{flight_send}
 use Rattle.rows_desk.proofs.tables.flown_aside.Goals as goal
 
 -- the flight goes to the thread,
