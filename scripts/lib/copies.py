@@ -30,7 +30,9 @@ def put(name, copy):
 
 
 def copy_of(name):
-    """Returns a folder with a copy of this crate and of those below it, by whose name it is seen that a check there is of wrong bodies."""
+    """Returns a folder with a copy of this crate and of those below it, by whose name it is seen that a check there is
+    of wrong bodies.
+    """
     folder = tempfile.TemporaryDirectory(prefix="wrong-bodies-")
     put_lists(folder.name)
     of = crate(name)

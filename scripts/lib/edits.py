@@ -1,8 +1,9 @@
 """Edits: files that say what a text of a source is to be turned into.
 
-An edit has lines `file: PATH`, and behind each such line pairs of lines `old: TEXT` and `new: TEXT`. Each old text stands in its file
-once. It begins with a line `crime: ..` (or `# crime: ..`) that says what it does. All other lines are no part of it: a line
-`# tried by the gate`, those that name the row, the law or the test that refuses it, one that names what tries it.
+An edit has lines `file: PATH`, and behind each such line pairs of lines `old: TEXT` and `new: TEXT`. Each old text
+stands in its file once. It begins with a line `crime: ..` (or `# crime: ..`) that says what it does. All other lines
+are no part of it: a line `# tried by the gate`, those that name the row, the law or the test that refuses it, one that
+names what tries it.
 """
 
 import re
@@ -42,7 +43,9 @@ class Edit:
         return said[-1] if said else None
 
     def applied(self, folder):
-        """Returns the texts of the files in this folder that it changes, as they are after it, and what is wrong with it."""
+        """Returns the texts of the files in this folder that it changes, as they are after it, and what is wrong with
+        it.
+        """
         texts, faults = {}, []
         for file, old, new in self.changes:
             at = Path(folder, file)

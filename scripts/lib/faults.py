@@ -1,4 +1,6 @@
-"""The faults by example, examples/faults.txt: each changes an example so that it is refused, with the line that tells the fault and the mend."""
+"""The faults by example, examples/faults.txt: each changes an example so that it is refused, with the line that tells
+the fault and the mend.
+"""
 
 import re
 from dataclasses import dataclass, field
@@ -20,7 +22,11 @@ class Piece:
     on_one_line: bool = False
 
     def spelled(self):
-        return [line.replace("#", str(k)) if self.times > 1 else line for k in range(1, self.times + 1) for line in self.lines]
+        return [
+            line.replace("#", str(k)) if self.times > 1 else line
+            for k in range(1, self.times + 1)
+            for line in self.lines
+        ]
 
     def cell(self):
         told = f"{'with ' * self.on_one_line}{self.times} times " if self.times > 1 else ""
@@ -29,7 +35,9 @@ class Piece:
 
 @dataclass
 class Fault:
-    """A fault: the words of the command, or the example with the line that is replaced; and what the paragraph says of it."""
+    """A fault: the words of the command, or the example with the line that is replaced; and what the paragraph says of
+    it.
+    """
 
     words: Optional[str] = None
     example: str = ""

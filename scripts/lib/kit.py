@@ -28,8 +28,8 @@ def kit():
 
 @functools.cache
 def guard():
-    """Returns the words before a command that let it end when this process does. The first call sets a signal's handler,
-    which only the main thread may."""
+    """Returns the words before a command that let it end when this process does. The first call sets a signal's
+    handler, which only the main thread may."""
     return kit().guarded()
 
 
@@ -54,12 +54,21 @@ def are_below(of):
 
 
 def asked(of, words, kept):
-    """Returns status and words of the prover about the crate. What it keeps goes to that folder if the words name none."""
+    """Returns status and words of the prover about the crate.
+
+    What it keeps goes to that folder if the words name none.
+    """
     if "--incremental" not in words:
         words = [*words, "--incremental", str(kept)]
     ran = subprocess.run(
-        [*guard(), kit().RATTLE, "check", *words], cwd=of.folder, stdin=subprocess.DEVNULL, stdout=subprocess.PIPE,
-        stderr=subprocess.STDOUT, text=True, errors="replace")
+        [*guard(), kit().RATTLE, "check", *words],
+        cwd=of.folder,
+        stdin=subprocess.DEVNULL,
+        stdout=subprocess.PIPE,
+        stderr=subprocess.STDOUT,
+        text=True,
+        errors="replace",
+    )
     return ran.returncode, ran.stdout
 
 

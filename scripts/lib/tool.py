@@ -7,8 +7,8 @@ from pathlib import Path
 
 
 def run(says, commands):
-    """Runs the command that the first word names, and ends with its status. `commands` has the module of each, which has
-    `main(asked)`, and `options(parser)` if it takes words."""
+    """Runs the command that the first word names, and ends with its status. `commands` has the module of each, which
+    has `main(asked)`, and `options(parser)` if it takes words."""
     tool, words = Path(sys.argv[0]).name, sys.argv[1:]
     if words[:1] in ([], ["-h"], ["--help"]):
         print(says.strip(), file=sys.stdout if words else sys.stderr)
@@ -21,7 +21,8 @@ def run(says, commands):
 
 def status_of(module, name, words):
     parser = argparse.ArgumentParser(
-        prog=name, description=module.__doc__.strip(), formatter_class=argparse.RawDescriptionHelpFormatter)
+        prog=name, description=module.__doc__.strip(), formatter_class=argparse.RawDescriptionHelpFormatter
+    )
     if hasattr(module, "options"):
         module.options(parser)
     try:

@@ -1,9 +1,10 @@
-"""Answers: is the built program NAME there? If it is missing, or older than a source of it or of a crate below it, that is
-proved and built first, with as many crates side by side as there are processors and memory holds.
+"""Answers: is the built program NAME there? If it is missing, or older than a source of it or of a crate below it, that
+is proved and built first, with as many crates side by side as there are processors and memory holds.
 
-Meanwhile it says on standard error how many crates are proved, which it is at, and about how long is left, by the minutes of
-docs/SPEED.md. What the prover says is shown only if it fails. The program stands in crates/NAME/out, and is run once as the gate
-runs it, on crates/NAME/args and stdin. Nothing is read from its own standard input. The exit status is 1 if it could not be built.
+Meanwhile it says on standard error how many crates are proved, which it is at, and about how long is left, by the
+minutes of docs/SPEED.md. What the prover says is shown only if it fails. The program stands in crates/NAME/out, and is
+run once as the gate runs it, on crates/NAME/args and stdin. Nothing is read from its own standard input. The exit
+status is 1 if it could not be built.
 """
 
 import copy
@@ -20,7 +21,9 @@ from ..kit import guard, kit
 from ..tree import TOP, crates_below
 
 EVERY = 60  # seconds: so often it says how far it is, beside each crate's end
-TRUSTED = 4  # minutes of the table: so much has to be proved before the pace of this machine counts as much as the table's
+TRUSTED = (
+    4  # minutes of the table: so much has to be proved before the pace of this machine counts as much as the table's
+)
 UNTIMED = 1.0  # minutes, of a crate that the table has no number for
 MEMORY = 2.5e9  # bytes: so much a proof takes at most, of nearly all crates
 LAST = 20  # lines of the prover that are shown where it fails
@@ -48,7 +51,7 @@ def is_current(program, crates):
 
 
 def stale(crates):
-    """Returns those that have no library as new as their sources, those above them, and the program, which is the last."""
+    """Returns those without a library as new as their sources, those above them, and the program, which is the last."""
     found = []
     for crate in crates:
         is_new = written(TOP / "crates" / crate / "out/rlib/stamp") >= newest_source(crate)
@@ -99,7 +102,9 @@ class Progress:
         return self.minutes[crate] + max(map(self.way, self.above[crate]), default=0)
 
     def left(self):
-        """Returns about how many minutes are left: the longest way, or all that is left on all lanes, whichever is more."""
+        """Returns about how many minutes are left: the longest way, or all that is left on all lanes, whichever is
+        more.
+        """
         rest = [crate for crate in self.crates if crate not in self.proved]
         pace = (self.taken + TRUSTED) / (sum(self.minutes[it] for it in self.proved) + TRUSTED)
         begun = sum((time.monotonic() - it) / 60 for it in self.since.values())
@@ -127,7 +132,10 @@ def prove_library(crate):
 
 
 def prove_libraries(crates, progress):
-    """Proves the crates, each once those below it are, and first those with the longest way above. Returns what was said where one fails."""
+    """Proves the crates, each once those below it are, and first those with the longest way above.
+
+    Returns what was said where one fails.
+    """
     rt = kit()
     guard()
     # `rt lib` is not run here: two at once would wait for each other wherever both stand on one crate.
@@ -165,8 +173,14 @@ def run_program(name, progress):
     progress.begin(name)
     progress.tell()
     ran = subprocess.run(
-        ["rt", "run", "--", *filter(None, words)], cwd=folder, stdin=given, stdout=subprocess.DEVNULL, stderr=subprocess.PIPE, text=True,
-        errors="replace")
+        ["rt", "run", "--", *filter(None, words)],
+        cwd=folder,
+        stdin=given,
+        stdout=subprocess.DEVNULL,
+        stderr=subprocess.PIPE,
+        text=True,
+        errors="replace",
+    )
     if ran.returncode != wanted:
         say("\n".join(ran.stderr.splitlines()[-LAST:]))
     return ran.returncode == wanted

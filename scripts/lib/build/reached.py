@@ -1,4 +1,5 @@
-"""Makes lib/build/reached_in_kit anew, the list of the kit's sources in which `cm` or the program that draws calls a function.
+"""Makes lib/build/reached_in_kit anew, the list of the kit's sources in which `cm` or the program that draws calls a
+function.
 
 Unproved programs are compiled over these alone. If the list lacks one, they are compiled twice, and `./try` says so.
 It takes a minute or two.

@@ -1,8 +1,9 @@
 """The kit's sources without the bodies that a program does not reach.
 
-Of a source that is not on the list `reached_in_kit` the compiler gets the functions without their bodies, which it would check for nothing.
-In place of a body stands the call of a function whose name marks that source. A program that has a mark is compiled again, over the whole
-kit: a list that went stale costs time, and changes nothing. A mark has a number of its own in it, so that no function says the same.
+Of a source that is not on the list `reached_in_kit` the compiler gets the functions without their bodies, which it
+would check for nothing. In place of a body stands the call of a function whose name marks that source. A program that
+has a mark is compiled again, over the whole kit: a list that went stale costs time, and changes nothing. A mark has a
+number of its own in it, so that no function says the same.
 
 The list is made by a compilation over the whole kit in which each body calls its source's mark first.
 """
@@ -25,9 +26,11 @@ def closed(rows, indent):
 
 
 def opened(rows, place, line, indent):
-    """Returns at which of the rows the function's body begins that is declared at the first, or None where it has none to take."""
+    """Returns at which of the rows the function's body begins that is declared at the first, or None where it has none
+    to take.
+    """
     while not line.endswith(";"):
-        if line.startswith(indent) and line[len(indent):len(indent) + 1].strip():
+        if line.startswith(indent) and line[len(indent) : len(indent) + 1].strip():
             if line.endswith(("{", "}")):
                 return place if line.endswith("{") else None
         place, line = next(rows)
@@ -35,8 +38,8 @@ def opened(rows, place, line, indent):
 
 
 def bodies(lines):
-    """Yields of functions in a source the places of the line that opens the body and of the one that closes it. The source is laid out as
-    `rt fmt` does. Passed over are those in macros and in modules inside a source."""
+    """Yields of functions in a source the places of the line that opens the body and of the one that closes it. The
+    source is laid out as `rt fmt` does. Passed over are those in macros and in modules inside a source."""
     rows = enumerate(lines)
     for place, line in rows:
         if found := BLOCK.match(line):
@@ -51,7 +54,7 @@ def marked(text, name, bodied):
     """Returns the source with a call of a function of this name at the begin of each body, or in its place."""
     lines, made, at = text.split("\n"), [], 0
     for first, last in bodies(lines):
-        made += [*lines[at:first + 1], *([f"let _ = {name}(0);"] if bodied else [f"let _ = {name}(1);", "loop {}"])]
+        made += [*lines[at : first + 1], *([f"let _ = {name}(0);"] if bodied else [f"let _ = {name}(1);", "loop {}"])]
         at = first + 1 if bodied else last
     made += lines[at:]
     number = int(hashlib.sha256(name.encode()).hexdigest()[:15], 16)
@@ -75,7 +78,10 @@ def reached():
 
 
 def shorter_kit(words, folder, whole, bodied):
-    """Copies the named crates of the kit, and marks in the sources that are not in `whole` the bodies. Returns the words for the copy."""
+    """Copies the named crates of the kit, and marks in the sources that are not in `whole` the bodies.
+
+    Returns the words for the copy.
+    """
     for place, source in sources(words).items():
         copy = Path(folder, place)
         copy.parent.mkdir(parents=True, exist_ok=True)

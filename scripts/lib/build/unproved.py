@@ -1,9 +1,9 @@
-"""Answers: is the program NAME there, compiled without a proof? If it is missing, or older than a source or the kit, both programs are
-compiled first, and a line on standard error says so. They stand in crates/NAME/out/try.
+"""Answers: is the program NAME there, compiled without a proof? If it is missing, or older than a source or the kit,
+both programs are compiled first, and a line on standard error says so. They stand in crates/NAME/out/try.
 
-The program stops at an index out of bounds, an overflow or a failed unwrap. `rt try` says where, has it checked for bad accesses besides,
-and has a prover look at the names meanwhile, which takes several times as long. lib/build/compiler.py says how it is compiled.
-The exit status is 1 if it could not be compiled; only then what the compiler says is shown.
+The program stops at an index out of bounds, an overflow or a failed unwrap. `rt try` says where, has it checked for bad
+accesses besides, and has a prover look at the names meanwhile, which takes several times as long. lib/build/compiler.py
+says how it is compiled. The exit status is 1 if it could not be compiled; only then what the compiler says is shown.
 """
 
 import os

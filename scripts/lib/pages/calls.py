@@ -1,10 +1,11 @@
-"""The pages of answers. docs/ANSWERS.md has each public call of the libraries, with what it may answer besides its value, its clauses with the
-definitions that they name, whether it may want memory, and whether it may wait. docs/PROVED.md has the rows of causes.txt: when each answer
-comes, with the clause that says so.
+"""The pages of answers. docs/ANSWERS.md has each public call of the libraries, with what it may answer besides its
+value, its clauses with the definitions that they name, whether it may want memory, and whether it may wait.
+docs/PROVED.md has the rows of causes.txt: when each answer comes, with the clause that says so.
 
-A call is a public function or method, or a method of a public trait. What implements a trait answers as the trait says. Laws, tests and
-the crates of tests are apart. A call whose answer may be a refusal needs a clause that speaks of its result, and a row of causes.txt for each
-refusal, but for the crates that draw: they promise that they return, and no more.
+A call is a public function or method, or a method of a public trait. What implements a trait answers as the trait says.
+Laws, tests and the crates of tests are apart. A call whose answer may be a refusal needs a clause that speaks of its
+result, and a row of causes.txt for each refusal, but for the crates that draw: they promise that they return, and no
+more.
 """
 
 import functools
@@ -44,7 +45,10 @@ class Call:
     @property
     def returned(self):
         """The type that it returns."""
-        found = re.search(r"(?s)->\s*(.*?)(?=\n\s*(?:where|requires|ensures)\b|\s*;$|\s*\{\}?$|\Z)", self.head.split("\n    requires")[0])
+        found = re.search(
+            r"(?s)->\s*(.*?)(?=\n\s*(?:where|requires|ensures)\b|\s*;$|\s*\{\}?$|\Z)",
+            self.head.split("\n    requires")[0],
+        )
         return " ".join(found[1].split()) if found else ""
 
     @property
@@ -60,9 +64,19 @@ class Call:
 
     def clause(self, name):
         """A clause as a page tells it: its name, and the first definitions that it names."""
-        words = dict.fromkeys(it for it in re.findall(r"\w+", self.clauses[name]) if it in self.definitions and not it.endswith("_facts"))
+        words = dict.fromkeys(
+            it for it in re.findall(r"\w+", self.clauses[name]) if it in self.definitions and not it.endswith("_facts")
+        )
         named = ", ".join(f"`{it}`" for it in [*words][:MOST_DEFINITIONS])
-        return " ".join([*([f"`{name}`"] if name != UNNAMED else []), *([f"({named})" if name != UNNAMED else named] if named else [])]) or "unnamed"
+        return (
+            " ".join(
+                [
+                    *([f"`{name}`"] if name != UNNAMED else []),
+                    *([f"({named})" if name != UNNAMED else named] if named else []),
+                ]
+            )
+            or "unnamed"
+        )
 
     @property
     def waits(self):
@@ -89,7 +103,9 @@ def arguments(text):
 
 
 def answers_in(returned):
-    """The refusals in a type that is returned: the cases of its error, None, and the cases of what tells how something ended."""
+    """The refusals in a type that is returned: the cases of its error, None, and the cases of what tells how something
+    ended.
+    """
     name, _, rest = returned.partition("<")
     inside = arguments(rest.rstrip()[:-1]) if rest else []
     if returned.startswith("("):
@@ -125,7 +141,11 @@ def libraries():
 
 def sources(crate):
     folder = TOP / "crates" / crate / "src"
-    return [it for it in sorted(folder.rglob("*.rt")) if "tests" not in it.relative_to(folder).parts and it.name != "tests.rt"]
+    return [
+        it
+        for it in sorted(folder.rglob("*.rt"))
+        if "tests" not in it.relative_to(folder).parts and it.name != "tests.rt"
+    ]
 
 
 def uncommented(text):
@@ -181,9 +201,12 @@ def heads(text):
 
 
 def is_whole(head):
-    """Whether a head goes on to its body, or to the semicolon in its place. A clause may have braces and semicolons within its own."""
+    """Whether a head goes on to its body, or to the semicolon in its place.
+
+    A clause may have braces and semicolons within its own.
+    """
     end = re.search(r"(\{\}|[{;])\s*\Z", head)
-    before = head[:end.start()] if end else "{"
+    before = head[: end.start()] if end else "{"
     return before.count("{") == before.count("}")
 
 
@@ -196,7 +219,10 @@ def owner_of(block, line, lines):
     if block["kind"] == "trait":
         return re.search(r"trait (\w+)", words)[1], "trait"
     parts = words.replace("impl", "", 1).rstrip("{ ").split(" for ")
-    return re.findall(r"\w+", parts[-1])[-1] if re.findall(r"\w+", parts[-1]) else "", "given" if len(parts) > 1 else None
+    return (
+        re.findall(r"\w+", parts[-1])[-1] if re.findall(r"\w+", parts[-1]) else "",
+        "given" if len(parts) > 1 else None,
+    )
 
 
 @functools.cache
@@ -228,7 +254,10 @@ def every_call():
 def row(call):
     said = ", ".join(f"`{it}`" for it in call.answers())
     clauses = "; ".join(call.clause(name) for name in call.clauses)
-    return f"| `{call.path}` | {said} | {clauses} | {'yes' if call.wants_memory() else ''} | {'yes' if call.waits else ''} |"
+    return (
+        f"| `{call.path}` | {said} | {clauses} | {'yes' if call.wants_memory() else ''} | "
+        f"{'yes' if call.waits else ''} |"
+    )
 
 
 def tables(calls):
@@ -246,7 +275,9 @@ def causes():
         if line and not line.startswith("#"):
             answer, comes, place, clause = (cell.strip() for cell in line.split(" | "))
             crate, _, path = place.partition("::")
-            yield answer, comes, place, clause, next((it for it in every_call().get(crate, []) if it.path == path), None)
+            yield answer, comes, place, clause, next(
+                (it for it in every_call().get(crate, []) if it.path == path), None
+            )
 
 
 def table_of_causes():

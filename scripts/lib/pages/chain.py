@@ -1,7 +1,8 @@
 """The longest chain of crates in docs/SPEED.md, from crates.txt and the minutes in that page's table of the gate.
 
-A crate is proved once all that it stands on is. So of all chains of crates, each standing on the one before, the one whose proofs take
-longest together, with the tests of its last, is the shortest time in which any number of processors prove the whole.
+A crate is proved once all that it stands on is. So of all chains of crates, each standing on the one before, the one
+whose proofs take longest together, with the tests of its last, is the shortest time in which any number of processors
+prove the whole.
 """
 
 import re
@@ -17,11 +18,15 @@ WIDE = 120
 
 
 def minutes():
-    """Returns of each crate in the table the minutes of its proof and of its tests. What was not timed counts nothing."""
+    """Returns of each crate in the table the minutes of its proof and of its tests.
+
+    What was not timed counts nothing.
+    """
     number = re.compile(r"[\d.]+")
     return {
         crate: tuple(float(cell) if number.fullmatch(cell) else 0.0 for cell in cells)
-        for crate, *cells in ROW.findall(PAGE.read_text())}
+        for crate, *cells in ROW.findall(PAGE.read_text())
+    }
 
 
 def longest():
@@ -38,8 +43,10 @@ def sentence():
     timed, (together, chain) = minutes(), longest()
     names = ", ".join(f"`{crate}` {timed.get(crate, (0.0,))[0]:.1f}" for crate in chain)
     return (
-        f"The longest chain of crates takes {together:.1f} of these minutes, with the tests of its last crate. It has these, "
-        f"with the minutes of their proofs: {names}.")
+        f"The longest chain of crates takes {together:.1f} of these minutes, with the tests of its last crate. It "
+        "has these, "
+        f"with the minutes of their proofs: {names}."
+    )
 
 
 def made():

@@ -1,12 +1,16 @@
 """Answers: which pages went stale? Looked at are README.md, docs/*.md, examples/README.md and crates/*/README.md.
 
-- A name in backticks stands in a source, comments apart, or in the name of a file; all parts of `a::b` in one file or its path. A word all
-  in capitals, as NAME, stands for something else. A path leads to a file, a link to a file and to a heading if it names one.
-- The text of a fenced block stands in one source or example, blanks and ends of lines apart; so does each column of a block of columns.
+- A name in backticks stands in a source, comments apart, or in the name of a file; all parts of `a::b` in one file or
+  its path. A word all in capitals, as NAME, stands for something else. A path leads to a file, a link to a file and to
+  a heading if it names one.
+- The text of a fenced block stands in one source or example, blanks and ends of lines apart; so does each column of a
+  block of columns.
 - A row of a table that ends with a constant has its number in the cell before. README has the line of `rt version`.
-- No line of a source of Rust is wider than 120 columns, and no public name of a library stands in two crates.
+- No line of a source of Rust or of a script is wider than 120 columns, and no public name of a library stands in two
+  crates.
 - Each crate has a README, each example its place, and each crate its minutes in docs/SPEED.md.
-- No sentence, cell of a table or page is longer than its limit, and a number that is quoted with docs/SPEED.md stands there.
+- No sentence, cell of a table or page is longer than its limit, and a number that is quoted with docs/SPEED.md stands
+  there.
 - Another kind of controller touches at most ten files, which `scripts/pages kinds` prints and docs/CHANGING.md lists.
 - What `scripts/pages contracts` finds, and what the pages lack that `scripts/pages write` makes.
 Prints a line a finding, and last how many. The exit status is 1 if there is one.
@@ -25,6 +29,7 @@ WIDEST = 120  # columns
 PUBLIC = re.compile(r"(?m)^pub (?:struct|enum|trait|const) (\w+)")
 PASSED_ON = re.compile(r"(?m)^pub use (\w+)::")
 APART = re.compile(r"\s*(//|#!?\[|(ghost )?(pub )?use )")  # lines that may be wider: comments, attributes, imports
+SCRIPTS = re.compile(r"scripts/.*\.py|(\.ci/|scripts/)?\w+")
 
 
 def kit_missing():
@@ -50,14 +55,18 @@ def minutes_missing():
 
 def too_wide(repository):
     for name in repository.texts:
-        if name.endswith(".rt"):
+        of_rust = name.endswith(".rt")
+        if of_rust or SCRIPTS.fullmatch(name):
             for number, line in enumerate((TOP / name).read_text().split("\n"), 1):
-                if len(line) > WIDEST and not APART.match(line):
+                if len(line) > WIDEST and not (of_rust and APART.match(line)):
                     yield f"{name}:{number}: is wider than {WIDEST} columns"
 
 
 def homes_shared(repository):
-    """A name of a library's stands in one crate, so that a reader of an import knows where to look. Crates of tests stand alone."""
+    """A name of a library's stands in one crate, so that a reader of an import knows where to look.
+
+    Crates of tests stand alone.
+    """
     homes = {}
     for name, text in repository.texts.items():
         found = re.fullmatch(r"crates/(\w+)/src/.*\.rt", name)
@@ -67,7 +76,9 @@ def homes_shared(repository):
         if not re.search(r"^rows_", found[1]):
             for word in PUBLIC.findall(text):
                 homes.setdefault(word, set()).add(found[1])
-    yield from (f"`{word}` is public in {' and '.join(sorted(it))}" for word, it in sorted(homes.items()) if len(it) > 1)
+    yield from (
+        f"`{word}` is public in {' and '.join(sorted(it))}" for word, it in sorted(homes.items()) if len(it) > 1
+    )
 
 
 def findings():
@@ -81,7 +92,9 @@ def findings():
     for page in repository.pages:
         yield from (f"{page}: {it}" for it in names.findings(repository, page))
     yield from kit_missing()
-    yield from (f"crates/{crate}: has no README.md" for crate in crates() if f"crates/{crate}/README.md" not in repository.pages)
+    yield from (
+        f"crates/{crate}: has no README.md" for crate in crates() if f"crates/{crate}/README.md" not in repository.pages
+    )
     yield from contracts.findings()
     yield from write.findings()
 

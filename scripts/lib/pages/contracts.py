@@ -1,6 +1,7 @@
-"""Answers: can contracts and definitions be read? A function has at most four clauses, `requires` and `ensures` together: what needs more
-is a record in the crate's specs/Calls. No line of a clause and no line of specs is wider than 120 columns, texts between quotation marks
-apart. Prints a line for each that is longer. The exit status is 1 if there is one.
+"""Answers: can contracts and definitions be read? A function has at most four clauses, `requires` and `ensures`
+together: what needs more is a record in the crate's specs/Calls. No line of a clause and no line of specs is wider than
+120 columns, texts between quotation marks apart. Prints a line for each that is longer. The exit status is 1 if there
+is one.
 """
 
 import re
@@ -46,7 +47,10 @@ def of_clauses(name, text):
             yield f"{name}:{number}: a clause of `{function[1]}` is wider than {WIDEST} columns"
     for (number, function), (requires, ensures) in counts.items():
         if requires + ensures > MOST:
-            yield f"{name}:{number}: `{function}` has {requires} requires and {ensures} ensures, more than {MOST} together"
+            yield (
+                f"{name}:{number}: `{function}` has {requires} requires and {ensures} ensures, more than {MOST} "
+                "together"
+            )
 
 
 def wide_lines(name, text):

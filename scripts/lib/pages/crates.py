@@ -1,5 +1,5 @@
-"""The page of crates, from crates.txt: crates/README.md, a line a crate, and the picture of the floors. A comment of crates.txt is a
-floor, lowest first, and the crates under it stand on it.
+"""The page of crates, from crates.txt: crates/README.md, a line a crate, and the picture of the floors. A comment of
+crates.txt is a floor, lowest first, and the crates under it stand on it.
 """
 
 import re
@@ -21,8 +21,15 @@ def sentence(crate):
 
 
 def list_of_crates():
-    made = HEAD + "The floors of the house, lowest first. A crate stands on floors below it, and knows of each crate there its public\n"
-    made += "contract alone. `scripts/pages write` makes this page from `crates.txt`.\n\n![The floors, lowest first](../docs/floors.svg)\n"
+    made = (
+        HEAD
+        + "The floors of the house, lowest first. A crate stands on floors below it, "
+        + "and knows of each crate there its public\n"
+    )
+    made += (
+        "contract alone. `scripts/pages write` makes this page from `crates.txt`.\n\n![The floors, lowest "
+        "first](../docs/floors.svg)\n"
+    )
     for name, has, crates in floors():
         made += f"\n## {name}\n\n{has[0].upper()}{has[1:]}.\n\n| Crate | What it has |\n|---|---|\n"
         made += "".join(f"| [{crate}]({crate}/README.md) | {sentence(crate)} |\n" for crate in crates)
@@ -46,15 +53,23 @@ def picture():
         high = ROW * len(lines) + 12
         made.append(f'<rect x="{LEFT}" y="{y}" width="{WIDE - 2 * LEFT}" height="{high}" rx="4"/>')
         made.append(f'<text class="name" x="{LEFT + 14}" y="{y + 22}">{escape(name)}</text>')
-        made += [f'<text x="{RIGHT}" y="{y + 22 + ROW * k}" xml:space="preserve">{escape(line.rstrip())}</text>' for k, line in enumerate(lines)]
+        made += [
+            f'<text x="{RIGHT}" y="{y + 22 + ROW * k}" xml:space="preserve">{escape(line.rstrip())}</text>'
+            for k, line in enumerate(lines)
+        ]
         y += high + 6
     style = (
         "svg{background:#fff}rect{fill:#f3f4f9;stroke:#9aa1b1}text{font:13px ui-monospace,monospace;fill:#1c2330}"
         ".name{font:bold 14px system-ui,sans-serif}"
-        "@media(prefers-color-scheme:dark){svg{background:#14171d}rect{fill:#1d2230;stroke:#58607a}text{fill:#e6e9f2}}")
+        "@media(prefers-color-scheme:dark){svg{background:#14171d}rect{fill:#1d2230;stroke:#58607a}text{fill:#e6e9f2}}"
+    )
     return (
-        f'<svg xmlns="http://www.w3.org/2000/svg" viewBox="0 0 {WIDE} {y + LEFT - 6}" width="{WIDE}" height="{y + LEFT - 6}">\n'
-        f"<title>The floors of the house, the highest first</title>\n<style>{style}</style>\n" + "\n".join(made) + "\n</svg>\n")
+        f'<svg xmlns="http://www.w3.org/2000/svg" viewBox="0 0 {WIDE} {y + LEFT - 6}" width="{WIDE}" '
+        f'height="{y + LEFT - 6}">\n'
+        f"<title>The floors of the house, the highest first</title>\n<style>{style}</style>\n"
+        + "\n".join(made)
+        + "\n</svg>\n"
+    )
 
 
 def made():

@@ -1,8 +1,8 @@
 """The page of wrong bodies, docs/WRONG_BODIES.md: which edits there are, and what each does.
 
-Those of scripts/wrong_bodies are tried by hand, but for the ones with a line `# tried by the gate`, which `.ci/run` tries. Those of
-scripts/wrong_definitions name a row, a law or both, which are there, and those of scripts/refused_by_tests a test, or a row of
-`scripts/replay sizes`.
+Those of scripts/wrong_bodies are tried by hand, but for the ones with a line `# tried by the gate`, which `.ci/run`
+tries. Those of scripts/wrong_definitions name a row, a law or both, which are there, and those of
+scripts/refused_by_tests a test, or a row of `scripts/replay sizes`.
 """
 
 import functools
@@ -48,7 +48,11 @@ class WrongDefinition(WrongBody):
     def source(self, kind, at):
         """The text in which a row or a law should stand."""
         first, *_ = at.split("::")
-        files = [TOP / f"crates/cm_model/proofs/{first}.antt"] if kind == "row" else (TOP / "crates" / first).glob("src/**/*.rt")
+        files = (
+            [TOP / f"crates/cm_model/proofs/{first}.antt"]
+            if kind == "row"
+            else (TOP / "crates" / first).glob("src/**/*.rt")
+        )
         return "".join(it.read_text() for it in files if it.is_file())
 
     def row(self):
@@ -70,7 +74,9 @@ class RefusedByTests(WrongBody):
         """Whether what it names is there."""
         if self.by == SIZES:
             return self.at in rows_of_sizes()
-        return any(re.search(rf"\bfn {self.at}\b", it.read_text()) for it in (TOP / f"crates/{self.by}/src").rglob("*.rt"))
+        return any(
+            re.search(rf"\bfn {self.at}\b", it.read_text()) for it in (TOP / f"crates/{self.by}/src").rglob("*.rt")
+        )
 
     def row(self):
         at = self.at if self.by == SIZES else f"`{self.at}`"
@@ -101,14 +107,20 @@ def tables(edits):
 def table_of_tests(edits):
     by_sizes = sum(edit.by == SIZES for edit in edits)
     rows = "\n".join(edit.row() for edit in edits)
-    yield f"## Refused by tests\n\n{len(edits)} wrong bodies: {len(edits) - by_sizes} are refused by tests, {by_sizes} by documents of some size.\n\n"
+    yield (
+        f"## Refused by tests\n\n{len(edits)} wrong bodies: {len(edits) - by_sizes} are refused by tests, {by_sizes} "
+        "by documents of some size.\n\n"
+    )
     yield f"| Crate | What the body does | Edit | Refused by |\n|---|---|---|---|\n{rows}\n\n"
 
 
 def table_of_definitions(edits):
     by_row, by_law = sum(bool(edit.row_named) for edit in edits), sum(bool(edit.law_named) for edit in edits)
     rows = "\n".join(edit.row() for edit in edits)
-    yield f"## Definitions\n\n{len(edits)} wrong definitions: {by_row} are tried by `.ci/run`, by their rows, and {by_law} by hand, by their laws.\n\n"
+    yield (
+        f"## Definitions\n\n{len(edits)} wrong definitions: {by_row} are tried by `.ci/run`, by their rows, and "
+        f"{by_law} by hand, by their laws.\n\n"
+    )
     yield f"| What the definitions say | Edit | Row | Law |\n|---|---|---|---|\n{rows}\n\n"
 
 

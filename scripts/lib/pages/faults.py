@@ -1,4 +1,6 @@
-"""The page of faults by example, docs/FAULTS_BY_EXAMPLE.md, from examples/faults.txt: each row changes an example so that it is refused."""
+"""The page of faults by example, docs/FAULTS_BY_EXAMPLE.md, from examples/faults.txt: each row changes an example so
+that it is refused.
+"""
 
 import re
 

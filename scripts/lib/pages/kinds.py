@@ -1,10 +1,11 @@
-"""Prints which files name each kind of controller, outside the crates of kinds: those that another kind like it would touch.
+"""Prints which files name each kind of controller, outside the crates of kinds: those that another kind like it would
+touch.
 
-A file names a kind by its variant among kinds, parameters, running parts or unboxed controllers, where these are declared too, or by
-the arm of a match in an answer. Left out are tests, worked rows and the documents of these. A picture that shows one kind more closely
-is told apart, because another kind needs none. A proof that has one case for all kinds names a forward for it, and a mock stands in
-for all kinds in tests: `scripts/pages check` watches every other kind, of which each is named in at most ten files, and
-docs/CHANGING.md lists these.
+A file names a kind by its variant among kinds, parameters, running parts or unboxed controllers, where these are
+declared too, or by the arm of a match in an answer. Left out are tests, worked rows and the documents of these. A
+picture that shows one kind more closely is told apart, because another kind needs none. A proof that has one case for
+all kinds names a forward for it, and a mock stands in for all kinds in tests: `scripts/pages check` watches every other
+kind, of which each is named in at most ten files, and docs/CHANGING.md lists these.
 """
 
 import re
@@ -23,15 +24,21 @@ PAGE, SECTION = "docs/CHANGING.md", r"(?s)## A kind of controller\n(.*?)\n## "
 
 
 def kinds():
-    table = re.search(r"CONTROLLER_KINDS: .*?\n\];", (TOP / "crates/cm_document/src/description.rt").read_text(), re.S)[0]
+    table = re.search(r"CONTROLLER_KINDS: .*?\n\];", (TOP / "crates/cm_document/src/description.rt").read_text(), re.S)[
+        0
+    ]
     return re.findall(r"CtlKind::(\w+)", table)
 
 
 def names_kind(text, kind):
-    """A source or a proof tells the kind apart by its variant, declares it, imports it, or answers for its arm of a match."""
+    """A source or a proof tells the kind apart by its variant, declares it, imports it, or answers for its arm of a
+    match.
+    """
     aliases = "|".join(re.findall(rf"{BY_KIND} as (\w+)", text))
     named = rf"\b(?:{TYPES})::{kind}\b|{BY_KIND}\.\{{[^}}]*\b{kind}\b|\bin-{kind}\b"
-    declared = any(re.search(rf"(?m)^    {kind}\b", body) for body in re.findall(rf"(?s)enum (?:{TYPES}) \{{(.*?)\n\}}", text))
+    declared = any(
+        re.search(rf"(?m)^    {kind}\b", body) for body in re.findall(rf"(?s)enum (?:{TYPES}) \{{(.*?)\n\}}", text)
+    )
     return declared or bool(re.search(named, text)) or bool(aliases and re.search(rf"\b(?:{aliases})\.{kind}\b", text))
 
 

@@ -1,8 +1,8 @@
 """The pages of laws and tests, docs/LAWS.md and docs/TESTS.md: which there are, and what each says.
 
-A law is a public function whose contract is all that it is for: it takes nothing and its body is empty, or it stands in a file laws.rt
-and returns nothing. What it says is the first sentence of its docstring. A test is a function with `#[test]`, whose name is what it shows.
-What the page says of it beside its name is kept.
+A law is a public function whose contract is all that it is for: it takes nothing and its body is empty, or it stands in
+a file laws.rt and returns nothing. What it says is the first sentence of its docstring. A test is a function with
+`#[test]`, whose name is what it shows. What the page says of it beside its name is kept.
 """
 
 import functools
@@ -27,7 +27,9 @@ def first_sentence(doc):
 
 
 def public_functions(text):
-    """Gives of each public function outside a type its docstring, its head with the contract, and whether its body is empty."""
+    """Gives of each public function outside a type its docstring, its head with the contract, and whether its body is
+    empty.
+    """
     doc, lines = [], iter(text.split("\n"))
     for line in lines:
         if line.startswith("///"):
@@ -57,7 +59,9 @@ def laws_of(crate):
 def tests_of(crate):
     """Gives the name of each test, and the file in which it stands."""
     for file in sources(crate):
-        yield from ((name, file.relative_to(TOP / "crates" / crate).as_posix()) for name in TEST.findall(file.read_text()))
+        yield from (
+            (name, file.relative_to(TOP / "crates" / crate).as_posix()) for name in TEST.findall(file.read_text())
+        )
 
 
 def counted(many, what):
@@ -99,10 +103,15 @@ def every_law():
 def made():
     tests = {crate: of_crate for crate in crates() if (of_crate := list(tests_of(crate)))}
     page = TESTS.read_text()
-    return {LAWS: remade(LAWS.read_text(), tables_of_laws(every_law())), TESTS: remade(page, tables_of_tests(tests, page))}
+    return {
+        LAWS: remade(LAWS.read_text(), tables_of_laws(every_law())),
+        TESTS: remade(page, tables_of_tests(tests, page)),
+    }
 
 
 def findings():
     laws = every_law()
-    yield from (f"{place}: a law without a docstring" for of_crate in laws.values() for place, says in of_crate if not says)
+    yield from (
+        f"{place}: a law without a docstring" for of_crate in laws.values() for place, says in of_crate if not says
+    )
     yield from miscounts(sum(map(len, laws.values())))

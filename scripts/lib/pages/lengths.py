@@ -1,9 +1,9 @@
-"""Prints what the rows of STILL_LONG would be now: the pages that are longer than the limits allow, with how much; and at last how many
-words all pages have together.
+"""Prints what the rows of STILL_LONG would be now: the pages that are longer than the limits allow, with how much; and
+at last how many words all pages have together.
 
-No sentence, cell of a table or page is to be longer than the limits, but for what STILL_LONG allows, and no page may get worse:
-`scripts/pages check` finds which did. Neither may all pages together. What a script writes or prints is apart and counts nowhere: the
-tables between its marks, and those of docs/SPEED.md. Blocks of code are apart, too.
+No sentence, cell of a table or page is to be longer than the limits, but for what STILL_LONG allows, and no page may
+get worse: `scripts/pages check` finds which did. Neither may all pages together. What a script writes or prints is
+apart and counts nowhere: the tables between its marks, and those of docs/SPEED.md. Blocks of code are apart, too.
 """
 
 import re
@@ -16,18 +16,23 @@ LONGEST_PAGE = 150  # lines
 LONGEST_FIRST_PAGE, WIDEST_FIRST_PAGE = 75, 100  # lines and columns of README.md: two screens
 MOST_WORDS = 30_000  # of all pages together
 
-# How many sentences and cells above the limits a page still has, and how many lines. No page may get worse. A page that meets all three
-# limits needs no row; `scripts/pages lengths` prints what the rows would be now.
+# How many sentences and cells above the limits a page still has, and how many lines. No page may get worse. A page that
+# meets all three limits needs no row; `scripts/pages lengths` prints what the rows would be now.
 STILL_LONG = {}
 MEASURED = "docs/SPEED.md"  # its tables have what scripts print
 GATE = r"\|(?: `\w+`,?)+ \| (?:[\d.]+\*?|not timed|none) \|"  # a row of the gate's table
 WRITTEN = {"crates/README.md", "docs/WORDS.md"}  # by scripts
 
+
 def by_hand(page):
     """What a person wrote of the page: no block of code, and no table that a script writes."""
     text = re.sub(r"(?ms)^ *```.*?^ *```", "", (TOP / page).read_text())
     text = re.sub(r"(?<=\n\n)(?: {4}.*\n)+", "\n", text)
-    text = re.sub(r"(?s)<!-- made by .*?<!-- made until here -->|<!-- (\w+), by scripts/pages write.*?<!-- end of \1 -->", "", text)
+    text = re.sub(
+        r"(?s)<!-- made by .*?<!-- made until here -->|<!-- (\w+), by scripts/pages write.*?<!-- end of \1 -->",
+        "",
+        text,
+    )
     return [line for line in text.rstrip("\n").split("\n") if not (page == "docs/SPEED.md" and re.match(GATE, line))]
 
 
@@ -92,14 +97,21 @@ def times_differ(repository):
             lines = by_hand(page)
             for text in [*paragraphs_of(lines), *cells_of(lines)]:
                 if "SPEED.md" in text:
-                    yield from (f"{page}: {it} is no number of docs/SPEED.md" for it in measured.findall(text) if it not in speed)
+                    yield from (
+                        f"{page}: {it} is no number of docs/SPEED.md"
+                        for it in measured.findall(text)
+                        if it not in speed
+                    )
 
 
 def first_page_too_large():
     lines = (TOP / "README.md").read_text().rstrip("\n").split("\n")
     widest = max(map(len, lines))
     if len(lines) > LONGEST_FIRST_PAGE or widest > WIDEST_FIRST_PAGE:
-        yield f"README.md: has {len(lines)} lines of up to {widest} columns, where {LONGEST_FIRST_PAGE} of {WIDEST_FIRST_PAGE} may be"
+        yield (
+            f"README.md: has {len(lines)} lines of up to {widest} columns, where {LONGEST_FIRST_PAGE} of "
+            f"{WIDEST_FIRST_PAGE} may be"
+        )
 
 
 def findings(repository):

@@ -1,5 +1,5 @@
-"""The tables of limits in docs/FORMATS.md, from crates/cm_document/src/limits.rt: of each constant its docstring and its number. Those that a
-version has its own of come first, with the number of each version."""
+"""The tables of limits in docs/FORMATS.md, from crates/cm_document/src/limits.rt: of each constant its docstring and
+its number. Those that a version has its own of come first, with the number of each version."""
 
 import re
 
@@ -20,10 +20,15 @@ def by_version(text):
 
 def rows():
     text = LIMITS.read_text()
-    constants = {name: (what.removesuffix(", in any version"), int(number)) for what, name, number in CONSTANT.findall(text)}
+    constants = {
+        name: (what.removesuffix(", in any version"), int(number)) for what, name, number in CONSTANT.findall(text)
+    }
     versions = by_version(text)
     named = {key: f"MOST_{key.upper()}" for key in versions[0]}
-    yield f"| What | {' | '.join(f'In version {k}' for k in range(1, len(versions) + 1))} | Constant of the most |\n|---|{'---|' * len(versions)}---|\n"
+    yield (
+        f"| What | {' | '.join(f'In version {k}' for k in range(1, len(versions) + 1))} | Constant of the most |\n"
+        f"|---|{'---|' * len(versions)}---|\n"
+    )
     for key, name in named.items():
         numbers = (fields[key] for fields in versions)
         cells = (f"{constants[it][1] if it in constants else int(it):,}" for it in numbers)

@@ -1,8 +1,8 @@
 """The tables of a crate's README: its modules, and its files of definitions in reading order.
 
-A module has what its file says at its top, in the first sentence, with the names in it that callers see. A file of definitions has
-what its first comment says. A README has the tables for which it has a place, from `<!-- modules, by scripts/pages write -->` to
-`<!-- end of modules -->`, and the same with `specs`.
+A module has what its file says at its top, in the first sentence, with the names in it that callers see. A file of
+definitions has what its first comment says. A README has the tables for which it has a place, from `<!-- modules, by
+scripts/pages write -->` to `<!-- end of modules -->`, and the same with `specs`.
 """
 
 import functools
@@ -68,7 +68,9 @@ def made():
     pages = {crate: TOP / "crates" / crate / "README.md" for crate in crates()}
     return {
         page: PLACE.sub(lambda it, crate=crate: f"{it[1]}{''.join(tables[it[2]](crate))}{it[3]}", page.read_text())
-        for crate, page in pages.items() if page.exists() and PLACE.search(page.read_text())}
+        for crate, page in pages.items()
+        if page.exists() and PLACE.search(page.read_text())
+    }
 
 
 def findings():

@@ -15,12 +15,19 @@ def findings(repository, page):
     text = FENCED.sub("", whole)
     told = [it for span in spans_of(CONSTANT.sub("|", text)) for it in names_missing(repository, page, span)]
     blocks = (column for block in FENCED.findall(whole) for column in columns_of(block))
-    told += [f"the block that begins with '{it.split(chr(10))[0]}' stands in no file" for it in blocks if not repository.has_block(it)]
+    told += [
+        f"the block that begins with '{it.split(chr(10))[0]}' stands in no file"
+        for it in blocks
+        if not repository.has_block(it)
+    ]
     return dict.fromkeys([*told, *links_missing(page, text), *limits_wrong(repository, text)])
 
 
 def spans_of(text):
-    """Returns what stands in backticks, and the lines of indented blocks. What the kit says of itself is not of the repository."""
+    """Returns what stands in backticks, and the lines of indented blocks.
+
+    What the kit says of itself is not of the repository.
+    """
     spans = re.findall(r"`([^`\n]+)`", text) + re.findall(r"(?m)^ {4}(?=\S)(.+)", text)
     return [span for span in spans if not re.match(r"rt \w+$|rattle-kit-", span)]
 
@@ -60,7 +67,9 @@ def links_missing(page, text):
 
 
 def value_of(repository, path):
-    """Returns the number of the constant `crate::NAME` or `crate::Type::NAME`, written in numbers and constants of its crate."""
+    """Returns the number of the constant `crate::NAME` or `crate::Type::NAME`, written in numbers and constants of its
+    crate.
+    """
     crate, *_, name = path.split("::")
     of_crate = "\n".join(text for file, text in repository.texts.items() if file.startswith(f"crates/{crate}/src/"))
     found = re.search(rf"\bconst {name}\s*:[^=;]+=([^;]+);", of_crate)

@@ -11,7 +11,12 @@ from ..tree import TOP
 PAGE = re.compile(r"README\.md|docs/[^/]*\.md|(examples|crates/[^/]*)/README\.md")
 WORD = re.compile(r"(?<!\w)[A-Za-z_]\w*")
 OF_SCRIPTS = re.compile(r"(?m)(^|\s)#.*")
-COMMENTS = {".rt": re.compile(r"(?m)(^|\s)//.*"), ".antt": re.compile(r"(?m)(^|\s)--\s.*"), ".py": OF_SCRIPTS, "": OF_SCRIPTS}
+COMMENTS = {
+    ".rt": re.compile(r"(?m)(^|\s)//.*"),
+    ".antt": re.compile(r"(?m)(^|\s)--\s.*"),
+    ".py": OF_SCRIPTS,
+    "": OF_SCRIPTS,
+}
 
 
 class Repository:

@@ -1,11 +1,13 @@
-"""Says a live run again: prints its document with a schedule by which the job `steps` makes the calls of its trace, in their order.
+"""Says a live run again: prints its document with a schedule by which the job `steps` makes the calls of its trace, in
+their order.
 
     ./try live < examples/operators.cm > trace
     scripts/replay again examples/operators.cm trace > again.cm
     ./try steps < again.cm
 
-The last command prints the same lines up to the close of the loop. What sessions called behind it comes before it if it can, in the order
-of the sessions. `./try draw steps < again.cm` draws that run. The document must have no schedule of its own.
+The last command prints the same lines up to the close of the loop. What sessions called behind it comes before it if it
+can, in the order of the sessions. `./try draw steps < again.cm` draws that run. The document must have no schedule of
+its own.
 """
 
 import sys

@@ -1,11 +1,12 @@
 """Answers: is each broken variant of the robots' files refused, at the place where it is broken?
 
-The variants are made here of examples/ros2_control/NAME.urdf and NAME.yaml, always the same ones: a tag that is not closed, a name that is
-misspelled or stands twice, a text in place of a number, a file that ends too early, entities and includes, and the like.
-scripts/from_ros2_control is to refuse each in one line, `FILE:LINE: refused: ..`: with the file that is broken, with the line at which it
-is, if the fault shows there and nowhere else, and with the broken word. A few are tried by the command itself, for its status and for an
-empty standard output. Without PyYAML and defusedxml a line says that nothing was tried.
-Prints a line for each that is not refused so, and last how many were. The exit status is 1 if one was not.
+The variants are made here of examples/ros2_control/NAME.urdf and NAME.yaml, always the same ones: a tag that is not
+closed, a name that is misspelled or stands twice, a text in place of a number, a file that ends too early, entities and
+includes, and the like. scripts/from_ros2_control is to refuse each in one line, `FILE:LINE: refused: ..`: with the file
+that is broken, with the line at which it is, if the fault shows there and nowhere else, and with the broken word. A few
+are tried by the command itself, for its status and for an empty standard output. Without PyYAML and defusedxml a line
+says that nothing was tried. Prints a line for each that is not refused so, and last how many were. The exit status is 1
+if one was not.
 """
 
 import re
@@ -73,6 +74,7 @@ def main(asked):
         return 0
     from ..ros2_control.conversion import converted
     from ..ros2_control.listing import Refused
+
     count, wrong = 0, []
     with tempfile.TemporaryDirectory() as folder:
         for urdf in sorted(FOLDER.glob("*.urdf")):
@@ -84,4 +86,3 @@ def main(asked):
     print(*wrong, sep="\n", end="\n" * bool(wrong))
     print(f"{count - len(wrong)} of {count} broken files are refused at their place, of at least {FEWEST}")
     return bool(wrong) or count < FEWEST
-

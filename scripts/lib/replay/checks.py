@@ -1,9 +1,9 @@
 """Answers: does the job `check` judge stored traces right?
 
-What each example prints is judged, and must be legal. Then each line of it is left out, doubled, exchanged with the next, cut, and changed
-in one byte. Another implementation, if one is named, judges each of these traces too; without one they must be refused at a line that is
-not before the change, or be legal. A document with its trace that is too long is left out.
-Prints a line an example, and last `N passed, M failed`. The exit status is 1 if one failed.
+What each example prints is judged, and must be legal. Then each line of it is left out, doubled, exchanged with the
+next, cut, and changed in one byte. Another implementation, if one is named, judges each of these traces too; without
+one they must be refused at a line that is not before the change, or be legal. A document with its trace that is too
+long is left out. Prints a line an example, and last `N passed, M failed`. The exit status is 1 if one failed.
 """
 
 import re
@@ -20,7 +20,9 @@ WRONG = re.compile(rb"cm: trace: line ([0-9]+)\n")
 
 
 def options(parser):
-    parser.add_argument("--other", type=Path, metavar="FOLDER", help="of another implementation, which judges each trace too")
+    parser.add_argument(
+        "--other", type=Path, metavar="FOLDER", help="of another implementation, which judges each trace too"
+    )
     programs.options(parser)
 
 
@@ -28,14 +30,14 @@ def changed(lines):
     """Gives of each line what was done to it, its number, and the trace then."""
     step = max(1, len(lines) // MOST_LINES)
     for k in range(0, len(lines), step):
-        before, line, after = lines[:k], lines[k], lines[k + 1:]
+        before, line, after = lines[:k], lines[k], lines[k + 1 :]
         yield "left out", k, before + after
         yield "doubled", k, before + [line, line] + after
         if after and after[0] != line:
             yield "exchanged", k, before + [after[0], line] + after[1:]
-        yield "cut", k, before + [line[:len(line) // 2]]
+        yield "cut", k, before + [line[: len(line) // 2]]
         at = len(line) // 3
-        yield "changed", k, before + [line[:at] + bytes([line[at] ^ 1]) + line[at + 1:]] + after
+        yield "changed", k, before + [line[:at] + bytes([line[at] ^ 1]) + line[at + 1 :]] + after
 
 
 def is_right(status, printed, told, least):

@@ -1,9 +1,10 @@
 """Answers: do README's first commands do what it says of them? Nothing that they run is proved.
 
-`./try run < examples/switch.cm` is to print the example's trace, and `./try draw < examples/failures.cm` the picture. The first of them may
-say in one line on standard error that it compiles; a second line would say that the list of the kit's sources went stale, and takes a
-minute. The second command says nothing. Then each command, and each tool of scripts, helps who asks for it.
-Prints a line a command, and last `N passed, M failed`. The exit status is 1 if one failed.
+`./try run < examples/switch.cm` is to print the example's trace, and `./try draw < examples/failures.cm` the picture.
+The first of them may say in one line on standard error that it compiles; a second line would say that the list of the
+kit's sources went stale, and takes a minute. The second command says nothing. Then each command, and each tool of
+scripts, helps who asks for it. Prints a line a command, and last `N passed, M failed`. The exit status is 1 if one
+failed.
 """
 
 from ..tool import Tally
@@ -28,7 +29,9 @@ def reason(word, document, expected, lines):
 def lacks_help(command):
     """Whoever asks for help gets a usage line and up to fourteen more on standard output."""
     status, output, said = programs.ran([TOP / command, "--help"])
-    is_so = status == 0 and not said and f"usage: ./{command}".encode() in output and output.count(b"\n") <= LINES_OF_HELP
+    is_so = (
+        status == 0 and not said and f"usage: ./{command}".encode() in output and output.count(b"\n") <= LINES_OF_HELP
+    )
     return None if is_so else "it does not help"
 
 

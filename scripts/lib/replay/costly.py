@@ -4,8 +4,8 @@ import itertools
 import string
 
 LONGEST = 1_048_576
-HEAD = 'version = 1\nupdate_rate = 100\ncycles = 1\n'
-END = '--- script ---\n'
+HEAD = "version = 1\nupdate_rate = 100\ncycles = 1\n"
+END = "--- script ---\n"
 COMPONENT = '[[component]]\nname = "c"\nkind = "system"\n'
 JOINT = '[[component.joint]]\nname = "{}"\nvmax = 1\n'
 LONG = "n" * 64
@@ -27,7 +27,9 @@ def filled(head, item, tail="", bytes_=LONGEST):
 def readers(joints, readers_):
     states = 'state = ["position", "velocity", "effort"]\n'
     text = HEAD + COMPONENT + "".join(JOINT.format(f"j{i}") + states for i in range(joints))
-    return text + "".join(f'[[controller]]\nname="b{i}"\ntype="broadcaster"\nreads="all"\n' for i in range(readers_)) + END
+    return (
+        text + "".join(f'[[controller]]\nname="b{i}"\ntype="broadcaster"\nreads="all"\n' for i in range(readers_)) + END
+    )
 
 
 def controller(kind, rest):
@@ -47,8 +49,11 @@ def documents():
     yield "components", filled(HEAD, lambda i: f'[[component]]\nname="c{i}"\nkind="sensor"\njoint=[]\n', END)
     yield "controllers", filled(HEAD, lambda i: f'[[controller]]\nname="m{i}"\ntype="mock"\n', END)
     yield "passthroughs in one chain", filled(
-        HEAD, lambda i: f'[[controller]]\nname="p{i}"\ntype="passthrough"\nclaims=["p{i + 1}/j/effort"]\n', END)
-    yield "joints without a key", filled(HEAD + 'component = [{name = "c", kind = "system", joint = [', "{},", "]}]\n" + END)
+        HEAD, lambda i: f'[[controller]]\nname="p{i}"\ntype="passthrough"\nclaims=["p{i + 1}/j/effort"]\n', END
+    )
+    yield "joints without a key", filled(
+        HEAD + 'component = [{name = "c", kind = "system", joint = [', "{},", "]}]\n" + END
+    )
     yield "a name", HEAD + '[[controller]]\nname = "' + "n" * (LONGEST - 200) + '"\ntype = "mock"\n' + END
     yield "a key", "k" * (LONGEST - 200) + " = 1\n" + HEAD + END
     yield "a key of control characters", '"' + "\\u001b" * ((LONGEST - 200) // 6) + '" = 1\n' + HEAD + END
@@ -64,7 +69,9 @@ def documents():
 
 
 def documents_of_small_tables():
-    yield "joints of one wrong key", filled(HEAD + 'component = [{name = "c", kind = "system", joint = [', "{a=1},", "]}]\n" + END)
+    yield "joints of one wrong key", filled(
+        HEAD + 'component = [{name = "c", kind = "system", joint = [', "{a=1},", "]}]\n" + END
+    )
     yield "dotted keys", filled(HEAD, lambda i: f"k{i}{'.a' * 75}=1\n", END)
 
 
@@ -85,8 +92,9 @@ def documents_of_requests():
 
 
 def rivals(claim, first):
-    """Returns a document of 52 controllers with this claim, and of one of a long name that claims the effort of a joint.
-    A strict switch activates the first ones, and best efforts ask for the 51 others, as often as there is room."""
+    """Returns a document of 52 controllers with this claim, and of one of a long name that claims the effort of a
+    joint. A strict switch activates the first ones, and best efforts ask for the 51 others, as often as there is
+    room."""
     text = with_cycles(10_000, HEAD) + COMPONENT + JOINT.format(LONG) + 'command = ["effort", "velocity"]\n'
     text += f'[[controller]]\nname = "{LONG}"\ntype = "passthrough"\nclaims = ["{LONG}/effort"]\n'
     kinds = ["forward"] * 26 + ["mock"] * 26
@@ -101,13 +109,16 @@ def documents_of_mocks():
     """Mocks that list cycles, in room that leaves enough for a script that looks them up or configures a mock."""
     begun = "session a\nload x\nconfigure x\nawait 3\nswitch strict +x\n"
     yield "updates of a mock that lists failures", filled(
-        with_cycles(100_000, controller("mock", "fail_update = [")), "1,", "]\n" + END + begun)
+        with_cycles(100_000, controller("mock", "fail_update = [")), "1,", "]\n" + END + begun
+    )
     for request in ("switch strict", "switch strict -x +x", "hw nobody active"):
         script = "session a\nload x\nconfigure x\n" + f"{request}\n" * 8_800
         yield f"requests beside a mock that lists cycles: {request}", filled(
-            with_cycles(100_000, controller("mock", "not_ready = [")), "9999,", "]\n" + END + script)
+            with_cycles(100_000, controller("mock", "not_ready = [")), "9999,", "]\n" + END + script
+        )
     yield "configures of a mock that lists many cycles", filled(
-        controller("mock", "not_ready = ["), "1,", "]\n" + END + "session a\nload x\n" + "configure x\n" * 9_999)
+        controller("mock", "not_ready = ["), "1,", "]\n" + END + "session a\nload x\n" + "configure x\n" * 9_999
+    )
 
 
 def documents_of_plans():
@@ -115,17 +126,30 @@ def documents_of_plans():
     wish = "session a\nswitch strict +x\n"
     long_run = with_cycles(100_000, HEAD)
     yield "plans of a mock that lists cycles", filled(
-        with_cycles(100_000, controller("mock", "not_ready = [")), lambda i: f"{i % 99_999},", "]\n" + END + wish)
+        with_cycles(100_000, controller("mock", "not_ready = [")), lambda i: f"{i % 99_999},", "]\n" + END + wish
+    )
     yield "plans beside a component that lists failures", filled(
-        long_run + COMPONENT + "fail_read = [", lambda i: f"{99_999 - i % 90_000},",
-        "]\n" + JOINT.format("j") + 'state = ["effort"]\n[[controller]]\nname = "x"\ntype = "mock"\nreads = ["j/effort"]\n' + END + wish)
-    mocks = "".join(f'[[controller]]\nname = "{it}"\ntype = "mock"\nnot_ready = [{",".join(str(k) for k in range(at, 100_000, 52))}]\n'
-                    for at, it in enumerate(LETTERS))
-    yield "plans of 32 mocks that list cycles", long_run + mocks + END + f"session a\nswitch strict {' '.join(f'+{it}' for it in LETTERS[:32])}\n"
+        long_run + COMPONENT + "fail_read = [",
+        lambda i: f"{99_999 - i % 90_000},",
+        "]\n"
+        + JOINT.format("j")
+        + 'state = ["effort"]\n[[controller]]\nname = "x"\ntype = "mock"\nreads = ["j/effort"]\n'
+        + END
+        + wish,
+    )
+    mocks = "".join(
+        f'[[controller]]\nname = "{it}"\ntype = "mock"\nnot_ready = '
+        f'[{",".join(str(k) for k in range(at, 100_000, 52))}]\n'
+        for at, it in enumerate(LETTERS)
+    )
+    wanted = " ".join(f"+{it}" for it in LETTERS[:32])
+    yield "plans of 32 mocks that list cycles", long_run + mocks + END + f"session a\nswitch strict {wanted}\n"
 
 
 def documents_of_checks():
-    """Stored traces as long as fit: of cycles in which nothing happens, legal and wrong at the end, and of calls that load nothing."""
+    """Stored traces as long as fit: of cycles in which nothing happens, legal and wrong at the end, and of calls that
+    load nothing.
+    """
     cycles = 23_000
     lines = "".join(f"loop begin {k}: none\nloop end {k}: none\n" for k in range(cycles))
     quiet = with_cycles(cycles, HEAD) + END + "--- trace ---\n" + lines
@@ -150,7 +174,9 @@ def documents_of_lists():
 
 
 def documents_of_fallbacks():
-    """Mocks that fail in each cycle and start one another: each begin asks for 256 names, and 224 of them stand there before."""
+    """Mocks that fail in each cycle and start one another: each begin asks for 256 names, and 224 of them stand there
+    before.
+    """
     yield "fallbacks of mocks that fail in each cycle", failing(LETTERS[:32], 6_750)
 
 

@@ -1,13 +1,17 @@
 """Answers: what does the program make of documents and schedules that end too early?
 
-- The first document of scripts/cases, cut behind each of its lines, and within the first: docs/FAULTS.md has a row for each cut.
-- The schedule of ten turns, cut behind each turn: the run goes well, and cut behind the sixth it prints what stands here.
-- Each document of examples/ and scripts/cases, cut behind each byte. Cut within the description it is refused. Cut behind the separator it
-  goes well, or its last line is refused if it is not whole. A document with a trace goes wrong where it ends, or where the whole one does.
+- The first document of scripts/cases, cut behind each of its lines, and within the first: docs/FAULTS.md has a row for
+  each cut.
+- The schedule of ten turns, cut behind each turn: the run goes well, and cut behind the sixth it prints what stands
+  here.
+- Each document of examples/ and scripts/cases, cut behind each byte. Cut within the description it is refused. Cut
+  behind the separator it goes well, or its last line is refused if it is not whole. A document with a trace goes wrong
+  where it ends, or where the whole one does.
 
-If another implementation is named, its answer is compared too, byte by byte: of the cuts behind a byte one of STRIDE, by turns from document
-to document, and each that is behind a line. With `--whole` all are compared. No run is to take a tenth of a second of the processor.
-Prints a line for each cut of which something else comes, and last `N passed, M failed`. The exit status is 1 if there is one.
+If another implementation is named, its answer is compared too, byte by byte: of the cuts behind a byte one of STRIDE,
+by turns from document to document, and each that is behind a line. With `--whole` all are compared. No run is to take a
+tenth of a second of the processor. Prints a line for each cut of which something else comes, and last `N passed, M
+failed`. The exit status is 1 if there is one.
 """
 
 import functools
@@ -40,7 +44,9 @@ loop close: none
 
 
 def options(parser):
-    parser.add_argument("--other", type=Path, metavar="FOLDER", help="of another implementation, with whose answers these are compared")
+    parser.add_argument(
+        "--other", type=Path, metavar="FOLDER", help="of another implementation, with whose answers these are compared"
+    )
     parser.add_argument("--whole", action="store_true", help="each cut is compared with it, which takes minutes")
     parser.add_argument("--jobs", type=int, default=os.cpu_count(), help="how many documents are run side by side")
     programs.options(parser)
@@ -50,10 +56,13 @@ def options(parser):
 
 
 def rows():
-    """Gives of each row of the page how many lines are left, or how many bytes; the status with the line that is told; and how many lines
+    """Gives of each row of the page how many lines are left, or how many bytes; the status with the line that is told;
+    and how many lines
     are printed."""
     below = re.search(r"(?ms)^## A document that ends too early$(.*?)(?=^## |\Z)", PAGE.read_text())[1]
-    for left, unit, status, line, printed in re.findall(r"(?m)^\| (\d+)( bytes)? \| (\d) \| (?:`(.+?)`)? ?\| (\d+) \|$", below):
+    for left, unit, status, line, printed in re.findall(
+        r"(?m)^\| (\d+)( bytes)? \| (\d) \| (?:`(.+?)`)? ?\| (\d+) \|$", below
+    ):
         yield int(left), bool(unit), int(status), f"cm: {line}\n".encode() if line else b"", int(printed)
 
 
@@ -65,7 +74,8 @@ def by_lines(program):
         seen |= set() if are_bytes else {left}
         came = programs.came([program, "run"], document[:left] if are_bytes else b"".join(lines[:left]))
         differs = [came.status, came.told, came.printed.count(b"\n")] != wanted
-        yield f"{left} {'bytes' if are_bytes else 'lines'}", f"status {came.status}, {came.told!r}, {came.printed!r}" if differs else None
+        said = f"status {came.status}, {came.told!r}, {came.printed!r}"
+        yield f"{left} {'bytes' if are_bytes else 'lines'}", said if differs else None
     missing = [str(left) for left in range(len(lines) + 1) if left not in seen]
     yield "the page", f"has no row for {', '.join(missing)} lines" if missing else None
 
@@ -95,11 +105,14 @@ def documents():
 
 def is_compared(number, text, left):
     """Whether the document of this number is compared if it is cut behind so many bytes and not all are compared."""
-    return left % STRIDE == number % STRIDE or text[left - 1: left] == b"\n"
+    return left % STRIDE == number % STRIDE or text[left - 1 : left] == b"\n"
 
 
 def wrong_by_rules(cut, refused, came):
-    """What is wrong with how a document ended that was cut here, or None. The whole one is refused with this line, or goes well."""
+    """What is wrong with how a document ended that was cut here, or None.
+
+    The whole one is refused with this line, or goes well.
+    """
     lines = cut.splitlines()
     if came.status not in (0, 3, 4) or came.status and came.printed:
         return "this is no end of a cut document"
@@ -117,8 +130,8 @@ def wrong_by_rules(cut, refused, came):
 
 
 def wrong_with_trace(cut, refused, came):
-    """The same of a document with a trace, which the job `check` judges. A script that was cut lacks the trace. Behind that the trace goes
-    wrong where it ends, or where the whole one does."""
+    """The same of a document with a trace, which the job `check` judges. A script that was cut lacks the trace. Behind
+    that the trace goes wrong where it ends, or where the whole one does."""
     lines, ends = cut.splitlines(), cut.endswith(b"\n")
     if SEPARATOR not in lines:
         return wrong_by_rules(cut, b"", came)

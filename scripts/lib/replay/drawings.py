@@ -1,10 +1,11 @@
-"""Answers: is what pictures show right, and does it fit? Draws all examples, made documents, and random documents, and looks at each page:
+"""Answers: is what pictures show right, and does it fit? Draws all examples, made documents, and random documents, and
+looks at each page:
 
 - each text, line and mark lies on the page and within its section, and no text lies on another or on a mark;
 - each interface that is named is one that `list interfaces` prints, and each reference that this prints is named;
 - the counts of the heading are those of the trace that `cm` prints;
-- the log has each request and each refused call of the trace, in that order, with ticket, cycle, session, call, the members of the groups
-  that it names, and what became of it, or says how many it leaves out;
+- the log has each request and each refused call of the trace, in that order, with ticket, cycle, session, call, the
+  members of the groups that it names, and what became of it, or says how many it leaves out;
 - `--why` tells each refusal, each name that was left out, each failure and each stop of the trace, in that order.
 Prints a line for each fault, and last `N passed, M failed`. The exit status is 1 if a page is wrong.
 """
@@ -39,15 +40,27 @@ def options(parser):
 def made(rounds):
     """The made document of so many rounds."""
     joints = "".join(
-        f'[[component.joint]]\nname = "j{n}"\nvmax = 1\ncommand = ["position"]\nstate = ["position"]\n' for n in range(8))
-    controllers = "".join(f'[[controller]]\nname = "f{n}"\ntype = "forward"\nclaims = ["j{n}/position"]\n' for n in range(8))
+        f'[[component.joint]]\nname = "j{n}"\nvmax = 1\ncommand = ["position"]\nstate = ["position"]\n'
+        for n in range(8)
+    )
+    controllers = "".join(
+        f'[[controller]]\nname = "f{n}"\ntype = "forward"\nclaims = ["j{n}/position"]\n' for n in range(8)
+    )
     lines = [f"{word} f{n}" for word in ("load", "configure") for n in range(8)]
     lines.append("switch strict " + " ".join(f"+f{n}" for n in range(8)))
     for k in range(1, rounds + 1):
         other = (k + 1) % 8
-        lines += [f"send f{k % 8} 0.{37 * k % 100:02}", f"switch strict -f{other}", f"switch strict +f{other}", f"await {10 * k}"]
-    return (f'version = 1\nupdate_rate = 100\ncycles = {10 * rounds}\n[[component]]\nname = "sys"\nkind = "system"\n{joints}'
-            f"{controllers}--- script ---\nsession a\n" + "\n".join(lines) + "\n").encode()
+        lines += [
+            f"send f{k % 8} 0.{37 * k % 100:02}",
+            f"switch strict -f{other}",
+            f"switch strict +f{other}",
+            f"await {10 * k}",
+        ]
+    return (
+        f'version = 1\nupdate_rate = 100\ncycles = {10 * rounds}\n[[component]]\nname = "sys"\nkind = "system"\n'
+        f"{joints}"
+        f"{controllers}--- script ---\nsession a\n" + "\n".join(lines) + "\n"
+    ).encode()
 
 
 def examples():
@@ -58,12 +71,13 @@ def examples():
 
 
 def random_documents(folder, program, count):
-    """So many random documents that the program runs, each with its number and its words; none if nothing makes them."""
+    """So many random documents that the program runs, with number and words; none if nothing makes them."""
     if not folder or not folder.is_dir():
         print("no other implementation is named that makes random documents: none are drawn")
         return
     sys.path.insert(0, str(folder))
     from cm_oracle.gen import case
+
     seed = 0
     while count > 0:
         seed += 1
@@ -87,7 +101,9 @@ class Looker:
         name, words, document = case
         status, svg = ran(self.draw, [*words, "--name", name], document)
         if status != 0:
-            return name, None if ran(self.cm, words, document)[0] == status and not svg else [f"there is no page: {status}"]
+            return name, None if ran(self.cm, words, document)[0] == status and not svg else [
+                f"there is no page: {status}"
+            ]
         if self.keep:
             self.keep.mkdir(exist_ok=True)
             Path(self.keep, re.sub(r"\W+", "_", name) + ".svg").write_text(svg)

@@ -1,11 +1,12 @@
 """Answers: does the program print what the examples say?
 
-Each NAME.cm of the folder is run with the words of NAME.cm.args, one a line, or with `run` if there is no such file. Its output must be
-NAME.cm.stdout, its status 0, and standard error empty, but for the examples that are refused. A live run prints another trace each
-time, so what it prints and what is stored (NAME.cm.stdout.2 too) are judged each, as `scripts/replay live` does. With `--write` the output of a document
-that ends with status 0 is stored, if it differs or is not there yet: read it first. That of a live run is stored if there is none.
-With `--workers N` the jobs that run a document have so many workers, and print the same.
-Prints a line an example, and last `N passed, M failed`. The exit status is 1 if one failed, or if the folder has no document.
+Each NAME.cm of the folder is run with the words of NAME.cm.args, one a line, or with `run` if there is no such file.
+Its output must be NAME.cm.stdout, its status 0, and standard error empty, but for the examples that are refused. A live
+run prints another trace each time, so what it prints and what is stored (NAME.cm.stdout.2 too) are judged each, as
+`scripts/replay live` does. With `--write` the output of a document that ends with status 0 is stored, if it differs or
+is not there yet: read it first. That of a live run is stored if there is none. With `--workers N` the jobs that run a
+document have so many workers, and print the same. Prints a line an example, and last `N passed, M failed`. The exit
+status is 1 if one failed, or if the folder has no document.
 """
 
 from pathlib import Path
@@ -28,7 +29,9 @@ REFUSED = {
 
 
 def options(parser):
-    parser.add_argument("folder", nargs="?", type=Path, default=EXAMPLES, metavar="FOLDER", help="in place of examples/")
+    parser.add_argument(
+        "folder", nargs="?", type=Path, default=EXAMPLES, metavar="FOLDER", help="in place of examples/"
+    )
     parser.add_argument("--write", action="store_true", help="stores the output of each that differs")
     parser.add_argument("--workers", metavar="N", help="how many workers share a cycle, from 1 to 8")
     programs.options(parser)

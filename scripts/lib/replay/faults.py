@@ -1,8 +1,8 @@
 """Answers: is each fault told as examples/faults.txt shows it?
 
-Makes the document of each from the example that it names, runs the program on it, and compares the status, the line on standard error,
-and that nothing is printed. Prints a line for each fault that differs, and last `N as shown, M not`. The exit status is 1 if a fault
-differs, or names a line that its example has not.
+Makes the document of each from the example that it names, runs the program on it, and compares the status, the line on
+standard error, and that nothing is printed. Prints a line for each fault that differs, and last `N as shown, M not`.
+The exit status is 1 if a fault differs, or names a line that its example has not.
 """
 
 import re
@@ -17,10 +17,10 @@ USAGE = re.search(r"(?m)^    cm: (usage: .*)$", (TOP / "docs/TRACE.md").read_tex
 
 
 def changed(example, before, instead):
-    """Returns the example's bytes with the lines in place of the first that is `before`, and nothing where it has none."""
+    """Returns the example's bytes with the lines in place of the first that is `before`; nothing if it has none."""
     lines = (TOP / "examples" / example).read_text().split("\n")
     at = next((k for k, line in enumerate(lines) if line.strip() == before), None)
-    return None if at is None else "\n".join([*lines[:at], *instead, *lines[at + 1:]]).encode()
+    return None if at is None else "\n".join([*lines[:at], *instead, *lines[at + 1 :]]).encode()
 
 
 def cases():

@@ -29,7 +29,7 @@ def overlaps(page):
     for items in rows.values():
         items.sort(key=lambda it: it.box.left)
         for place, one in enumerate(items):
-            for other in items[place + 1:]:
+            for other in items[place + 1 :]:
                 if other.box.left > one.box.right:
                     break
                 pair = tuple(sorted((one.order, other.order)))

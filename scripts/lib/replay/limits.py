@@ -1,11 +1,13 @@
-"""Answers: does the program run what is at all limits at once? `scripts/replay sizes` has each limit by itself, and one more of each.
+"""Answers: does the program run what is at all limits at once? `scripts/replay sizes` has each limit by itself, and one
+more of each.
 
-There is such a document of each version. It has as many components, joints, states, commands, controllers, references, claims, reads,
-fallbacks, groups and members as it may have, names as long as names may be, as many sessions, calls and turns as a script may have, with as
-many words in a switch, values in a list and points in a send, a line as long as lines may be, and as many bytes as a document may have. It is
-run by each job that the program has: for a few cycles, compared with another implementation if one is named, and for many, of which the lines
-are counted. With `--whole` it is also run for as many cycles as there may be, which takes gigabytes.
-Prints a line a run, with the processor's seconds, and last `N passed, M failed`. The exit status is 1 if one failed.
+There is such a document of each version. It has as many components, joints, states, commands, controllers, references,
+claims, reads, fallbacks, groups and members as it may have, names as long as names may be, as many sessions, calls and
+turns as a script may have, with as many words in a switch, values in a list and points in a send, a line as long as
+lines may be, and as many bytes as a document may have. It is run by each job that the program has: for a few cycles,
+compared with another implementation if one is named, and for many, of which the lines are counted. With `--whole` it is
+also run for as many cycles as there may be, which takes gigabytes. Prints a line a run, with the processor's seconds,
+and last `N passed, M failed`. The exit status is 1 if one failed.
 """
 
 from dataclasses import dataclass
@@ -16,8 +18,24 @@ from . import programs
 from .other import JUDGED, judge
 from .sizes.descriptions import group
 from .sizes.parts import (
-    BLANKS, CALLS, CLAIMS_OF_ONE, CYCLES, KINDS, LINE, LONGEST, NAME, RATE, SESSIONS, component, controller, head, joint, limit,
-    of_version, quoted)
+    BLANKS,
+    CALLS,
+    CLAIMS_OF_ONE,
+    CYCLES,
+    KINDS,
+    LINE,
+    LONGEST,
+    NAME,
+    RATE,
+    SESSIONS,
+    component,
+    controller,
+    head,
+    joint,
+    limit,
+    of_version,
+    quoted,
+)
 from .streams import LEAST, USAGE
 
 VERSIONS = (1, 2)
@@ -30,7 +48,9 @@ MEMBERS = limit("cm_document::MOST_MEMBERS")
 
 
 def options(parser):
-    parser.add_argument("--other", type=Path, metavar="FOLDER", help="of another implementation, with whose answers these are compared")
+    parser.add_argument(
+        "--other", type=Path, metavar="FOLDER", help="of another implementation, with whose answers these are compared"
+    )
     parser.add_argument("--whole", action="store_true", help="for as many cycles as there may be, too")
     programs.options(parser)
 
@@ -70,8 +90,9 @@ class Limits:
         count, joints = self.most("components"), self.joints()
         share = len(joints) // count
         parts = [
-            component(name, [joint(it, KINDS, KINDS) for it in joints[k * share: (k + 1) * share]])
-            for k, name in enumerate(named("c", count))]
+            component(name, [joint(it, KINDS, KINDS) for it in joints[k * share : (k + 1) * share]])
+            for k, name in enumerate(named("c", count))
+        ]
         positions = [f"{name}/position" for name in joints[:CLAIMS_OF_ONE]]
         passthroughs, forwards, readers, mocks = self.controllers()
         by_mocks, by_readers = (f"fallback = [{', '.join(quoted(names[:FALLBACKS]))}]\n" for names in (mocks, readers))
@@ -83,7 +104,9 @@ class Limits:
         return head(cycles, RATE).replace("version = 1", f"version = {self.version}") + "".join(parts)
 
     def first_session(self):
-        """Loads and configures as many as there are blanks for, asks for all that it may name, and sends all that it may send."""
+        """Loads and configures as many as there are blanks for, asks for all that it may name, and sends all that it
+        may send.
+        """
         loaded, groups = self.loaded(), self.groups()
         yield from (f"{verb} {name}" for name in loaded for verb in ("load", "configure"))
         unknown = [f"-x{k}" for k in range(NAMES - len(loaded) - len(groups))]
@@ -95,13 +118,20 @@ class Limits:
     def script(self, job):
         """As many sessions, calls and turns as there may be. Those behind the first session list the components."""
         first = [*self.first_session()]
-        turns = ["begin", "step " + named("s", 1)[0], "end", "step " + named("s", 2)[1]] * (CALLS // 16) if job == "steps" else []
+        turns = (
+            ["begin", "step " + named("s", 1)[0], "end", "step " + named("s", 2)[1]] * (CALLS // 16)
+            if job == "steps"
+            else []
+        )
         left = CALLS - len(first) - len(turns)
         share = left // (SESSIONS - 1)
         sessions = named("s", SESSIONS)
         lines = [f"session {sessions[0]}", *first]
         for k, name in enumerate(sessions[1:]):
-            lines += [f"session {name}", *["list components"] * (share if k < SESSIONS - 2 else left - share * (SESSIONS - 2))]
+            lines += [
+                f"session {name}",
+                *["list components"] * (share if k < SESSIONS - 2 else left - share * (SESSIONS - 2)),
+            ]
         return lines + ["schedule", *turns] * bool(turns), CALLS - len(turns)
 
     def document(self, job, cycles):
@@ -122,7 +152,10 @@ def jobs(program):
 
 
 def told(job, printed):
-    """How many lines tell what became of the switch. A loop that has ended refuses it at once, and only a live run may end so early."""
+    """How many lines tell what became of the switch.
+
+    A loop that has ended refuses it at once, and only a live run may end so early.
+    """
     return int(job != "live" or b": queued 0\n" in printed)
 
 
@@ -146,5 +179,7 @@ def main(asked):
             compares = judge(asked.other) if cycles == FEW else None
             judged = lambda: compares and compares(given, [job], JUDGED, came.status, came.printed, came.told)
             why = wrong(came, lines + told(job, came.printed), judged)
-            tally.tell(f"version {version}, {job}, {cycles:,} cycles: {len(came.printed):,} bytes in {came.seconds:.1f} s", why)
+            tally.tell(
+                f"version {version}, {job}, {cycles:,} cycles: {len(came.printed):,} bytes in {came.seconds:.1f} s", why
+            )
     return tally.end()

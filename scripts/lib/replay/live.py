@@ -1,13 +1,14 @@
 """Answers: is what a live run prints always the trace of one legal history?
 
-Each document is run live, so many times, and each trace is judged. The program's own job `steps` makes the calls of the trace again, in
-their order: it has to print the same lines, up to the close of the loop. (It goes on otherwise: before its close sessions settle.) Each
-session has to have made the calls that it makes in the job `run`, in their order. The job `check` judges the whole trace, and so does
-another implementation, if one is named.
+Each document is run live, so many times, and each trace is judged. The program's own job `steps` makes the calls of the
+trace again, in their order: it has to print the same lines, up to the close of the loop. (It goes on otherwise: before
+its close sessions settle.) Each session has to have made the calls that it makes in the job `run`, in their order. The
+job `check` judges the whole trace, and so does another implementation, if one is named.
 
-The documents are the examples that run and have no schedule, and others that are made here: four sessions list, send, wait and switch beside
-300 cycles. Every other one of these comes from the maker of the other implementation, if one is named. Last it says how many different traces the documents gave, and how many lines of sessions came while a
-cycle was aloft. The exit status is 1 if a trace is wrong or a run hangs, and if no document gave a second trace.
+The documents are the examples that run and have no schedule, and others that are made here: four sessions list, send,
+wait and switch beside 300 cycles. Every other one of these comes from the maker of the other implementation, if one is
+named. Last it says how many different traces the documents gave, and how many lines of sessions came while a cycle was
+aloft. The exit status is 1 if a trace is wrong or a run hangs, and if no document gave a second trace.
 """
 
 import collections
@@ -35,7 +36,9 @@ def options(parser):
     parser.add_argument("--times", type=int, default=4, help="how often a document is run, 4 if it is not said")
     parser.add_argument("--first", type=int, default=1, help="the seed of the first document that is made")
     parser.add_argument("--processors", type=int, help="on so many processors alone")
-    parser.add_argument("--other", type=Path, metavar="FOLDER", help="of another implementation, which judges and makes documents too")
+    parser.add_argument(
+        "--other", type=Path, metavar="FOLDER", help="of another implementation, which judges and makes documents too"
+    )
     programs.options(parser)
 
 
@@ -62,11 +65,22 @@ def made(number):
 
 def call(by, names):
     name, other = by.choice(names), by.choice(names)
-    return by.choice([
-        f"load {name}", f"load {name}", f"configure {name}", f"configure {name}", f"switch best +{name}", f"switch strict +{name} -{other}",
-        f"send {name} 0.{by.randrange(10)}", f"await {by.randrange(CYCLES)}", "list controllers", "list interfaces", f"unload {name}",
-        f"hw arm {by.choice(['inactive', 'active'])}",
-    ])
+    return by.choice(
+        [
+            f"load {name}",
+            f"load {name}",
+            f"configure {name}",
+            f"configure {name}",
+            f"switch best +{name}",
+            f"switch strict +{name} -{other}",
+            f"send {name} 0.{by.randrange(10)}",
+            f"await {by.randrange(CYCLES)}",
+            "list controllers",
+            "list interfaces",
+            f"unload {name}",
+            f"hw arm {by.choice(['inactive', 'active'])}",
+        ]
+    )
 
 
 def can_be_run_live(program, document):
@@ -86,6 +100,7 @@ def examples(program):
 def documents_of_other(program, first):
     """Documents of the other implementation's maker from this seed on."""
     from cm_oracle.gen import case
+
     for seed in itertools.count(first):
         document = case(STAGE, seed).document
         if can_be_run_live(program, document):
@@ -100,7 +115,9 @@ def made_documents(asked, program):
 
 def documents(asked, program):
     """Gives of each document its name and its bytes: the examples first."""
-    return itertools.islice(itertools.chain(examples(program), made_documents(asked, program)), max(1, asked.runs // asked.times))
+    return itertools.islice(
+        itertools.chain(examples(program), made_documents(asked, program)), max(1, asked.runs // asked.times)
+    )
 
 
 # ---- How a trace is judged
@@ -112,13 +129,18 @@ def calls_in_run(program, document):
 
 
 def differs_in_steps(program, document, lines):
-    """Where the job `steps` prints otherwise if it makes these calls in their order, up to the close of the loop, or None."""
+    """Where the job `steps` prints otherwise if it makes these calls in their order, up to the close of the loop, or
+    None.
+    """
     came = programs.came([program, "steps"], scheduled(document, lines), LIMIT)
     again = came.printed.splitlines()
     if came.status != 0:
         return f"the job steps ends with status {came.status} {came.told[:200]!r}"
     pairs = enumerate(zip(before_close(lines), again + [b""]), 1)
-    return next((f"line {number} is {was!r}, and the job steps prints {now!r}" for number, (was, now) in pairs if was != now), None)
+    return next(
+        (f"line {number} is {was!r}, and the job steps prints {now!r}" for number, (was, now) in pairs if was != now),
+        None,
+    )
 
 
 def reason(program, document, printed):
@@ -132,12 +154,19 @@ def reason(program, document, printed):
 
 
 def is_refused(program, document, printed):
-    """How the job `check` refuses what a live run printed, or None. A document with its trace may be too long for it."""
+    """How the job `check` refuses what a live run printed, or None.
+
+    A document with its trace may be too long for it.
+    """
     text = with_trace(document, printed)
     if len(text) > LONGEST:
         return None
     judged = programs.came([program, "check"], text, LIMIT)
-    return None if (judged.status, judged.printed) == (0, b"legal\n") else f"the job check refuses it: {judged.told[:200]!r}"
+    return (
+        None
+        if (judged.status, judged.printed) == (0, b"legal\n")
+        else f"the job check refuses it: {judged.told[:200]!r}"
+    )
 
 
 def finding(program, other, document, came):
@@ -168,7 +197,7 @@ def tried(program, other, times, document):
 def main(asked):
     program = programs.program(asked)
     if asked.processors:
-        os.sched_setaffinity(0, sorted(os.sched_getaffinity(0))[:asked.processors])
+        os.sched_setaffinity(0, sorted(os.sched_getaffinity(0))[: asked.processors])
     one = functools.partial(tried, program, asked.other, asked.times)
     with concurrent.futures.ProcessPoolExecutor(max(1, (os.cpu_count() or 2) // 2)) as pool:
         all_tried = list(pool.map(one, documents(asked, program)))
@@ -178,7 +207,11 @@ def main(asked):
     many, failed = sum(it.traces > 1 for it in all_tried), sum(len(it.wrong) for it in all_tried)
     traces, lines = sum(it.traces for it in all_tried), sum(it.aloft for it in all_tried)
     longest = max(it.longest for it in all_tried) * 1000
-    print(f"{asked.times * len(all_tried):,} live runs of {len(all_tried):,} documents gave {traces:,} different traces, {many:,} documents "
-          f"more than one; {lines:,} lines of sessions came while a cycle was aloft; the longest took {longest:.0f} ms of processors; "
-          f"{failed} wrong")
+    print(
+        f"{asked.times * len(all_tried):,} live runs of {len(all_tried):,} documents gave {traces:,} different "
+        f"traces, {many:,} documents "
+        f"more than one; {lines:,} lines of sessions came while a cycle was aloft; the longest took {longest:.0f} ms "
+        "of processors; "
+        f"{failed} wrong"
+    )
     return int(failed > 0 or many == 0 and asked.times > 1 and len(os.sched_getaffinity(0)) > 1)

@@ -14,6 +14,7 @@ MEND = "    mend: "
 @dataclass(frozen=True)
 class Row:
     """A row of the log: a request that was decided, fallbacks that were asked for, or a call that did nothing."""
+
     ticket: str
     cycle: str
     who: str
@@ -22,8 +23,8 @@ class Row:
 
 
 class Told:
-    """What a trace tells: rows of the log, how often things happened, and how each line begins that tells what went wrong. Of each group
-    its members are given, by its name."""
+    """What a trace tells: rows of the log, how often things happened, and how each line begins that tells what went
+    wrong. Of each group its members are given, by its name."""
 
     def __init__(self, trace, cycles, groups):
         self.rows, self.asked, self.cycles, self.ended = [], {}, cycles, 0
@@ -37,7 +38,11 @@ class Told:
 
     def with_members(self, call):
         """A call, and behind it the members of each described group that it names."""
-        named = dict.fromkeys(word[2:] for word in call.split(" ") if word[1:2] == "@") if call.startswith("switch ") else ()
+        named = (
+            dict.fromkeys(word[2:] for word in call.split(" ") if word[1:2] == "@")
+            if call.startswith("switch ")
+            else ()
+        )
         members = [f"{name}: {' '.join(self.groups[name])}" for name in named if name in self.groups]
         return f"{call} ({'; '.join(members)})" if members else call
 
@@ -47,7 +52,9 @@ class Told:
             self.decide(reply)
         elif who == "loop" and word == "end":
             items = reply.split("; ")
-            self.failed += sum(it.startswith("fail ") or it.startswith("run ") and it.endswith(" error") for it in items)
+            self.failed += sum(
+                it.startswith("fail ") or it.startswith("run ") and it.endswith(" error") for it in items
+            )
             self.stopped += sum(it.startswith("stop ") for it in items)
             self.go_wrong([it.split(" ") for it in items])
             self.ended += 1
@@ -75,7 +82,9 @@ class Told:
             ticket, outcome = one.split(" ", 1)
             if ticket == FALLBACK:
                 self.rows.append(Row("", self.now(), "", FALLBACK, outcome))
-                self.whys += [f"cycle {self.ended}: {FALLBACK} {one.split(' ')[0]} for " for one in left_out_of(outcome)]
+                self.whys += [
+                    f"cycle {self.ended}: {FALLBACK} {one.split(' ')[0]} for " for one in left_out_of(outcome)
+                ]
             else:
                 self.rows.append(Row(ticket, self.now(), *self.asked[ticket], outcome))
                 self.decided(*self.asked[ticket], outcome)
@@ -84,7 +93,9 @@ class Told:
         if outcome == "loop_ended":
             self.whys.append(f"at the close, {who}: {call}: not decided, ")
         elif outcome.startswith("refused "):
-            self.whys.append(f"cycle {self.ended}, {who}: {call}: refused, {told_as(outcome.removeprefix('refused '))} ")
+            self.whys.append(
+                f"cycle {self.ended}, {who}: {call}: refused, {told_as(outcome.removeprefix('refused '))} "
+            )
         for one in left_out_of(outcome):
             self.whys.append(f"cycle {self.ended}, {who}: {call}: left out, {told_as(one)} ")
 
@@ -112,7 +123,9 @@ def told_as(one):
 
 
 def log_of(page):
-    """The rows of a page's log: texts of facts, and the lines of words; and what it says last of those that it leaves out."""
+    """The rows of a page's log: texts of facts, and the lines of words; and what it says last of those that it leaves
+    out.
+    """
     rows, more = [], ""
     for it in page.section(LOG):
         if it.kind in ("done-disc", "partly-disc", "bad-disc"):
@@ -130,7 +143,7 @@ def log(page, told):
     if all(it.words != told.counts() for it in page.texts if it.kind == "note"):
         yield f"the heading does not say `{told.counts()}`"
     rows, more = log_of(page)
-    left_out = told.rows[len(rows):]
+    left_out = told.rows[len(rows) :]
     if len(rows) > len(told.rows):
         yield f"the log has {len(rows)} rows, and there were {len(told.rows)}"
     if left_out:
@@ -151,13 +164,13 @@ def row_faults(row, facts, lines):
     said = "".join(lines[:-1] if cut else lines).replace(" ", "")
     call = row.call.replace(" ", "")
     if cut:
-        call = call[:len(said)]
+        call = call[: len(said)]
     if not said.startswith(call):
         yield f"the log's words `{said[:80]}` do not begin with the call `{row.call[:80]}`"
     if not cut:
-        said = said[len(call):]
+        said = said[len(call) :]
         # Behind fallbacks stands whose they are.
-        yield from outcome_faults(row, said[said.find(":"):] if row.call == FALLBACK else said)
+        yield from outcome_faults(row, said[said.find(":") :] if row.call == FALLBACK else said)
 
 
 def outcome_faults(row, said):
@@ -176,7 +189,9 @@ def outcome_faults(row, said):
 
 
 def whys(text, told):
-    """The faults of what is told in words: a line for all that went wrong in the trace, and below each what would mend it."""
+    """The faults of what is told in words: a line for all that went wrong in the trace, and below each what would mend
+    it.
+    """
     lines = text.splitlines()
     if not told.whys and lines != [NOTHING]:
         yield "nothing went wrong, which is not told in words"

@@ -1,17 +1,17 @@
 """Answers: what comes of a run to which memory is refused?
 
-The program runs each document of scripts/cases and the made one of three rounds once for each allocation that it asks for: that one is
-refused alone, and then all from that one on. It is to end with status 0 and the whole trace, or with status 7, its line, and a front of
-the trace. Live runs have many traces: one that ends well is judged as `scripts/replay live` does, and a front of one by the job `steps`.
-Then the tests below are run with each of their allocations refused alone. A test may say that it wants memory itself. Else it
-must pass, and it fails if a call that was refused memory has changed the history, or has another answer when it is made again. One that
-never goes on behind a refusal shows nothing, and fails.
+The program runs each document of scripts/cases and the made one of three rounds once for each allocation that it asks
+for: that one is refused alone, and then all from that one on. It is to end with status 0 and the whole trace, or with
+status 7, its line, and a front of the trace. Live runs have many traces: one that ends well is judged as
+`scripts/replay live` does, and a front of one by the job `steps`. Then the tests below are run with each of their
+allocations refused alone. A test may say that it wants memory itself. Else it must pass, and it fails if a call that
+was refused memory has changed the history, or has another answer when it is made again. One that never goes on behind a
+refusal shows nothing, and fails.
 
-A library that is loaded before all else refuses memory. It is compiled here, by the kit. It does not reach the program that ./try compiled,
-whose memory is watched by a library of its own. The test programs are those that the gate built: without one, a line says so. With
-`--tests` another program is named for a crate.
-Prints a line for each run that is not so, one for each document and test, and last `N passed, M failed`. The exit status is 1 if one
-failed.
+A library that is loaded before all else refuses memory. It is compiled here, by the kit. It does not reach the program
+that ./try compiled, whose memory is watched by a library of its own. The test programs are those that the gate built:
+without one, a line says so. With `--tests` another program is named for a crate. Prints a line for each run that is not
+so, one for each document and test, and last `N passed, M failed`. The exit status is 1 if one failed.
 """
 
 import collections
@@ -47,7 +47,9 @@ SHOWN = 5  # runs of one document that are told
 
 
 def options(parser):
-    parser.add_argument("--tests", action="append", default=[], metavar="CRATE=PATH", help="another program of a crate's tests")
+    parser.add_argument(
+        "--tests", action="append", default=[], metavar="CRATE=PATH", help="another program of a crate's tests"
+    )
     parser.add_argument("--jobs", type=int, default=os.cpu_count(), help="how many runs are made side by side")
     parser.add_argument("--program", type=Path, metavar="PATH", help="another program than the built cm_main")
     parser.set_defaults(unproved=False)
@@ -60,7 +62,9 @@ def is_fair(came, whole):
 
 
 def is_fair_live(program, document, came, _):
-    """Whether a live run went well and printed a trace, or wants memory and printed the first lines of one, and perhaps a part of a line."""
+    """Whether a live run went well and printed a trace, or wants memory and printed the first lines of one, and perhaps
+    a part of a line.
+    """
     ended = came.status, came.told
     if ended == WELL:
         return live.reason(program, document, came.printed) is None
@@ -90,7 +94,9 @@ class Tried:
         self.name, self.runs, self.ways, self.is_so, self.whole = name, runs, ways, is_so, whole
 
     def tell(self, tally, pool):
-        """Refuses each allocation in each way, and tells how many runs ended with which status, and the first that are not so."""
+        """Refuses each allocation in each way, and tells how many runs ended with which status, and the first that are
+        not so.
+        """
         count, came = self.runs.whole()
         if came.status or self.whole not in (None, came.printed):
             tally.tell(self.name, f"ends with status {came.status} though nothing is refused: {came.told[-200:]!r}")
@@ -102,7 +108,9 @@ class Tried:
         all_came = list(pool.map(lambda it: self.runs.came(*it), tried))
         odd = [
             f"allocation {number} {WAYS[way]}: status {came.status}, {came.told[-200:]!r}, {came.printed[-80:]!r}"
-            for (way, number), came in zip(tried, all_came) if not self.is_so(came, self.whole)]
+            for (way, number), came in zip(tried, all_came)
+            if not self.is_so(came, self.whole)
+        ]
         if all(came.status == FAILED for came in all_came):
             odd.append("no run goes on behind a refusal")
         ended = sorted(collections.Counter(came.status for came in all_came).items(), key=str)

@@ -21,12 +21,18 @@ class Box:
 
     def lies_on(self, other):
         """Whether both share more than a pixel."""
-        return (min(self.right, other.right) - max(self.left, other.left) > 1
-                and min(self.bottom, other.bottom) - max(self.top, other.top) > 1)
+        return (
+            min(self.right, other.right) - max(self.left, other.left) > 1
+            and min(self.bottom, other.bottom) - max(self.top, other.top) > 1
+        )
 
     def is_within(self, other):
-        return (self.left >= other.left - 0.5 and self.right <= other.right + 0.5
-                and self.top >= other.top - 0.5 and self.bottom <= other.bottom + 0.5)
+        return (
+            self.left >= other.left - 0.5
+            and self.right <= other.right + 0.5
+            and self.top >= other.top - 0.5
+            and self.bottom <= other.bottom + 0.5
+        )
 
     def __str__(self):
         return f"x {self.left:.0f} to {self.right:.0f}, y {self.top:.0f} to {self.bottom:.0f}"

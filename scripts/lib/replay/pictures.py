@@ -1,10 +1,10 @@
 """Answers: does the drawing program draw what the pictures show?
 
-Each docs/pictures/NAME.svg is the page of examples/NAME.cm, and a document that is refused has no page. Of an example that is run live
-it is the page of its stored trace, which the job `steps` makes again; of one with a trace to judge, that of the trace as far as it is
-legal, and what `--why` says of the first wrong line is looked at too. With `--write` the pictures are made anew.
-Prints a line a picture and a refused document, and last `N passed, M failed`. The exit status is 1 if one differs, if the program has no
-page for it, or has one that it should not.
+Each docs/pictures/NAME.svg is the page of examples/NAME.cm, and a document that is refused has no page. Of an example
+that is run live it is the page of its stored trace, which the job `steps` makes again; of one with a trace to judge,
+that of the trace as far as it is legal, and what `--why` says of the first wrong line is looked at too. With `--write`
+the pictures are made anew. Prints a line a picture and a refused document, and last `N passed, M failed`. The exit
+status is 1 if one differs, if the program has no page for it, or has one that it should not.
 """
 
 from ..tool import Tally
@@ -59,13 +59,19 @@ def reason(picture, drawer, writes):
         picture.write_bytes(drawn)
         print(f"written {picture.name}")
     differs = drawn != picture.read_bytes()
-    return f"the page of {document.name} is another one; scripts/replay pictures --write makes it anew" if differs else None
+    return (
+        f"the page of {document.name} is another one; scripts/replay pictures --write makes it anew"
+        if differs
+        else None
+    )
 
 
 def wrong_line_fault(name, told, drawer):
     """Returns what is wrong with what is said of an example's wrong line, or None."""
     status, said, _ = programs.ran([drawer, "check", "--why"], (TOP / "examples" / f"{name}.cm").read_bytes())
-    return None if status == 0 and said.startswith(told) else f"status {status}, and {said[:300].decode(errors='replace')}"
+    return (
+        None if status == 0 and said.startswith(told) else f"status {status}, and {said[:300].decode(errors='replace')}"
+    )
 
 
 def main(asked):

@@ -1,9 +1,10 @@
 """Answers: do planned scripts do what they are for?
 
-Every set of at most four of the controllers below is planned, in both orders. If a script comes, the document that it makes is run, and at
-the end of the script exactly the wanted controllers must be active. If the plan says never, each order of their loads is tried, with a
-strict switch and with one of best effort, and in none are exactly they active. Another implementation, if one is named, plans each set too.
-Prints how many sets were planned, and last `N passed, M failed`. The exit status is 1 if one failed.
+Every set of at most four of the controllers below is planned, in both orders. If a script comes, the document that it
+makes is run, and at the end of the script exactly the wanted controllers must be active. If the plan says never, each
+order of their loads is tried, with a strict switch and with one of best effort, and in none are exactly they active.
+Another implementation, if one is named, plans each set too. Prints how many sets were planned, and last `N passed, M
+failed`. The exit status is 1 if one failed.
 """
 
 import itertools
@@ -40,7 +41,9 @@ NAMES = ("fwd", "pid", "traj", "traj2", "jsb", "mk", "late", "pt")
 
 
 def options(parser):
-    parser.add_argument("--other", type=Path, metavar="FOLDER", help="of another implementation, which plans each set too")
+    parser.add_argument(
+        "--other", type=Path, metavar="FOLDER", help="of another implementation, which plans each set too"
+    )
     programs.options(parser)
 
 

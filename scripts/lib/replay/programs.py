@@ -51,8 +51,8 @@ def ran(command, given=b"", limit=None):
 
 @dataclass(frozen=True)
 class Came:
-    """What a run came to: its status, what it printed, what it told on standard error, and the processor's seconds that it took. A run
-    that did not end in time has no status."""
+    """What a run came to: its status, what it printed, what it told on standard error, and the processor's seconds that
+    it took. A run that did not end in time has no status."""
 
     status: int | None
     printed: bytes
@@ -61,15 +61,17 @@ class Came:
 
 
 def came(command, given=b"", limit=60, **more):
-    """Returns what a command comes to with this on its standard input, which is a file, as what it prints. `more` is set in its
-    environment. It costs less than `ran`, for thousands of runs."""
+    """Returns what a command comes to with this on its standard input, which is a file, as what it prints. `more` is
+    set in its environment. It costs less than `ran`, for thousands of runs."""
     files = [os.memfd_create(name) for name in ("given", "printed", "told")]
     try:
         os.write(files[0], given)
         os.lseek(files[0], 0, os.SEEK_SET)
         words = [str(word) for word in command]
         ends = [(os.POSIX_SPAWN_DUP2, file, number) for number, file in enumerate(files)]
-        child = os.posix_spawn(words[0], words, {**os.environ, **{name: str(value) for name, value in more.items()}}, file_actions=ends)
+        child = os.posix_spawn(
+            words[0], words, {**os.environ, **{name: str(value) for name, value in more.items()}}, file_actions=ends
+        )
         in_time = has_ended(child, limit)
         if not in_time:
             os.kill(child, signal.SIGKILL)

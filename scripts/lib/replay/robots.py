@@ -1,10 +1,11 @@
 """Answers: do the robots of examples/ros2_control still go from their files to a trace and a picture?
 
-Of each NAME.urdf and NAME.yaml there scripts/from_ros2_control is to make NAME.cm, and to list NAME.cm.listed on standard error. Of
-NAME.cm the program `cm` is to print NAME.cm.stdout, and the one that draws is to draw NAME.svg. Each change of changes.txt is to come to what stands
-below it; what is accepted with it, `cm` is to accept too. Without PyYAML and defusedxml no document is made, which a line says; the traces
-and pictures are looked at all the same. With `--write` the files of the robots are made anew.
-Prints a line each, and last `N passed, M failed`. The exit status is 1 if one fails.
+Of each NAME.urdf and NAME.yaml there scripts/from_ros2_control is to make NAME.cm, and to list NAME.cm.listed on
+standard error. Of NAME.cm the program `cm` is to print NAME.cm.stdout, and the one that draws is to draw NAME.svg. Each
+change of changes.txt is to come to what stands below it; what is accepted with it, `cm` is to accept too. Without
+PyYAML and defusedxml no document is made, which a line says; the traces and pictures are looked at all the same. With
+`--write` the files of the robots are made anew. Prints a line each, and last `N passed, M failed`. The exit status is 1
+if one fails.
 """
 
 import sys
@@ -54,7 +55,9 @@ def plan_fault(program, document):
     """What is wrong with the planned start of what a document's script switches on first, or None."""
     description, _, script = document.partition(SEPARATOR)
     switch = next(line for line in script.split(b"\n") if line.startswith(b"switch strict"))
-    status, planned, said = programs.ran([program, "plan"], description + SEPARATOR + b"session spawner\n" + switch + b"\n")
+    status, planned, said = programs.ran(
+        [program, "plan"], description + SEPARATOR + b"session spawner\n" + switch + b"\n"
+    )
     if status:
         return f"status {status}: {said.decode()}"
     printed = programs.ran([program, "run"], description + SEPARATOR + planned + b"list controllers\n")[1]
@@ -168,6 +171,7 @@ def main(asked):
     if not lacking:
         from ..ros2_control.conversion import converted
         from ..ros2_control.listing import Refused
+
         for change in changes():
             robots.tally.tell(change.title, change.wrong(robots.program, converted, Refused))
     return robots.tally.end()

@@ -1,10 +1,10 @@
 """Answers: what is left of a run that a signal ends, that is stopped for a while, or whose reader stops?
 
-The program is run over pipes and files, by the jobs run and live. A signal comes while it reads, or while it writes a long trace that
-its reader does not take. What it printed is to be a front of the trace: of its lines each is whole but the last, and that one is whole if
-it has its line feed. A run that is stopped and goes on prints the whole trace, and so does one whose reader waits. docs/FAULTS.md says
-what a user sees.
-Prints a line a case, and last `N passed, M failed`. The exit status is 1 if one failed.
+The program is run over pipes and files, by the jobs run and live. A signal comes while it reads, or while it writes a
+long trace that its reader does not take. What it printed is to be a front of the trace: of its lines each is whole but
+the last, and that one is whole if it has its line feed. A run that is stopped and goes on prints the whole trace, and
+so does one whose reader waits. docs/FAULTS.md says what a user sees. Prints a line a case, and last `N passed, M
+failed`. The exit status is 1 if one failed.
 """
 
 import os
@@ -26,7 +26,9 @@ SLEEPS, STOPPED = "S", "T"  # states of a process
 
 
 def mind_each():
-    """A shell lets what it runs in the background ignore some signals, which a child then ignores too: here each has its effect again."""
+    """A shell lets what it runs in the background ignore some signals, which a child then ignores too: here each has
+    its effect again.
+    """
     for number in ENDING:
         signal.signal(number, signal.SIG_DFL)
 
@@ -36,7 +38,8 @@ class Run:
 
     def __init__(self, command, document=b"", is_whole=True, stdout=subprocess.PIPE):
         self.child = subprocess.Popen(
-            command, stdin=subprocess.PIPE, stdout=stdout, stderr=subprocess.PIPE, bufsize=0, preexec_fn=mind_each)
+            command, stdin=subprocess.PIPE, stdout=stdout, stderr=subprocess.PIPE, bufsize=0, preexec_fn=mind_each
+        )
         self.give(document)
         if is_whole:
             self.child.stdin.close()
@@ -115,7 +118,11 @@ def while_it_writes(command):
         waited = run.comes_to(SLEEPS)
         run.send(number)
         ended, printed = run.end()
-        yield f"{number.name} while it writes", (waited, ended, front_of(LONG_TRACE, printed)), (True, (-number, b""), "a front")
+        yield f"{number.name} while it writes", (waited, ended, front_of(LONG_TRACE, printed)), (
+            True,
+            (-number, b""),
+            "a front",
+        )
     for number in UNMINDED:
         run = Run(command, LONG)
         waited = run.comes_to(SLEEPS)
@@ -151,7 +158,9 @@ def into_a_file(command):
             ended, _ = run.end()
             file.seek(0)
             printed = file.read()
-        is_so = ended == WELL and printed == LONG_TRACE or ended == (-signal.SIGINT, b"") and LONG_TRACE.startswith(printed)
+        is_so = (
+            ended == WELL and printed == LONG_TRACE or ended == (-signal.SIGINT, b"") and LONG_TRACE.startswith(printed)
+        )
         yield f"SIGINT behind {delay} s, into a file", is_so or (ended, printed[-80:]), True
 
 

@@ -1,12 +1,12 @@
 """Answers: what does the program make of a standard input and a standard output that end, fail or would wait?
 
-It is run over each, by the jobs run and live. Its status, the line on standard error and what it printed are compared with what
-docs/TRACE.md says of these.
+It is run over each, by the jobs run and live. Its status, the line on standard error and what it printed are compared
+with what docs/TRACE.md says of these.
 - Standard input: nothing, the ends of pieces, an end that a terminal tells once, a folder, a pipe that would block.
-- Standard output: a full device, a full pipe, one that nobody reads; of a short trace, a long one, and a summary. Then of the long one a
-  pipe that is full in its middle, and a file that may not grow so long.
-- With `--memory` also less and less of that, for a document and for long words, of a program without checks of addresses. Whatever there
-  is, it ends well and has printed all, or tells want of memory and has printed a front of it.
+- Standard output: a full device, a full pipe, one that nobody reads; of a short trace, a long one, and a summary. Then
+  of the long one a pipe that is full in its middle, and a file that may not grow so long.
+- With `--memory` also less and less of that, for a document and for long words, of a program without checks of
+  addresses. Whatever there is, it ends well and has printed all, or tells want of memory and has printed a front of it.
 Prints a line for each case that differs, and last `N passed, M failed`. The exit status is 1 if one differs.
 """
 
@@ -46,8 +46,8 @@ def options(parser):
 
 
 def run(program, words=("run",), document=LEAST, stdin=None, stdout=None, data=None, room=None):
-    """Returns how a run ends, its status and its line, and what it printed, where that is not printed elsewhere. With `data` it has so many
-    bytes of memory, with `room` a file may have so many."""
+    """Returns how a run ends, its status and its line, and what it printed, where that is not printed elsewhere. With
+    `data` it has so many bytes of memory, with `room` a file may have so many."""
     given = {"stdin": stdin} if stdin is not None else {"input": document}
 
     def limit():
@@ -59,8 +59,13 @@ def run(program, words=("run",), document=LEAST, stdin=None, stdout=None, data=N
 
     try:
         ran = subprocess.run(
-            [program, *words], **given, stdout=subprocess.PIPE if stdout is None else stdout, stderr=subprocess.PIPE, timeout=LIMIT,
-            preexec_fn=limit)
+            [program, *words],
+            **given,
+            stdout=subprocess.PIPE if stdout is None else stdout,
+            stderr=subprocess.PIPE,
+            timeout=LIMIT,
+            preexec_fn=limit,
+        )
     except subprocess.TimeoutExpired:
         return ("no end", b""), b""
     return (ran.returncode, ran.stderr), ran.stdout or b""
@@ -154,7 +159,10 @@ def least_data(run, words, well):
 
 
 def ends_fairly(ended, printed, whole):
-    """Whether a run went well and printed all, or wants memory and printed a front of it. One that did not begin ends by a signal."""
+    """Whether a run went well and printed all, or wants memory and printed a front of it.
+
+    One that did not begin ends by a signal.
+    """
     if ended == WELL:
         return printed == whole
     return ended == MEMORY and whole.startswith(printed) or isinstance(ended[0], int) and ended[0] < 0 and not printed
@@ -166,20 +174,30 @@ def memories(run):
     yield "a stock takes room", (usage < enough, b""), (True, b"")
     for data in range(usage, enough, 4096):
         ended, printed = run(data=data)
-        yield f"{data} bytes of memory for the least document", ((ended in (WELL, MEMORY)), printed), (True, LEAST_TRACE if ended == WELL else b"")
+        yield f"{data} bytes of memory for the least document", ((ended in (WELL, MEMORY)), printed), (
+            True,
+            LEAST_TRACE if ended == WELL else b"",
+        )
     for data in range(enough, enough + (4 << 20), 1 << 16):
         ended, printed = run(document=LONG, data=data)
         yield f"{data} bytes of memory for a long trace", (ends_fairly(ended, printed, LONG_TRACE), b""), (True, b"")
     words = ["run", *["x" * 100_000] * 10]
     yield "long words with enough memory", run(words, data=usage + (1 << 23)), (USAGE, b"")
     for share in range(1, 9):
-        yield f"long words with room for {share} tenths of them", run(words, data=usage + share * 100_000), (MEMORY, b"")
+        yield f"long words with room for {share} tenths of them", run(words, data=usage + share * 100_000), (
+            MEMORY,
+            b"",
+        )
 
 
 def main(asked):
     """What runs the program is handed to each of the makers of cases."""
     tally, program = Tally(tells_all=False), programs.program(asked)
-    runs = [(cases, job, functools.partial(run, program, words=(job,))) for job in JOBS for cases in (inputs, outputs, full_within)]
+    runs = [
+        (cases, job, functools.partial(run, program, words=(job,)))
+        for job in JOBS
+        for cases in (inputs, outputs, full_within)
+    ]
     runs += [(memories, "run", functools.partial(run, program))] * asked.memory
     for cases, job, one in runs:
         for name, came, want in cases(one):

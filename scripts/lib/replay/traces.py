@@ -18,7 +18,7 @@ def session_of(line):
 
 def before_close(lines):
     """The lines up to the close of the loop."""
-    return lines[:next((number for number, line in enumerate(lines) if line.startswith(CLOSE)), len(lines))]
+    return lines[: next((number for number, line in enumerate(lines) if line.startswith(CLOSE)), len(lines))]
 
 
 def turn_of(line):

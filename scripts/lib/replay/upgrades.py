@@ -1,11 +1,12 @@
 """Answers: does an upgraded description run as the one that it was made of?
 
-Each NAME.cm of examples/ and scripts/cases without a trace is upgraded, and its script put behind what is printed. The new document is run with the words
-of the old one, as `scripts/replay examples` does, and must print the same. One that is refused must be refused so by `upgrade`, too. A live run prints
-another trace each time, so those documents are run by `run`. The description must end with a line feed, hold no separator, and be
-printed again as it is. So are the documents at all limits of `scripts/replay limits` upgraded, and random documents, if another
-implementation is named that makes them. One that would be longer than a document may be, upgraded, is passed over.
-Prints a line a document, but of random ones for those alone that fail, and last `N passed, M failed`. The exit status is 1 if one failed.
+Each NAME.cm of examples/ and scripts/cases without a trace is upgraded, and its script put behind what is printed. The
+new document is run with the words of the old one, as `scripts/replay examples` does, and must print the same. One that
+is refused must be refused so by `upgrade`, too. A live run prints another trace each time, so those documents are run
+by `run`. The description must end with a line feed, hold no separator, and be printed again as it is. So are the
+documents at all limits of `scripts/replay limits` upgraded, and random documents, if another implementation is named
+that makes them. One that would be longer than a document may be, upgraded, is passed over. Prints a line a document,
+but of random ones for those alone that fail, and last `N passed, M failed`. The exit status is 1 if one failed.
 """
 
 import functools
@@ -31,9 +32,15 @@ AT_ONCE = 400  # random documents, before it is looked whether there are enough
 
 
 def options(parser):
-    parser.add_argument("--other", type=Path, metavar="FOLDER", help="of another implementation that makes random documents")
-    parser.add_argument("--count", type=int, default=2000, help="so many random documents that run, 2,000 if it is not said")
-    parser.add_argument("--jobs", type=int, default=os.cpu_count(), help="how many random documents are run side by side")
+    parser.add_argument(
+        "--other", type=Path, metavar="FOLDER", help="of another implementation that makes random documents"
+    )
+    parser.add_argument(
+        "--count", type=int, default=2000, help="so many random documents that run, 2,000 if it is not said"
+    )
+    parser.add_argument(
+        "--jobs", type=int, default=os.cpu_count(), help="how many random documents are run side by side"
+    )
     programs.options(parser)
 
 
@@ -71,6 +78,7 @@ def tried_at_random(program, folder, seed):
     """The same of the random document of a seed; of one that no job runs, None."""
     sys.path.insert(0, str(folder))
     from cm_oracle.gen import case
+
     made = case(JUDGED, seed)
     return tried(made.document, program, made.words) if made.words in RUNS else None
 
@@ -97,7 +105,10 @@ def main(asked):
             tally.tell(document.name, tried(document.read_bytes(), program, words)[1])
     for version in VERSIONS:
         kind, why = tried(Limits(version).document("run", FEW)[0], program, ["run"])
-        tally.tell(f"the document at all limits of version {version}", why or (None if kind == RAN else f"it is one of those {kind}"))
+        tally.tell(
+            f"the document at all limits of version {version}",
+            why or (None if kind == RAN else f"it is one of those {kind}"),
+        )
     if judge(asked.other):
         random_documents(asked, program, tally)
     else:

@@ -20,8 +20,10 @@ OF_URDF = (
     ("a limit has no velocity", r'<limit.*( velocity="[\d.]+")', "", "velocity", 0),
     ("a tag is misspelled", r"<(command_interface) name=\"\w+\"/>", "comand_interface", "comand_interface", 0),
     ("xacro is not expanded", r'<ros2_control name="(\w+)"', "${prefix}arm", "run xacro", 0),
-    *(("a velocity limit is no number", r'velocity="([\d.]+)"', text, "velocity", 0)
-      for text in ("fast", "1,5", "nan", "1e400", "0x10", "")),
+    *(
+        ("a velocity limit is no number", r'velocity="([\d.]+)"', text, "velocity", 0)
+        for text in ("fast", "1,5", "nan", "1e400", "0x10", "")
+    ),
     ("a velocity limit is negative", r'velocity="([\d.]+)"', "-1", "negative", 0),
     ("limits are the wrong way round", r'lower="([-\d.]+)"', "7", "lower", 0),
     ("an initial value is no number", r'initial_value">([-\d.]+)<', "half", "half", 0),
@@ -43,15 +45,24 @@ OF_YAML = (
     ("a pid's joint is misspelled", r"dof_names: \[(\w+)", "jiont", "jiont", 0),
     ("the joint of gains is misspelled", r"gains:\n      (\w+)", "jiont", "jiont", 0),
     ("a reference is misspelled", r"command_joints: \[(\w+)", "joint_pid", "joint_pid", 0),
-    *(("an interface is misspelled", rf"{before}(\w+)", "positon", "positon", 0)
-      for before in (r"interfaces: \[", "interface_name: ", "command_interface: ")),
+    *(
+        ("an interface is misspelled", rf"{before}(\w+)", "positon", "positon", 0)
+        for before in (r"interfaces: \[", "interface_name: ", "command_interface: ")
+    ),
     ("an interface is misspelled", r"interfaces:\n      - (\w+)", "positon", "positon", 0),
-    ("a node is misspelled", r"\n(joint_trajectory_\w+|joint_pids|wheel_cont|gripper_controller|scanner_cont):", "typo",
-     "no parameters", SOMEWHERE),
+    (
+        "a node is misspelled",
+        r"\n(joint_trajectory_\w+|joint_pids|wheel_cont|gripper_controller|scanner_cont):",
+        "typo",
+        "no parameters",
+        SOMEWHERE,
+    ),
     ("the parameters' key is misspelled", r"  (ros__parameters):", "ros_parameters", "ros__parameters", SOMEWHERE),
     ("the manager is misspelled", r"(controller_manager):\n", "manager", "controller_manager", SOMEWHERE),
-    *((f"the rate is {text}", r"\n    update_rate: (\d+)", text, "update_rate", 0)
-      for text in ("fast", "-5", "1.5", "20000", "'50'", "[50]", "{hertz: 50}")),
+    *(
+        (f"the rate is {text}", r"\n    update_rate: (\d+)", text, "update_rate", 0)
+        for text in ("fast", "-5", "1.5", "20000", "'50'", "[50]", "{hertz: 50}")
+    ),
     ("a type is no text", r"type: (\w+/\w+)", "7", "type", 0),
     ("a type is a list", r"type: (\w+/\w+)", "[a, b]", "type", 0),
     ("a type lacks", r"\n      (type): \w+/\w+", "tipe", "no type", 0),
@@ -60,8 +71,10 @@ OF_YAML = (
     ("a list is empty", r"(?:joints|dof_names): (\[.*\])\n(?!    interfaces)", "[]", "no item", 0),
     ("joints lack", r"\n    (joints): \[.*\]\n(?!    interfaces)", "links", "joints", SOMEWHERE),
     ("a joint stands in a list as before", r"joints: \[\w+, (\w+)", "joint1, joint1", "joint1", 0),
-    *(("a gain is no number", r"\bp: ([\d.]+)", text, "gain p", 0)
-      for text in ("fast", "nan", "1e400", "0x10", "'1'", "true", "[1]")),
+    *(
+        ("a gain is no number", r"\bp: ([\d.]+)", text, "gain p", 0)
+        for text in ("fast", "nan", "1e400", "0x10", "'1'", "true", "[1]")
+    ),
     ("a word is no boolean", r"antiwindup: (true)", "maybe", "antiwindup", 0),
     ("an alias", r"update_rate: (\d+)", "*rate", "aliases", 0),
     ("an anchor", r"update_rate: (\d+)", "&rate 50", "aliases", 0),
@@ -93,14 +106,14 @@ class Variants:
     def replaced(self, rows):
         for title, pattern, becomes, word, later in rows:
             for it in re.finditer(pattern, self.text):
-                text = self.text[: it.start(1)] + becomes + self.text[it.end(1):]
+                text = self.text[: it.start(1)] + becomes + self.text[it.end(1) :]
                 line = SOMEWHERE if later is SOMEWHERE else self.line_of(it.start(1)) + later
                 self.add(f"{title}, {it[0].strip()!r}", text, line, word)
 
     def put_before(self, rows):
         for title, pattern, line, word in rows:
             for it in re.finditer(pattern, self.text):
-                text = self.text[: it.start()] + line + "\n" + self.text[it.start():]
+                text = self.text[: it.start()] + line + "\n" + self.text[it.start() :]
                 self.add(f"{title}, before {it[0].strip()!r}", text, self.line_of(it.start()), word)
 
     def instead(self, title, was, becomes, line=SOMEWHERE, word=""):
@@ -115,10 +128,14 @@ def broken_urdf(path):
     it.replaced(OF_URDF)
     it.put_before(BEFORE_IN_URDF)
     it.add("nothing", "", 1)
-    it.add("another root", it.text.replace("<robot", "<model").replace("</robot", "</model"),
-           it.line_of(it.text.index("<robot")), "model")
+    it.add(
+        "another root",
+        it.text.replace("<robot", "<model").replace("</robot", "</model"),
+        it.line_of(it.text.index("<robot")),
+        "model",
+    )
     it.add("a byte that is no UTF-8", it.text.encode().replace(b"<link", b"<l\xffnk", 1))
-    it.instead("a component stands again", "</robot>", it.text[it.text.index("  <ros2_control"):])
+    it.instead("a component stands again", "</robot>", it.text[it.text.index("  <ros2_control") :])
     it.instead("elements in one another", "</robot>", "<a>" * 5000 + "</a>" * 5000 + "</robot>", it.last)
     hinges = "".join(f'<joint name="hinge{index}" type="continuous"/>\n' for index in range(33))
     inner = hinges.replace(' type="continuous"', "")
@@ -133,7 +150,7 @@ def broken_urdf(path):
 def broken_yaml(path):
     it = Variants(path)
     for at in sorted(found.end() for found in re.finditer(r"[\[{]", it.text)):
-        it.add(f"ends behind {at} characters", it.text[:at + 3])
+        it.add(f"ends behind {at} characters", it.text[: at + 3])
     it.replaced(OF_YAML)
     it.put_before(BEFORE_IN_YAML)
     it.add("nothing", "", 1)

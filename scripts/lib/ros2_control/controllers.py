@@ -43,7 +43,9 @@ class Controller:
     reads: list = field(default_factory=list)  # nothing in place of a list for all states
     numbers: dict = field(default_factory=dict)
     exports: list = field(default_factory=list)  # the references that others may claim, by their paths in the YAML
-    fallbacks: list = field(default_factory=list)  # the names in the YAML of those that stand in for it, with their places
+    fallbacks: list = field(
+        default_factory=list
+    )  # the names in the YAML of those that stand in for it, with their places
     stand_ins: list = field(default_factory=list)  # the names of ours that these are
     also: list = field(default_factory=list)  # what it names besides and has to be there, each as a command or a state
     fault: Refused = None  # that counts if all of these are there
@@ -143,7 +145,10 @@ class Reading:
         return made
 
     def fallbacks(self, given):
-        """Returns the names of those that stand in for it. The manager's parameter counts before that of its own node."""
+        """Returns the names of those that stand in for it.
+
+        The manager's parameter counts before that of its own node.
+        """
         own = value_of(self.nodes[given].values, FALLBACKS) if given in self.nodes else None
         node = self.parameters.get(f"{given}.{FALLBACKS}") or own
         what = f"{FALLBACKS} of {quoted(given)}"
@@ -234,8 +239,11 @@ class Reading:
             pids.append(pid)
         it.claims = [Named(pid.exports[0], claim.joint_place, claim.kind_place) for pid, claim in zip(pids, it.claims)]
         self.check_gains(it, used, [read.joint() for read in it.reads])
-        self.listing.changed(chosen[0], f"{quoted(it.given)} commands {chosen[1]}, so it leads a pid for each joint: "
-                                        f"{', '.join(pid.name for pid in pids)}")
+        self.listing.changed(
+            chosen[0],
+            f"{quoted(it.given)} commands {chosen[1]}, so it leads a pid for each joint: "
+            f"{', '.join(pid.name for pid in pids)}",
+        )
         return pids
 
     def pid(self, it, used):
@@ -275,8 +283,10 @@ class Reading:
     def leave_out_kinds(self, it, joints, others):
         it.also += [("command", name) for name in named(joints, others)]
         for place, kind in others:
-            self.listing.left_out(place, f"command interface {quoted(kind)} of {quoted(it.given)}, "
-                                         "because a joint has one command at a time")
+            self.listing.left_out(
+                place,
+                f"command interface {quoted(kind)} of {quoted(it.given)}, " "because a joint has one command at a time",
+            )
 
 
 def named(joints, kinds):
@@ -325,7 +335,7 @@ class Used:
         """Returns the gains of one joint: all that stands below `gains.JOINT`."""
         prefix = f"gains.{joint}."
         names = [name for name in self.values if name.startswith(prefix)]
-        return {name[len(prefix):]: self.value(name) for name in names}
+        return {name[len(prefix) :]: self.value(name) for name in names}
 
     def unused(self):
         return {name: node for name, node in self.values.items() if name not in self.looked_at}

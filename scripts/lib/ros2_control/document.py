@@ -12,8 +12,10 @@ SESSION = "operator"
 
 def document(robot, linked, found, rate, cycles, names):
     """Returns the text of the document. `found` says who is switched on, and `names` are those of both files."""
-    head = comment(f"Made by scripts/from_ros2_control of {plain(names[0])} and {plain(names[1])}. What these files "
-                   "say, and this document does not, stood on standard error.")
+    head = comment(
+        f"Made by scripts/from_ros2_control of {plain(names[0])} and {plain(names[1])}. What these files "
+        "say, and this document does not, stood on standard error."
+    )
     parts = [f"{head}\nversion = 1\nupdate_rate = {rate}\ncycles = {cycles}"]
     parts += [component(it) for it in robot.components]
     parts += [controller(it, linked) for it in linked.controllers]
@@ -67,8 +69,14 @@ def listed(key, items):
     if len(line) <= WIDEST:
         return line
     indent = "    "
-    lines = wrap(", ".join(items) + ",", WIDEST, initial_indent=indent, subsequent_indent=indent,
-                 break_long_words=False, break_on_hyphens=False)
+    lines = wrap(
+        ", ".join(items) + ",",
+        WIDEST,
+        initial_indent=indent,
+        subsequent_indent=indent,
+        break_long_words=False,
+        break_on_hyphens=False,
+    )
     return "\n".join([f"{key} = [", *lines, "]"])
 
 
@@ -82,8 +90,12 @@ def script(robot, linked, found, rate, cycles, names):
         lines += [f"hw {it.name} active" for it in woken]
     lines += resting(linked, found)
     if found.active:
-        lines.append(comment("One request for all: it is done whole or not at all, and those that are led come on "
-                             "before those that lead."))
+        lines.append(
+            comment(
+                "One request for all: it is done whole or not at all, and those that are led come on "
+                "before those that lead."
+            )
+        )
         lines.append("switch strict " + " ".join(f"+{it.name}" for it in found.active))
     begun = len(woken) + 2
     lines += [f"await {begun}", "list controllers", "list interfaces"]
@@ -107,9 +119,13 @@ def moves(linked, found, rate, cycles, begun, names):
     if not leaders or not motion.is_long_enough():
         why = "there are too few cycles" if leaders else "no controller is active that commands a joint"
         return [comment(f"Nothing moves: {why}.")]
-    lines = [comment(f"Made up from the limits in {plain(names[0])}: each joint goes out and back. A position is half "
-                     "the way to the joint's farther limit, or as far as half its velocity takes it; a velocity is "
-                     "half of what it may have; an effort is 1 at most.")]
+    lines = [
+        comment(
+            f"Made up from the limits in {plain(names[0])}: each joint goes out and back. A position is half "
+            "the way to the joint's farther limit, or as far as half its velocity takes it; a velocity is "
+            "half of what it may have; an effort is 1 at most."
+        )
+    ]
     later = []
     for it in leaders:
         claims = linked.claims[it.name]

@@ -71,8 +71,11 @@ class Linked:
             claim.exporter = it
         self.controllers.insert(0, it)
         joint.turns, joint.offset = gear.reduction, gear.offset
-        self.listing.changed(gear.place, f"joint {quoted(gear.joint)} is the actuator of transmission {quoted(gear.given)}, "
-                                         "also in what is read of it")
+        self.listing.changed(
+            gear.place,
+            f"joint {quoted(gear.joint)} is the actuator of transmission {quoted(gear.given)}, "
+            "also in what is read of it",
+        )
 
     def without_counterpart(self, gear, joint, claims):
         """Answers why a transmission has no counterpart, or nothing."""
@@ -108,8 +111,11 @@ class Linked:
         found = [it for it in self.controllers if it.kind != "mock" and lacks(it)]
         for it in found:
             it.kind = "mock"
-            self.listing.changed(it.place, f"controller {quoted(it.given)} is a mock that claims nothing, "
-                                           "because what it claims or reads was left out")
+            self.listing.changed(
+                it.place,
+                f"controller {quoted(it.given)} is a mock that claims nothing, "
+                "because what it claims or reads was left out",
+            )
         return bool(found)
 
     def check_besides(self, it):
@@ -124,7 +130,7 @@ class Linked:
 
     def check_twice(self, names, found, it):
         texts = [one.text() if one else None for one in found]
-        for index, name in enumerate(names[:len(found)]):
+        for index, name in enumerate(names[: len(found)]):
             if texts[index] and texts[index] in texts[:index]:
                 raise Refused(name.joint_place, f"{quoted(it.given)} has {quoted(name.path)} twice")
 
@@ -141,13 +147,19 @@ class Linked:
             return None
         if joint:
             if kind not in getattr(joint, which):
-                raise Refused(name.kind_place, f"{quoted(it.given)} names the {which} interface {quoted(name.path)}, "
-                                               f"and the joint has none of that kind ({joint.place})")
+                raise Refused(
+                    name.kind_place,
+                    f"{quoted(it.given)} names the {which} interface {quoted(name.path)}, "
+                    f"and the joint has none of that kind ({joint.place})",
+                )
             return Claim(name.joint_place, joint, kind)
         if self.is_of_a_mock(name):
             return None
-        raise Refused(name.joint_place, f"{quoted(it.given)} names the joint {quoted(name.joint())}, "
-                                        f"which no ros2_control tag of {plain(self.robot.file)} has{hint(name.path)}")
+        raise Refused(
+            name.joint_place,
+            f"{quoted(it.given)} names the joint {quoted(name.joint())}, "
+            f"which no ros2_control tag of {plain(self.robot.file)} has{hint(name.path)}",
+        )
 
     def is_of_a_mock(self, name):
         """Answers whether the path begins with a mock's name. Of another controller it is refused: that exports no such
@@ -156,8 +168,10 @@ class Linked:
         exporters = [other for other in self.controllers if slash and other.given == first]
         if any(other.kind != "mock" for other in exporters):
             is_other_kind = any(path.startswith(f"{name.joint()}/") for path in self.references)
-            raise Refused(name.kind_place if is_other_kind else name.joint_place,
-                          f"{quoted(first)} exports no reference {quoted(name.path)}")
+            raise Refused(
+                name.kind_place if is_other_kind else name.joint_place,
+                f"{quoted(first)} exports no reference {quoted(name.path)}",
+            )
         return bool(exporters)
 
     def followers(self, it):

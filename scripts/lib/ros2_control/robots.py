@@ -119,8 +119,11 @@ def limits_alone(name, joint, kind):
         if kind in WITH_LIMITS:
             raise Refused(joint.place, f"joint {quoted(name)} is {kind} and lacks its <limit>")
         return Limits(joint.place, None if kind == "continuous" else Decimal(0))
-    found = {key: number(limit.attributes[key], limit.place, f"{key} of joint {quoted(name)}")
-             for key in ("velocity", "lower", "upper", "effort") if key in limit.attributes}
+    found = {
+        key: number(limit.attributes[key], limit.place, f"{key} of joint {quoted(name)}")
+        for key in ("velocity", "lower", "upper", "effort")
+        if key in limit.attributes
+    }
     if "velocity" not in found:
         limit.get("velocity")
     if found["velocity"] < 0:
@@ -145,8 +148,11 @@ class Reading:
         """Returns the component, or nothing if it has no joint."""
         given, kind = tag.get("name"), tag.get("type")
         if kind not in COMPONENT_KINDS:
-            raise Refused(tag.place, f"component {quoted(given)} is of the type {quoted(kind)}, "
-                                     f"and not system, actuator or sensor{hint(kind)}")
+            raise Refused(
+                tag.place,
+                f"component {quoted(given)} is of the type {quoted(kind)}, "
+                f"and not system, actuator or sensor{hint(kind)}",
+            )
         component = Component(tag.place, given, self.component_names.add(given, tag.place), kind)
         self.list_attributes(tag, f"component {quoted(given)}", ("name", "type"))
         for child in tag.children:
@@ -200,8 +206,11 @@ class Reading:
     def joint(self, component, tag):
         given = tag.get("name")
         if given not in self.limits:
-            raise Refused(tag.place, f"joint {quoted(given)} of component {quoted(component.given)} "
-                                     f"is no <joint> of this URDF{hint(given)}")
+            raise Refused(
+                tag.place,
+                f"joint {quoted(given)} of component {quoted(component.given)} "
+                f"is no <joint> of this URDF{hint(given)}",
+            )
         self.list_attributes(tag, f"joint {quoted(given)}", ("name",))
         holder, joint = self.joints.get(given, (None, None))
         if holder is component:

@@ -14,8 +14,9 @@ MOST_BYTES = 1_048_576
 DEEPEST = 32  # mappings and lists in one another
 PARAMETERS = "ros__parameters"
 # What YAML reads as a number, a boolean or nothing, unless it stands in quotes.
-NO_TEXT = re.compile(rf"{FORM.pattern}|0[xo][0-9a-f]+|[-+]?\.inf|\.nan|true|false|yes|no|y|n|on|off|null|~|",
-                     re.IGNORECASE | re.ASCII)
+NO_TEXT = re.compile(
+    rf"{FORM.pattern}|0[xo][0-9a-f]+|[-+]?\.inf|\.nan|true|false|yes|no|y|n|on|off|null|~|", re.IGNORECASE | re.ASCII
+)
 BOOLEANS = {"true": True, "false": False}
 
 

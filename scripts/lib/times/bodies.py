@@ -1,8 +1,8 @@
 """Answers: what do the program's fast bodies gain? As docs/SPEED.md has it.
 
-It runs cm_bench seven times, with 2,000,000 turns for each body and a seed from the clock. For each pair it prints the least time of a turn
-of the plain body and of the fast one, and how many times the fast one goes into the plain one.
-If cm_bench is missing, it is proved and built first.
+It runs cm_bench seven times, with 2,000,000 turns for each body and a seed from the clock. For each pair it prints the
+least time of a turn of the plain body and of the fast one, and how many times the fast one goes into the plain one. If
+cm_bench is missing, it is proved and built first.
 """
 
 import os
@@ -28,7 +28,12 @@ def measuring():
         return str(program)
     print(f"{program} is missing: it is proved and built first", file=sys.stderr)
     ran = subprocess.run(
-        ["rt", "run", "--", "1", "1"], cwd=TOP / "crates" / NAME, stdout=subprocess.PIPE, stderr=subprocess.STDOUT, text=True)
+        ["rt", "run", "--", "1", "1"],
+        cwd=TOP / "crates" / NAME,
+        stdout=subprocess.PIPE,
+        stderr=subprocess.STDOUT,
+        text=True,
+    )
     if ran.returncode:
         print(*ran.stdout.splitlines()[-LAST:], sep="\n", file=sys.stderr)
         sys.exit(f"{program} could not be built")

@@ -1,6 +1,8 @@
-"""Answers: how long does the first `./try` take? It compiles both programs side by side, as `./try` does, and prints the seconds.
+"""Answers: how long does the first `./try` take? It compiles both programs side by side, as `./try` does, and prints
+the seconds.
 
-- short: over the kit without the bodies that the programs do not reach, the code made by the linker, as `./try` does it.
+- short: over the kit without the bodies that the programs do not reach, the code made by the linker, as `./try` does
+  it.
 - whole: the same over the whole kit.
 - plain: over the whole kit with the code made as `rt try` makes it, with checks of addresses.
 Nothing of it is kept. The machine has to have nothing else to do.
@@ -39,5 +41,8 @@ def main(asked):
         begun = time.monotonic()
         with ThreadPoolExecutor() as both:
             made = list(both.map(lambda name: compile_one(name, way), PROGRAMS))
-        print(f"{way:<6} {time.monotonic() - begun:6.1f} s{'' if all(made) else ', and it could not be compiled'}", flush=True)
+        print(
+            f"{way:<6} {time.monotonic() - begun:6.1f} s{'' if all(made) else ', and it could not be compiled'}",
+            flush=True,
+        )
     return 0

@@ -1,10 +1,12 @@
-"""Answers: where does the gate's time go? Prints processor minutes by crate, as a table for docs/SPEED.md, and their sum.
+"""Answers: where does the gate's time go? Prints processor minutes by crate, as a table for docs/SPEED.md, and their
+sum.
 
-It runs the words given, as `.ci/run` or `rt ci cm_desk`, or else the gate from nothing with the wrong bodies that `.ci/run` tries after
-it; what they print goes to standard error. It looks four times a second at the prover's processes among its descendants. The prover's
-words say which crate it is at, and whether with its tests; that it tries a wrong body shows in the folder that it works in, which `rt`
-and scripts/wrong name for that. The sum is the system's own, so the last row has all else: what `rt` itself, linking and the
-programs took, and what was too short to be seen. The exit status is the command's.
+It runs the words given, as `.ci/run` or `rt ci cm_desk`, or else the gate from nothing with the wrong bodies that
+`.ci/run` tries after it; what they print goes to standard error. It looks four times a second at the prover's processes
+among its descendants. The prover's words say which crate it is at, and whether with its tests; that it tries a wrong
+body shows in the folder that it works in, which `rt` and scripts/wrong name for that. The sum is the system's own, so
+the last row has all else: what `rt` itself, linking and the programs took, and what was too short to be seen. The exit
+status is the command's.
 """
 
 import argparse
@@ -26,7 +28,9 @@ OF_WRONG_BODIES = re.compile(r"/(rt-edit|wrong-bodies)-")
 
 
 def options(parser):
-    parser.add_argument("command", nargs=argparse.REMAINDER, metavar="COMMAND", help="in place of the gate and the wrong bodies")
+    parser.add_argument(
+        "command", nargs=argparse.REMAINDER, metavar="COMMAND", help="in place of the gate and the wrong bodies"
+    )
 
 
 class Process:
@@ -115,5 +119,8 @@ def main(asked):
         minutes[crate, kind] += seconds / 60
     timed = tell(minutes)
     print(f"\nall else: {total / 60 - timed:.1f} processor minutes")
-    print(f"sum: {total / 60:.1f} of {BUDGET} processor minutes, in {(time.monotonic() - begun) / 60:.1f} minutes on {os.cpu_count()} cores")
+    print(
+        f"sum: {total / 60:.1f} of {BUDGET} processor minutes, in {(time.monotonic() - begun) / 60:.1f} minutes on "
+        f"{os.cpu_count()} cores"
+    )
     return status

@@ -1,18 +1,21 @@
 """Answers: how many instructions does a cycle take, and has that grown? As docs/SPEED.md has it.
 
-It counts the instructions of the built program by `valgrind --tool=callgrind`, over six jobs, each with few cycles and with more, and
-prints what a cycle more takes: reading and start are in both, and go. A count does not move with the load of the machine, as a time does;
-what it leaves out is what the system does, above all memory that is touched for the first time.
+It counts the instructions of the built program by `valgrind --tool=callgrind`, over six jobs, each with few cycles and
+with more, and prints what a cycle more takes: reading and start are in both, and go. A count does not move with the
+load of the machine, as a time does; what it leaves out is what the system does, above all memory that is touched for
+the first time.
 
 - bare: neither a joint nor a controller: the turn of the loop alone.
 - idle: one joint that stands, and no controller.
-- full: 32 joints and 64 controllers: 31 chains of a trajectory over a pid, all of which move, a forward, and a broadcaster of 96 states.
+- full: 32 joints and 64 controllers: 31 chains of a trajectory over a pid, all of which move, a forward, and a
+  broadcaster of 96 states.
 - switches: 16 chains of three controllers, and in each cycle a request that stops, starts or restarts some of them.
 - lists: 32 controllers that are loaded and listed; what is counted is a list more.
 - made: `run --make`, a round more of which is ten cycles.
 
-Beside each stands what the page has. The exit status is 1 if a job takes more than that by over a twentieth; the page is then to say why,
-or the program to be mended. With `--parts` it also prints how many of them the begin, the flight, the landing and the trace take.
+Beside each stands what the page has. The exit status is 1 if a job takes more than that by over a twentieth; the page
+is then to say why, or the program to be mended. With `--parts` it also prints how many of them the begin, the flight,
+the landing and the trace take.
 """
 
 import re
@@ -32,7 +35,9 @@ LOADED = 32  # controllers that are listed
 CYCLES_OF_A_ROUND = 10  # of a made document
 # The functions of the parts of a cycle, each with all that it calls. The end is the flight and its landing.
 PARTS = {
-    "begin": "cm_desk::desk::Desk::begin::", "end": "desk_turns::jobs::RunningJob::end::", "landing": "cm_desk::desk::Desk::land::",
+    "begin": "cm_desk::desk::Desk::begin::",
+    "end": "desk_turns::jobs::RunningJob::end::",
+    "landing": "cm_desk::desk::Desk::land::",
     "trace": "cm_top::accepted::write_out::",
 }
 
@@ -76,15 +81,27 @@ def idle(cycles):
 
 
 def full(cycles):
-    joints = [joint(f"joint_{k}", 2 + k % 3, "velocity position", "position velocity effort") for k in range(CHAINS + 1)]
+    joints = [
+        joint(f"joint_{k}", 2 + k % 3, "velocity position", "position velocity effort") for k in range(CHAINS + 1)
+    ]
     gains = [f'kp = {4 + k % 5}\nki = "0.3"\nkd = "0.02"\nimax = 1\nomax = 3\n' for k in range(CHAINS)]
-    lower = [controller(f"pid_{k}", "pid", f"joint_{k}/velocity", f"joint_{k}/position", gains[k]) for k in range(CHAINS)]
-    upper = [controller(f"traj_{k}", "trajectory", f"pid_{k}/joint_{k}/position", f"joint_{k}/position") for k in range(CHAINS)]
+    lower = [
+        controller(f"pid_{k}", "pid", f"joint_{k}/velocity", f"joint_{k}/position", gains[k]) for k in range(CHAINS)
+    ]
+    upper = [
+        controller(f"traj_{k}", "trajectory", f"pid_{k}/joint_{k}/position", f"joint_{k}/position")
+        for k in range(CHAINS)
+    ]
     broadcaster = controller("broadcaster", "broadcaster", more='reads = "all"\n')
     described = [broadcaster, *lower, *upper, controller("forward", "forward", f"joint_{CHAINS}/position")]
     names = [re.search(r'name = "(\w+)"', text)[1] for text in described]
     sends = [f"send traj_{k}{moves(k, cycles * 1000)}\n" for k in range(CHAINS)]
-    return head(1000, cycles) + component("robot", joints) + "".join(described) + script(names, [*sends, "send forward 0.75\n"])
+    return (
+        head(1000, cycles)
+        + component("robot", joints)
+        + "".join(described)
+        + script(names, [*sends, "send forward 0.75\n"])
+    )
 
 
 def moves(k, span):
@@ -128,13 +145,20 @@ def made(cycles):
 
 # Each with few cycles and with more, or few lists and more. The requests of `switches` come in rounds of 64.
 JOBS = {
-    "bare": (bare, 1_000, 11_000), "idle": (idle, 1_000, 11_000), "full": (full, 200, 1_200), "switches": (switches, 65, 385),
-    "lists": (lists, 500, 2_500), "made": (made, 500, 2_500),
+    "bare": (bare, 1_000, 11_000),
+    "idle": (idle, 1_000, 11_000),
+    "full": (full, 200, 1_200),
+    "switches": (switches, 65, 385),
+    "lists": (lists, 500, 2_500),
+    "made": (made, 500, 2_500),
 }
 
 
 def counted(program, document, profile="/dev/null"):
-    """The instructions of a run over the document, or of so many made rounds. They are told by function in the file `profile`."""
+    """The instructions of a run over the document, or of so many made rounds.
+
+    They are told by function in the file `profile`.
+    """
     words = ["run"] if isinstance(document, str) else ["run", "--make", str(document)]
     counter = ["valgrind", "--tool=callgrind", f"--callgrind-out-file={profile}", program, *words]
     with tempfile.TemporaryFile("w+") as given:
@@ -152,7 +176,10 @@ def parts(program, document):
     with tempfile.NamedTemporaryFile() as profile:
         counted(program, document, profile.name)
         told = subprocess.run(
-            ["callgrind_annotate", "--inclusive=yes", "--threshold=100", profile.name], stdout=subprocess.PIPE, text=True, check=True
+            ["callgrind_annotate", "--inclusive=yes", "--threshold=100", profile.name],
+            stdout=subprocess.PIPE,
+            text=True,
+            check=True,
         ).stdout
     lines = {part: re.findall(rf"(?m)^ *([\d,]+) \(.*:{name}", told) for part, name in PARTS.items()}
     return {part: sum(int(count.replace(",", "")) for count in counts) for part, counts in lines.items()}
@@ -185,4 +212,3 @@ def main(asked):
     for line in worse:
         print(line, file=sys.stderr)
     return 1 if worse else 0
-

@@ -1,11 +1,11 @@
 """Answers: what do a live run and a shared desk cost? Prints what docs/SPEED.md has between its marks.
 
-First it runs the built program with `run` and with `live`, in turns, on documents of 100,000 cycles in which no session waits: `bare` has
-neither a joint nor a controller, and the others are those of `scripts/times program`. Then eight sessions wait for the last cycle of
-`bare`, on two processors, in turns with `bare` itself.
-Then it runs cm_bench: as `scripts/times bodies` does, for the callers of one desk, which have passes or lock std's mutex round the same
-boxed desk; and with `live`, for how long a cycle takes from before its begin until it has landed.
-If cm_bench is missing, it is proved and built first.
+First it runs the built program with `run` and with `live`, in turns, on documents of 100,000 cycles in which no session
+waits: `bare` has neither a joint nor a controller, and the others are those of `scripts/times program`. Then eight
+sessions wait for the last cycle of `bare`, on two processors, in turns with `bare` itself. Then it runs cm_bench: as
+`scripts/times bodies` does, for the callers of one desk, which have passes or lock std's mutex round the same boxed
+desk; and with `live`, for how long a cycle takes from before its begin until it has landed. If cm_bench is missing, it
+is proved and built first.
 """
 
 import os
@@ -24,7 +24,13 @@ LIVE_RUNS = 201  # of 499 measured cycles each
 SESSIONS = 8
 TWO = ["taskset", "-c", "0,1"]  # on two processors
 SCRIPT = "--- script ---\n"
-CALLERS = {"desk": "a look, nobody else calls", "one_caller": "1", "two_callers": "2", "four_callers": "4", "eight_callers": "8"}
+CALLERS = {
+    "desk": "a look, nobody else calls",
+    "one_caller": "1",
+    "two_callers": "2",
+    "four_callers": "4",
+    "eight_callers": "8",
+}
 LENGTHS = re.compile(r"(.*): (\d+) cycles, median (\d+) ns, hundredth greatest (\d+) ns, greatest (\d+) ns")
 
 
@@ -58,9 +64,14 @@ def time_on_two(program, document):
 
 def tell_waiting(program, document, alone):
     """Prints how long a run takes in which all sessions wait, and which part of a processor they take."""
-    took, busy, _, busy_alone = zip(*((*time_on_two(program, document), *time_on_two(program, alone)) for _ in range(RUNS)))
+    took, busy, _, busy_alone = zip(
+        *((*time_on_two(program, document), *time_on_two(program, alone)) for _ in range(RUNS))
+    )
     part = (sum(busy) - sum(busy_alone)) / sum(took)
-    print(f"A live run of `bare` in which eight sessions wait for its last cycle took {max(took) * 1000:.0f} ms at most on two processors,")
+    print(
+        f"A live run of `bare` in which eight sessions wait for its last cycle took {max(took) * 1000:.0f} ms at "
+        "most on two processors,"
+    )
     print(f"and {part:.2f} of a processor more than without them.")
 
 

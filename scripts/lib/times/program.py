@@ -1,9 +1,11 @@
 """Answers: how fast is the built program? Prints what docs/SPEED.md has between its marks.
 
-It runs the program seven times on each of three documents of 100,000 cycles, its output to the null device, and then with the words
-`run --make 1000`, and prints of each the least time and the peak memory, and of a document the time a cycle and the lines a second.
+It runs the program seven times on each of three documents of 100,000 cycles, its output to the null device, and then
+with the words `run --make 1000`, and prints of each the least time and the peak memory, and of a document the time a
+cycle and the lines a second.
 - controllers: 64 described controllers, and a session that loads 32 of them and lists them.
-- components: 32 joints in 16 components, read, written, stepped and told of in each cycle, and a session that lists them.
+- components: 32 joints in 16 components, read, written, stepped and told of in each cycle, and a session that lists
+  them.
 - updates: the same joints, each commanded by a forward; a session switches the 32 on together and sends each a value.
 - made: no document; 10,000 cycles, of which the program prints a summary alone.
 """
@@ -48,7 +50,9 @@ def components():
 
 def updates():
     joints = [f"{side}{k}" for k in range(COMPONENTS) for side in SIDES]
-    described = "".join(f'[[controller]]\nname = "f{it}"\ntype = "forward"\nclaims = ["{it}/position"]\n' for it in joints)
+    described = "".join(
+        f'[[controller]]\nname = "f{it}"\ntype = "forward"\nclaims = ["{it}/position"]\n' for it in joints
+    )
     script = "".join(f"load fl{k}\nload fr{k}\nconfigure fl{k}\nconfigure fr{k}\n" for k in range(COMPONENTS))
     script += "switch strict" + "".join(f" +f{it}" for it in joints) + "\n"
     script += "".join(f"send fl{k} 0.5\nsend fr{k} -0.5\n" for k in range(COMPONENTS))
@@ -71,7 +75,9 @@ def time_of_a_run(program, words, document):
 
 
 def peak_of_a_run(program, words, document):
-    """In kilobytes, as the system tells it of the running program: for one that has ended it counts the launcher's own too."""
+    """In kilobytes, as the system tells it of the running program: for one that has ended it counts the launcher's own
+    too.
+    """
     peak = 0
     with open(document, "rb") as given:
         running = subprocess.Popen([program, *words], stdin=given, stdout=subprocess.DEVNULL)
@@ -99,7 +105,14 @@ def best_of_runs(program, words, document):
 def of_document(program, name, document, lines):
     """Returns the row of a document, whose trace has so many lines."""
     least, peak = best_of_runs(program, ["run"], document)
-    return name, f"{least * 1000:.1f} ms", f"{least / CYCLES * 1e6:.2f} us", f"{lines:,}", f"{lines / least:,.0f}", f"{peak:.1f} MiB"
+    return (
+        name,
+        f"{least * 1000:.1f} ms",
+        f"{least / CYCLES * 1e6:.2f} us",
+        f"{lines:,}",
+        f"{lines / least:,.0f}",
+        f"{peak:.1f} MiB",
+    )
 
 
 def see_counts(program, folder):

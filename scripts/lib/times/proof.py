@@ -1,9 +1,10 @@
-"""Answers: what of a crate takes its prover longest? Checks the crate from nothing, on a copy and with one job, and prints the seconds of
-each function, type, specification and proof file, the dearest first, and their sum.
+"""Answers: what of a crate takes its prover longest? Checks the crate from nothing, on a copy and with one job, and
+prints the seconds of each function, type, specification and proof file, the dearest first, and their sum.
 
-The crates below have to be built (`rt lib`, or scripts/build proved of a program above). The prover keeps a file of each module that it has
-checked, one after the other, so the time between two such files is what the later one took. What a function takes is mostly the borrow
-checker's part of its proof, which grows with the places of a body times the variables that live there. Other work is in the times.
+The crates below have to be built (`rt lib`, or scripts/build proved of a program above). The prover keeps a file of
+each module that it has checked, one after the other, so the time between two such files is what the later one took.
+What a function takes is mostly the borrow checker's part of its proof, which grows with the places of a body times the
+variables that live there. Other work is in the times.
 """
 
 import re
@@ -24,7 +25,14 @@ PART = re.compile(r"\.(Lts|Proof|Tie|Goals|Answers|Invariants|Mir|Links|TheLinks
 
 def options(parser):
     parser.add_argument("crate", metavar="CRATE")
-    parser.add_argument("count", nargs="?", type=int, default=PRINTED, metavar="COUNT", help=f"so many are printed, {PRINTED} if it is not said")
+    parser.add_argument(
+        "count",
+        nargs="?",
+        type=int,
+        default=PRINTED,
+        metavar="COUNT",
+        help=f"so many are printed, {PRINTED} if it is not said",
+    )
 
 
 def check(name, copy):
@@ -39,8 +47,14 @@ def check(name, copy):
     kept = copy / "kept"
     words = [*crate.words(["--jobs", "1"], keeps=False), "--incremental", str(kept)]
     ran = subprocess.run(
-        [*kit.guard(), rt.RATTLE, "check", *words], cwd=copy, stdin=subprocess.DEVNULL, stdout=subprocess.PIPE, stderr=subprocess.STDOUT,
-        text=True, errors="replace")
+        [*kit.guard(), rt.RATTLE, "check", *words],
+        cwd=copy,
+        stdin=subprocess.DEVNULL,
+        stdout=subprocess.PIPE,
+        stderr=subprocess.STDOUT,
+        text=True,
+        errors="replace",
+    )
     if ran.returncode:
         print(*ran.stdout.splitlines()[-10:], sep="\n", file=sys.stderr)
         sys.exit(f"{name} is not proved")

@@ -1,9 +1,10 @@
-"""Answers: what do several workers cost, and from which work on do they pay? Prints what docs/SPEED.md has between its marks.
+"""Answers: what do several workers cost, and from which work on do they pay? Prints what docs/SPEED.md has between its
+marks.
 
-First it runs the built program with 1, 2, 4 and 8 workers on documents of 5,000 cycles, each with 16 controllers of one kind, of which
-none has to do with another. The least of three runs counts. Then it runs cm_bench with `workers`: eight controllers compute for 0, 20, 100
-and 500 microseconds in each cycle. Between these works it tells from which one on a number of workers pays.
-If cm_bench is missing, it is proved and built first.
+First it runs the built program with 1, 2, 4 and 8 workers on documents of 5,000 cycles, each with 16 controllers of one
+kind, of which none has to do with another. The least of three runs counts. Then it runs cm_bench with `workers`: eight
+controllers compute for 0, 20, 100 and 500 microseconds in each cycle. Between these works it tells from which one on a
+number of workers pays. If cm_bench is missing, it is proved and built first.
 """
 
 import re
@@ -58,7 +59,9 @@ def of_kind(program, kind, path):
 
 
 def of_work(bench):
-    """Returns for each work, in microseconds, the nanoseconds of a cycle by each number of workers; and how many controllers work."""
+    """Returns for each work, in microseconds, the nanoseconds of a cycle by each number of workers; and how many
+    controllers work.
+    """
     told = subprocess.run([bench, "workers", str(BENCH_RUNS)], stdout=subprocess.PIPE, text=True, check=True).stdout
     times, count = {}, 0
     for line in told.splitlines():
@@ -68,7 +71,9 @@ def of_work(bench):
 
 
 def pays_from(times, workers):
-    """Returns from which work on so many workers take less time than one, between the works that were measured, or None if they never do."""
+    """Returns from which work on so many workers take less time than one, between the works that were measured, or None
+    if they never do.
+    """
     for less, more in zip(times, [*times][1:]):
         lost, gained = times[less][workers] - times[less][1], times[more][1] - times[more][workers]
         if lost > 0 and gained >= 0:
@@ -89,5 +94,10 @@ def main(asked):
     tell_table(
         (f"{count} controllers that compute", *(f"By {n}" for n in BY)),
         *((f"{micros} us", *(f"{times[micros][n] / 1000:.1f} us" for n in BY)) for micros in times),
-        ("pay from some", "", *("never" if (work := pays_from(times, n)) is None else f"{work:.0f} us" for n in BY[1:])))
+        (
+            "pay from some",
+            "",
+            *("never" if (work := pays_from(times, n)) is None else f"{work:.0f} us" for n in BY[1:]),
+        ),
+    )
     return 0

@@ -1,9 +1,10 @@
 """Answers: does the prover refuse wrong bodies?
 
-Each file of scripts/wrong_bodies/CRATE turns one body of that crate. On a copy each stands beside the function that it turns, and all of a
-crate are asked for in one check, over what `rt lib` or `rt ci` left in the folders `out`. A body is refused if a goal of its contract does
-not hold. A method of a trait cannot stand twice, so it is turned where it stands, and a second turn of it takes a second check.
-Prints a line an edit, and last how many passed, because they are refused, and how many failed. The exit status is 1 if one failed.
+Each file of scripts/wrong_bodies/CRATE turns one body of that crate. On a copy each stands beside the function that it
+turns, and all of a crate are asked for in one check, over what `rt lib` or `rt ci` left in the folders `out`. A body is
+refused if a goal of its contract does not hold. A method of a trait cannot stand twice, so it is turned where it
+stands, and a second turn of it takes a second check. Prints a line an edit, and last how many passed, because they are
+refused, and how many failed. The exit status is 1 if one failed.
 """
 
 import shutil
@@ -36,7 +37,9 @@ def try_one_by_one(edits):
             shutil.rmtree(folder, ignore_errors=True)
             folder.mkdir()
             shutil.copy(edit.path, folder)
-            ran = subprocess.run(["rt", "must-fail", name], cwd=copy, stdout=subprocess.PIPE, stderr=subprocess.STDOUT, text=True)
+            ran = subprocess.run(
+                ["rt", "must-fail", name], cwd=copy, stdout=subprocess.PIPE, stderr=subprocess.STDOUT, text=True
+            )
             yield edit, ran.returncode == 0, "by rt must-fail: " + ran.stdout.strip().split("\n")[-1]
 
 
@@ -74,7 +77,9 @@ def try_all(name, edits, jobs):
 
 
 def wanted(words, is_gate):
-    """The edits that the words ask for, by crate: what stands highest takes longest to read and to ask, so it comes first."""
+    """The edits that the words ask for, by crate: what stands highest takes longest to read and to ask, so it comes
+    first.
+    """
     crates = {}
     for word in words or sorted(it.name for it in BODIES.iterdir()):
         name, _, title = word.partition("/")

@@ -1,10 +1,11 @@
 """Answers: are wrong definitions refused?
 
-Each file of scripts/wrong_definitions turns equations of the written manager, and names what refuses it: a row of the proofs of cm_model, a
-law, or both. A row computes: by the definitions alone its two sides are one. All rows are asked in one check, on a copy, each over the
-definitions as its edit leaves them, and must be refused because their sides differ. The same rows over the definitions as they are must
-be proved. A law is asked on a copy of the crates with the edit, and must not be proved there; some minutes each.
-Prints a line a row, a law and an edit, and last how many passed and how many failed. The exit status is 1 if one failed.
+Each file of scripts/wrong_definitions turns equations of the written manager, and names what refuses it: a row of the
+proofs of cm_model, a law, or both. A row computes: by the definitions alone its two sides are one. All rows are asked
+in one check, on a copy, each over the definitions as its edit leaves them, and must be refused because their sides
+differ. The same rows over the definitions as they are must be proved. A law is asked on a copy of the crates with the
+edit, and must not be proved there; some minutes each. Prints a line a row, a law and an edit, and last how many passed
+and how many failed. The exit status is 1 if one failed.
 """
 
 import re
@@ -52,7 +53,7 @@ def ask(of, words, kept):
 
 
 def try_rows(edits):
-    """Tries these by their rows, all in one check, prints a line each, and tells of each whether it is as it has to be."""
+    """Tries these by their rows, all in one check, prints a line each, and tells of each if it is as it has to be."""
     with copy_of(CRATE) as copy, tempfile.TemporaryDirectory() as kept:
         folder = Path(copy) / "crates" / CRATE
         texts = texts_of(folder)
@@ -84,8 +85,8 @@ def is_proved(copy, law, kept):
 
 
 def try_laws(edits):
-    """Tries these by their laws, one after the other, prints a line each, and tells of each whether it is as it has to be. The crates below
-    a law are read as source, so rows that would refuse an edit sooner are not asked."""
+    """Tries these by their laws, one after the other, prints a line each, and tells of each whether it is as it has to
+    be. The crates below a law are read as source, so rows that would refuse an edit sooner are not asked."""
     with tempfile.TemporaryDirectory() as room:
         kept, copy = Path(room) / "kept", Path(room) / "copy"
         kept.mkdir()
@@ -100,7 +101,10 @@ def try_laws(edits):
             proved, first = is_proved(copy, edit.law, kept)
             for file in edit.texts:
                 shutil.copy(TOP / file, copy / file)
-            print(f"{edit.name}: {'LET THROUGH by ' + edit.law if proved else 'refused by ' + edit.law + ': ' + first}", flush=True)
+            print(
+                f"{edit.name}: {'LET THROUGH by ' + edit.law if proved else 'refused by ' + edit.law + ': ' + first}",
+                flush=True,
+            )
             yield not proved
 
 

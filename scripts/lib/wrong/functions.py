@@ -9,7 +9,9 @@ CONSTANT = re.compile(r"(?m)^(?:pub(?:\([a-z]+\))? )?const (?P<name>\w+): (?:.|\
 
 
 class Function:
-    """A function as it stands in the text of a file, which is in rt fmt's layout: it ends with a bracket that is set in as it is."""
+    """A function as it stands in the text of a file, which is in rt fmt's layout: it ends with a bracket that is set in
+    as it is.
+    """
 
     def __init__(self, file, texts, found):
         text, indent = texts[file], found["indent"]
@@ -24,8 +26,8 @@ class Function:
         self.path = [*(self.owner(file, texts, found.start()) if indent else module(file)), self.name]
 
     def owner(self, file, texts, at):
-        """Where the prover has the block that a method stands in: a trait's in the file, by the type and behind it the trait, and any
-        other where its type is declared."""
+        """Where the prover has the block that a method stands in: a trait's in the file, by the type and behind it the
+        trait, and any other where its type is declared."""
         head = [*BLOCK.finditer(texts[file], 0, at)][-1]["head"].split(" where")[0]
         generics = re.match(r"<(.*?)>(?= )", head)
         head = head.removeprefix(generics[0] if generics else "")

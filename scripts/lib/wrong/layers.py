@@ -44,13 +44,17 @@ class Layer:
         answers = folder / "proofs/tried" / self.name / "Answers.antt"
         answers.parent.mkdir(parents=True)
         answers.write_text(
-            f"use Rattle.std.proofs.Common.{{refl}}\nuse Rattle.{CRATE}.proofs.{LAYERS}.{self.name}.{self.file}.{{{self.row}}}\n"
+            f"use Rattle.std.proofs.Common.{{refl}}\nuse "
+            f"Rattle.{CRATE}.proofs.{LAYERS}.{self.name}.{self.file}.{{{self.row}}}\n"
             f"use Rattle.{CRATE}.proofs.tried.{self.name}.Goals as goal\n\n"
-            f"pub returns : goal.returns\nreturns c = let it = {self.row} in λ n. refl\n")
+            f"pub returns : goal.returns\nreturns c = let it = {self.row} in λ n. refl\n"
+        )
 
     def verdict(self, said):
         """What becomes of the row, by what the prover said: proved, refused, or why neither can be told."""
-        errors = re.findall(rf"(?m)^(?:\./)?proofs/(?:{LAYERS}|tried)/{self.name}[/.](\S+?):\d+:\d+: error: (.*)$", said)
+        errors = re.findall(
+            rf"(?m)^(?:\./)?proofs/(?:{LAYERS}|tried)/{self.name}[/.](\S+?):\d+:\d+: error: (.*)$", said
+        )
         of_row = [what for file, what in errors if file == f"{self.file}.antt" and what.startswith(f"`{self.row}`")]
         others = [": ".join(it) for it in errors if it[1] not in of_row]
         if others:

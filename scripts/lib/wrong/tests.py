@@ -1,10 +1,10 @@
-"""Answers: do the tests refuse the wrong bodies that no contract can? Those that want memory though there is some, and what no clause
-speaks of.
+"""Answers: do the tests refuse the wrong bodies that no contract can? Those that want memory though there is some, and
+what no clause speaks of.
 
-Each file of scripts/refused_by_tests/CRATE turns one body of that crate, on a copy, and says what refuses it there, unproved. With a line
-`by: CRATE` the tests of that crate are run, and the one of the line `test: ..` has to fail. With a line `by: scripts/replay sizes` the
-program is compiled, and it has to want memory for a document of the line `row: ..`.
-Prints a line a body; one takes a minute or two. The exit status is 1 if one was not refused so.
+Each file of scripts/refused_by_tests/CRATE turns one body of that crate, on a copy, and says what refuses it there,
+unproved. With a line `by: CRATE` the tests of that crate are run, and the one of the line `test: ..` has to fail. With
+a line `by: scripts/replay sizes` the program is compiled, and it has to want memory for a document of the line `row:
+..`. Prints a line a body; one takes a minute or two. The exit status is 1 if one was not refused so.
 """
 
 import re
@@ -32,8 +32,8 @@ def options(parser):
 
 
 def compile_tests(of, keep):
-    """Compiles the tests of a crate over the sources of the kit that programs and tests reach. If the lists lack one, it is compiled once
-    more, and a line on standard error says which. Returns what the compiler said."""
+    """Compiles the tests of a crate over the sources of the kit that programs and tests reach. If the lists lack one,
+    it is compiled once more, and a line on standard error says which. Returns what the compiler said."""
     words = kit_words(of)
     while True:
         with tempfile.TemporaryDirectory(prefix="try-") as folder:
@@ -63,7 +63,7 @@ def failed_tests(copy, rows, test):
 
 
 def failed_documents(copy, row):
-    """The documents of this row for which the program of the copy wants memory, or None where it could not be compiled."""
+    """The documents of this row for which the program of the copy wants memory, or None if it does not compile."""
     program = Path(copy, "cm_main")
     said = compile_program(crate(program.name, copy), program)
     if not program.exists():
@@ -88,7 +88,9 @@ def verdict(edit, name):
         for file, text in turned(edit, Path(copy, "crates", name)).items():
             Path(copy, "crates", name, file).write_text(text)
         by = edit.named("by")
-        failed = failed_documents(copy, edit.named("row")) if by == SIZES else failed_tests(copy, by, edit.named("test"))
+        failed = (
+            failed_documents(copy, edit.named("row")) if by == SIZES else failed_tests(copy, by, edit.named("test"))
+        )
     if failed is None:
         return False, "could not be compiled"
     more = f" and {len(failed) - MOST} more" if len(failed) > MOST else ""

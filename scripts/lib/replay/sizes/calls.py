@@ -1,8 +1,26 @@
-"""The documents of a size that has to do with a script, or with the words: a count of lines or words, or a number in a line."""
+"""The documents of a size that has to do with a script, or with the words: a count of lines or words, or a number in a
+line.
+"""
 
 from .parts import (
-    BLANKS, CLAIMS_OF_ONE, CONTROLLERS, JOINTS, RATE, ROUNDS, TYPES, WAITING, Case, activated, arm, case, controller, every, head, named,
-    of_type)
+    BLANKS,
+    CLAIMS_OF_ONE,
+    CONTROLLERS,
+    JOINTS,
+    RATE,
+    ROUNDS,
+    TYPES,
+    WAITING,
+    Case,
+    activated,
+    arm,
+    case,
+    controller,
+    every,
+    head,
+    named,
+    of_type,
+)
 
 MOCK = controller("m", "mock")
 FORWARD = arm() + of_type("forward", "f")
@@ -29,7 +47,14 @@ def sessions(size):
     parts = [controller(f"m{k}", "mock") for k in range(size)]
     lines = []
     for k in range(size):
-        lines += [f"session s{k}", f"load m{k}", f"configure m{k}", f"await {k}", f"switch strict +m{k}", "list controllers"]
+        lines += [
+            f"session s{k}",
+            f"load m{k}",
+            f"configure m{k}",
+            f"await {k}",
+            f"switch strict +m{k}",
+            "list controllers",
+        ]
     return case(head(size + 2) + "".join(parts), lines)
 
 
@@ -37,7 +62,9 @@ def waiting_requests(size):
     """As many as may wait are queued, and those of further sessions are refused."""
     refused = max(0, size - WAITING)
     own = [[f"session s{k}", "switch best " + "+m " * (k + 1), "switch strict"] for k in range(size)]
-    return case(head(size + 2) + MOCK, [line for lines in own for line in lines], 2 * refused, {"queue_full": 2 * refused})
+    return case(
+        head(size + 2) + MOCK, [line for lines in own for line in lines], 2 * refused, {"queue_full": 2 * refused}
+    )
 
 
 def calls(size):
@@ -71,7 +98,9 @@ def blanks(kind, size):
     names = named("x", size)
     out = max(0, size - BLANKS)
     parts = "".join(of_type(kind, name) for name in names)
-    return case(head() + arm(2) + parts, ["session a", *every("load {}", names), "list controllers"], told={"stock_empty": out})
+    return case(
+        head() + arm(2) + parts, ["session a", *every("load {}", names), "list controllers"], told={"stock_empty": out}
+    )
 
 
 def unknown_names(size):
@@ -96,7 +125,10 @@ def restarts(how, size):
 
 
 def points(size):
-    return case(head(3, 1) + TRAJECTORY, [*activated(["t"]), "send t " + " ".join(f"@{50_000 * (k + 1)} 0.{k}" for k in range(size))])
+    return case(
+        head(3, 1) + TRAJECTORY,
+        [*activated(["t"]), "send t " + " ".join(f"@{50_000 * (k + 1)} 0.{k}" for k in range(size))],
+    )
 
 
 def values(size):
@@ -110,7 +142,9 @@ def values_of_a_point(size):
 
 
 def rate(size):
-    return case(head(4, RATE) + MOCK, ["session a", "load m", "rate m 5", "configure m", "list controllers", f"rate m {size}"])
+    return case(
+        head(4, RATE) + MOCK, ["session a", "load m", "rate m 5", "configure m", "list controllers", f"rate m {size}"]
+    )
 
 
 def rate_in_use(size):

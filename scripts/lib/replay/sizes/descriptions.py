@@ -1,8 +1,28 @@
 """The documents of a size that has to do with a description: a count of its parts, or a number in it."""
 
 from .parts import (
-    CLAIMS_OF_ONE, COMMANDS, CYCLES, DECIMALS, JOINTS, KINDS, RATE, STATES, Case, activated, arm, case, component, controller,
-    every, head, joint, named, of_joints, of_type, quoted)
+    CLAIMS_OF_ONE,
+    COMMANDS,
+    CYCLES,
+    DECIMALS,
+    JOINTS,
+    KINDS,
+    RATE,
+    STATES,
+    Case,
+    activated,
+    arm,
+    case,
+    component,
+    controller,
+    every,
+    head,
+    joint,
+    named,
+    of_joints,
+    of_type,
+    quoted,
+)
 
 
 def components(size):
@@ -39,7 +59,9 @@ def commands(size, joints=JOINTS):
 def controllers(size):
     """All are loaded, are active, and are updated together."""
     names = named("c", size)
-    parts = [controller(name, "mock") if k % 2 else controller(name, "broadcaster", reads=[]) for k, name in enumerate(names)]
+    parts = [
+        controller(name, "mock") if k % 2 else controller(name, "broadcaster", reads=[]) for k, name in enumerate(names)
+    ]
     return case(head() + "".join(parts), [*activated(names), "list controllers"])
 
 
@@ -58,16 +80,33 @@ def chained_controllers(size):
     """Pids and passthroughs by turns, each above the one before it, so that there are blanks for all."""
     claims = ["j0/position", *every("c{}/j0/position", range(size))]
     parts = [
-        controller(f"c{k}", "passthrough", [claims[k]]) if k % 2 else controller(f"c{k}", "pid", [claims[k]], ["j0/position"], "kp = 1\n")
-        for k in range(size)]
-    lines = [*activated(named("c", size)), "list controllers", "list interfaces", "switch best -c0", "switch strict -c0"]
+        controller(f"c{k}", "passthrough", [claims[k]])
+        if k % 2
+        else controller(f"c{k}", "pid", [claims[k]], ["j0/position"], "kp = 1\n")
+        for k in range(size)
+    ]
+    lines = [
+        *activated(named("c", size)),
+        "list controllers",
+        "list interfaces",
+        "switch best -c0",
+        "switch strict -c0",
+    ]
     return case(head(5) + arm() + "".join(parts), lines)
 
 
 def leaders(size):
     """Forwards that claim one reference each of one passthrough."""
-    parts = [controller("p", "passthrough", of_joints(size)), *(controller(f"f{k}", "forward", [f"p/j{k}/position"]) for k in range(size))]
-    lines = [*activated(["p", *named("f", size)]), *every("send {} 0.5", named("f", size)[-1:]), "switch best -p", "switch strict -p"]
+    parts = [
+        controller("p", "passthrough", of_joints(size)),
+        *(controller(f"f{k}", "forward", [f"p/j{k}/position"]) for k in range(size)),
+    ]
+    lines = [
+        *activated(["p", *named("f", size)]),
+        *every("send {} 0.5", named("f", size)[-1:]),
+        "switch best -p",
+        "switch strict -p",
+    ]
     return case(head(5) + arm(JOINTS) + "".join(parts), lines)
 
 
@@ -84,18 +123,28 @@ def references(size):
 def claims(size):
     """Forwards of as many claims as one may have, two of each kind of interface: one of them can be active."""
     wanted = [of_joints(COMMANDS)[k % COMMANDS] for k in range(size)]
-    parts = [controller(f"f{k // CLAIMS_OF_ONE}", "forward", wanted[k: k + CLAIMS_OF_ONE]) for k in range(0, size, CLAIMS_OF_ONE)]
-    return case(head() + arm(JOINTS, KINDS) + "".join(parts), [*activated(named("f", len(parts)), "best"), "list interfaces"])
+    parts = [
+        controller(f"f{k // CLAIMS_OF_ONE}", "forward", wanted[k : k + CLAIMS_OF_ONE])
+        for k in range(0, size, CLAIMS_OF_ONE)
+    ]
+    return case(
+        head() + arm(JOINTS, KINDS) + "".join(parts), [*activated(named("f", len(parts)), "best"), "list interfaces"]
+    )
 
 
 def claims_of_one(kind, size):
     mail = {"trajectory": "@5000 " + "0.5 " * size, "mock": "-0.5 " * size}.get(kind, "0.000001 " * size)
     described = head() + arm(JOINTS, KINDS[:2], KINDS[:2]) + of_type(kind, "x", size)
-    return case(described, [*activated(["x"]), *([f"send x {mail}"] if 0 < size <= CLAIMS_OF_ONE else []), "list interfaces"])
+    return case(
+        described, [*activated(["x"]), *([f"send x {mail}"] if 0 < size <= CLAIMS_OF_ONE else []), "list interfaces"]
+    )
 
 
 def reads(size):
-    parts = [controller(f"b{k // STATES}", "broadcaster", reads=of_joints(min(size - k, STATES))) for k in range(0, size, STATES)]
+    parts = [
+        controller(f"b{k // STATES}", "broadcaster", reads=of_joints(min(size - k, STATES)))
+        for k in range(0, size, STATES)
+    ]
     return case(head() + arm(JOINTS, (), KINDS) + "".join(parts), activated(named("b", len(parts))))
 
 
@@ -109,12 +158,14 @@ def fallbacks(size):
 
 
 def manager_rate(size):
-    pid = controller("p", "pid", ["j0/position"], ["j0/position"], 'kp = 1\nki = 1\nkd = 1\nimax = 5\n')
+    pid = controller("p", "pid", ["j0/position"], ["j0/position"], "kp = 1\nki = 1\nkd = 1\nimax = 5\n")
     return case(head(4, size) + arm() + pid, [*activated(["p"]), "send p 0.5"])
 
 
 def described_rate(size):
-    return case(head(4, RATE) + controller("m", "mock", more=f"update_rate = {size}\n"), [*activated(["m"]), "list controllers"])
+    return case(
+        head(4, RATE) + controller("m", "mock", more=f"update_rate = {size}\n"), [*activated(["m"]), "list controllers"]
+    )
 
 
 def cycles(size):
@@ -124,7 +175,15 @@ def cycles(size):
 def cycle_of_failures(size):
     failing = component("arm", [joint("j0")], f"fail_read = [{size}]\nfail_write = [{size + 1}]\n")
     mock = controller("m", "mock", more=f"not_ready = [0, {size}]\nfail_update = [{size + 1}]\n")
-    lines = ["session a", "load m", "configure m", f"await {size}", "switch strict +m", "switch strict +m", "list components"]
+    lines = [
+        "session a",
+        "load m",
+        "configure m",
+        f"await {size}",
+        "switch strict +m",
+        "switch strict +m",
+        "list components",
+    ]
     return case(head(min(size + 3, CYCLES)) + failing + mock, lines)
 
 
@@ -163,8 +222,13 @@ def quantity(key, size):
     values = [size, -size if may_be_negative else size]
     more = ["" if pid else f"{key} = {it}\n" for it in values]
     parts = [joint(f"j{k}", more=it if key == "vmax" else f"vmax = 1\n{it}") for k, it in enumerate(more)]
-    pids = [controller(f"p{k}", "pid", [f"j{k}/position"], [f"j{k}/position"], f"{key} = {values[k]}\n" if pid else "") for k in range(2)]
-    return case(head() + component("arm", parts) + "".join(pids), [*activated(["p0", "p1"]), "send p0 0.5", "send p1 -0.5"])
+    pids = [
+        controller(f"p{k}", "pid", [f"j{k}/position"], [f"j{k}/position"], f"{key} = {values[k]}\n" if pid else "")
+        for k in range(2)
+    ]
+    return case(
+        head() + component("arm", parts) + "".join(pids), [*activated(["p0", "p1"]), "send p0 0.5", "send p1 -0.5"]
+    )
 
 
 def decimals(size):
@@ -189,12 +253,20 @@ def listed_cycles(key, size):
 
 def names_in_a_description(what, size):
     """One of the names is so long, or all of them are."""
-    names = {it: it[0] * (size if what in (it, "all") else 1) for it in ("component", "joint", "passthrough", "forward", "session")}
+    names = {
+        it: it[0] * (size if what in (it, "all") else 1)
+        for it in ("component", "joint", "passthrough", "forward", "session")
+    }
     part, whose, above, below, who = names.values()
     described = head(4) + component(part, [joint(whose)]) + controller(above, "passthrough", [f"{whose}/position"])
     described += controller(below, "forward", [f"{above}/{whose}/position"])
     lines = [*activated([above, below]), f"send {below} 1", "list controllers", "list interfaces", "list components"]
-    lines += [f"hw {part} inactive", f"switch strict -{above}", f"switch best -{below} -{above}", f"switch best +{below} -nosuch"]
+    lines += [
+        f"hw {part} inactive",
+        f"switch strict -{above}",
+        f"switch best -{below} -{above}",
+        f"switch best +{below} -nosuch",
+    ]
     return case(described, [f"session {who}", *lines[1:]])
 
 

@@ -9,9 +9,22 @@ from ...tree import TOP
 
 REQUESTS, NO_CALLS = ("switch ", "hw "), ("session ", "schedule", "step ", "begin", "end", "#")
 KINDS = ("position", "velocity", "effort")
-TYPES = ("forward", "passthrough", "pid", "trajectory", "broadcaster", "mock", "transmission", "differential", "limiter")
-REQUIRED = {"transmission": "reduction = 1\n", "differential": "reduction1 = 1\nreduction2 = 1\n",
-            "limiter": "min = 0\nmax = 1\nvmax = 1\namax = 1\n"}
+TYPES = (
+    "forward",
+    "passthrough",
+    "pid",
+    "trajectory",
+    "broadcaster",
+    "mock",
+    "transmission",
+    "differential",
+    "limiter",
+)
+REQUIRED = {
+    "transmission": "reduction = 1\n",
+    "differential": "reduction1 = 1\nreduction2 = 1\n",
+    "limiter": "min = 0\nmax = 1\nvmax = 1\namax = 1\n",
+}
 cited = set()
 
 
@@ -27,10 +40,14 @@ def limit(path):
 
 @functools.cache
 def of_version(version, what):
-    """How much of this a description of this version may have, by the record of its limits; `MOST_` of it is the most in any."""
+    """How much of this a description of this version may have, by the record of its limits; `MOST_` of it is the most
+    in any.
+    """
     cited.add(f"cm_document::MOST_{what.upper()}")
     limits = (TOP / "crates/cm_document/src/limits.rt").read_text()
-    (said,) = re.findall(rf"(?ms)^pub const LIMITS_{version}: VersionLimits = VersionLimits {{.*?^    {what}: (\w+),$", limits)
+    (said,) = re.findall(
+        rf"(?ms)^pub const LIMITS_{version}: VersionLimits = VersionLimits {{.*?^    {what}: (\w+),$", limits
+    )
     return int(said) if said.isdecimal() else limit(f"cm_document::{said}")
 
 
@@ -44,7 +61,12 @@ def without_row():
     return [name for name in names if f"cm_document::{name}" not in cited]
 
 
-JOINTS, STATES, COMMANDS, CYCLES = of_first("joints"), of_first("states"), of_first("commands"), limit("cm_document::MOST_CYCLES")
+JOINTS, STATES, COMMANDS, CYCLES = (
+    of_first("joints"),
+    of_first("states"),
+    of_first("commands"),
+    limit("cm_document::MOST_CYCLES"),
+)
 CONTROLLERS, CLAIMS_OF_ONE = limit("cm_document::MOST_CONTROLLERS"), limit("cm_document::MOST_CLAIMS_OF_ONE")
 CALLS, SESSIONS = limit("cm_document::MOST_CALLS"), limit("cm_document::MOST_SESSIONS")
 LONGEST, LINE = limit("cm_document::LONGEST_DOCUMENT"), limit("cm_document::LONGEST_LINE")
@@ -56,7 +78,9 @@ NAME, ROUNDS = limit("iface_names::LONGEST_NAME"), limit("cm_words::MOST_ROUNDS"
 
 @dataclass
 class Case:
-    """A document with what the program must answer: so many lines, and so many of them that end with a text; or its fault."""
+    """A document with what the program must answer: so many lines, and so many of them that end with a text; or its
+    fault.
+    """
 
     text: str
     lines: int = 0
@@ -114,7 +138,12 @@ def every(line, names):
 
 def activated(names, how="strict"):
     """A script that loads these, configures them and switches them on together."""
-    return ["session a", *every("load {}", names), *every("configure {}", names), f"switch {how} " + " ".join(every("+{}", names))]
+    return [
+        "session a",
+        *every("load {}", names),
+        *every("configure {}", names),
+        f"switch {how} " + " ".join(every("+{}", names)),
+    ]
 
 
 def named(letter, size):

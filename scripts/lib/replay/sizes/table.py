@@ -7,8 +7,30 @@ from typing import Callable, Optional
 
 from . import calls, descriptions
 from .parts import (
-    BLANKS, CALLS, CLAIMS_OF_ONE, COMMANDS, CONTROLLERS, CYCLES, DECIMALS, DIGITS, JOINTS, LINE, LONGEST, NAME, RATE, ROUNDS,
-    SESSIONS, STATES, TOP, TYPES, UNITS, Case, limit, of_first, of_version)
+    BLANKS,
+    CALLS,
+    CLAIMS_OF_ONE,
+    COMMANDS,
+    CONTROLLERS,
+    CYCLES,
+    DECIMALS,
+    DIGITS,
+    JOINTS,
+    LINE,
+    LONGEST,
+    NAME,
+    RATE,
+    ROUNDS,
+    SESSIONS,
+    STATES,
+    TOP,
+    TYPES,
+    UNITS,
+    Case,
+    limit,
+    of_first,
+    of_version,
+)
 
 EACH = 130  # up to this limit each size is tried
 WHOLE = 2**32 - 1  # the largest whole of a description
@@ -16,9 +38,9 @@ WHOLE = 2**32 - 1  # the largest whole of a description
 
 @dataclass(frozen=True)
 class Row:
-    """What is counted; the most that there may be of it; the document of a size; the least size; and what is told of one more, and of
-    one less than the least. With `None` for that, no such document can be written. In it `{last}` is the number of the document's last
-    line, and `{session}` of the last one that begins a session."""
+    """What is counted; the most that there may be of it; the document of a size; the least size; and what is told of
+    one more, and of one less than the least. With `None` for that, no such document can be written. In it `{last}` is
+    the number of the document's last line, and `{session}` of the last one that begins a session."""
 
     what: str
     most: int
@@ -29,7 +51,11 @@ class Row:
 
     def sizes(self):
         steps = (self.least + (self.most - self.least) * tenth // 10 for tenth in range(11))
-        all_of_it = range(self.least, self.most + 1) if self.most <= EACH else (self.least, self.least + 1, self.least + 2, *steps)
+        all_of_it = (
+            range(self.least, self.most + 1)
+            if self.most <= EACH
+            else (self.least, self.least + 1, self.least + 2, *steps)
+        )
         beyond = [self.least - 1] * (self.below is not None) + [self.most + 1] * (self.above is not None)
         return sorted({*all_of_it, *beyond})
 
@@ -46,7 +72,12 @@ class Row:
 BAD_LINE, TOO_MANY = "script: bad_line {last}", "script: too_many {last}"
 PATHS = {key: f"component[0].joint[0].{key}" for key in ("vmax", "gain", "damping", "position", "velocity")}
 PATHS |= {key: f"controller[0].{key}" for key in ("kp", "ki", "kd", "imax", "omax")}
-LISTS = {"fail_read": "component[0]", "fail_write": "component[0]", "not_ready": "controller[0]", "fail_update": "controller[0]"}
+LISTS = {
+    "fail_read": "component[0]",
+    "fail_write": "component[0]",
+    "not_ready": "controller[0]",
+    "fail_update": "controller[0]",
+}
 USAGE = re.search(r"(?m)^    cm: (usage: .*)$", (TOP / "docs/TRACE.md").read_text())[1]
 NESTING = int(re.search(r"nesting\s+deeper\s+than\s+(\d+)", (TOP / "docs/FORMATS.md").read_text())[1])
 
@@ -83,7 +114,9 @@ def rows_of_descriptions():
     yield Row("reads", of_first("reads"), descriptions.reads, too_many("reads"))
     out_of_range = bad_range("controller[0].claims")
     for kind in ("forward", "passthrough", "trajectory"):
-        yield Row(f"claims of a {kind}", CLAIMS_OF_ONE, of(descriptions.claims_of_one, kind), out_of_range, 1, out_of_range)
+        yield Row(
+            f"claims of a {kind}", CLAIMS_OF_ONE, of(descriptions.claims_of_one, kind), out_of_range, 1, out_of_range
+        )
     yield Row("claims of a mock", CLAIMS_OF_ONE, of(descriptions.claims_of_one, "mock"), out_of_range)
     too_many_of_one = bad_range("controller[0].fallback")
     yield Row("fallbacks", limit("cm_document::MOST_FALLBACKS"), descriptions.fallbacks, too_many_of_one)
@@ -104,7 +137,13 @@ def rows_of_descriptions():
         yield Row(f"a cycle in {name}", WHOLE, of(descriptions.whole, name), bad_value(f"{path}.{name}[0]"))
         yield Row(f"length of {name}", (LONGEST - 1_000) // 2, of(descriptions.listed_cycles, name))
     joint, above, below = "component[0].joint[0]", "controller[0]", "controller[1]"
-    names = {"a component": "component[0]", "a joint": joint, "a passthrough": above, "a forward": below, "all": "component[0]"}
+    names = {
+        "a component": "component[0]",
+        "a joint": joint,
+        "a passthrough": above,
+        "a forward": below,
+        "all": "component[0]",
+    }
     for whose, path in names.items():
         fault = bad_value(f"{path}.name")
         yield Row(f"name of {whose}", NAME, of(descriptions.names_in_a_description, whose.split()[-1]), fault, 1, fault)
@@ -118,10 +157,16 @@ def rows_of_second():
     most = functools.partial(of_version, 2)
     second = functools.partial(of, descriptions.in_second)
     out_of_range = bad_range("component[0].joint")
-    yield Row("joints of the second version", most("joints"), second(descriptions.joints), too_many("joints"), 1, out_of_range)
+    yield Row(
+        "joints of the second version", most("joints"), second(descriptions.joints), too_many("joints"), 1, out_of_range
+    )
     for what, make in (("states", descriptions.states), ("commands", descriptions.commands)):
         yield Row(f"{what} of the second version", most(what), functools.partial(second(make), joints=most("joints")))
-    for what, make in (("references", descriptions.references), ("claims", descriptions.claims), ("reads", descriptions.reads)):
+    for what, make in (
+        ("references", descriptions.references),
+        ("claims", descriptions.claims),
+        ("reads", descriptions.reads),
+    ):
         yield Row(f"{what} of the second version", most(what), second(make), too_many(what))
 
 
