@@ -3,7 +3,8 @@ use Rattle.std.proofs.Common.{◌≡◌, ℕ, List, [], ◌∷◌, length, get_o
 use Rattle.std.specs.Prelude.{MatchOption}
 
 -- a list of two is the one at each of its indexes
-pub list_of_two : {A : Type 0} (xs : List A) (x y : A) → length xs ≡ 2 → x ≡ get_or xs 0 x → y ≡ get_or xs 1 y → xs ≡ x ∷ y ∷ []
+pub list_of_two : {A : Type 0} (xs : List A) (x y : A) → length xs ≡ 2 → x ≡ get_or xs 0 x → y ≡ get_or xs 1 y
+    → xs ≡ x ∷ y ∷ []
 list_of_two [] x y two first second = cc
 list_of_two (a ∷ []) x y two first second = cc
 list_of_two (a ∷ b ∷ []) x y two first second = cc

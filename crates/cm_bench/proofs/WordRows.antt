@@ -31,7 +31,8 @@ minus n ((some, (digit, rest)), fits, value) = omega (arith, digit)
 no_turns : IsNoPlan (codes "0" ∷ codes "7" ∷ [])
 no_turns plan (turns, seed, two, (some, (numeral, fits, value), second)) =
     let none : turns ≡ codes "0" = cc in
-    let zero : 0 ≡ plan.turns = subst (λ w. digits_value 10 (without_leading_plus w) ≡ plan.turns) none value in omega (arith, some, zero)
+    let zero : 0 ≡ plan.turns = subst (λ w. digits_value 10 (without_leading_plus w) ≡ plan.turns) none value in
+    omega (arith, some, zero)
 
 one_word : IsNoPlan (codes "1" ∷ [])
 one_word plan (turns, seed, two, rest) = cc

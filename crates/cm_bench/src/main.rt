@@ -1,4 +1,5 @@
-//! Times the fast bodies of the crates below beside plain ones, in one run over the same numbers, and compares their answers.
+//! Times the fast bodies of the crates below beside plain ones, in one run over the same numbers, and compares their
+//! answers.
 #![tactic(auto)]
 
 use bodies::{FastMul, FastOver, PlainMul, PlainOver};
@@ -34,8 +35,8 @@ mod words;
 mod workers;
 mod working;
 
-/// Compares the bodies, or times live runs, or runs by several workers. The status is 0 if all answers were the same, 1 if some differ or a call
-/// failed, and 2 for words that are no plan.
+/// Compares the bodies, or times live runs, or runs by several workers. The status is 0 if all answers were the same, 1
+/// if some differ or a call failed, and 2 for words that are no plan.
 fn main(rt: HostRuntime) -> anyhow::Result<ExitCode> {
     let words: Vec<String> = env::args(&rt)?.skip(1).collect(rt.alloc())?;
     let asked = asked(words.as_slice());

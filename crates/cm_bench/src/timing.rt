@@ -145,7 +145,8 @@ fn agree<C, P: Contender<C>, F: Contender<C>>(
     Ok(true)
 }
 
-/// One turn at each case, the answers added to the sum so far: so no round is the same call as another, and none is left out.
+/// One turn at each case, the answers added to the sum so far: so no round is the same call as another, and none is
+/// left out.
 fn round<C, B: Contender<C>>(cases: &[C], body: &mut B, mut sum: i64) -> Result<i64, Memory> {
     for case in cases {
         sum = sum.wrapping_add(body.turn(case)?);

@@ -16,8 +16,8 @@ const CONTROLLERS: u32 = MOST_WORKING;
 /// The cycles of a run.
 const CYCLES: u32 = 200;
 
-/// Prints how long a cycle takes at the least of so many runs, by 1, 2, 4 and 8 workers, whose controllers do next to nothing, and compute
-/// for 20, for 100 and for 500 microseconds.
+/// Prints how long a cycle takes at the least of so many runs, by 1, 2, 4 and 8 workers, whose controllers do next to
+/// nothing, and compute for 20, for 100 and for 500 microseconds.
 pub fn tell_workers<R>(rt: &R, runs: u64) -> anyhow::Result<()>
 where
     R: Clock + Print + AllocGlobal + Threads + Wait + Sync,

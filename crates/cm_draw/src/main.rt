@@ -1,5 +1,5 @@
-//! The program `cm_draw`: a document from standard input, and to standard output a page of SVG that shows its run, or what went
-//! wrong in it in words.
+//! The program `cm_draw`: a document from standard input, and to standard output a page of SVG that shows its run, or
+//! what went wrong in it in words.
 #![tactic(auto)]
 
 ghost use Rattle.std.specs.Prelude.{◌≡◌, ◌≤◌, length};
@@ -97,8 +97,8 @@ fn draw_over<S: Source, K: Sink, C: Controller>(
     draw(alloc, asked, source, sink, Stock::make(blanks))
 }
 
-/// What the words after the program's name ask for: the job, `run` where none is named, and behind it `--why`, or `--name` and the
-/// document's name.
+/// What the words after the program's name ask for: the job, `run` where none is named, and behind it `--why`, or
+/// `--name` and the document's name.
 fn asked_of<E: Env + AllocGlobal>(rt: &E) -> Result<Asked, Status> {
     let Ok(args) = env::args(rt) else {
         return Err(Status::BadWords);

@@ -7,8 +7,8 @@ use cm_top::Status;
 use std::fmt;
 use std::io::Eprint;
 
-/// Tells a status that is not `Ok` on standard error, and gives the number that the program ends with. Whether the line could be
-/// written changes nothing.
+/// Tells a status that is not `Ok` on standard error, and gives the number that the program ends with. Whether the line
+/// could be written changes nothing.
 pub fn report<R: Eprint>(rt: &R, status: &Status) -> u8
     ensures { result ≡ code_of status.now }
 {
@@ -18,7 +18,8 @@ pub fn report<R: Eprint>(rt: &R, status: &Status) -> u8
     status.code()
 }
 
-/// The line on standard error for a status other than `Ok`. It prints without a string of its own, as memory may have run out.
+/// The line on standard error for a status other than `Ok`. It prints without a string of its own, as memory may have
+/// run out.
 #[derive(Clone, Copy)]
 struct Line<'a>(&'a Status);
 

@@ -41,8 +41,8 @@ where
     Ok(run_over(rt, words, source, sink, blanks))
 }
 
-/// Runs the words over a stock of these blanks, so many of each kind. The history is left to the system, which takes it back at once when
-/// the program ends: to free each entry would take as long as a tenth of a run.
+/// Runs the words over a stock of these blanks, so many of each kind. The history is left to the system, which takes it
+/// back at once when the program ends: to free each entry would take as long as a tenth of a run.
 fn run_over<R, S, K, C>(
     rt: &R,
     words: &[String],

@@ -1,4 +1,5 @@
-//! The run of an accepted document on one thread: its job is made, its trace or summary written, and its book handed out.
+//! The run of an accepted document on one thread: its job is made, its trace or summary written, and its book handed
+//! out.
 
 ghost use Rattle.std.specs.Prelude.{◌≡◌, ◌≢◌, ◌⊎◌, option_map, true, Err, IfOk, None, OnErr, OnOk, Some};
 ghost use Rattle.std.specs.Io.KnownBytes.{Appends, Keeps};
@@ -25,7 +26,8 @@ use std::thread::Threads;
 use summary_text::write_summary;
 use trace_text::{OutFault, write_trace};
 
-/// Runs an accepted document by the job `run` or `steps` on one thread, writes its trace or its summary, and hands out its book.
+/// Runs an accepted document by the job `run` or `steps` on one thread, writes its trace or its summary, and hands out
+/// its book.
 pub fn run_document<K: Sink, C: Controller>(
     alloc: Global,
     asked: cm_words::Job,

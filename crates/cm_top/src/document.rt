@@ -1,6 +1,7 @@
 //! The document that some bytes are: description and script, each accepted or told by its first fault.
 
-ghost use Rattle.std.specs.Prelude.{◌≡◌, ◌≢◌, ◌+◌, ◌<◌, ◌≤◌, ◌^◌, length, option_map, unwrap_or, Ok, Err, IfOk, IfErr, MatchResult};
+ghost use Rattle.std.specs.Prelude.{◌≡◌, ◌≢◌, ◌+◌, ◌<◌, ◌≤◌, ◌^◌, length, option_map};
+ghost use Rattle.std.specs.Prelude.{unwrap_or, Ok, Err, IfOk, IfErr, MatchResult};
 ghost use Rattle.sequence.specs.Answers.{Answers};
 ghost use Rattle.cm_document.specs.declared.limits.TheConstants.{LONGEST_DOCUMENT};
 ghost use Rattle.cm_document.specs.Reading.{fault_as};
@@ -45,7 +46,8 @@ pub struct Traced<'a> {
     pub trace: &'a [u8],
 }
 
-/// The document with its trace that these bytes are, or its first fault. The fault of a trace that is missing comes last.
+/// The document with its trace that these bytes are, or its first fault. The fault of a trace that is missing comes
+/// last.
 #[tactic(auto, unfolding(cm_document::specs::Document::document_of, crate::specs::Traced::traced))]
 pub fn read_traced(alloc: Global, bytes: &[u8]) -> Result<Traced<'_>, DocumentFault>
     requires { length bytes.now ≤ LONGEST_DOCUMENT }

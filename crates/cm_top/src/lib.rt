@@ -1,5 +1,5 @@
-//! From words and bytes to bytes: a document is read, the job of the words is run, the trace is written, and the book of the run is
-//! handed out.
+//! From words and bytes to bytes: a document is read, the job of the words is run, the trace is written, and the book
+//! of the run is handed out.
 #![tactic(auto)]
 
 pub use accepted::run_document;

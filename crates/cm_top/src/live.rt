@@ -1,6 +1,8 @@
-//! The job `live`: the loop and the sessions beside one another, each on a thread of its own, over one desk that they share.
+//! The job `live`: the loop and the sessions beside one another, each on a thread of its own, over one desk that they
+//! share.
 
-ghost use Rattle.std.specs.Prelude.{◌≡◌, ◌≢◌, ◌+◌, ◌≤◌, ◌++◌, All, length, map, option_map, vec_capacity, vec_len, IfOk, None};
+ghost use Rattle.std.specs.Prelude.{◌≡◌, ◌≢◌, ◌+◌, ◌≤◌, ◌++◌, All, length, map};
+ghost use Rattle.std.specs.Prelude.{option_map, vec_capacity, vec_len, IfOk, None};
 ghost use Rattle.cm_document.specs.ScriptLaws.{MeetsRules};
 ghost use Rattle.cm_document.specs.declared.document.Document.{Document};
 ghost use Rattle.cm_words.specs.declared.job.Job.{Job};
@@ -64,7 +66,8 @@ where
     }
 }
 
-/// The desk of a live run over a checked description and a script, once the loop and all sessions have come to their ends.
+/// The desk of a live run over a checked description and a script, once the loop and all sessions have come to their
+/// ends.
 fn made<R, P, G, C>(
     rt: &R,
     alloc: Global,
@@ -95,7 +98,8 @@ where
     Ok(shared.home(looping, passes))
 }
 
-/// The loop and all sessions over a shared desk, to their ends: their passes come back. So many workers compute a flight.
+/// The loop and all sessions over a shared desk, to their ends: their passes come back. So many workers compute a
+/// flight.
 fn run_over<R, P, G, C>(
     rt: &R,
     alloc: Global,

@@ -15,8 +15,8 @@ use make_document::make_document;
 use outside_io::{ReadFault, Source, read_whole};
 use std::alloc::Global;
 
-/// The document of a job, which is read, or made of so many rounds; or the status with which the run ends. A made document reads
-/// nothing.
+/// The document of a job, which is read, or made of so many rounds; or the status with which the run ends. A made
+/// document reads nothing.
 pub fn read_job<S: Source>(
     alloc: Global,
     make: Option<u32>,

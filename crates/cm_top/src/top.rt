@@ -30,11 +30,12 @@ use std::thread::Threads;
 
 /// Runs the job of the words, which are those after the program's name.
 ///
-/// Reads the source to its end, checks description and script, runs the job over the stock, writes the trace and flushes it, and hands
-/// out the book. With a number of rounds the document is made, nothing is read, and the summary is written. Nothing is written before
-/// the job has run. As many workers as the words ask for share each cycle. A live run calls the pace behind each cycle and the gate at its
-/// points; other jobs call neither. An upgrade runs nothing: it writes the description as one of the second version, and hands out no book.
-/// Nor do a check, which judges the trace behind the script, and a plan, which writes the script that starts the controllers it wants.
+/// Reads the source to its end, checks description and script, runs the job over the stock, writes the trace and
+/// flushes it, and hands out the book. With a number of rounds the document is made, nothing is read, and the summary
+/// is written. Nothing is written before the job has run. As many workers as the words ask for share each cycle. A live
+/// run calls the pace behind each cycle and the gate at its points; other jobs call neither. An upgrade runs nothing:
+/// it writes the description as one of the second version, and hands out no book. Nor do a check, which judges the
+/// trace behind the script, and a plan, which writes the script that starts the controllers it wants.
 #[tactic(auto, using(crate::proofs::ReadLemmas::untouched_minds_faults))]
 pub fn run<R, S, K, P, G, C>(
     rt: &R,

@@ -1,6 +1,8 @@
-//! Documents of plans: the script has one session with one call, a strict switch that activates controllers by their names.
+//! Documents of plans: the script has one session with one call, a strict switch that activates controllers by their
+//! names.
 
-ghost use Rattle.std.specs.Prelude.{◌≡◌, ◌+◌, ◌<◌, ◌≤◌, ◌^◌, length, [], None, Some, Ok, Err, option_map, unwrap_or, IfErr, IfOk};
+ghost use Rattle.std.specs.Prelude.{◌≡◌, ◌+◌, ◌<◌, ◌≤◌, ◌^◌, length, [], None, Some};
+ghost use Rattle.std.specs.Prelude.{Ok, Err, option_map, unwrap_or, IfErr, IfOk};
 ghost use Rattle.sequence.specs.Answers.{Answers};
 ghost use Rattle.cm_document.specs.Lines.{raw_lines};
 ghost use Rattle.cm_document.specs.Picks.{picked_names};
@@ -32,7 +34,8 @@ enum Stage {
     Asked,
 }
 
-/// The document that these bytes are for a plan, or its first fault: what breaks a script of a plan counts behind all else.
+/// The document that these bytes are for a plan, or its first fault: what breaks a script of a plan counts behind all
+/// else.
 #[tactic(auto, unfolding(crate::specs::Wished::wished), using(crate::proofs::PlainLemmas::plain_faults))]
 pub fn read_wish(alloc: Global, bytes: &[u8]) -> Result<Document, DocumentFault>
     requires { length bytes.now ≤ LONGEST_DOCUMENT }

@@ -29,12 +29,17 @@ written_lines [] written = tt
 written_lines (call ∷ lines) written = (written_line call written.0, written_lines lines written.1)
 
 -- the lines of each session can be numbered, where there are few in all
-sessions_lines : (sessions : List SessionText) → AllByRecursion IsSession sessions → sum_by (λ t. length t.lines) sessions ≤ MOST_CALLS → AllByRecursion (λ t. AreLines t.lines) sessions
+sessions_lines : (sessions : List SessionText) → AllByRecursion IsSession sessions
+    → sum_by (λ t. length t.lines) sessions ≤ MOST_CALLS → AllByRecursion (λ t. AreLines t.lines) sessions
 sessions_lines [] rules few = tt
 sessions_lines (t ∷ sessions) rules few =
-    let all = sum_by-cons (λ (u : SessionText). length u.lines) t sessions in
-    (record { each = written_lines t.lines rules.0.written; few = omega (arith, few, all) }, sessions_lines sessions rules.1 (omega (arith, few, all)))
+    let all = sum_by-cons (λ (u : SessionText). length u.lines) t sessions in (
+      record { each = written_lines t.lines rules.0.written; few = omega (arith, few, all) },
+      sessions_lines sessions rules.1 (omega (arith, few, all)),
+    )
 
 -- so each session of a script that meets the rules has lines that it can make
 pub rules_lines : (s : Script) → MeetsRules s → All (λ t. AreLines t.lines) s.sessions
-rules_lines s rules = All-from_recursion (λ (t : SessionText). AreLines t.lines) s.sessions (sessions_lines s.sessions rules.sessions (omega (arith, rules.few_calls)))
+rules_lines s rules =
+    All-from_recursion (λ (t : SessionText). AreLines t.lines) s.sessions
+    (sessions_lines s.sessions rules.sessions (omega (arith, rules.few_calls)))

@@ -23,7 +23,8 @@ use std::alloc::Global;
 use std::marker::Model;
 use std::thread::Threads;
 
-/// How far a run has come: its desk, with the history, where each session stands, and the flight of the cycle that is aloft, where one is.
+/// How far a run has come: its desk, with the history, where each session stands, and the flight of the cycle that is
+/// aloft, where one is.
 #[derive(Drop)]
 pub struct RunningJob<C: Controller> {
     desk: Desk<C>,
@@ -170,8 +171,8 @@ impl<C: Controller> RunningJob<C> {
         !self.desk.aloft() && !self.desk.closed()
     }
 
-    /// The loop makes its next call, if it has one left: the end of the cycle that is aloft, else the begin of the next one, and behind the
-    /// last the close.
+    /// The loop makes its next call, if it has one left: the end of the cycle that is aloft, else the begin of the next
+    /// one, and behind the last the close.
     pub fn go_on(&mut self, alloc: Global) -> Result<(), Memory>
         ensures { OnOk result (GoesOn looped_on self.old self.new) }
     {
@@ -186,7 +187,8 @@ impl<C: Controller> RunningJob<C> {
         Ok(self.close())
     }
 
-    /// Whether nobody has a call left: each session has made its lines and was told of its tickets, and the loop is closed.
+    /// Whether nobody has a call left: each session has made its lines and was told of its tickets, and the loop is
+    /// closed.
     pub fn is_through(&self) -> bool
         ensures { result ≡ are_through self.now.sessions && (now_of self.now.desk).closed }
     {

@@ -1,4 +1,5 @@
-//! Turns over a desk: the console of a session, how sessions and loop go on, and the jobs of one thread or of several workers.
+//! Turns over a desk: the console of a session, how sessions and loop go on, and the jobs of one thread or of several
+//! workers.
 #![tactic(auto)]
 
 pub use jobs::RunningJob;

@@ -3,7 +3,8 @@
 ghost use Rattle.std.specs.Prelude.{◌≡◌, ◌<◌, ◌^◌, length, IfOk, OnOk};
 ghost use Rattle.std.specs.List.{All};
 ghost use Rattle.cm_document.specs.declared.call.Call.TheVariants as call;
-ghost use Rattle.cm_model.specs.Scheduled.{settle_all, looped, with_cycle, start, cycles, finish, turned, turns, landed, cycles_left};
+ghost use Rattle.cm_model.specs.Scheduled.{settle_all, looped, with_cycle, start, cycles};
+ghost use Rattle.cm_model.specs.Scheduled.{finish, turned, turns, landed, cycles_left};
 ghost use Rattle.cm_model.specs.State.{boot};
 ghost use Rattle.cm_desk.specs.Desk.{now_of};
 ghost use Rattle.console_session.specs.Sessions.{AreLines};
@@ -17,8 +18,8 @@ use fixed_num::Memory;
 use std::alloc::Global;
 use std::thread::Threads;
 
-/// A job in its moves, for functions that take a closure over it. A closure over a type parameter can be stated; one over a job, whose
-/// facts are its controllers', cannot.
+/// A job in its moves, for functions that take a closure over it. A closure over a type parameter can be stated; one
+/// over a job, whose facts are its controllers', cannot.
 pub(crate) trait Moves: Sized {
     // How far it has come.
     ghost facts: { Self → JobFacts };

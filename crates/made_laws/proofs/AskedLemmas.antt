@@ -1,11 +1,13 @@
 -- What a session and the loop do where no request waits, and where one does.
-use Rattle.std.proofs.Common.{◌≡◌, ℕ, zero, suc, ◌+◌, ◌<◌, Bool, false, List, [], ◌∷◌, ◌++◌, length, drop, Option, Some, None, option_map, refl, sym, ap, ◌∙◌, arith, length-append}
+use Rattle.std.proofs.Common.{◌≡◌, ℕ, zero, suc, ◌+◌, ◌<◌, Bool, false, List, [], ◌∷◌, ◌++◌, length, drop}
+use Rattle.std.proofs.Common.{Option, Some, None, option_map, refl, sym, ap, ◌∙◌, arith, length-append}
 use Rattle.std.specs.Prelude.{◌||◌, not, nat_le, slice_get}
 use Rattle.std.proofs.lemmas.Bool.{lt-ltb, le-ltb}
 use Rattle.std.proofs.lemmas.List.{drop_all}
 use Rattle.cm_document.specs.declared.call.Call.TheVariants as call
 use Rattle.cm_document.specs.declared.call.SwitchRequest.{SwitchRequest}
-use Rattle.cm_model.specs.Boundary.{waiting, concluded, with_outcome, all_concluded, boundary, decisions_from, decisions_between}
+use Rattle.cm_model.specs.Boundary.{waiting, concluded, with_outcome, all_concluded}
+use Rattle.cm_model.specs.Boundary.{boundary, decisions_from, decisions_between}
 use Rattle.cm_model.specs.Console.{unless_refused}
 use Rattle.cm_model.specs.Machine.{effect, answered, step}
 use Rattle.cm_model.specs.State.{State, Loaded}
@@ -49,74 +51,92 @@ with_request asked r = record asked { requests = asked.requests ++ r ∷ [] }
 abbrev pub with_done : Asked → Asked
 with_done asked = record asked { outcomes = asked.outcomes ++ outcome.Done [] ∷ [] }
 
-pub one_more : (asked : Asked) (r : Request) (count : ℕ) → AreDecided asked count → AreDecided (with_done (with_request asked r)) (count + 1)
+pub one_more : (asked : Asked) (r : Request) (count : ℕ) → AreDecided asked count
+    → AreDecided (with_done (with_request asked r)) (count + 1)
 one_more asked r count are =
     let longer = length-append asked.requests (r ∷ []) in
     let told = length-append asked.outcomes (outcome.Done [] ∷ []) in
     record { requests = omega (arith, longer, are.requests); outcomes = omega (arith, told, are.outcomes) }
 
-module _ (cycles : ℕ) (loaded : List Loaded) (h : Held) (asked : Asked) (n count : ℕ) (are : AreDecided asked count) where
-  abbrev here : State
-  here = between cycles loaded h asked n
+module _ (cycles : ℕ) (loaded : List Loaded) (h : Held) (asked : Asked) (n count : ℕ) (are : AreDecided asked count)
+  where
+    abbrev here : State
+    here = between cycles loaded h asked n
 
-  pub none_waits : waiting here ≡ []
-  none_waits = drop_all (length asked.outcomes) asked.requests (omega (arith, are.requests, are.outcomes))
+    pub none_waits : waiting here ≡ []
+    none_waits = drop_all (length asked.outcomes) asked.requests (omega (arith, are.requests, are.outcomes))
 
-  same_count : length asked.requests ≡ length asked.outcomes
-  same_count = are.requests ∙ sym are.outcomes
+    same_count : length asked.requests ≡ length asked.outcomes
+    same_count = are.requests ∙ sym are.outcomes
 
-  -- ---- The session
+    -- ---- The session
 
-  -- a switch is taken
-  pub switch_taken : (r : SwitchRequest) → step here 0 (call.Switch r) ≡ Some (between cycles loaded h (with_request asked (request.Switch r)) n, reply.Queued count)
-  switch_taken r =
-      step_when here 0 (call.Switch r) refl
-      ∙ ap (λ (ws : List Request). (let given : Reply = unless_refused ((false, why.LoopEnded) ∷ (nat_le MOST_WAITING (length ws), why.QueueFull) ∷ []) (reply.Queued (length asked.requests)) in
-      Some (effect here (call.Switch r) given, given))) none_waits
-      ∙ ap (λ k. Some (between cycles loaded h (with_request asked (request.Switch r)) n, reply.Queued k)) are.requests
+    -- a switch is taken
+    pub switch_taken : (r : SwitchRequest)
+        → step here 0 (call.Switch r)
+        ≡ Some (between cycles loaded h (with_request asked (request.Switch r)) n, reply.Queued count)
+    switch_taken r =
+        step_when here 0 (call.Switch r) refl
+        ∙ ap (λ (ws : List Request).
+        (let given : Reply =
+        unless_refused ((false, why.LoopEnded) ∷ (nat_le MOST_WAITING (length ws), why.QueueFull) ∷ [])
+        (reply.Queued (length asked.requests)) in
+        Some (effect here (call.Switch r) given, given))) none_waits
+        ∙ ap (λ k. Some (between cycles loaded h (with_request asked (request.Switch r)) n, reply.Queued k))
+        are.requests
 
-  -- it is not told yet
-  pub not_told : (r : Request) → step (between cycles loaded h (with_request asked r) n) 0 (call.Told count) ≡ None
-  not_told r = step_unless (between cycles loaded h (with_request asked r) n) 0 (call.Told count) (le-ltb count (length asked.outcomes) (omega (arith, are.outcomes)))
+    -- it is not told yet
+    pub not_told : (r : Request) → step (between cycles loaded h (with_request asked r) n) 0 (call.Told count) ≡ None
+    not_told r =
+        step_unless (between cycles loaded h (with_request asked r) n) 0 (call.Told count)
+        (le-ltb count (length asked.outcomes) (omega (arith, are.outcomes)))
 
-  -- once it is done, it is told
-  pub told_done : (r : Request) → step (between cycles loaded h (with_done (with_request asked r)) n) 0 (call.Told count)
-      ≡ Some (between cycles loaded h (with_done (with_request asked r)) n, reply.Outcome (outcome.Done []))
-  told_done r =
-      let s : State = between cycles loaded h (with_done (with_request asked r)) n in
-      let longer = length-append asked.outcomes (outcome.Done [] ∷ []) in
-      step_when s 0 (call.Told count) (lt-ltb count (length (asked.outcomes ++ outcome.Done [] ∷ [])) (omega (arith, longer, are.outcomes)))
-      ∙ ap (λ (o : Option Outcome). option_map (answered s (call.Told count)) (option_map (λ became. reply.Outcome became) o)) (last_found asked.outcomes (outcome.Done []) count are.outcomes)
+    -- once it is done, it is told
+    pub told_done : (r : Request)
+        → step (between cycles loaded h (with_done (with_request asked r)) n) 0 (call.Told count)
+        ≡ Some (between cycles loaded h (with_done (with_request asked r)) n, reply.Outcome (outcome.Done []))
+    told_done r =
+        let s : State = between cycles loaded h (with_done (with_request asked r)) n in
+        let longer = length-append asked.outcomes (outcome.Done [] ∷ []) in
+        step_when s 0 (call.Told count)
+        (lt-ltb count (length (asked.outcomes ++ outcome.Done [] ∷ [])) (omega (arith, longer, are.outcomes)))
+        ∙ ap (λ (o : Option Outcome). option_map (answered s (call.Told count))
+        (option_map (λ became. reply.Outcome became) o))
+        (last_found asked.outcomes (outcome.Done []) count are.outcomes)
 
-  -- so many cycles have ended
-  pub await_over : step here 0 (call.Await n) ≡ Some (here, reply.Done)
-  await_over = step_when here 0 (call.Await n) (ap (λ (b : Bool). not b || false) (le-ltb n n (omega arith)))
+    -- so many cycles have ended
+    pub await_over : step here 0 (call.Await n) ≡ Some (here, reply.Done)
+    await_over = step_when here 0 (call.Await n) (ap (λ (b : Bool). not b || false) (le-ltb n n (omega arith)))
 
-  pub await_longer : (m : ℕ) → n < m → step here 0 (call.Await m) ≡ None
-  await_longer m later = step_unless here 0 (call.Await m) (ap (λ (b : Bool). not b || false) (lt-ltb n m later))
+    pub await_longer : (m : ℕ) → n < m → step here 0 (call.Await m) ≡ None
+    await_longer m later = step_unless here 0 (call.Await m) (ap (λ (b : Bool). not b || false) (lt-ltb n m later))
 
-  -- ---- The begin
+    -- ---- The begin
 
-  -- nothing is decided
-  pub nothing_decided : boundary here ≡ here
-  unfolding all_concluded
-  nothing_decided = ap (all_concluded here) none_waits
+    -- nothing is decided
+    pub nothing_decided : boundary here ≡ here
+    unfolding all_concluded
+    nothing_decided = ap (all_concluded here) none_waits
 
-  pub nothing_told : decisions_between here (boundary here) ≡ []
-  nothing_told =
-      ap (λ (s : State). decisions_between here s) nothing_decided
-      ∙ ap (decisions_from (length asked.outcomes)) (drop_all (length asked.outcomes) asked.outcomes (omega arith))
+    pub nothing_told : decisions_between here (boundary here) ≡ []
+    nothing_told =
+        ap (λ (s : State). decisions_between here s) nothing_decided
+        ∙ ap (decisions_from (length asked.outcomes)) (drop_all (length asked.outcomes) asked.outcomes (omega arith))
 
-  -- one request is decided
-  pub one_waits : (r : Request) → waiting (between cycles loaded h (with_request asked r) n) ≡ r ∷ []
-  one_waits r = left_behind asked.requests (r ∷ []) (length asked.outcomes) same_count
+    -- one request is decided
+    pub one_waits : (r : Request) → waiting (between cycles loaded h (with_request asked r) n) ≡ r ∷ []
+    one_waits r = left_behind asked.requests (r ∷ []) (length asked.outcomes) same_count
 
-  pub one_decided : (r : Request) → boundary (between cycles loaded h (with_request asked r) n) ≡ with_outcome (concluded (between cycles loaded h (with_request asked r) n) r)
-  unfolding all_concluded
-  one_decided r = ap (all_concluded (between cycles loaded h (with_request asked r) n)) (one_waits r)
+    pub one_decided : (r : Request)
+        → boundary (between cycles loaded h (with_request asked r) n)
+        ≡ with_outcome (concluded (between cycles loaded h (with_request asked r) n) r)
+    unfolding all_concluded
+    one_decided r = ap (all_concluded (between cycles loaded h (with_request asked r) n)) (one_waits r)
 
-  pub one_told : (r : Request) (after : State) → after.outcomes ≡ asked.outcomes ++ outcome.Done [] ∷ []
-      → decisions_between (between cycles loaded h (with_request asked r) n) after ≡ record { ticket = Some (length asked.outcomes); outcome = outcome.Done [] } ∷ []
-  one_told r after is =
-      ap (λ (os : List Outcome). decisions_from (length asked.outcomes) (drop (length asked.outcomes) os)) is
-      ∙ ap (decisions_from (length asked.outcomes)) (left_behind asked.outcomes (outcome.Done [] ∷ []) (length asked.outcomes) refl)
+    pub one_told : (r : Request) (after : State) → after.outcomes ≡ asked.outcomes ++ outcome.Done [] ∷ []
+        → decisions_between (between cycles loaded h (with_request asked r) n) after
+        ≡ record { ticket = Some (length asked.outcomes); outcome = outcome.Done [] } ∷ []
+    one_told r after is =
+        ap (λ (os : List Outcome). decisions_from (length asked.outcomes) (drop (length asked.outcomes) os)) is
+        ∙ ap (decisions_from (length asked.outcomes))
+        (left_behind asked.outcomes (outcome.Done [] ∷ []) (length asked.outcomes) refl)

@@ -40,7 +40,8 @@ pub record Adds (r : Reply) (cycles updates done : ℕ) : Type 0 where
   pub refused_same : (c : Counted) → (with_reply r c).refused ≡ c.refused
   pub ended_same : (c : Counted) → (with_reply r c).ended ≡ c.ended
 
-one_behind : (made : List Entry) (e : Entry) (c : Counted) → with_entries (made ++ e ∷ []) c ≡ count.with_entry e (with_entries made c)
+one_behind : (made : List Entry) (e : Entry) (c : Counted)
+    → with_entries (made ++ e ∷ []) c ≡ count.with_entry e (with_entries made c)
 one_behind [] e c = refl
 one_behind (first ∷ made) e c = one_behind made e (count.with_entry first c)
 
@@ -48,14 +49,18 @@ one_over : (n : ℕ) → n + 1 ≡ suc n
 one_over n = omega arith
 
 -- an entry more
-pub entry_counts : (made : List Entry) (who : ℕ) (call : Call) (r : Reply) (cycles entries updates done c u d : ℕ) → Adds r c u d
-    → Counts made cycles entries updates done → Counts (with_entry made who call r) (plus c cycles) (suc entries) (plus u updates) (plus d done)
+pub entry_counts : (made : List Entry) (who : ℕ) (call : Call) (r : Reply) (cycles entries updates done c u d : ℕ)
+    → Adds r c u d
+    → Counts made cycles entries updates done
+    → Counts (with_entry made who call r) (plus c cycles) (suc entries) (plus u updates) (plus d done)
 entry_counts made who call r cycles entries updates done c u d adds so_far =
     let next = one_behind made (record { who = who; call = call; reply = r }) nothing in
     let before : Counted = record (counted made) { entries = (counted made).entries + 1 } in
     record {
       of_cycles = ap (λ (c : Counted). c.cycles) next ∙ adds.cycles_more before ∙ ap (plus c) so_far.of_cycles;
-      of_entries = ap (λ (c : Counted). c.entries) next ∙ adds.entries_same before ∙ one_over (counted made).entries ∙ ap suc so_far.of_entries;
+      of_entries =
+          ap (λ (c : Counted). c.entries) next ∙ adds.entries_same before ∙ one_over (counted made).entries
+          ∙ ap suc so_far.of_entries;
       of_updates = ap (λ (c : Counted). c.updates) next ∙ adds.updates_more before ∙ ap (plus u) so_far.of_updates;
       of_done = ap (λ (c : Counted). c.done) next ∙ adds.done_more before ∙ ap (plus d) so_far.of_done;
       none_refused = ap (λ (c : Counted). c.refused) next ∙ adds.refused_same before ∙ so_far.none_refused;
@@ -65,25 +70,87 @@ entry_counts made who call r cycles entries updates done c u d adds so_far =
 -- ---- What the replies of a made run add
 
 pub serial_adds : (serial : ℕ) → Adds (reply.Serial serial) 0 0 0
-serial_adds serial = record { cycles_more = λ c. refl; entries_same = λ c. refl; updates_more = λ c. refl; done_more = λ c. refl; refused_same = λ c. refl; ended_same = λ c. refl }
+serial_adds serial =
+    record {
+      cycles_more = λ c. refl;
+      entries_same = λ c. refl;
+      updates_more = λ c. refl;
+      done_more =
+          λ c. refl;
+      refused_same = λ c. refl;
+      ended_same = λ c. refl;
+    }
 
 pub done_adds : Adds reply.Done 0 0 0
-done_adds = record { cycles_more = λ c. refl; entries_same = λ c. refl; updates_more = λ c. refl; done_more = λ c. refl; refused_same = λ c. refl; ended_same = λ c. refl }
+done_adds = record {
+  cycles_more = λ c. refl;
+  entries_same = λ c. refl;
+  updates_more = λ c. refl;
+  done_more = λ c. refl;
+  refused_same =
+      λ c. refl;
+  ended_same = λ c. refl;
+}
 
 pub queued_adds : (ticket : ℕ) → Adds (reply.Queued ticket) 0 0 0
-queued_adds ticket = record { cycles_more = λ c. refl; entries_same = λ c. refl; updates_more = λ c. refl; done_more = λ c. refl; refused_same = λ c. refl; ended_same = λ c. refl }
+queued_adds ticket =
+    record {
+      cycles_more = λ c. refl;
+      entries_same = λ c. refl;
+      updates_more = λ c. refl;
+      done_more =
+          λ c. refl;
+      refused_same = λ c. refl;
+      ended_same = λ c. refl;
+    }
 
 pub told_adds : Adds (reply.Outcome (outcome.Done [])) 0 0 0
-told_adds = record { cycles_more = λ c. refl; entries_same = λ c. refl; updates_more = λ c. refl; done_more = λ c. refl; refused_same = λ c. refl; ended_same = λ c. refl }
+told_adds = record {
+  cycles_more = λ c. refl;
+  entries_same = λ c. refl;
+  updates_more = λ c. refl;
+  done_more = λ c. refl;
+  refused_same =
+      λ c. refl;
+  ended_same = λ c. refl;
+}
 
 -- no decision, and that of one request that is carried out
 pub nothing_adds : Adds (reply.Decisions []) 0 0 0
-nothing_adds = record { cycles_more = λ c. refl; entries_same = λ c. refl; updates_more = λ c. refl; done_more = λ c. refl; refused_same = λ c. refl; ended_same = λ c. refl }
+nothing_adds =
+    record {
+      cycles_more = λ c. refl;
+      entries_same = λ c. refl;
+      updates_more = λ c. refl;
+      done_more =
+          λ c. refl;
+      refused_same = λ c. refl;
+      ended_same = λ c. refl;
+    }
 
-pub one_adds : (ticket : ℕ) → Adds (reply.Decisions (record { ticket = Some ticket; outcome = outcome.Done [] } ∷ [])) 0 0 1
-one_adds ticket = record { cycles_more = λ c. refl; entries_same = λ c. refl; updates_more = λ c. refl; done_more = λ c. one_over c.done; refused_same = λ c. refl; ended_same = λ c. refl }
+pub one_adds : (ticket : ℕ)
+    → Adds (reply.Decisions (record { ticket = Some ticket; outcome = outcome.Done [] } ∷ [])) 0 0 1
+one_adds ticket =
+    record {
+      cycles_more = λ c. refl;
+      entries_same = λ c. refl;
+      updates_more = λ c. refl;
+      done_more =
+          λ c. one_over c.done;
+      refused_same = λ c. refl;
+      ended_same = λ c. refl;
+    }
 
 -- a cycle of so many updates
-pub cycle_adds : (happened : Happened) (updated : ℕ) → length happened.ran ≡ updated → Adds (reply.Cycle happened) 1 updated 0
+pub cycle_adds : (happened : Happened) (updated : ℕ) → length happened.ran ≡ updated
+    → Adds (reply.Cycle happened) 1 updated 0
 cycle_adds happened updated is =
-    record { cycles_more = λ c. one_over c.cycles; entries_same = λ c. refl; updates_more = λ c. ap (λ n. c.updates + n) is ∙ plus_behind updated c.updates; done_more = λ c. refl; refused_same = λ c. refl; ended_same = λ c. refl }
+    record {
+      cycles_more = λ c. one_over c.cycles;
+      entries_same = λ c. refl;
+      updates_more =
+          λ c. ap (λ n. c.updates + n) is ∙ plus_behind updated c.updates;
+      done_more = λ c. refl;
+      refused_same = λ c. refl;
+      ended_same = λ c. refl;
+    }

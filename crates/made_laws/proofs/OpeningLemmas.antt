@@ -65,26 +65,40 @@ settle_after (suc k) who a = elim (cases_Option (advance who a)) [
 ]
 
 -- before the first cycle the session makes its 17 calls
-opened : (cycles : ℕ) (lines : List Call) → Settles cycles 0 (point (at_boot cycles) [] (ready (opening_calls ++ lines)))
-    (between cycles (eight configured) (held_in (at_boot cycles)) (with_request nothing_asked all_start) 0) (waits 0 lines) 17 0 0
+opened : (cycles : ℕ) (lines : List Call)
+    → Settles cycles 0 (point (at_boot cycles) [] (ready (opening_calls ++ lines)))
+    (between cycles (eight configured) (held_in (at_boot cycles)) (with_request nothing_asked all_start) 0)
+    (waits 0 lines) 17 0 0
 unfolding opening_calls step advance digits
 opened cycles lines =
     let a : Advanced = point (at_boot cycles) [] (ready (opening_calls ++ lines)) in
-    let b : Advanced = point (between cycles (eight configured) (held_in (at_boot cycles)) (with_request nothing_asked all_start) 0) (advances 17 0 a).made (waits 0 lines) in
+    let b : Advanced =
+    point (between cycles (eight configured) (held_in (at_boot cycles)) (with_request nothing_asked all_start) 0)
+    (advances 17 0 a).made (waits 0 lines) in
     let reached : advances 17 0 a ≡ b = refl in
     let stands : advance 0 b ≡ None = refl in
     record {
       made = (advances 17 0 a).made;
       is = sym (settle_after 17 0 a) ∙ ap (settle 0) reached ∙ settle-stays 0 b stands;
-      counts = record { of_cycles = refl; of_entries = refl; of_updates = refl; of_done = refl; none_refused = refl; none_ended = refl };
+      counts = record {
+        of_cycles = refl;
+        of_entries = refl;
+        of_updates = refl;
+        of_done = refl;
+        none_refused = refl;
+        none_ended =
+            refl;
+      };
     }
 
 -- all are started, and updated
-opening_flies : (cycles : ℕ) → Flies cycles 0 (eight configured) (held_in (at_boot cycles)) (with_request nothing_asked all_start)
+opening_flies : (cycles : ℕ)
+    → Flies cycles 0 (eight configured) (held_in (at_boot cycles)) (with_request nothing_asked all_start)
     (eight (running unset_each)) (with_done (with_request nothing_asked all_start)) 8 1
 unfolding all_concluded commit rank_within stays_within reaches digits
 opening_flies cycles =
-    let s : State = between cycles (eight configured) (held_in (at_boot cycles)) (with_request nothing_asked all_start) 0 in
+    let s : State =
+    between cycles (eight configured) (held_in (at_boot cycles)) (with_request nothing_asked all_start) 0 in
     let told : Asked = with_done (with_request nothing_asked all_start) in
     let h₁ : Held = held_in (concluded s all_start).state in
     let s₁ : State = between cycles (eight (running unset_each)) h₁ told 0 in
@@ -102,12 +116,15 @@ opening_flies cycles =
 
 -- the first cycle
 pub opening_stage : (cycles : ℕ) (lines : List Call) → 0 < cycles
-    → IsToBeTold cycles 1 0 running lines 19 8 1 (with_cycle 0 (stage (at_boot cycles) [] (ready (opening_calls ++ lines))))
+    → IsToBeTold cycles 1 0 running lines 19 8 1
+    (with_cycle 0 (stage (at_boot cycles) [] (ready (opening_calls ++ lines))))
 opening_stage cycles lines more = record {
   held = unset_each;
   asked = nothing_asked;
   last = all_start;
   are = record { requests = refl; outcomes = refl };
-  stands = cycle_on cycles 0 (at_boot cycles) [] (ready (opening_calls ++ lines)) (waits 0 lines) (eight configured) (held_in (at_boot cycles)) (with_request nothing_asked all_start)
-      (eight (running unset_each)) (with_done (with_request nothing_asked all_start)) 17 0 0 8 1 more (opened cycles lines) (opening_flies cycles);
+  stands = cycle_on cycles 0 (at_boot cycles) [] (ready (opening_calls ++ lines)) (waits 0 lines) (eight configured)
+      (held_in (at_boot cycles)) (with_request nothing_asked all_start)
+      (eight (running unset_each)) (with_done (with_request nothing_asked all_start)) 17 0 0 8 1 more
+      (opened cycles lines) (opening_flies cycles);
 }

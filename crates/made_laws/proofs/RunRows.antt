@@ -17,9 +17,11 @@ use Rattle.make_document.specs.Meant.{opening_calls}
 use Rattle.made_laws.specs.Runs.{summed_up, summary_of_one, summary_of_two}
 
 pub one_round : summed_up 1 ≡ summary_of_one
-unfolding digits rank_within stays_within reaches all_concluded commit spelled stepped within clamped floor_div cycle after_cycle step advance settle settle_all looped with_cycle finish start scheduled summary opening_calls
+unfolding digits rank_within stays_within reaches all_concluded commit spelled stepped within clamped floor_div cycle
+    after_cycle step advance settle settle_all looped with_cycle finish start scheduled summary opening_calls
 one_round = refl
 
 pub two_rounds : summed_up 2 ≡ summary_of_two
-unfolding digits rank_within stays_within reaches all_concluded commit spelled stepped within clamped floor_div cycle after_cycle step advance settle settle_all looped with_cycle finish start scheduled summary opening_calls
+unfolding digits rank_within stays_within reaches all_concluded commit spelled stepped within clamped floor_div cycle
+    after_cycle step advance settle settle_all looped with_cycle finish start scheduled summary opening_calls
 two_rounds = refl

@@ -39,7 +39,9 @@ running held i = record {
 
 -- one of them does not run
 abbrev pub but_stopped : ℕ → (ℕ → Loaded) → ℕ → Loaded
-but_stopped b of i = if i == b then record (of i) { ctl = record { kind = kind.Forward; params = Some (params.Forward 1); run = None } } else of i
+but_stopped b of i =
+    if i == b then record (of i) { ctl = record { kind = kind.Forward; params = Some (params.Forward 1); run = None } }
+    else of i
 
 -- mail waits for one of them
 abbrev pub but_sent : ℕ → Mail → (ℕ → Loaded) → ℕ → Loaded
@@ -113,4 +115,10 @@ pub plain_cycle : (cycles n : ℕ) (held : ℕ → List Value) (h : Held) (asked
     → ComesTo cycles (aloft_with [] (between cycles (eight (running held)) h asked n)) (eight (running held)) asked n 8
 unfolding rank_within stays_within reaches commit after_cycle digits
 plain_cycle cycles n held h asked =
-    comes_to _ _ _ _ _ _ ((refl, refl), ((refl, refl), ((refl, refl), ((refl, refl), ((refl, refl), ((refl, refl), ((refl, refl), ((refl, refl), tt)))))))) refl refl
+    comes_to _ _ _ _ _ _ (
+      (refl, refl),
+      (
+        (refl, refl),
+        ((refl, refl), ((refl, refl), ((refl, refl), ((refl, refl), ((refl, refl), ((refl, refl), tt)))))),
+      ),
+    ) refl refl

@@ -54,8 +54,8 @@ switch strict +fwd
 send fwd 0.5
 "#;
 
-/// A case of a page: six joints at 500 hertz with a trajectory for all of them, beside a broadcaster, which publishes what was read before
-/// the joints moved; and what the job `run` prints of it.
+/// A case of a page: six joints at 500 hertz with a trajectory for all of them, beside a broadcaster, which publishes
+/// what was read before the joints moved; and what the job `run` prints of it.
 pub const SIX_JOINTS: &str = r#"version = 1
 update_rate = 500
 cycles = 4

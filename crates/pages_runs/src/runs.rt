@@ -22,8 +22,8 @@ pub const AMPLE: usize = 16 * 1_048_576;
 /// How many blanks of each kind the program has in stock.
 pub const IN_STOCK: u32 = 32;
 
-/// Tells how the run of a document that is read ends by a job, and what it prints, behind one another. The source gives so many bytes a
-/// read, and the stock has so many blanks of each kind.
+/// Tells how the run of a document that is read ends by a job, and what it prints, behind one another. The source gives
+/// so many bytes a read, and the stock has so many blanks of each kind.
 #[derive(Clone, Copy)]
 pub struct Runs {
     pub kind: JobKind,

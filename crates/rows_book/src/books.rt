@@ -28,8 +28,8 @@ impl Teller for Books {
     }
 }
 
-/// Two mocks that are not ready in some cycles, which they know once they are configured, one that refuses to be, a forward
-/// and a passthrough. Lines 1 to 31 of the document.
+/// Two mocks that are not ready in some cycles, which they know once they are configured, one that refuses to be, a
+/// forward and a passthrough. Lines 1 to 31 of the document.
 const STOCKED: &str = r#"version = 1
 update_rate = 100
 cycles = 0
@@ -63,8 +63,8 @@ not_ready = [1]
 refuse_config = true
 "#;
 
-/// Every call is an entry, a refused one too, and so is the close. The boxes of the loaded controllers stand by serial, each
-/// with its own data: those that moved out are gone, and one that is loaded again is a blank.
+/// Every call is an entry, a refused one too, and so is the close. The boxes of the loaded controllers stand by serial,
+/// each with its own data: those that moved out are gone, and one that is loaded again is a blank.
 const BOOKS: &str = r"--- script ---
 session a
 => ok

@@ -47,7 +47,8 @@ loop end #: joint j1 0.250000 0.000000 0.000000
 loop close: none
 ";
 
-/// A writer of std that keeps what it takes, so many bytes at most a write, and fails in one of its calls; a flush is a call too.
+/// A writer of std that keeps what it takes, so many bytes at most a write, and fails in one of its calls; a flush is a
+/// call too.
 #[derive(Drop)]
 struct Keeping {
     bytes: Vec<u8>,
@@ -83,8 +84,8 @@ impl Write for Keeping {
     }
 }
 
-/// Tells how a run of `LONG` ends, and how many bytes of its trace are written, where the writer takes so many bytes a write and fails in
-/// this call: `STEP | CALL`.
+/// Tells how a run of `LONG` ends, and how many bytes of its trace are written, where the writer takes so many bytes a
+/// write and fails in this call: `STEP | CALL`.
 #[derive(Clone, Copy)]
 struct IntoStd;
 
@@ -119,8 +120,8 @@ fn push_count(alloc: Global, told: &mut String, written: &[u8]) -> Result<(), Fa
     Ok(())
 }
 
-/// Twice 8,192 bytes are written while the run prints, and the rest when it flushes; the call behind that is the flush. What was gathered
-/// when a write failed is lost, and what was taken of it before is not.
+/// Twice 8,192 bytes are written while the run prints, and the rest when it flushes; the call behind that is the flush.
+/// What was gathered when a write failed is lost, and what was taken of it before is not.
 const ROWS: &str = "\
 9999 | 0 => write fault, 0
 9999 | 1 => write fault, 8192

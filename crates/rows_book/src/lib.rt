@@ -1,5 +1,6 @@
-//! Tests of what a run leaves behind, its history and its boxes, of summaries of histories, and of runs by their words; and of runs whose
-//! source or sink fails, or takes a few bytes at a time: how each ends, what it printed, and what it leaves.
+//! Tests of what a run leaves behind, its history and its boxes, of summaries of histories, and of runs by their words;
+//! and of runs whose source or sink fails, or takes a few bytes at a time: how each ends, what it printed, and what it
+//! leaves.
 #![tactic(auto)]
 
 #[cfg(test)]

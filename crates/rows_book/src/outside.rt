@@ -11,9 +11,9 @@ use std::alloc::Global;
 use std::str;
 use std::test::Fail;
 
-/// Tells how a run of `FIRST` ends, what it leaves, and what the sink took, by five numbers: the bytes that are given a read, the
-/// read that fails, the room of the sink, the bytes that it takes a write, and the write or flush that fails. Calls
-/// are numbered from 0.
+/// Tells how a run of `FIRST` ends, what it leaves, and what the sink took, by five numbers: the bytes that are given a
+/// read, the read that fails, the room of the sink, the bytes that it takes a write, and the write or flush that fails.
+/// Calls are numbered from 0.
 #[derive(Clone, Copy)]
 struct Fails;
 
@@ -63,9 +63,9 @@ fn runs_end_at_the_read_or_the_write_that_fails(rt: HostRuntime) -> Result<(), F
     hold(rt.alloc(), &Fails, "", FAULTS)
 }
 
-/// A dot stands behind what the sink took. The sink of the last cases takes a line in one call, so the tenth call is the flush.
-/// Whatever the sink takes, the run was made before, and leaves its book: four calls, two cycles and the close, with the mock that was
-/// loaded.
+/// A dot stands behind what the sink took. The sink of the last cases takes a line in one call, so the tenth call is
+/// the flush. Whatever the sink takes, the run was made before, and leaves its book: four calls, two cycles and the
+/// close, with the mock that was loaded.
 const FAULTS: &str = "8 0 4096 4096 1000000
 => read fault
 no book

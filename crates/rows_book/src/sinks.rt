@@ -104,7 +104,8 @@ fn hold_taken(alloc: Global, sink: MemSink, status: &str, taken: &str) -> Result
     hold_told(alloc, "what is taken", str::from_utf8(sink.bytes())?, taken)
 }
 
-/// Fails where a run of `LONG` ends in no write fault, or something else is taken than so many lines of its trace, with their ends.
+/// Fails where a run of `LONG` ends in no write fault, or something else is taken than so many lines of its trace, with
+/// their ends.
 fn hold_lines_taken(alloc: Global, sink: MemSink, trace: &str, lines: usize) -> Result<(), Fail> {
     let mut sink = sink;
     let ended = OF_PROGRAM.ended(alloc, LONG, &mut sink)?;

@@ -64,7 +64,8 @@ entries 9
 updates 0
 asks 0 done 0 refused 0 ended 0";
 
-/// A value is sent after the first cycle and brings the joint on in the two others; then a name that is not loaded is refused.
+/// A value is sent after the first cycle and brings the joint on in the two others; then a name that is not loaded is
+/// refused.
 const OF_MOVED: &str = "switch strict +nosuch
 => cycles 3
 entries 14
@@ -96,7 +97,8 @@ asks 1 done 0 refused 0 ended 1
 joint j1 0.250000
 joint j2 0.000000"#;
 
-/// Of the smallest document, of two rounds, and of the largest that may be asked for: 26 entries and 79 updates a round.
+/// Of the smallest document, of two rounds, and of the largest that may be asked for: 26 entries and 79 updates a
+/// round.
 const OF_MADE: &str = r"1
 => cycles 10
 entries 45

@@ -116,11 +116,12 @@ loop end 1: none
 loop close: none
 ";
 
-/// How often a live run of it calls pace and gate: each cycle has a pause behind it, and is begun, about to be computed, and computed.
+/// How often a live run of it calls pace and gate: each cycle has a pause behind it, and is begun, about to be
+/// computed, and computed.
 const CALLS_OF_LIVE: u64 = 2 + 3 * 2;
 
-/// Words with a number of rounds, and the summary of the made document of so many, whatever the source gives. Zeros may lead a number; of
-/// the smallest, of two rounds, of five and of the largest.
+/// Words with a number of rounds, and the summary of the made document of so many, whatever the source gives. Zeros may
+/// lead a number; of the smallest, of two rounds, of five and of the largest.
 const MADE: &str = "\
 run|--make|1
 => cycles 10
@@ -262,8 +263,8 @@ fn hold_run<R: Threads + Wait + Sync>(
     hold_words(rt, alloc, words.as_slice(), DOCUMENT, blanks, &want)
 }
 
-/// Fails where a run of the document by these words ends otherwise, or prints something else, or calls pace and gate more or less often,
-/// or leaves a book where it should leave none, or none where it should.
+/// Fails where a run of the document by these words ends otherwise, or prints something else, or calls pace and gate
+/// more or less often, or leaves a book where it should leave none, or none where it should.
 fn hold_words<R: Threads + Wait + Sync, C: Controller + Send>(
     rt: &R,
     alloc: Global,
@@ -321,8 +322,8 @@ fn run_counted<R: Threads + Wait + Sync, C: Controller + Send>(
     }
 }
 
-/// Fails where a run ended otherwise, or called pace and gate more or less often, or a book is there without a run or is not there with
-/// one.
+/// Fails where a run ended otherwise, or called pace and gate more or less often, or a book is there without a run or
+/// is not there with one.
 fn hold_ran(alloc: Global, ran: Ran, want: &Want<'_>) -> Result<(), Fail> {
     let Ran {
         status,

@@ -10,7 +10,8 @@ use Rattle.ctl_trait.specs.declared.controller.Controller.{Ghosts}
 use Rattle.rt_flight.proofs.Crossing.{flight_send}
 use Rattle.rt_flight.specs.contracts.flight.Flight as Flight
 
-pub taken_send : (C : RattleType) (m : Ghosts C.Denot) → IsSend C → (ν : Sym) → IsSend (TupleAt ν (Flight.the_row C m ∷ []))
+pub taken_send : (C : RattleType) (m : Ghosts C.Denot) → IsSend C → (ν : Sym)
+    → IsSend (TupleAt ν (Flight.the_row C m ∷ []))
 taken_send C m s ν =
     let types : List RattleType = Flight.the_row C m ∷ [] in
     declared_send (type_at ν types) (as_row_send (row_field (Flight.the_row C m)) (flight_send C m s), tt)

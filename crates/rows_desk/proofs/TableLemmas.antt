@@ -19,16 +19,23 @@ pub is_out : (h : History) (f : FlightFacts) → IsAtHand h f → is_some f.outc
 is_out h f at none = at.before (not_told f.outcome none)
 
 -- the flight at hand stays that of the cycle that is aloft
-pub hand_alike : (old new : History) (o : Option FlightFacts) → IsAloftAlike old new → IfSome o (IsAtHand old) → IfSome o (IsAtHand new)
+pub hand_alike : (old new : History) (o : Option FlightFacts) → IsAloftAlike old new → IfSome o (IsAtHand old)
+    → IfSome o (IsAtHand new)
 hand_alike old new None alike at = tt
 hand_alike old new (Some f) alike at = record {
-  before = λ none. record { aloft = subst (λ (b : Option State). IsSomeAnd b (λ begun. StaysAloft begun f)) (sym alike.begun) (at.before none).aloft; not_yet = (at.before none).not_yet };
-  after = λ some. subst (λ (b : Option State). IsSomeAnd b (λ begun. StaysComputed begun f)) (sym alike.begun) (at.after some);
+  before = λ none. record {
+    aloft = subst (λ (b : Option State). IsSomeAnd b (λ begun. StaysAloft begun f)) (sym alike.begun)
+        (at.before none).aloft;
+    not_yet = (at.before none).not_yet;
+  };
+  after = λ some. subst (λ (b : Option State). IsSomeAnd b (λ begun. StaysComputed begun f)) (sym alike.begun)
+      (at.after some);
 }
 
 -- ---- At hand, or not
 
-pub at_hand : (h : History) (o : Option FlightFacts) (f : FlightFacts) → o ≡ Some f → IsAtHand h f → IfSome o (IsAtHand h)
+pub at_hand : (h : History) (o : Option FlightFacts) (f : FlightFacts) → o ≡ Some f → IsAtHand h f
+    → IfSome o (IsAtHand h)
 at_hand h o f same at = subst (λ (k : Option FlightFacts). IfSome k (IsAtHand h)) (sym same) at
 
 pub held : (h : History) (o : Option FlightFacts) (f : FlightFacts) → IfSome o (IsAtHand h) → o ≡ Some f → IsAtHand h f
@@ -44,10 +51,12 @@ alike_same old new same = record { begun = ap begun_of same; aloft = ap (λ (h :
 
 -- what is told of a ticket leaves the cycle that is aloft, and so does an await, whether it waits or not
 pub told_alike : (old new : History) (who ticket : ℕ) (outcome : Option Outcome)
-    → MatchOption outcome (Waits old new who (Told ticket)) (λ o. Grows old new who (Told ticket) (reply.Outcome o)) → IsAloftAlike old new
+    → MatchOption outcome (Waits old new who (Told ticket)) (λ o. Grows old new who (Told ticket) (reply.Outcome o))
+    → IsAloftAlike old new
 told_alike old new who ticket None waits = alike_same old new waits.1
 told_alike old new who ticket (Some o) grows = called_alike old new who (Told ticket) (reply.Outcome o) tt grows
 
-pub reached_alike : (old new : History) (who cycles : ℕ) (reached : Bool) → GrowsWhere reached old new who (Await cycles) reply.Done → IsAloftAlike old new
+pub reached_alike : (old new : History) (who cycles : ℕ) (reached : Bool)
+    → GrowsWhere reached old new who (Await cycles) reply.Done → IsAloftAlike old new
 reached_alike old new who cycles true grows = called_alike old new who (Await cycles) reply.Done tt grows
 reached_alike old new who cycles false waits = alike_same old new waits.1

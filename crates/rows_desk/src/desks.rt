@@ -36,9 +36,10 @@ name = "mk"
 type = "mock"
 "#;
 
-/// Four requests wait together and a fifth does not; they are decided where the cycle begins, each in the state that the one before it
-/// left, and told from then on. What waits at the close ends with the loop. While a cycle is aloft controllers that are not active come
-/// and go, and what is sent waits for the next cycle; what was sent to a controller that the end stops is gone.
+/// Four requests wait together and a fifth does not; they are decided where the cycle begins, each in the state that
+/// the one before it left, and told from then on. What waits at the close ends with the loop. While a cycle is aloft
+/// controllers that are not active come and go, and what is sent waits for the next cycle; what was sent to a
+/// controller that the end stops is gone.
 const CALLS: &str = "\
 0 load fwd => ok 0
 0 configure fwd => ok

@@ -43,8 +43,8 @@ fn hold_around<R: Threads>(rt: &R, alloc: Global, before: &str, behind: &str) ->
     hold_calls(rt, alloc, SEVEN, SESSIONS, page.as_str())
 }
 
-/// A controller that is not active is unloaded between a begin and its landing, once before the flight is computed and once after it. Its
-/// box has the parameters that it was given and does not run, and the history is the same.
+/// A controller that is not active is unloaded between a begin and its landing, once before the flight is computed and
+/// once after it. Its box has the parameters that it was given and does not run, and the history is the same.
 const UNLOADED_ALOFT: &str = "\
 0 load fwd => ok 0
 0 configure fwd => ok
@@ -82,8 +82,8 @@ history => 0 load fwd: ok 0 / 0 configure fwd: ok / 0 switch strict +fwd: queued
 1 configure traj2: ok / 2 begin 0: 0 done / 0 told 0: done / 0 unload fwd: active / 1 unload traj2: ok / \
 2 end 0: run 0 unset; joint 0.000000 0.000000 0.000000 / 2 close: none";
 
-/// A flight is moved to another thread, computed there, and lands: of a cycle before the first value is sent, and of one that takes it,
-/// which is 10 ms at a speed of 1 a second.
+/// A flight is moved to another thread, computed there, and lands: of a cycle before the first value is sent, and of
+/// one that takes it, which is 10 ms at a speed of 1 a second.
 const COMPUTED_ASIDE: &str = "\
 0 load fwd => ok 0
 0 configure fwd => ok
@@ -107,8 +107,8 @@ history => 0 load fwd: ok 0 / 0 configure fwd: ok / 0 switch strict +fwd: queued
 0 send fwd 0.250000: ok / 1 unload fwd: active / 2 end 1: run 0 0.500000; joint 0.010000 1.000000 0.000000 / \
 2 begin 2: none / 2 end 2: run 0 0.250000; joint 0.020000 1.000000 0.000000";
 
-/// A flight is dropped, before it is computed and after. No cycle begins any more and the loop does not close, while sessions are
-/// answered: what they ask for waits for good.
+/// A flight is dropped, before it is computed and after. No cycle begins any more and the loop does not close, while
+/// sessions are answered: what they ask for waits for good.
 const DROPPED: &str = "\
 0 load fwd => ok 0
 0 configure fwd => ok
@@ -148,8 +148,8 @@ close => cannot
 0 await 0 => ok
 0 await 1 => not yet";
 
-/// One controller is active and holds a value, so that its joint moves from now on: what is read of it in the next cycle is not what
-/// was read in the last. Two others are loaded, of which one is configured.
+/// One controller is active and holds a value, so that its joint moves from now on: what is read of it in the next
+/// cycle is not what was read in the last. Two others are loaded, of which one is configured.
 const AT_FIRST: &str = "\
 0 load fwd => ok 0
 0 configure fwd => ok
@@ -170,8 +170,8 @@ const ALOFT: &str = "begin => none\n";
 /// The next cycle is aloft, and its flight is computed.
 const COMPUTED: &str = "begin => none\ncompute => run 0 0.500000\n";
 
-/// A call of each kind, done and refused. What is told of each is the same before a begin and after it, and before the flight is computed
-/// and after it: the interfaces hold what they held, also where the flight has read others.
+/// A call of each kind, done and refused. What is told of each is the same before a begin and after it, and before the
+/// flight is computed and after it: the interfaces hold what they held, also where the flight has read others.
 const AT_ANY_TIME: &str = "\
 0 list controllers => fwd forward active 0 every 1; traj2 trajectory inactive 1 every 1; mk mock unconfigured 2
 0 list interfaces => state 0.000000; state 0.000000; command 0.500000 0; command unset free; \
@@ -213,14 +213,16 @@ command unavailable; command unavailable
 0 list components => active
 ";
 
-/// What was asked for is decided where the next cycle begins. A controller of every fourth cycle does not run in the third.
+/// What was asked for is decided where the next cycle begins. A controller of every fourth cycle does not run in the
+/// third.
 const OF_THE_NEXT_CYCLE: &str = "\
 begin => 1 done; 2 done
 0 list interfaces => state 0.000000; state 0.000000; command unset 1; command unset free; \
 command unavailable; command unavailable
 end => none";
 
-/// The same, after the cycle that is aloft: the value that was sent meanwhile is not taken in it, and with the switch it is gone.
+/// The same, after the cycle that is aloft: the value that was sent meanwhile is not taken in it, and with the switch
+/// it is gone.
 const ALOFT_THEN: &str = "\
 compute => run 0 0.500000
 0 list interfaces => state 0.000000; state 0.000000; command 0.500000 0; command unset free; \

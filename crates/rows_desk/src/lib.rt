@@ -1,5 +1,5 @@
-//! Tests of the desk, call by call: a page has for each case the calls of several sessions and of the loop, a line each with what must
-//! be told of it.
+//! Tests of the desk, call by call: a page has for each case the calls of several sessions and of the loop, a line each
+//! with what must be told of it.
 #![tactic(auto)]
 
 #[cfg(test)]

@@ -136,7 +136,8 @@ fn make_again<R: Threads, C: Controller + Send + 'static>(
     }
 }
 
-/// A call of the loop, or else a session's behind its number; or `drop` of the flight that is at hand, or the `history`.
+/// A call of the loop, or else a session's behind its number; or `drop` of the flight that is at hand, or the
+/// `history`.
 fn make<R: Threads, C: Controller + Send + 'static>(
     rt: &R,
     alloc: Global,

@@ -15,7 +15,8 @@ use std::sync::Wait;
 use std::test::Fail;
 use std::thread::Threads;
 
-/// Two mocks, of which neither has to do with the other: both have depth 0. The session asks for them in its fifth line.
+/// Two mocks, of which neither has to do with the other: both have depth 0. The session asks for them in its fifth
+/// line.
 const DOCUMENT: &str = r#"version = 1
 update_rate = 100
 cycles = 3

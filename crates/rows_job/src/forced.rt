@@ -47,8 +47,8 @@ fn each_order_that_a_landing_begins_prints_what_its_turns_print(
     hold_orders(&rt, rt.alloc(), BY_THE_LOOP)
 }
 
-/// The loop waits for the session before it computes the flight, or after. The session waits for the loop, so neither one
-/// thread alone nor a loop that keeps its turn until the landing comes through.
+/// The loop waits for the session before it computes the flight, or after. The session waits for the loop, so neither
+/// one thread alone nor a loop that keeps its turn until the landing comes through.
 const ALOFT: &str = "cycles = 1
 --- script ---
 session a

@@ -1,6 +1,6 @@
 //! Tests of the job `live` in whole runs: calls of sessions and cycles in orders that a gate forces, and runs that are
-//! left to their threads; and of jobs by several workers: that they work beside one another, and that a run prints what it
-//! prints by one.
+//! left to their threads; and of jobs by several workers: that they work beside one another, and that a run prints what
+//! it prints by one.
 #![tactic(auto)]
 
 #[cfg(test)]

@@ -57,8 +57,8 @@ impl Pace for UntilAsked<'_> {
     }
 }
 
-/// How a run of a document ends by words, between which a bar stands, over a stock of these blanks, and what it prints. The loop of a
-/// live run waits behind each cycle until the first session has its answer to this line.
+/// How a run of a document ends by words, between which a bar stands, over a stock of these blanks, and what it prints.
+/// The loop of a live run waits behind each cycle until the first session has its answer to this line.
 pub fn ran<R: Threads + Wait + Sync, C: Controller + Send>(
     rt: &R,
     alloc: Global,

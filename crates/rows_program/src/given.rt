@@ -11,7 +11,8 @@ pub struct GivenWords {
 }
 
 impl GivenWords {
-    /// The words of a row, behind the program's name. A word that ends with `\xFF` has that byte there, so it is not UTF-8.
+    /// The words of a row, behind the program's name. A word that ends with `\xFF` has that byte there, so it is not
+    /// UTF-8.
     pub fn of(alloc: Global, row: &str) -> Result<GivenWords, AllocError> {
         let mut words = vec![in alloc; b"cm".as_slice().to_vec(alloc)?]?;
         for word in row.split_whitespace() {

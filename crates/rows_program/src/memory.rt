@@ -10,9 +10,9 @@ use std::process::Abort;
 use std::sync::Wait;
 use std::thread::Threads;
 
-/// An arm that cannot be read in cycle 1, a forward that commands it, and a mock whose update fails in cycle 2: they are
-/// switched on together, both are stopped, and the forward is refused while the arm is down, and left out as a fallback.
-/// The last request waits until the loop closes.
+/// An arm that cannot be read in cycle 1, a forward that commands it, and a mock whose update fails in cycle 2: they
+/// are switched on together, both are stopped, and the forward is refused while the arm is down, and left out as a
+/// fallback. The last request waits until the loop closes.
 const DOCUMENT: &str = r#"version = 1
 update_rate = 100
 cycles = 4
@@ -84,8 +84,9 @@ loop close: 4 loop_ended
 a told 4: loop_ended
 ";
 
-/// Where at most one allocation is refused, at most one of two runs may want memory: that one has printed a front of the trace, and
-/// the other all of it. So a run that tells a want of memory though nothing was refused to it fails here, wherever one is refused.
+/// Where at most one allocation is refused, at most one of two runs may want memory: that one has printed a front of
+/// the trace, and the other all of it. So a run that tells a want of memory though nothing was refused to it fails
+/// here, wherever one is refused.
 #[test]
 fn memory_is_wanted_only_where_it_was_refused(rt: HostRuntime) {
     let first = wants_memory(&rt, rt.alloc());
@@ -93,7 +94,8 @@ fn memory_is_wanted_only_where_it_was_refused(rt: HostRuntime) {
     assert!(rt; !(first && second));
 }
 
-/// Whether a run of the document, or what it was to run between, wanted memory. Whatever else it comes to has the whole trace.
+/// Whether a run of the document, or what it was to run between, wanted memory. Whatever else it comes to has the whole
+/// trace.
 fn wants_memory<R>(rt: &R, alloc: Global) -> bool
 where
     R: Abort + Threads + Wait + Sync + AllocGlobal,

@@ -9,8 +9,9 @@ fn as_many_awaits_as_a_script_may_have(rt: HostRuntime) -> Result<(), Fail> {
     hold(rt.alloc(), &OF_PROGRAM, "", AWAITS)
 }
 
-/// One session that waits for each cycle; one that waits for the fifth with all its lines, and goes on with all of them when that has
-/// ended; one that waits for more cycles than there are, until the close; and eight that wait for each cycle, in turns.
+/// One session that waits for each cycle; one that waits for the fifth with all its lines, and goes on with all of them
+/// when that has ended; one that waits for more cycles than there are, until the close; and eight that wait for each
+/// cycle, in turns.
 const AWAITS: &str = r"version = 1
 update_rate = 100
 cycles = 10000

@@ -1,4 +1,5 @@
-//! Stored traces, each with how its check ends: with `legal`, or with the first wrong line and the line that was to come there.
+//! Stored traces, each with how its check ends: with `legal`, or with the first wrong line and the line that was to
+//! come there.
 
 use cm_top::Status;
 use cm_words::JobKind;
@@ -92,9 +93,9 @@ loop end 2: run fwd ok 0.500000; joint j1 0.020000 1.000000 0.000000
 loop close: none
 ";
 
-/// Traces of a joint that a controller moves for three cycles: as the job `run` prints it; without its last line; with a digit changed;
-/// with two lines behind a third, and with what these then print; with a line of nobody; of a session that has no call; with two calls of
-/// one session exchanged; with a carriage return.
+/// Traces of a joint that a controller moves for three cycles: as the job `run` prints it; without its last line; with
+/// a digit changed; with two lines behind a third, and with what these then print; with a line of nobody; of a session
+/// that has no call; with two calls of one session exchanged; with a carriage return.
 const TRACES: &str = r#"a load fwd: ok 0
 a configure fwd: ok
 a switch strict +fwd: queued 0
@@ -186,8 +187,8 @@ a told 0: done
 a load fwd: ok 0\r
 => line 1, expected a load fwd: ok 0"#;
 
-/// Documents whose trace does not stand: without its separator, without that of the script, and with a bad line before it. A carriage
-/// return before the end of the separator does not count.
+/// Documents whose trace does not stand: without its separator, without that of the script, and with a bad line before
+/// it. A carriage return before the end of the separator does not count.
 const WITHOUT: &str = r#"version = 1
 update_rate = 100
 cycles = 0

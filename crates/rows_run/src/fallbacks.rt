@@ -120,8 +120,8 @@ loop begin 3: none
 loop end 3: joint j1 0.000000 0.000000 0.000000
 loop close: none";
 
-/// Calls while cycles are aloft and between them. The failed one is unloaded, and who stands in comes for all that; who is made anew
-/// has no parameters; and a strict switch finds active who stood in before it.
+/// Calls while cycles are aloft and between them. The failed one is unloaded, and who stands in comes for all that; who
+/// is made anew has no parameters; and a strict switch finds active who stood in before it.
 const CALLS_BETWEEN: &str = r"switch strict +mk
 unload mk
 unload fwd

@@ -53,10 +53,10 @@ type = "passthrough"
 claims = ["pid/j1/position"]
 "#;
 
-/// A trajectory above a pid needs it, and is updated before it, though it was loaded later. What it gives out the pid takes
-/// in the same cycle: half way at 0.05 with the joint at 0, the pid asks for twice that as a velocity. A pid that somebody
-/// comes above restarts in chained mode: it forgets what it was sent, and takes nothing more; where that one leaves, it
-/// restarts by itself. The pid alone may not leave, and a best effort leaves it out.
+/// A trajectory above a pid needs it, and is updated before it, though it was loaded later. What it gives out the pid
+/// takes in the same cycle: half way at 0.05 with the joint at 0, the pid asks for twice that as a velocity. A pid that
+/// somebody comes above restarts in chained mode: it forgets what it was sent, and takes nothing more; where that one
+/// leaves, it restarts by itself. The pid alone may not leave, and a best effort leaves it out.
 const CHAINS: &str = r"--- script ---
 session a
 load pid
@@ -336,10 +336,10 @@ loop begin 5: none
 loop end 5: run traj2 ok 0.010000; joint j1 0.010000 0.000000 0.000000
 loop close: none";
 
-/// A read that fails holds off the pid, which reads and commands the joint, and not the passthrough above it; at the end
-/// both stop. A pid of a third of the rate counts the longer time, with all three gains: the joint may not move, so its
-/// error is what it is sent. Two that claim its reference are refused together; the one that has it keeps it, until one
-/// switch hands it over.
+/// A read that fails holds off the pid, which reads and commands the joint, and not the passthrough above it; at the
+/// end both stop. A pid of a third of the rate counts the longer time, with all three gains: the joint may not move, so
+/// its error is what it is sent. Two that claim its reference are refused together; the one that has it keeps it, until
+/// one switch hands it over.
 const PIDS: &str = r#"version = 1
 update_rate = 100
 cycles = 6

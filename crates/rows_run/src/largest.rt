@@ -62,8 +62,8 @@ session a
 => 1048576 bytes: 10322917 e9af76b6"#;
 
 /// Behind the description at all limits, but for its cycles: its 50 mocks are loaded, its passthroughs and forwards are
-/// loaded and configured with 32 claims each, and each list is asked for; then 10,000 cycles tell of 32 joints each, which
-/// make a trace longer than that of the longest document above.
+/// loaded and configured with 32 claims each, and each list is asked for; then 10,000 cycles tell of 32 joints each,
+/// which make a trace longer than that of the longest document above.
 const SCRIPT: &str = r"--- script ---
 session a
 <0..50 * load m#
@@ -79,9 +79,9 @@ list components
 >\
 => 20855 bytes: 13242110 9fd4f7c6";
 
-/// Behind the description at all limits, but for its cycles: its 50 mocks, its passthroughs and its forwards are loaded and configured, and
-/// a best effort of 128 names brings on the mocks and one passthrough of 32 claims, which is sent 32 values; then 2,000 cycles tell of 51
-/// updates and of 32 joints that move.
+/// Behind the description at all limits, but for its cycles: its 50 mocks, its passthroughs and its forwards are loaded
+/// and configured, and a best effort of 128 names brings on the mocks and one passthrough of 32 claims, which is sent
+/// 32 values; then 2,000 cycles tell of 51 updates and of 32 joints that move.
 const SWITCHED: &str = r"--- script ---
 session a
 <0..50 * load m#
@@ -97,9 +97,10 @@ send p0<0..32 *  0.5>
 list interfaces
 => 20689 bytes: 4254010 a39bf168";
 
-/// All limits of the second version at once: 16 components of four joints each, with every kind of command and state; and
-/// 64 controllers, which export 192 references, claim 384 interfaces and read 512, and of which each has 8 fallbacks. Eight
-/// groups have the first 32 mocks as members, and eight the other controllers that run, and some of the mocks.
+/// All limits of the second version at once: 16 components of four joints each, with every kind of command and state;
+/// and 64 controllers, which export 192 references, claim 384 interfaces and read 512, and of which each has 8
+/// fallbacks. Eight groups have the first 32 mocks as members, and eight the other controllers that run, and some of
+/// the mocks.
 const OF_SECOND: &str = r#"version = 2
 update_rate = 10000
 cycles = 1000
@@ -168,9 +169,9 @@ members = [(0..16 * "b#", )(24..36 * "m#", )"p0", "f0", "q0", "g0"]
 >\
 "#;
 
-/// All 64 are loaded and configured. A best effort of 128 words asks eight times for all groups, which are 4,096 names: it
-/// brings on the mocks, the broadcasters, and two forwards, each above a passthrough. Each forward is sent 32 values, so
-/// all 64 joints move for the 1,000 cycles.
+/// All 64 are loaded and configured. A best effort of 128 words asks eight times for all groups, which are 4,096 names:
+/// it brings on the mocks, the broadcasters, and two forwards, each above a passthrough. Each forward is sent 32
+/// values, so all 64 joints move for the 1,000 cycles.
 const CHAINED: &str = r"--- script ---
 session a
 <0..36 * load m#

@@ -1,5 +1,5 @@
-//! Tests of whole runs, as pages of documents: each with how its run ends and what is printed, by the documents' rules; and of the pages
-//! that show runs, and of what tells in words why something was not done: what stands there.
+//! Tests of whole runs, as pages of documents: each with how its run ends and what is printed, by the documents' rules;
+//! and of the pages that show runs, and of what tells in words why something was not done: what stands there.
 #![tactic(auto)]
 
 #[cfg(test)]

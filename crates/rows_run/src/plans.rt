@@ -1,4 +1,5 @@
-//! Plans of starts: each with the script that brings exactly the wanted controllers to active, or with why there is none.
+//! Plans of starts: each with the script that brings exactly the wanted controllers to active, or with why there is
+//! none.
 
 use cm_words::JobKind;
 use pages_cases::pages::{hold, joined};
@@ -211,8 +212,8 @@ configure traj
 configure pid
 switch strict +traj +pid"#;
 
-/// Scripts of other forms: each is bad at the first line that breaks the form, or behind the last if its switch is missing. A script that
-/// is bad by itself comes first.
+/// Scripts of other forms: each is bad at the first line that breaks the form, or behind the last if its switch is
+/// missing. A script that is bad by itself comes first.
 const FORMS: &str = r#"=> script: bad_line 18
 
 # nobody

@@ -118,8 +118,8 @@ loop begin 5: none
 loop end 5: run goal ok unset; run soft ok -0.297000; run gear ok -1.191000; joint j1 -1.191000 0.000000 0.000000
 loop close: none";
 
-/// A differential claims two joints, and a transmission may not claim one of them beside it. A restart forgets what it was
-/// sent.
+/// A differential claims two joints, and a transmission may not claim one of them beside it. A restart forgets what it
+/// was sent.
 pub const CLAIMED: &str = r"--- script ---
 session a
 load wrist

@@ -45,8 +45,8 @@ loop begin 2: none
 loop end 2: run fwd ok 0.500000; joint j1 0.020000 1.000000 0.000000
 loop close: none";
 
-/// What becomes of switches: a chain that was loaded in the wrong order; no names, a name twice and a restart by name; and
-/// a lower update rate, at which the value is taken in the next cycle that is due.
+/// What becomes of switches: a chain that was loaded in the wrong order; no names, a name twice and a restart by name;
+/// and a lower update rate, at which the value is taken in the next cycle that is due.
 pub const SWITCHES: &str = r#"version = 1
 update_rate = 100
 cycles = 3

@@ -22,7 +22,8 @@ fn a_wrong_line_is_told_with_the_one_that_was_to_come(rt: HostRuntime) -> Result
     hold_wrong(alloc, 2, b"a\xff\tb".as_slice(), nothing, OF_NOBODY)
 }
 
-/// A load, the begin and the end of the one cycle, and the close: so many of these lines are legal, and the next is wrong.
+/// A load, the begin and the end of the one cycle, and the close: so many of these lines are legal, and the next is
+/// wrong.
 #[test]
 fn a_wrong_line_is_marked_in_the_run(rt: HostRuntime) -> Result<(), Fail> {
     hold_marked(rt.alloc(), 0, 1, "in cycle 0")?;
@@ -31,8 +32,8 @@ fn a_wrong_line_is_marked_in_the_run(rt: HostRuntime) -> Result<(), Fail> {
     hold_marked(rt.alloc(), 3, 4, "after the last cycle")
 }
 
-/// Fails where the page of a trace that goes wrong at a line, behind so many legal ones, lacks a bar that tells it then, or the line's
-/// number above.
+/// Fails where the page of a trace that goes wrong at a line, behind so many legal ones, lacks a bar that tells it
+/// then, or the line's number above.
 fn hold_marked(alloc: Global, legal: usize, line: u32, then: &str) -> Result<(), Fail> {
     let page = marked(alloc, legal, line)?;
     let title = format!(in alloc;

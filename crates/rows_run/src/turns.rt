@@ -1,7 +1,8 @@
-//! Documents whose schedule says who is next, and what is printed of their turns and of the rest, which goes as without a schedule.
+//! Documents whose schedule says who is next, and what is printed of their turns and of the rest, which goes as without
+//! a schedule.
 
-/// The turns of two operators of one robot. In the first case a switch is decided where the cycle begins, and told while it is aloft:
-/// there the active controller is not unloaded, and the other is.
+/// The turns of two operators of one robot. In the first case a switch is decided where the cycle begins, and told
+/// while it is aloft: there the active controller is not unloaded, and the other is.
 pub const TURNS: &str = r"cycles = 1
 --- script ---
 session a
@@ -112,8 +113,8 @@ loop begin 1: none
 loop end 1: run fwd ok 0.250000; joint j1 0.010000 1.000000 0.000000
 loop close: none";
 
-/// Turns that cannot be made do nothing: to end what is not aloft, to begin what is or what is not left, to go on without a line or
-/// before the ticket is decided or the cycle has ended.
+/// Turns that cannot be made do nothing: to end what is not aloft, to begin what is or what is not left, to go on
+/// without a line or before the ticket is decided or the cycle has ended.
 pub const IDLE_TURNS: &str = r"cycles = 1
 --- script ---
 session a
@@ -157,7 +158,8 @@ end
 a load mk: ok 0
 loop close: none";
 
-/// What comes after the turns: a cycle that is aloft ends, the cycles that are left follow, and the sessions settle as without turns.
+/// What comes after the turns: a cycle that is aloft ends, the cycles that are left follow, and the sessions settle as
+/// without turns.
 pub const AFTER_TURNS: &str = r"cycles = 2
 --- script ---
 session a

@@ -1,5 +1,6 @@
 -- How the loop stands after each call of it, as its pass has then seen.
-use Rattle.std.proofs.Common.{◌≡◌, ℕ, ◌+◌, Bool, true, false, List, Option, Some, None, refl, sym, ap, ap₂, subst, ◌∙◌, arith}
+use Rattle.std.proofs.Common.{◌≡◌, ℕ, ◌+◌, Bool, true, false, List, Option}
+use Rattle.std.proofs.Common.{Some, None, refl, sym, ap, ap₂, subst, ◌∙◌, arith}
 use Rattle.std.specs.Prelude.{◌≢◌, ◌-◌, IfSome}
 use mathlib.Core.List.{IsPrefix}
 use Rattle.cm_document.specs.declared.call.Call.{Call}
@@ -32,24 +33,31 @@ use Rattle.rows_share.specs.declared.stand.Stand.{Stand}
 -- where the loop stands alike it stands so too
 pub stands_so : (s t : State) (stand : Stand) → SameLoop s t → StandsSo s stand → StandsSo t stand
 stands_so s t stand same so = record {
-  left = so.left ∙ ap₂ (λ (a b : ℕ). a - b) (ap (λ (d : Description). d.cycles) (sym same.description)) (sym same.ended);
+  left = so.left
+      ∙ ap₂ (λ (a b : ℕ). a - b) (ap (λ (d : Description). d.cycles) (sym same.description)) (sym same.ended);
   aloft = so.aloft ∙ sym same.aloft;
   closed = so.closed ∙ sym same.closed;
 }
 
 -- a step leaves the description
-same_cycles : (old new : History) (who : ℕ) (call : Call) (r : Reply) → Grows old new who call r → (now_of new).description.cycles ≡ (now_of old).description.cycles
-same_cycles old new who call r grows = ap (λ (d : Description). d.cycles) (step-Stands (now_of old) who call (now_of new, r) grows.stepped).description
+same_cycles : (old new : History) (who : ℕ) (call : Call) (r : Reply) → Grows old new who call r
+    → (now_of new).description.cycles ≡ (now_of old).description.cycles
+same_cycles old new who call r grows =
+    ap (λ (d : Description). d.cycles) (step-Stands (now_of old) who call (now_of new, r) grows.stepped).description
 
 -- a begin leaves as many cycles left, and one aloft
-pub began_so : (old new : History) (who : ℕ) (r : Reply) (left : ℕ) (aloft closed : Bool) → Grows old new who (Begin (now_of old).ended) r → StandsSo (now_of old) (record { left = left; aloft = aloft; closed = closed })
+pub began_so : (old new : History) (who : ℕ) (r : Reply) (left : ℕ) (aloft closed : Bool)
+    → Grows old new who (Begin (now_of old).ended) r
+    → StandsSo (now_of old) (record { left = left; aloft = aloft; closed = closed })
     → StandsSo (now_of new) (record { left = left; aloft = true; closed = closed })
 began_so old new who r left aloft closed grows so =
     let s = now_of old in
     let next = (step-IsStep s who (Begin s.ended) (now_of new, r) grows.stepped).next in
     let loop = boundary-SameLoop s in
     record {
-      left = so.left ∙ ap₂ (λ (a b : ℕ). a - b) (sym (same_cycles old new who (Begin s.ended) r grows)) (sym (ap (λ (t : State). t.ended) next ∙ loop.ended));
+      left = so.left
+          ∙ ap₂ (λ (a b : ℕ). a - b) (sym (same_cycles old new who (Begin s.ended) r grows))
+          (sym (ap (λ (t : State). t.ended) next ∙ loop.ended));
       aloft = sym (ap (λ (t : State). t.aloft) next);
       closed = so.closed ∙ sym (ap (λ (t : State). t.closed) next ∙ loop.closed);
     }
@@ -58,7 +66,9 @@ one_less : (left cycles ended : ℕ) → left ≡ cycles - ended → left - 1 �
 one_less left cycles ended same = omega (arith, same)
 
 -- an end leaves one less, and none aloft
-pub landed_so : (old new : History) (who : ℕ) (r : Reply) (left : ℕ) (aloft closed : Bool) → Grows old new who (End (now_of old).ended) r → StandsSo (now_of old) (record { left = left; aloft = aloft; closed = closed })
+pub landed_so : (old new : History) (who : ℕ) (r : Reply) (left : ℕ) (aloft closed : Bool)
+    → Grows old new who (End (now_of old).ended) r
+    → StandsSo (now_of old) (record { left = left; aloft = aloft; closed = closed })
     → StandsSo (now_of new) (record { left = left - 1; aloft = false; closed = closed })
 unfolding after_cycle commit
 landed_so old new who r left aloft closed grows so =
@@ -67,19 +77,23 @@ landed_so old new who r left aloft closed grows so =
     record {
       left =
           one_less left s.description.cycles s.ended so.left
-          ∙ ap₂ (λ (a b : ℕ). a - b) (sym (same_cycles old new who (End s.ended) r grows)) (sym (ap (λ (t : State). t.ended) next));
+          ∙ ap₂ (λ (a b : ℕ). a - b) (sym (same_cycles old new who (End s.ended) r grows))
+          (sym (ap (λ (t : State). t.ended) next));
       aloft = sym (ap (λ (t : State). t.aloft) next);
       closed = so.closed ∙ sym (ap (λ (t : State). t.closed) next);
     }
 
 -- the close leaves the loop closed
-pub closed_so : (old new : History) (who : ℕ) (r : Reply) (left : ℕ) (aloft closed : Bool) → Grows old new who Close r → StandsSo (now_of old) (record { left = left; aloft = aloft; closed = closed })
+pub closed_so : (old new : History) (who : ℕ) (r : Reply) (left : ℕ) (aloft closed : Bool) → Grows old new who Close r
+    → StandsSo (now_of old) (record { left = left; aloft = aloft; closed = closed })
     → StandsSo (now_of new) (record { left = left; aloft = aloft; closed = true })
 closed_so old new who r left aloft closed grows so =
     let s = now_of old in
     let next = (step-IsStep s who Close (now_of new, r) grows.stepped).next in
     record {
-      left = so.left ∙ ap₂ (λ (a b : ℕ). a - b) (sym (same_cycles old new who Close r grows)) (sym (ap (λ (t : State). t.ended) next));
+      left = so.left
+          ∙ ap₂ (λ (a b : ℕ). a - b) (sym (same_cycles old new who Close r grows))
+          (sym (ap (λ (t : State). t.ended) next));
       aloft = so.aloft ∙ sym (ap (λ (t : State). t.aloft) next);
       closed = sym (ap (λ (t : State). t.closed) next);
     }
@@ -87,13 +101,17 @@ closed_so old new who r left aloft closed grows so =
 -- ---- When
 
 -- a cycle can begin where none is aloft, the loop is open and cycles are left
-pub begins_so : (now : State) (stand : Stand) → StandsSo now stand → stand.aloft ≡ false → stand.closed ≡ false → stand.left ≢ 0 → can_begin now now.ended ≡ true
+pub begins_so : (now : State) (stand : Stand) → StandsSo now stand → stand.aloft ≡ false → stand.closed ≡ false
+    → stand.left ≢ 0 → can_begin now now.ended ≡ true
 begins_so now stand so home unclosed some =
-    begins_where now.aloft now.closed now.ended now.description.cycles (sym so.aloft ∙ home) (sym so.closed ∙ unclosed) (omega (arith, so.left, some))
+    begins_where now.aloft now.closed now.ended now.description.cycles (sym so.aloft ∙ home) (sym so.closed ∙ unclosed)
+    (omega (arith, so.left, some))
 
 -- and the loop can close where none is aloft and it is open
-pub closes_so : (now : State) (stand : Stand) → StandsSo now stand → stand.aloft ≡ false → stand.closed ≡ false → can_close now ≡ true
-closes_so now stand so home unclosed = closes_where now.aloft now.closed (sym so.aloft ∙ home) (sym so.closed ∙ unclosed)
+pub closes_so : (now : State) (stand : Stand) → StandsSo now stand → stand.aloft ≡ false → stand.closed ≡ false
+    → can_close now ≡ true
+closes_so now stand so home unclosed =
+    closes_where now.aloft now.closed (sym so.aloft ∙ home) (sym so.closed ∙ unclosed)
 
 -- ---- Flights
 
@@ -103,11 +121,13 @@ at_hand P o f is all = subst (λ (k : Option FlightFacts). IfSome k P) is all
 -- ---- Turns of its pass
 
 module _ {K : Type 0} {g : Ghosts K Entry State} (lock : TurnLock K Entry State) (first : History) where
-  still_loop : (p q : TurnPass K Entry State g) (found : History) → IsLoopPass lock first p → TakesTurn lock first p q found → IsLoopPass lock first q
+  still_loop : (p q : TurnPass K Entry State g) (found : History) → IsLoopPass lock first p
+      → TakesTurn lock first p q found → IsLoopPass lock first q
   still_loop p q found is turn = record { at = turn.still; loop = turn.number ∙ is.loop }
 
   -- where no entry is made the loop stands as it stood
-  pub stays_loop : (p q : TurnPass K Entry State g) (stand : Stand) (out computed : Option FlightFacts) → IsLoopOf lock first p stand out computed → Stays lock first p q
+  pub stays_loop : (p q : TurnPass K Entry State g) (stand : Stand) (out computed : Option FlightFacts)
+      → IsLoopOf lock first p stand out computed → Stays lock first p q
       → IsLoopOf lock first q stand None None
   stays_loop p q stand out computed is stays =
       let turn = stays.turn in
@@ -117,7 +137,8 @@ module _ {K : Type 0} {g : Ghosts K Entry State} (lock : TurnLock K Entry State)
         begins = subst (λ (made : List Entry). IsPrefix (view p).seen made) (sym seen) turn.begins;
         own =
             subst (λ (n : ℕ). entries_by n (view q).seen ≡ entries_by n (view p).seen) is.looping.loop
-            (subst (λ (made : List Entry). entries_by p.number made ≡ entries_by p.number (view p).seen) (sym seen) turn.own);
+            (subst (λ (made : List Entry). entries_by p.number made ≡ entries_by p.number (view p).seen) (sym seen)
+            turn.own);
       } in
       let stands = stands_alike (history_of first.opening p) (history_of first.opening q) turn.right.legal goes_on in
       record {
@@ -127,42 +148,52 @@ module _ {K : Type 0} {g : Ghosts K Entry State} (lock : TurnLock K Entry State)
         computed_is = tt;
       }
 
-  pub begins_loop : (p q : TurnPass K Entry State g) (stand : Stand) (out computed : Option FlightFacts) (f : FlightFacts) → IsLoopOf lock first p stand out computed → BeginsThere lock first p q
-      → IsOut (history_of first.opening q) f → IsLoopOf lock first q (record { left = stand.left; aloft = true; closed = stand.closed }) (Some f) None
+  pub begins_loop : (p q : TurnPass K Entry State g) (stand : Stand) (out computed : Option FlightFacts)
+      (f : FlightFacts) → IsLoopOf lock first p stand out computed → BeginsThere lock first p q
+      → IsOut (history_of first.opening q) f
+      → IsLoopOf lock first q (record { left = stand.left; aloft = true; closed = stand.closed }) (Some f) None
   begins_loop p q stand out computed f is begins flies =
       let same = begins.stands.loop in
       record {
         looping = still_loop p q begins.found is.looping begins.turn;
         stands =
-            began_so begins.found (history_of first.opening q) p.number (begin_reply (now_of begins.found)) stand.left stand.aloft stand.closed
-            (subst (λ (n : ℕ). Grows begins.found (history_of first.opening q) p.number (Begin n) (begin_reply (now_of begins.found))) (sym same.ended) begins.grows)
+            began_so begins.found (history_of first.opening q) p.number (begin_reply (now_of begins.found)) stand.left
+            stand.aloft stand.closed
+            (subst (λ (n : ℕ). Grows begins.found (history_of first.opening q) p.number (Begin n)
+            (begin_reply (now_of begins.found))) (sym same.ended) begins.grows)
             (stands_so (stand_of first p) (now_of begins.found) stand same is.stands);
         out_is = flies;
         computed_is = tt;
       }
 
-  pub lands_loop : (p q : TurnPass K Entry State g) (stand : Stand) (out computed : Option FlightFacts) (left : ℕ) (gone : Option FlightFacts) → IsLoopOf lock first p stand out computed
-      → LandsThere lock first p q → left ≡ stand.left - 1 → gone ≡ None → IsLoopOf lock first q (record { left = left; aloft = false; closed = stand.closed }) None gone
+  pub lands_loop : (p q : TurnPass K Entry State g) (stand : Stand) (out computed : Option FlightFacts) (left : ℕ)
+      (gone : Option FlightFacts) → IsLoopOf lock first p stand out computed
+      → LandsThere lock first p q → left ≡ stand.left - 1 → gone ≡ None
+      → IsLoopOf lock first q (record { left = left; aloft = false; closed = stand.closed }) None gone
   lands_loop p q stand out computed left gone is lands less none =
       let same = lands.stands.loop in
       let told = reply.Cycle (cycle lands.begun).happened in
       record {
         looping = still_loop p q lands.found is.looping lands.turn;
         stands =
-            subst (λ (n : ℕ). StandsSo (stand_of first q) (record { left = n; aloft = false; closed = stand.closed })) (sym less)
+            subst (λ (n : ℕ). StandsSo (stand_of first q) (record { left = n; aloft = false; closed = stand.closed }))
+            (sym less)
             (landed_so lands.found (history_of first.opening q) p.number told stand.left stand.aloft stand.closed
-            (subst (λ (n : ℕ). Grows lands.found (history_of first.opening q) p.number (End n) told) (sym same.ended) lands.grows)
+            (subst (λ (n : ℕ). Grows lands.found (history_of first.opening q) p.number (End n) told) (sym same.ended)
+            lands.grows)
             (stands_so (stand_of first p) (now_of lands.found) stand same is.stands));
         out_is = tt;
         computed_is = subst (λ (o : Option FlightFacts). IfSome o (MayLand (history_of first.opening q))) (sym none) tt;
       }
 
-  pub closes_loop : (p q : TurnPass K Entry State g) (stand : Stand) (out computed : Option FlightFacts) → IsLoopOf lock first p stand out computed → ClosesThere lock first p q
+  pub closes_loop : (p q : TurnPass K Entry State g) (stand : Stand) (out computed : Option FlightFacts)
+      → IsLoopOf lock first p stand out computed → ClosesThere lock first p q
       → IsLoopOf lock first q (record { left = stand.left; aloft = stand.aloft; closed = true }) None None
   closes_loop p q stand out computed is closes = record {
     looping = still_loop p q closes.found is.looping closes.turn;
     stands =
-        closed_so closes.found (history_of first.opening q) p.number (close_reply (now_of closes.found)) stand.left stand.aloft stand.closed closes.grows
+        closed_so closes.found (history_of first.opening q) p.number (close_reply (now_of closes.found)) stand.left
+        stand.aloft stand.closed closes.grows
         (stands_so (stand_of first p) (now_of closes.found) stand closes.stands.loop is.stands);
     out_is = tt;
     computed_is = tt;

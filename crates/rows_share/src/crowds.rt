@@ -1,4 +1,5 @@
-//! Eight sessions call on threads of their own, while the thread of the loop holds a flight; then the book is judged whole.
+//! Eight sessions call on threads of their own, while the thread of the loop holds a flight; then the book is judged
+//! whole.
 
 ghost use Rattle.std.specs.Prelude.{◌≡◌, ◌<◌, ◌^◌, length, IfOk};
 ghost use Rattle.std.specs.List.{All};

@@ -22,14 +22,22 @@ use Rattle.shared_desk.specs.contracts.kept.Opening as Opening
 use Rattle.shared_desk.specs.contracts.shared.SharedDesk as SharedDesk
 
 pub kept_send : (C : RattleType) (m : Ghosts C.Denot) → IsSend C → IsSend (Kept.the_row C m)
-kept_send C m s = view_send _ _ _ _ _ (declared_send (KeptInside.the_type C m) (as_row_send (Box.the_field (Desk.the_row C m) Heap.the_row heap_ghosts) (heap.Box-send (Desk.the_row C m) (desk_send C m s)), tt))
+kept_send C m s =
+    view_send _ _ _ _ _
+    (declared_send (KeptInside.the_type C m) (
+      as_row_send (Box.the_field (Desk.the_row C m) Heap.the_row heap_ghosts)
+          (heap.Box-send (Desk.the_row C m) (desk_send C m s)),
+      tt,
+    ))
 
 -- the meanings by which the lock speaks of a kept desk
-abbrev pub meanings : (C : RattleType) (m : Ghosts C.Denot) → LockGhosts (Kept.the_row C m).Denot Entry.the_row.Denot Opening.the_row.Denot
+abbrev pub meanings : (C : RattleType) (m : Ghosts C.Denot)
+    → LockGhosts (Kept.the_row C m).Denot Entry.the_row.Denot Opening.the_row.Denot
 meanings C m = ghosts C m no_dict no_dict
 
 -- a pass goes to the thread of its caller
-pub console_pass_send : (C : RattleType) (m : Ghosts C.Denot) → IsSend C → IsSend (Pass.the_row (Kept.the_row C m) Entry.the_row Opening.the_row (meanings C m))
+pub console_pass_send : (C : RattleType) (m : Ghosts C.Denot) → IsSend C
+    → IsSend (Pass.the_row (Kept.the_row C m) Entry.the_row Opening.the_row (meanings C m))
 console_pass_send C m s = pass_send (Kept.the_row C m) Entry.the_row Opening.the_row (meanings C m) (kept_send C m s)
 
 snapshot_sync : (T : RattleType) → IsSync (Snapshot.the_row T)
@@ -39,5 +47,8 @@ snapshot_sync T = search (sendable, crosses) depth 40
 pub desk_sync : (C : RattleType) (m : Ghosts C.Denot) → IsSend C → IsSync (SharedDesk.the_row C m)
 desk_sync C m s = declared_sync (SharedDesk.the_type C m) (
   heap.sync,
-  (lock_sync (Kept.the_row C m) Entry.the_row Opening.the_row (meanings C m) (kept_send C m s), (as_row_sync (Snapshot.the_field (Kept.the_row C m)) (snapshot_sync (Kept.the_row C m)), tt)),
+  (
+    lock_sync (Kept.the_row C m) Entry.the_row Opening.the_row (meanings C m) (kept_send C m s),
+    (as_row_sync (Snapshot.the_field (Kept.the_row C m)) (snapshot_sync (Kept.the_row C m)), tt),
+  ),
 )

@@ -13,12 +13,16 @@ use Rattle.shared_desk.specs.contracts.shared.SharedDesk as SharedDesk
 use Rattle.shared_desk.proofs.Crossing.{meanings, console_pass_send, desk_sync}
 
 -- a session's console
-pub port_send : (a : NamedLft) (R C : RattleType) (m : Ghosts C.Denot) → IsSync R → IsSend C → IsSend (SessionPort.the_row a R C (meanings C m) m)
+pub port_send : (a : NamedLft) (R C : RattleType) (m : Ghosts C.Denot) → IsSync R → IsSend C
+    → IsSend (SessionPort.the_row a R C (meanings C m) m)
 port_send a R C m r s =
     let desk = desk_sync C m s in
     declared_send (SessionPort.the_type a R C (meanings C m) m) (
       search (sendable, crosses, r),
-      (as_row_send (shr_ref_field a (SharedDesk.the_row C m) tt) (search (sendable, desk)), (console_pass_send C m s, tt)),
+      (
+        as_row_send (shr_ref_field a (SharedDesk.the_row C m) tt) (search (sendable, desk)),
+        (console_pass_send C m s, tt),
+      ),
     )
 
 -- the pass of the loop
@@ -26,7 +30,8 @@ pub loop_pass_send : (C : RattleType) (m : Ghosts C.Denot) → IsSend C → IsSe
 loop_pass_send C m s = declared_send (LoopPass.the_type C (meanings C m) m) (console_pass_send C m s, tt)
 
 -- and its console
-pub loop_end_send : (a : NamedLft) (R C : RattleType) (m : Ghosts C.Denot) → IsSync R → IsSend C → IsSend (LoopEnd.the_row a R C (meanings C m) m)
+pub loop_end_send : (a : NamedLft) (R C : RattleType) (m : Ghosts C.Denot) → IsSync R → IsSend C
+    → IsSend (LoopEnd.the_row a R C (meanings C m) m)
 loop_end_send a R C m r s =
     let desk = desk_sync C m s in
     declared_send (LoopEnd.the_type a R C (meanings C m) m) (

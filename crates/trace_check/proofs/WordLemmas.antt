@@ -1,5 +1,6 @@
 -- Words and ends of lines.
-use Rattle.std.proofs.Common.{◌≡◌, ℕ, suc, ◌+◌, ◌≤◌, Bool, true, false, List, [], ◌∷◌, ◌++◌, length, take, Option, Some, None, refl, sym, ap, subst, ◌∙◌, inl, inr, arith}
+use Rattle.std.proofs.Common.{◌≡◌, ℕ, suc, ◌+◌, ◌≤◌, Bool, true, false, List, [], ◌∷◌, ◌++◌, length}
+use Rattle.std.proofs.Common.{take, Option, Some, None, refl, sym, ap, subst, ◌∙◌, inl, inr, arith}
 use Rattle.std.specs.Prelude.{◌==◌, ◌||◌, nat_lt, position, IfSome}
 use Rattle.std.specs.List.{list_any, position_or_len}
 use Rattle.std.proofs.lemmas.Bool.{cases_Bool, ne_eqb}
@@ -31,7 +32,8 @@ first_taken : (line : List ℕ) → first_word line ≡ take (position_or_len en
 first_taken [] = refl
 first_taken (b ∷ bs) = elim (cases_Bool (ends_word b)) [
   | inl ends ↦ rw ends refl
-  | inr inside ↦ rw inside (ap (λ (l : List ℕ). b ∷ l) (first_taken bs) ∙ sym (take_one_more (position_or_len ends_word bs) b bs))
+  | inr inside ↦ rw inside
+      (ap (λ (l : List ℕ). b ∷ l) (first_taken bs) ∙ sym (take_one_more (position_or_len ends_word bs) b bs))
 ]
 
 pub first_word_cut : (line : List ℕ) (end : ℕ) → position ends_word line ≡ Some end → first_word line ≡ take end line
@@ -49,16 +51,19 @@ pub ruleset first_words = (first_word_cut, first_word_all)
 
 -- ---- A line without its line feed
 
-kept_end : (front : List ℕ) (last : ℕ) → (last == 10) ≡ false → without_last 10 (front ++ last ∷ []) ≡ front ++ last ∷ []
+kept_end : (front : List ℕ) (last : ℕ) → (last == 10) ≡ false
+    → without_last 10 (front ++ last ∷ []) ≡ front ++ last ∷ []
 kept_end [] last other = rw other refl
 kept_end (b ∷ []) last other = ap (λ (l : List ℕ). b ∷ l) (kept_end [] last other)
 kept_end (b ∷ c ∷ bs) last other = ap (λ (l : List ℕ). b ∷ l) (kept_end (c ∷ bs) last other)
 
-pub without_its_feed : (line front : List ℕ) (last : ℕ) → line ≡ front ++ last ∷ [] → last ≡ 10 → front ≡ without_last 10 line
+pub without_its_feed : (line front : List ℕ) (last : ℕ) → line ≡ front ++ last ∷ [] → last ≡ 10
+    → front ≡ without_last 10 line
 without_its_feed line front last whole feed =
     sym (without_feed front) ∙ ap (λ b. without_last 10 (front ++ b ∷ [])) (sym feed) ∙ ap (without_last 10) (sym whole)
 
-pub without_a_feed : (line front : List ℕ) (last : ℕ) → line ≡ front ++ last ∷ [] → (last ≡ 10 → ⊥) → line ≡ without_last 10 line
+pub without_a_feed : (line front : List ℕ) (last : ℕ) → line ≡ front ++ last ∷ [] → (last ≡ 10 → ⊥)
+    → line ≡ without_last 10 line
 without_a_feed line front last whole other =
     let differs : (last == 10) ≡ false = ne_eqb last 10 other in
     whole ∙ sym (kept_end front last differs) ∙ ap (without_last 10) (sym whole)
@@ -68,8 +73,10 @@ pub ruleset ending_lines = (without_its_feed, without_a_feed)
 -- ---- A load
 
 -- the controller that an entry loaded is described
-pub load_described : (d : Description) (e : Entry) (n : ℕ) (name : List ℕ) → IsDescribed d e → e.reply ≡ reply.Serial n → load_name e.call ≡ Some name
+pub load_described : (d : Description) (e : Entry) (n : ℕ) (name : List ℕ) → IsDescribed d e → e.reply ≡ reply.Serial n
+    → load_name e.call ≡ Some name
     → list_any (λ (c : CtlDesc). same_name c.name name) d.controllers ≡ true
 load_described d e n name described is loads =
     let loaded : loaded_by e.call e.reply ≡ Some name = ap (loaded_by e.call) is ∙ loads in
-    subst (λ (o : Option (List ℕ)). IfSome o (λ (each : List ℕ). list_any (λ (c : CtlDesc). same_name c.name each) d.controllers ≡ true)) loaded described
+    subst (λ (o : Option (List ℕ)). IfSome o
+    (λ (each : List ℕ). list_any (λ (c : CtlDesc). same_name c.name each) d.controllers ≡ true)) loaded described

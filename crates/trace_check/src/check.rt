@@ -20,9 +20,10 @@ use fixed_num::Memory;
 use script_text::first_line;
 use std::alloc::Global;
 
-/// Whether a text is the trace of a legal, whole history of a document over a stock of these blanks. Else the answer is the first wrong
-/// line, and the line that was to come there. The text is replayed on a desk of its own, line by line, over controllers without boxes: so
-/// it takes time in proportion to the run that the lines tell. It has no more blanks of a kind than the text has lines.
+/// Whether a text is the trace of a legal, whole history of a document over a stock of these blanks. Else the answer is
+/// the first wrong line, and the line that was to come there. The text is replayed on a desk of its own, line by line,
+/// over controllers without boxes: so it takes time in proportion to the run that the lines tell. It has no more blanks
+/// of a kind than the text has lines.
 pub fn check_trace(
     alloc: Global,
     checked: &Checked,

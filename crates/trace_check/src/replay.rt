@@ -69,8 +69,8 @@ impl<C: Controller> Replayed<C> {
     }
 }
 
-/// Replays a text over this stock: each line is to be the next one of the caller that it names. It ends at the first line that is not. It
-/// takes time in proportion to the run that the lines tell.
+/// Replays a text over this stock: each line is to be the next one of the caller that it names. It ends at the first
+/// line that is not. It takes time in proportion to the run that the lines tell.
 pub fn replay_over<C: Controller>(
     alloc: Global,
     checked: &Checked,
@@ -136,8 +136,8 @@ fn wrong_behind(told: usize, expected: Seq<u8>) -> WrongLine
     }
 }
 
-/// Replays a line: the caller that it names makes its next call. If this prints another line, or there is none, the line is wrong, and the
-/// answer is what was to come in its place.
+/// Replays a line: the caller that it names makes its next call. If this prints another line, or there is none, the
+/// line is wrong, and the answer is what was to come in its place.
 fn wrong_line<'a, C: Controller>(
     alloc: Global,
     checked: &'a Checked,

@@ -1,8 +1,8 @@
 //! Whole documents whose session calls for controllers, each with what is printed of its run.
 
-/// A controller from its load to its unload; as many loads as there are blanks of a kind, and one more; all blanks of two
-/// kinds at once; and calls before cycles, which go on as if they had not been made: an inactive controller commands
-/// nothing, is not updated, and stays where its hardware fails.
+/// A controller from its load to its unload; as many loads as there are blanks of a kind, and one more; all blanks of
+/// two kinds at once; and calls before cycles, which go on as if they had not been made: an inactive controller
+/// commands nothing, is not updated, and stays where its hardware fails.
 pub const DOCUMENTS: &str = r#"version = 1
 update_rate = 100
 cycles = 0

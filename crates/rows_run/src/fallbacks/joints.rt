@@ -52,8 +52,8 @@ reads = ["j1/position"]
 session s
 "#;
 
-/// Of two that command one joint the first of the list comes, or the one that is active already. A follower comes before
-/// the one that leads it, wherever it stands in the list.
+/// Of two that command one joint the first of the list comes, or the one that is active already. A follower comes
+/// before the one that leads it, wherever it stands in the list.
 pub const LEFT_OUT: &str = r"load mk
 load fwd
 load other

@@ -1,7 +1,7 @@
 //! Several whose updates fail, and who stands in for them, list by list.
 
-/// Mocks, most of which fail in cycle 1. One of those that they name fails a cycle later, and one is not ready before it.
-/// A script follows, of a session that has begun.
+/// Mocks, most of which fail in cycle 1. One of those that they name fails a cycle later, and one is not ready before
+/// it. A script follows, of a session that has begun.
 pub const MOCKS: &str = r#"version = 1
 update_rate = 100
 cycles = 4
@@ -39,8 +39,9 @@ not_ready = [2]
 session s
 "#;
 
-/// The list of the one that was updated first comes first. Who is named twice is asked for once. Who is not ready is not
-/// asked for again. One that goes on, and one without a list, bring nobody. Who stands in may fail, and brings its own.
+/// The list of the one that was updated first comes first. Who is named twice is asked for once. Who is not ready is
+/// not asked for again. One that goes on, and one without a list, bring nobody. Who stands in may fail, and brings its
+/// own.
 pub const LIST_BY_LIST: &str = r"load m2
 load mk
 load a
@@ -175,8 +176,8 @@ loop begin 3: fallback done dropped b already_active
 loop end 3: run b ok
 loop close: none";
 
-/// The same by turns. Both lists are known when their cycle has ended, whatever becomes of those that failed; and who is
-/// named is looked at in the begin, with what was called until then.
+/// The same by turns. Both lists are known when their cycle has ended, whatever becomes of those that failed; and who
+/// is named is looked at in the begin, with what was called until then.
 pub const LISTS_BY_TURNS: &str = r"load m2
 load mk
 load a

@@ -1,8 +1,8 @@
-//! One robot, and what its switches come to: refusals, what a best effort leaves out, chains, restarts, and calls on a controller that is
-//! active.
+//! One robot, and what its switches come to: refusals, what a best effort leaves out, chains, restarts, and calls on a
+//! controller that is active.
 
-/// A joint that is commanded by its position or by its velocity; forwards, a passthrough with one that leads it, and mocks, one of which
-/// leads the passthrough too. A script follows, of a session that has begun.
+/// A joint that is commanded by its position or by its velocity; forwards, a passthrough with one that leads it, and
+/// mocks, one of which leads the passthrough too. A script follows, of a session that has begun.
 pub const ROBOT: &str = r#"version = 1
 update_rate = 100
 cycles = 6
@@ -48,8 +48,8 @@ fail_update = [2]
 session a
 "#;
 
-/// Who claims what another has is refused, and takes its place in one switch. Then best efforts: what each leaves out, in the order of its
-/// parts; a restart that is not ready leaves; and lists with a name that stands twice.
+/// Who claims what another has is refused, and takes its place in one switch. Then best efforts: what each leaves out,
+/// in the order of its parts; a restart that is not ready leaves; and lists with a name that stands twice.
 pub const REFUSALS: &str = "load fwd
 load other
 load speed
@@ -142,9 +142,10 @@ loop end 5: run fwd ok unset; joint j1 0.000000 0.000000 0.000000
 a told 5: done dropped fwd twice
 loop close: none";
 
-/// A passthrough that is active restarts where one comes that leads it: its mail is gone, and from then on it takes none. It cannot leave
-/// while it is led; both leave together, and both come, the follower first. Then a restart by name of one that is led: as a best effort it
-/// does not leave, and so is active already; strictly it restarts alone, and what its leader gave it last is gone, until that one is due.
+/// A passthrough that is active restarts where one comes that leads it: its mail is gone, and from then on it takes
+/// none. It cannot leave while it is led; both leave together, and both come, the follower first. Then a restart by
+/// name of one that is led: as a best effort it does not leave, and so is active already; strictly it restarts alone,
+/// and what its leader gave it last is gone, until that one is due.
 pub const CHAINS: &str = "load pt
 load lead
 configure pt
@@ -234,8 +235,8 @@ loop begin 5: none
 loop end 5: run pt ok unset; joint j1 0.010000 0.000000 0.000000
 loop close: none";
 
-/// What is asked of an active controller is refused with its cause, and mail that does not fit; once it is inactive it can be unloaded, and
-/// loaded again it has a new serial, behind which it is updated.
+/// What is asked of an active controller is refused with its cause, and mail that does not fit; once it is inactive it
+/// can be unloaded, and loaded again it has a new serial, behind which it is updated.
 pub const WHILE_ACTIVE: &str = "load fwd
 load mk
 configure fwd
@@ -299,8 +300,8 @@ loop begin 5: none
 loop end 5: run mk error; run fwd ok unset; joint j1 0.000000 0.000000 0.000000; stop mk
 loop close: none";
 
-/// An update that fails leaves what it gave out before, for that cycle. Its controller stops alone, and the one that it led restarts: it is
-/// not chained any more, nothing stands where it was told what to do, and mail reaches it again.
+/// An update that fails leaves what it gave out before, for that cycle. Its controller stops alone, and the one that it
+/// led restarts: it is not chained any more, nothing stands where it was told what to do, and mail reaches it again.
 pub const FOLLOWER_RESTARTS: &str = "load pt
 load nudge
 configure pt

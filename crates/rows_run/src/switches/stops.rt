@@ -1,6 +1,7 @@
 //! Two components, and what their failures and moves make of the controllers that use them.
 
-/// Whose arm cannot be read in cycle 2, and is given up then, while the leg goes on. A script follows, of a session that has begun.
+/// Whose arm cannot be read in cycle 2, and is given up then, while the leg goes on. A script follows, of a session
+/// that has begun.
 pub const ARM_AND_LEG: &str = r#"version = 1
 update_rate = 100
 cycles = 5
@@ -35,9 +36,10 @@ claims = ["j2/position"]
 session a
 "#;
 
-/// A controller of both components is held off where one cannot be read: its mail of that cycle is lost, the leg is still written with what
-/// was given out before, and then it stops; it cannot come back, as the arm is not there any more. Beside an inactive leg a controller runs
-/// and moves nothing, until the leg is active; from then on the leg cannot be taken from it.
+/// A controller of both components is held off where one cannot be read: its mail of that cycle is lost, the leg is
+/// still written with what was given out before, and then it stops; it cannot come back, as the arm is not there any
+/// more. Beside an inactive leg a controller runs and moves nothing, until the leg is active; from then on the leg
+/// cannot be taken from it.
 pub const ONE_OF_TWO: &str = "load both
 configure both
 switch strict +both
@@ -111,8 +113,9 @@ loop end 4: run swing ok 2.000000; joint j1 0.000000 0.000000 0.000000; joint j2
 a told 3: refused leg in_use swing
 loop close: none";
 
-/// Failures of two components in one cycle, a sensor among them, which who reads it misses; a chain of three whose middle loses its
-/// component: who leads it stops with it, and its follower goes on, unchained; and requests of which no cycle is left to decide.
+/// Failures of two components in one cycle, a sensor among them, which who reads it misses; a chain of three whose
+/// middle loses its component: who leads it stops with it, and its follower goes on, unchained; and requests of which
+/// no cycle is left to decide.
 pub const OF_SEVERAL: &str = r#"version = 1
 update_rate = 100
 cycles = 3

@@ -9,7 +9,8 @@ returns-then-is_feasible c =
     let l : to_z w64 (of_z w64 c.args.last) ≡ c.args.last = omega (arith, ints) in
     let w : to_z w64 (of_z w64 c.args.wanted) ≡ c.args.wanted = omega (arith, ints) in
     let f : to_z w64 c.args.far ≡ pos c.args.far = omega (arith, ints, c.requires.no_farther) in
-    let less : to_z w64 (of_z w64 (c.args.wanted -ℤ pos c.args.far)) ≡ c.args.wanted -ℤ pos c.args.far = omega (arith, ints, c.requires.near, c.requires.no_farther) in
+    let less : to_z w64 (of_z w64 (c.args.wanted -ℤ pos c.args.far)) ≡ c.args.wanted -ℤ pos c.args.far =
+    omega (arith, ints, c.requires.near, c.requires.no_farther) in
     let low = rw (x, l, w, f, less) at (sym c.is_feasible.ensures ∙ c.if-is_feasible.true) in
     rw (w, f, less) (first_one c.args.at c.args.last c.args.wanted c.args.far low)
 
@@ -19,8 +20,10 @@ returns-then-is_feasible-2 c =
     let l : to_z w64 (of_z w64 c.args.last) ≡ c.args.last = omega (arith, ints) in
     let w : to_z w64 (of_z w64 c.args.wanted) ≡ c.args.wanted = omega (arith, ints) in
     let f : to_z w64 c.args.far ≡ pos c.args.far = omega (arith, ints, c.requires.no_farther) in
-    let less : to_z w64 (of_z w64 (c.args.wanted -ℤ pos c.args.far)) ≡ c.args.wanted -ℤ pos c.args.far = omega (arith, ints, c.requires.near, c.requires.no_farther) in
-    let more : to_z w64 (of_z w64 (c.args.wanted +ℤ pos c.args.far)) ≡ c.args.wanted +ℤ pos c.args.far = omega (arith, ints, c.requires.near, c.requires.no_farther) in
+    let less : to_z w64 (of_z w64 (c.args.wanted -ℤ pos c.args.far)) ≡ c.args.wanted -ℤ pos c.args.far =
+    omega (arith, ints, c.requires.near, c.requires.no_farther) in
+    let more : to_z w64 (of_z w64 (c.args.wanted +ℤ pos c.args.far)) ≡ c.args.wanted +ℤ pos c.args.far =
+    omega (arith, ints, c.requires.near, c.requires.no_farther) in
     let low = rw (x, l, w, f, less) at (sym c.is_feasible.ensures ∙ c.if-is_feasible.false) in
     let high = rw (x, l, w, f, more) at (sym c.is_feasible-else-is_feasible.ensures ∙ c.if-is_feasible-2.true) in
     rw (w, f, more) (second_one c.args.at c.args.last c.args.wanted c.args.far low high)
@@ -31,8 +34,10 @@ returns-else-is_feasible-2 c =
     let l : to_z w64 (of_z w64 c.args.last) ≡ c.args.last = omega (arith, ints) in
     let w : to_z w64 (of_z w64 c.args.wanted) ≡ c.args.wanted = omega (arith, ints) in
     let f : to_z w64 c.args.far ≡ pos c.args.far = omega (arith, ints, c.requires.no_farther) in
-    let less : to_z w64 (of_z w64 (c.args.wanted -ℤ pos c.args.far)) ≡ c.args.wanted -ℤ pos c.args.far = omega (arith, ints, c.requires.near, c.requires.no_farther) in
-    let more : to_z w64 (of_z w64 (c.args.wanted +ℤ pos c.args.far)) ≡ c.args.wanted +ℤ pos c.args.far = omega (arith, ints, c.requires.near, c.requires.no_farther) in
+    let less : to_z w64 (of_z w64 (c.args.wanted -ℤ pos c.args.far)) ≡ c.args.wanted -ℤ pos c.args.far =
+    omega (arith, ints, c.requires.near, c.requires.no_farther) in
+    let more : to_z w64 (of_z w64 (c.args.wanted +ℤ pos c.args.far)) ≡ c.args.wanted +ℤ pos c.args.far =
+    omega (arith, ints, c.requires.near, c.requires.no_farther) in
     let low = rw (x, l, w, f, less) at (sym c.is_feasible.ensures ∙ c.if-is_feasible.false) in
     let high = rw (x, l, w, f, more) at (sym c.is_feasible-else-is_feasible.ensures ∙ c.if-is_feasible-2.false) in
     neither_one c.args.at c.args.last c.args.wanted c.args.far low high

@@ -7,5 +7,11 @@ pub loop-turn-preserved : goal.loop-turn-preserved
 loop-turn-preserved c =
     let less = c.saturating_sub-left.ensures in
     let turn : c.loop-turn._turn < c.args.step = omega (arith, c.loop-turn-test.true, c.loop-turn.auto._turn-end) in
-    let whole = one_slower CHANGE c.loop-turn.sum c.loop-turn.left c.args.step c.loop-turn._turn _ turn c.loop-turn.invariant.0 in
-    (rw less whole, (omega (arith, less, c.loop-turn.invariant.1.0), omega (arith, less, c.requires, c.loop-turn.invariant.1.0, c.loop-turn.invariant.1.1)))
+    let whole = one_slower CHANGE c.loop-turn.sum c.loop-turn.left c.args.step c.loop-turn._turn _ turn
+    c.loop-turn.invariant.0 in (
+      rw less whole,
+      (
+        omega (arith, less, c.loop-turn.invariant.1.0),
+        omega (arith, less, c.requires, c.loop-turn.invariant.1.0, c.loop-turn.invariant.1.1),
+      ),
+    )

@@ -6,6 +6,7 @@ use Rattle.cm_bench.proofs.words.runs_of.Goals as goal
 -- the two words are all that there are
 pub returns : goal.returns
 returns c =
-    let two = list_of_two c.args.words.now c.index-words-0.result c.index-words-1.result (omega (arith, c.if-words-ne2.false)) c.index-words-0.is c.index-words-1.is in
+    let two = list_of_two c.args.words.now c.index-words-0.result c.index-words-1.result
+    (omega (arith, c.if-words-ne2.false)) c.index-words-0.is c.index-words-1.is in
     let are = rw (c.as_str.ensures.value, c.as_str-2.ensures.value) at c.runs_of_two.ensures in
     rw two (of_two (AreRuns c.args.asked.now) _ _ _ are)

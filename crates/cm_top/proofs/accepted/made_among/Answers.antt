@@ -18,10 +18,14 @@ run_in_steps_by-requires g c = (
 -- the job was made to its end
 pub returns-in_ok-run_job_by-in-Run : goal.returns-in_ok-run_job_by-in-Run
 returns-in_ok-run_job_by-in-Run g c =
-    rw c.in-Run.is (run_done (record { description = c.args.checked; script = c.args.script.now }) c.args.stock _ _ c.requires.rules
-    c.in_ok-run_job_by-in-Run.ensures.opening c.in_ok-run_job_by-in-Run.ensures.scheduled c.into_desk.ensures.desk c.into_desk.ensures.right)
+    rw c.in-Run.is
+    (run_done (record { description = c.args.checked; script = c.args.script.now }) c.args.stock _ _ c.requires.rules
+    c.in_ok-run_job_by-in-Run.ensures.opening c.in_ok-run_job_by-in-Run.ensures.scheduled c.into_desk.ensures.desk
+    c.into_desk.ensures.right)
 
 pub returns-in_ok-run_in_steps_by-in-Steps : goal.returns-in_ok-run_in_steps_by-in-Steps
 returns-in_ok-run_in_steps_by-in-Steps g c =
-    rw c.in-Steps.is (steps_done (record { description = c.args.checked; script = c.args.script.now }) c.args.stock _ _ c.requires.rules
-    c.in_ok-run_in_steps_by-in-Steps.ensures.opening c.in_ok-run_in_steps_by-in-Steps.ensures.scheduled c.into_desk-in-Steps.ensures.desk c.into_desk-in-Steps.ensures.right)
+    rw c.in-Steps.is
+    (steps_done (record { description = c.args.checked; script = c.args.script.now }) c.args.stock _ _ c.requires.rules
+    c.in_ok-run_in_steps_by-in-Steps.ensures.opening c.in_ok-run_in_steps_by-in-Steps.ensures.scheduled
+    c.into_desk-in-Steps.ensures.desk c.into_desk-in-Steps.ensures.right)

@@ -1,13 +1,15 @@
 use Rattle.std.proofs.Common.{sym, ap, ◌∙◌}
 use Rattle.std.specs.Prelude.{Err}
-use Rattle.cm_top.proofs.BytesLemmas.{bytes-AnswersFrom, failed-AnswersFrom, long-AnswersFrom, memory-AnswersFrom, failed_Rose}
+use Rattle.cm_top.proofs.BytesLemmas.{bytes-AnswersFrom, failed-AnswersFrom}
+use Rattle.cm_top.proofs.BytesLemmas.{long-AnswersFrom, memory-AnswersFrom, failed_Rose}
 use Rattle.cm_top.proofs.check.check_alone.Goals as goal
 
 -- what was read is all that the source told, and its bytes were checked
 pub returns-in-Ok-clause-answers : goal.returns-in-Ok-clause-answers
 returns-in-Ok-clause-answers g c =
     let checks = rw c.as_slice.ensures.value at c.check_bytes.ensures.checks in
-    bytes-AnswersFrom _ _ _ _ c.in-Ok.bytes.items _ _ c.check_bytes.result c.in-Ok.ensures.read.whole checks c.check_bytes.ensures.outside
+    bytes-AnswersFrom _ _ _ _ c.in-Ok.bytes.items _ _ c.check_bytes.result c.in-Ok.ensures.read.whole checks
+    c.check_bytes.ensures.outside
 
 -- the source was read without a fault
 pub returns-in-Ok-clause-outside : goal.returns-in-Ok-clause-outside
@@ -24,11 +26,13 @@ returns-in-Ok-clause-outside g c = record {
 -- a source that failed, one that is too long, and one for which memory ran out
 pub returns-in-Err-Failed-clause-answers : goal.returns-in-Err-Failed-clause-answers
 returns-in-Err-Failed-clause-answers g c =
-    failed-AnswersFrom _ _ _ _ _ (failed_Rose _ _ (c.read_whole.ensures.cause.counted (c.in-Err-Failed.is ∙ ap Err c.in-Err-Failed.field-0-is)))
+    failed-AnswersFrom _ _ _ _ _
+    (failed_Rose _ _ (c.read_whole.ensures.cause.counted (c.in-Err-Failed.is ∙ ap Err c.in-Err-Failed.field-0-is)))
 
 pub returns-in-Err-TooLong-clause-answers : goal.returns-in-Err-TooLong-clause-answers
 returns-in-Err-TooLong-clause-answers g c =
-    long-AnswersFrom _ _ _ _ _ (c.read_whole.ensures.cause.long (c.in-Err-TooLong.is ∙ ap Err c.in-Err-TooLong.field-0-is))
+    long-AnswersFrom _ _ _ _ _
+    (c.read_whole.ensures.cause.long (c.in-Err-TooLong.is ∙ ap Err c.in-Err-TooLong.field-0-is))
 
 pub returns-in-Err-Memory-clause-answers : goal.returns-in-Err-Memory-clause-answers
 returns-in-Err-Memory-clause-answers g c = memory-AnswersFrom _ _ _ _ _

@@ -12,19 +12,24 @@ check_document-requires g c = (omega (arith, c.in-Ok.ensures.keeps.1, c.requires
 
 -- an accepted document is judged by its trace
 pub returns-in-Ok-clause-checks : goal.returns-in-Ok-clause-checks
-returns-in-Ok-clause-checks g c = given_answered _ _ _ _ _ _ c.requires c.in-Ok.ensures.reads c.check_document.ensures.checked
+returns-in-Ok-clause-checks g c =
+    given_answered _ _ _ _ _ _ c.requires c.in-Ok.ensures.reads c.check_document.ensures.checked
 
 -- another has its first fault
 pub returns-in-Err-Description-clause-checks : goal.returns-in-Err-Description-clause-checks
 returns-in-Err-Description-clause-checks g c =
     let refused : traced c.args.bytes.now ≡ Err (fault.Description c.in-Err-Description.problem) =
     (rw c.in-Err-Description.field-0-is at c.in-Err-Description.ensures.reads) (λ memory. cc) in
-    rw c.in-Err-Description.problem-is (description_refused _ _ _ _ _ c.requires refused (rw c.in-Err-Description.field-0-is at c.in-Err-Description.ensures.plain))
+    rw c.in-Err-Description.problem-is
+    (description_refused _ _ _ _ _ c.requires refused
+    (rw c.in-Err-Description.field-0-is at c.in-Err-Description.ensures.plain))
 
 pub returns-in-Err-Script-clause-checks : goal.returns-in-Err-Script-clause-checks
 returns-in-Err-Script-clause-checks g c =
-    let refused : traced c.args.bytes.now ≡ Err (fault.Script c.in-Err-Script.fault) = (rw c.in-Err-Script.field-0-is at c.in-Err-Script.ensures.reads) (λ memory. cc) in
-    rw c.in-Err-Script.fault-is (script_refused _ _ _ _ _ c.requires refused (rw c.in-Err-Script.field-0-is at c.in-Err-Script.ensures.plain))
+    let refused : traced c.args.bytes.now ≡ Err (fault.Script c.in-Err-Script.fault) =
+    (rw c.in-Err-Script.field-0-is at c.in-Err-Script.ensures.reads) (λ memory. cc) in
+    rw c.in-Err-Script.fault-is
+    (script_refused _ _ _ _ _ c.requires refused (rw c.in-Err-Script.field-0-is at c.in-Err-Script.ensures.plain))
 
 -- and for want of memory nothing is said of it
 pub returns-in-Err-Memory-clause-checks : goal.returns-in-Err-Memory-clause-checks

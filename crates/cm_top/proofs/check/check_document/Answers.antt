@@ -8,11 +8,13 @@ use Rattle.cm_top.proofs.check.check_document.Goals as goal
 -- a legal trace is told so
 pub returns-in-Ok-clause-checked : goal.returns-in-Ok-clause-checked
 returns-in-Ok-clause-checked g c =
-    answer_written _ _ _ _ c.write.result _ (c.in-Ok.ensures.judges, refl) (ap status_of_judgement c.in-Ok.ensures.tells) (rw c.as_slice.ensures at c.write.ensures.wrote)
+    answer_written _ _ _ _ c.write.result _ (c.in-Ok.ensures.judges, refl)
+    (ap status_of_judgement c.in-Ok.ensures.tells) (rw c.as_slice.ensures at c.write.ensures.wrote)
 
 pub returns-in-Ok-clause-untouched : goal.returns-in-Ok-clause-untouched
 returns-in-Ok-clause-untouched g c = λ before.
-    absurd (Wrote-late _ (record { old = _; new = _; flushed = g.K.Sink.flushed c.write.new.sink }) c.write.result c.write.ensures.wrote before)
+    absurd (Wrote-late _ (record { old = _; new = _; flushed = g.K.Sink.flushed c.write.new.sink }) c.write.result
+    c.write.ensures.wrote before)
 
 -- another is refused
 pub returns-in-Err-NotLegal-clause-checked : goal.returns-in-Err-NotLegal-clause-checked

@@ -7,7 +7,8 @@ use Rattle.cm_top.proofs.live.with_ports.Goals as goal
 -- the pass is one of those that were handed in
 pub make-requires : goal.make-requires
 make-requires g c =
-    one_of (IsSessionPass c.args.shared.now.lock c.args.shared.now.at_first.value) _ _ _ _ c.in-Some.pass c.loop-session.invariant.passes
+    one_of (IsSessionPass c.args.shared.now.lock c.args.shared.now.at_first.value) _ _ _ _ c.in-Some.pass
+    c.loop-session.invariant.passes
     c.in-Some.ensures.steps.1.0 c.requires.passes
 
 -- at the end of one list both are walked

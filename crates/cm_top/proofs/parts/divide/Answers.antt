@@ -6,12 +6,16 @@ use Rattle.cm_top.proofs.parts.divide.Goals as goal
 pub returns-then-separates : goal.returns-then-separates
 returns-then-separates c =
     let passed = c.loop-rest.invariant in
-    let e = parts_at_separator c.args.bytes.now c.loop-rest.lines c.loop-rest.rest.now c.first_line.result.0.now c.first_line.result.1.now passed c.first_line.ensures.cut (sym c.separates.ensures ∙ c.if-separates.true) in
+    let e = parts_at_separator c.args.bytes.now c.loop-rest.lines c.loop-rest.rest.now c.first_line.result.0.now
+    c.first_line.result.1.now passed c.first_line.ensures.cut (sym c.separates.ensures ∙ c.if-separates.true) in
     record {
       description = rw e c.split_at.ensures.front;
       lines = rw e refl;
       script = rw e refl;
-      sizes = (omega (arith, ap length passed.whole, length-append passed.before c.loop-rest.rest.now), omega (arith, passed.counted, ap (λ (l : List (List ℕ)). length l) c.first_line.ensures.cut));
+      sizes = (
+        omega (arith, ap length passed.whole, length-append passed.before c.loop-rest.rest.now),
+        omega (arith, passed.counted, ap (λ (l : List (List ℕ)). length l) c.first_line.ensures.cut),
+      );
     }
 
 -- at the end
@@ -24,5 +28,8 @@ returns c =
       description = rw e refl;
       lines = rw e refl;
       script = rw e refl;
-      sizes = (omega (arith, ap length passed.whole, length-append passed.before c.loop-rest.rest.now), omega (arith, counted_all c.args.bytes.now c.loop-rest.lines c.loop-rest.rest.now passed none));
+      sizes = (
+        omega (arith, ap length passed.whole, length-append passed.before c.loop-rest.rest.now),
+        omega (arith, counted_all c.args.bytes.now c.loop-rest.lines c.loop-rest.rest.now passed none),
+      );
     }

@@ -6,7 +6,8 @@ use Rattle.cm_top.proofs.parts.divide_behind.Goals as goal
 pub returns-then-separates_trace : goal.returns-then-separates_trace
 returns-then-separates_trace c =
     let passed = c.loop-rest.invariant in
-    let e = behind_at_separator c.args.bytes.now c.loop-rest.lines c.loop-rest.rest.now c.first_line.result.0.now c.first_line.result.1.now passed c.first_line.ensures.cut
+    let e = behind_at_separator c.args.bytes.now c.loop-rest.lines c.loop-rest.rest.now c.first_line.result.0.now
+    c.first_line.result.1.now passed c.first_line.ensures.cut
     (sym c.separates_trace.ensures ∙ c.if-separates_trace.true) in
     record {
       script = rw e c.split_at.ensures.front;
@@ -24,6 +25,9 @@ returns c =
     record {
       script = rw e refl;
       trace = rw e refl;
-      lines = (λ it. counted_all c.args.bytes.now c.loop-rest.lines c.loop-rest.rest.now passed none, omega (arith, passed.counted));
+      lines = (
+        λ it. counted_all c.args.bytes.now c.loop-rest.lines c.loop-rest.rest.now passed none,
+        omega (arith, passed.counted),
+      );
       fits = omega (arith, ap length passed.whole, length-append passed.before c.loop-rest.rest.now);
     }

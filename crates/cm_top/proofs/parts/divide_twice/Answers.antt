@@ -10,12 +10,19 @@ returns-in-Some c =
     let bytes = c.args.bytes.now in
     let parts = c.divide-parts in
     let behind = c.divide_behind-behind in
-    let there : Some c.in-Some.text.now ≡ (parts_of bytes).script = sym (ap (λ o. option_map (λ t. t.now) o) c.in-Some.is) ∙ parts.ensures.script in
-    let sized = subst (λ o. parts.result.lines + unwrap_or (option_map (λ t. length t.now) o) 0 ≤ length bytes) c.in-Some.is parts.ensures.sizes.0 in
-    let counted = subst (λ o. length (raw_lines bytes) ≡ parts.result.lines + unwrap_or (option_map (λ t. 1 + length (raw_lines t.now)) o) 0) c.in-Some.is parts.ensures.sizes.1 in
+    let there : Some c.in-Some.text.now ≡ (parts_of bytes).script =
+    sym (ap (λ o. option_map (λ t. t.now) o) c.in-Some.is) ∙ parts.ensures.script in
+    let sized = subst (λ o. parts.result.lines + unwrap_or (option_map (λ t. length t.now) o) 0 ≤ length bytes)
+    c.in-Some.is parts.ensures.sizes.0 in
+    let counted =
+    subst (λ o. length (raw_lines bytes)
+    ≡ parts.result.lines + unwrap_or (option_map (λ t. 1 + length (raw_lines t.now)) o) 0) c.in-Some.is
+    parts.ensures.sizes.1 in
     let size = length_of (λ t. t.now) behind.result.trace in
-    divides_behind bytes parts.result.description.now c.in-Some.text.now behind.result.script.now parts.result.lines behind.result.lines (option_map (λ t. t.now) behind.result.trace)
-    parts.ensures.description parts.ensures.lines there sized counted behind.ensures.script behind.ensures.trace (λ none. behind.ensures.lines.0 (unseen (λ t. t.now) behind.result.trace none))
+    divides_behind bytes parts.result.description.now c.in-Some.text.now behind.result.script.now parts.result.lines
+    behind.result.lines (option_map (λ t. t.now) behind.result.trace)
+    parts.ensures.description parts.ensures.lines there sized counted behind.ensures.script behind.ensures.trace
+    (λ none. behind.ensures.lines.0 (unseen (λ t. t.now) behind.result.trace none))
     behind.ensures.lines.1 (omega (arith, behind.ensures.fits, size))
 
 -- without a separator nothing is
@@ -23,7 +30,13 @@ pub returns-in-None : goal.returns-in-None
 returns-in-None c =
     let bytes = c.args.bytes.now in
     let parts = c.divide-parts in
-    let there : None ≡ (parts_of bytes).script = sym (ap (λ o. option_map (λ t. t.now) o) c.in-None.is) ∙ parts.ensures.script in
-    let sized = subst (λ o. parts.result.lines + unwrap_or (option_map (λ t. length t.now) o) 0 ≤ length bytes) c.in-None.is parts.ensures.sizes.0 in
-    let counted = subst (λ o. length (raw_lines bytes) ≡ parts.result.lines + unwrap_or (option_map (λ t. 1 + length (raw_lines t.now)) o) 0) c.in-None.is parts.ensures.sizes.1 in
-    divides_none bytes parts.result.description.now parts.result.lines parts.ensures.description parts.ensures.lines there (omega (arith, sized)) (omega (arith, counted))
+    let there : None ≡ (parts_of bytes).script =
+    sym (ap (λ o. option_map (λ t. t.now) o) c.in-None.is) ∙ parts.ensures.script in
+    let sized = subst (λ o. parts.result.lines + unwrap_or (option_map (λ t. length t.now) o) 0 ≤ length bytes)
+    c.in-None.is parts.ensures.sizes.0 in
+    let counted =
+    subst (λ o. length (raw_lines bytes)
+    ≡ parts.result.lines + unwrap_or (option_map (λ t. 1 + length (raw_lines t.now)) o) 0) c.in-None.is
+    parts.ensures.sizes.1 in
+    divides_none bytes parts.result.description.now parts.result.lines parts.ensures.description parts.ensures.lines
+    there (omega (arith, sized)) (omega (arith, counted))

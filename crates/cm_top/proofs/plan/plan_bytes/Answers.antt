@@ -9,7 +9,8 @@ use Rattle.cm_top.proofs.plan.plan_bytes.Goals as goal
 
 -- an accepted document is planned
 pub returns-in-Ok-clause-plans : goal.returns-in-Ok-clause-plans
-returns-in-Ok-clause-plans g c = given_answered _ _ _ _ _ _ c.requires (taken_untraced _ _ c.in-Ok.ensures.reads) c.plan_document.ensures.planned
+returns-in-Ok-clause-plans g c =
+    given_answered _ _ _ _ _ _ c.requires (taken_untraced _ _ c.in-Ok.ensures.reads) c.plan_document.ensures.planned
 
 -- another has its first fault
 pub returns-in-Err-Description-clause-plans : goal.returns-in-Err-Description-clause-plans
@@ -17,14 +18,18 @@ returns-in-Err-Description-clause-plans g c =
     let refused : wished c.args.bytes.now ≡ Err (fault.Description c.in-Err-Description.problem) =
     told_fault (wished c.args.bytes.now) (fault.Description c.in-Err-Description.problem) (λ memory. cc)
     (rw c.in-Err-Description.field-0-is at c.in-Err-Description.ensures.reads) in
-    rw c.in-Err-Description.problem-is (description_refused _ _ _ _ _ c.requires (refused_untraced _ _ refused) (rw c.in-Err-Description.field-0-is at c.in-Err-Description.ensures.plain))
+    rw c.in-Err-Description.problem-is
+    (description_refused _ _ _ _ _ c.requires (refused_untraced _ _ refused)
+    (rw c.in-Err-Description.field-0-is at c.in-Err-Description.ensures.plain))
 
 pub returns-in-Err-Script-clause-plans : goal.returns-in-Err-Script-clause-plans
 returns-in-Err-Script-clause-plans g c =
     let refused : wished c.args.bytes.now ≡ Err (fault.Script c.in-Err-Script.fault) =
     told_fault (wished c.args.bytes.now) (fault.Script c.in-Err-Script.fault) (λ memory. cc)
     (rw c.in-Err-Script.field-0-is at c.in-Err-Script.ensures.reads) in
-    rw c.in-Err-Script.fault-is (script_refused _ _ _ _ _ c.requires (refused_untraced _ _ refused) (rw c.in-Err-Script.field-0-is at c.in-Err-Script.ensures.plain))
+    rw c.in-Err-Script.fault-is
+    (script_refused _ _ _ _ _ c.requires (refused_untraced _ _ refused)
+    (rw c.in-Err-Script.field-0-is at c.in-Err-Script.ensures.plain))
 
 -- and for want of memory nothing is said of it
 pub returns-in-Err-Memory-clause-plans : goal.returns-in-Err-Memory-clause-plans

@@ -8,11 +8,13 @@ use Rattle.cm_top.proofs.plan.plan_document.Goals as goal
 -- the script is written
 pub returns-in-Ok-clause-planned : goal.returns-in-Ok-clause-planned
 returns-in-Ok-clause-planned g c =
-    answer_written _ _ _ _ c.write.result c.in-Ok.text.items c.in-Ok.ensures (ap status_of_plan c.in-Ok.ensures) (rw c.as_slice.ensures.value at c.write.ensures.wrote)
+    answer_written _ _ _ _ c.write.result c.in-Ok.text.items c.in-Ok.ensures (ap status_of_plan c.in-Ok.ensures)
+    (rw c.as_slice.ensures.value at c.write.ensures.wrote)
 
 pub returns-in-Ok-clause-untouched : goal.returns-in-Ok-clause-untouched
 returns-in-Ok-clause-untouched g c = λ before.
-    absurd (Wrote-late _ (record { old = _; new = _; flushed = g.K.Sink.flushed c.write.new.sink }) c.write.result c.write.ensures.wrote before)
+    absurd (Wrote-late _ (record { old = _; new = _; flushed = g.K.Sink.flushed c.write.new.sink }) c.write.result
+    c.write.ensures.wrote before)
 
 -- for want of memory there is none
 pub returns-in-Err-Memory-clause-planned : goal.returns-in-Err-Memory-clause-planned

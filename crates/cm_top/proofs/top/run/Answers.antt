@@ -7,7 +7,9 @@ use Rattle.cm_top.proofs.top.run.Goals as goal
 pub returns-in-Live-clause-words : goal.returns-in-Live-clause-words
 returns-in-Live-clause-words g c =
     accepted-RefusesWords _ _ _ _ _ _ _ c.in-Ok.job c.in-Ok.ensures.answer
-    (job-never_words (answering_of Live) (record { kind = Live; make = c.in-Ok.job.make; workers = c.in-Ok.job.workers }) c.args.stock _ _ _ _ _ _ c.run_live.ensures.runs)
+    (job-never_words (answering_of Live)
+    (record { kind = Live; make = c.in-Ok.job.make; workers = c.in-Ok.job.workers }) c.args.stock _ _ _ _ _ _
+    c.run_live.ensures.runs)
 
 pub returns-in-Run-clause-words : goal.returns-in-Run-clause-words
 returns-in-Run-clause-words g c =

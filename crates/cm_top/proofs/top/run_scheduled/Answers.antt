@@ -4,7 +4,8 @@ use Rattle.cm_words.specs.Words.{can_make}
 use Rattle.std.proofs.Common.{◌≡◌, ◌≢◌, true, false, None, refl, sym, ◌∙◌, true≢false}
 use Rattle.cm_top.specs.Answering.{answering_of}
 use Rattle.cm_top.specs.Book.{RunsAlone, task_of}
-use Rattle.cm_top.proofs.ReadLemmas.{ran-MindsFaults, ran-RunsFrom, reads-Rules, unread-MindsFaults, unread-RunsFrom, RanDocument-late}
+use Rattle.cm_top.proofs.ReadLemmas.{ran-MindsFaults, ran-RunsFrom, reads-Rules}
+use Rattle.cm_top.proofs.ReadLemmas.{unread-MindsFaults, unread-RunsFrom, RanDocument-late}
 use Rattle.cm_top.proofs.top.run_scheduled.Goals as goal
 
 -- a job of this kind is not live, has a book, and can make its document
@@ -49,24 +50,31 @@ run_document_by-requires-clause-rules g c = λ κs lives. reads-Rules _ _ _ _ c.
 pub returns-in-Ok-clause-runs : goal.returns-in-Ok-clause-runs
 returns-in-Ok-clause-runs g c =
     rw (books c.args.job.now.kind c.requires.0)
-    (ran-RunsFrom c.args.job.now.make (task_of c.args.job.now c.args.stock) _ _ _ _ _ _ _ _ c.requires.1.rounds c.in-Ok.ensures.reads c.run_document_by.ensures.ran c.run_document_by.ensures.outside.write_fault)
+    (ran-RunsFrom c.args.job.now.make (task_of c.args.job.now c.args.stock) _ _ _ _ _ _ _ _ c.requires.1.rounds
+    c.in-Ok.ensures.reads c.run_document_by.ensures.ran c.run_document_by.ensures.outside.write_fault)
 
 pub returns-in-Ok-clause-outside : goal.returns-in-Ok-clause-outside
 returns-in-Ok-clause-outside g c =
-    ran-MindsFaults (task_of c.args.job.now c.args.stock) c.args.stock _ _ _ _ _ _ _ c.in-Ok.ensures.outside c.run_document_by.ensures.ran
+    ran-MindsFaults (task_of c.args.job.now c.args.stock) c.args.stock _ _ _ _ _ _ _ c.in-Ok.ensures.outside
+    c.run_document_by.ensures.ran
     c.run_document_by.ensures.outside
 
 pub returns-in-Ok-clause-spared : goal.returns-in-Ok-clause-spared
 returns-in-Ok-clause-spared g c = record {
   unread = c.in-Ok.ensures.unread;
-  untouched = λ before. absurd (RanDocument-late (task_of c.args.job.now c.args.stock) _ _ (record { old = _; new = _; flushed = g.K.Sink.flushed c.run_document_by.new.sink }) _ _ c.run_document_by.ensures.ran before);
+  untouched = λ before. absurd
+      (RanDocument-late (task_of c.args.job.now c.args.stock) _ _
+      (record { old = _; new = _; flushed = g.K.Sink.flushed c.run_document_by.new.sink }) _ _
+      c.run_document_by.ensures.ran before);
 }
 
 -- without a document it ends with nothing written
 pub returns-in-Err-clause-runs : goal.returns-in-Err-clause-runs
 returns-in-Err-clause-runs g c =
     rw (books c.args.job.now.kind c.requires.0)
-    (unread-RunsFrom c.args.job.now.make (task_of c.args.job.now c.args.stock) _ _ _ _ _ c.requires.1.rounds c.in-Err.ensures.reads c.in-Err.ensures.outside)
+    (unread-RunsFrom c.args.job.now.make (task_of c.args.job.now c.args.stock) _ _ _ _ _ c.requires.1.rounds
+    c.in-Err.ensures.reads c.in-Err.ensures.outside)
 
 pub returns-in-Err-clause-outside : goal.returns-in-Err-clause-outside
-returns-in-Err-clause-outside g c = unread-MindsFaults c.args.job.now.make _ _ _ _ c.in-Err.ensures.reads c.in-Err.ensures.outside
+returns-in-Err-clause-outside g c =
+    unread-MindsFaults c.args.job.now.make _ _ _ _ c.in-Err.ensures.reads c.in-Err.ensures.outside

@@ -12,7 +12,8 @@ pub returns-then-not-started : goal.returns-then-not-started
 returns-then-not-started g c =
     let may = c.started.ensures.fresh c.if-not-started.true in
     record {
-      at_hand = λ h hand. computed_at_hand h c.args.flight.now c.compute.new.self (hand.before may.1) c.compute.ensures.cycle c.compute.ensures.computed;
+      at_hand = λ h hand. computed_at_hand h c.args.flight.now c.compute.new.self (hand.before may.1)
+          c.compute.ensures.cycle c.compute.ensures.computed;
       computed = λ h hand. c.compute.ensures.computed;
     }
 
@@ -20,5 +21,6 @@ returns-then-not-started g c =
 pub returns-else-not-started : goal.returns-else-not-started
 returns-else-not-started g c = record {
   at_hand = λ h hand. hand;
-  computed = λ h hand. started_computed h c.args.flight.now hand (sym c.started.ensures.started ∙ c.if-not-started.false);
+  computed = λ h hand. started_computed h c.args.flight.now hand
+      (sym c.started.ensures.started ∙ c.if-not-started.false);
 }

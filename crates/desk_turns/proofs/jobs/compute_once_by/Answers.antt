@@ -5,14 +5,16 @@ use Rattle.desk_turns.proofs.jobs.compute_once_by.Goals as goal
 
 -- it was not started before
 pub compute_by-requires : goal.compute_by-requires
-compute_by-requires g c = (c.type_bounds.send-C, (c.type_bounds.sync-R, (c.started.ensures.fresh c.if-not-started.true).0))
+compute_by-requires g c =
+    (c.type_bounds.send-C, (c.type_bounds.sync-R, (c.started.ensures.fresh c.if-not-started.true).0))
 
 -- and is computed now,
 pub returns-then-not-started : goal.returns-then-not-started
 returns-then-not-started g c =
     let may = c.started.ensures.fresh c.if-not-started.true in
     record {
-      at_hand = λ h hand. computed_at_hand h c.args.flight.now c.compute_by.new.flight (hand.before may.1) c.compute_by.ensures.cycle c.compute_by.ensures.computed;
+      at_hand = λ h hand. computed_at_hand h c.args.flight.now c.compute_by.new.flight (hand.before may.1)
+          c.compute_by.ensures.cycle c.compute_by.ensures.computed;
       computed = λ h hand. c.compute_by.ensures.computed;
     }
 
@@ -20,5 +22,6 @@ returns-then-not-started g c =
 pub returns-else-not-started : goal.returns-else-not-started
 returns-else-not-started g c = record {
   at_hand = λ h hand. hand;
-  computed = λ h hand. started_computed h c.args.flight.now hand (sym c.started.ensures.started ∙ c.if-not-started.false);
+  computed = λ h hand. started_computed h c.args.flight.now hand
+      (sym c.started.ensures.started ∙ c.if-not-started.false);
 }

@@ -12,7 +12,8 @@ invariant-loop g l = record {
   lent : l.port.desk.ghost_name ≡ l.initial.port.desk.ghost_name;
   who : l.port.who ≡ l.fn.session.who;
   number : l.session.who ≡ l.fn.session.who;
-  settled : settle l.fn.session.who (at l.port.desk.now (left_of l.session)) ≡ settle l.fn.session.who (at l.fn.desk (left_of l.fn.session));
+  settled : settle l.fn.session.who (at l.port.desk.now (left_of l.session))
+      ≡ settle l.fn.session.who (at l.fn.desk (left_of l.fn.session));
   opening : l.port.desk.now.opening ≡ l.fn.desk.opening;
   aloft : IsAloftAlike l.fn.desk l.port.desk.now;
 }

@@ -8,7 +8,8 @@ use Rattle.desk_turns.proofs.jobs.settle_each.Given as goal
 -- to settle the sessions from here on, from what is made, is to settle all, over a desk of the same opening
 abbrev pub invariant-loop-who : goal.invariant-loop-who
 invariant-loop-who g l = record {
-  settled : settle_from l.who (map left_of (drop l.who l.sessions)) (now_of l.desk) l.desk.made (map left_of (take l.who l.sessions))
+  settled : settle_from l.who (map left_of (drop l.who l.sessions)) (now_of l.desk) l.desk.made
+      (map left_of (take l.who l.sessions))
       ≡ settle_from 0 (map left_of l.fn.sessions) (now_of l.fn.desk) l.fn.desk.made [];
   opening : l.desk.opening ≡ l.fn.desk.opening;
   aloft : IsAloftAlike l.fn.desk l.desk;

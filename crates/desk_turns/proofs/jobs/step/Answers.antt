@@ -9,9 +9,12 @@ pub returns-clause-stepped : goal.returns-clause-stepped
 returns-clause-stepped g c =
     let who = ap (λ (k : DeskGround). k.who) c.in_ok-advance.ensures.still in
     let opening = ap (λ (k : DeskGround). k.opening) c.in_ok-advance.ensures.still in
-    step_over c.in_ok-advance.field-0 c.args.who c.over-port.result.who c.advance.new.port.who c.over-port.result.waited c.advance.new.port.waited
-    c.args.sessions.now c.index-sessions-who.result c.advance.new.self c.args.desk.now c.over-port.result.desk.now c.advance.new.port.desk.now _
-    (omega (arith, c.if-who-sessions.false, c.sessions.ensures, c.requires.many)) c.over-port.ensures.who who c.over-port.ensures.desk opening
+    step_over c.in_ok-advance.field-0 c.args.who c.over-port.result.who c.advance.new.port.who c.over-port.result.waited
+    c.advance.new.port.waited
+    c.args.sessions.now c.index-sessions-who.result c.advance.new.self c.args.desk.now c.over-port.result.desk.now
+    c.advance.new.port.desk.now _
+    (omega (arith, c.if-who-sessions.false, c.sessions.ensures, c.requires.many)) c.over-port.ensures.who who
+    c.over-port.ensures.desk opening
     c.in_ok-advance.ensures.advanced c.in_ok-advance.ensures.as_written (search rules)
 
 -- and the session has its number
@@ -19,5 +22,6 @@ pub returns-clause-numbered : goal.returns-clause-numbered
 returns-clause-numbered g c =
     let opening = ap (λ (k : DeskGround). k.opening) c.in_ok-advance.ensures.still in
     sessions_over_port c.args.desk.now c.over-port.result.desk.now c.advance.new.port.desk.now _
-    c.args.sessions.now c.args.who c.index-sessions-who.result c.advance.new.self c.over-port.ensures.desk opening (search rules)
+    c.args.sessions.now c.args.who c.index-sessions-who.result c.advance.new.self c.over-port.ensures.desk opening
+    (search rules)
     (advanced-who c.in_ok-advance.field-0 _ _ _ c.advance.new.self c.in_ok-advance.ensures.advanced) c.requires

@@ -6,4 +6,6 @@ use Rattle.rows_desk.proofs.looping.across.Goals as goal
 
 -- a desk may cross where its boxes may
 pub may_cross-requires-send-T : goal.may_cross-requires-send-T
-may_cross-requires-send-T g c κs within = param_send 0 _ (arg_send _ exit.no _ (desk_send (param 0 g.row.C) g.C.Controller (search (sendable, c.type_bounds.send-C))))
+may_cross-requires-send-T g c κs within =
+    param_send 0 _
+    (arg_send _ exit.no _ (desk_send (param 0 g.row.C) g.C.Controller (search (sendable, c.type_bounds.send-C))))

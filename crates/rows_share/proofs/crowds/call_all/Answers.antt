@@ -18,10 +18,13 @@ use Rattle.rows_share.proofs.crowds.call_all.Goals as goal
 
 -- what the closure captures: the runtime, the allocator, the desk and a number
 captured : (R C : RattleType) (m : Ghosts C.Denot) → IsSync R → IsSend C → (ν : Sym) (a b d e : NamedLft)
-    → IsSync (TupleAt ν (ShrRef a.mir a.lft R ∷ ShrRef b.mir b.lft Heap.the_row ∷ ShrRef d.mir d.lft (SharedDesk.the_row C m) ∷ ShrRef e.mir e.lft u32 ∷ []))
+    → IsSync (TupleAt ν
+    (ShrRef a.mir a.lft R ∷ ShrRef b.mir b.lft Heap.the_row ∷ ShrRef d.mir d.lft (SharedDesk.the_row C m)
+    ∷ ShrRef e.mir e.lft u32 ∷ []))
 captured R C m r s ν a b d e =
     let desk = SharedDesk.the_row C m in
-    let types : List RattleType = ShrRef a.mir a.lft R ∷ ShrRef b.mir b.lft Heap.the_row ∷ ShrRef d.mir d.lft desk ∷ ShrRef e.mir e.lft u32 ∷ [] in
+    let types : List RattleType =
+    ShrRef a.mir a.lft R ∷ ShrRef b.mir b.lft Heap.the_row ∷ ShrRef d.mir d.lft desk ∷ ShrRef e.mir e.lft u32 ∷ [] in
     declared_sync (type_at ν types) (
       as_row_sync (row_field (ShrRef a.mir a.lft R)) (shr_sync a.mir a.lft R r),
       (
@@ -34,10 +37,20 @@ captured R C m r s ν a b d e =
     )
 
 pub map_vec-requires-send-J : goal.map_vec-requires-send-J
-map_vec-requires-send-J g c κs within = param_send 1 _ (arg_send _ exit.no _ (console_pass_send (param 1 g.row.C) g.C.Controller (search (sendable, c.type_bounds.send-C))))
+map_vec-requires-send-J g c κs within =
+    param_send 1 _
+    (arg_send _ exit.no _
+    (console_pass_send (param 1 g.row.C) g.C.Controller (search (sendable, c.type_bounds.send-C))))
 
 pub map_vec-requires-send-X : goal.map_vec-requires-send-X
-map_vec-requires-send-X g c κs within = param_send 2 _ (arg_send _ exit.no _ (console_pass_send (param 1 g.row.C) g.C.Controller (search (sendable, c.type_bounds.send-C))))
+map_vec-requires-send-X g c κs within =
+    param_send 2 _
+    (arg_send _ exit.no _
+    (console_pass_send (param 1 g.row.C) g.C.Controller (search (sendable, c.type_bounds.send-C))))
 
 pub map_vec-requires-sync-F : goal.map_vec-requires-sync-F
-map_vec-requires-sync-F g c κs within = param_sync 4 _ (arg_sync _ exit.no _ (captured _ (param 1 g.row.C) g.C.Controller c.type_bounds.sync-R (search (sendable, c.type_bounds.send-C)) _ _ _ _ _))
+map_vec-requires-sync-F g c κs within =
+    param_sync 4 _
+    (arg_sync _ exit.no _
+    (captured _ (param 1 g.row.C) g.C.Controller c.type_bounds.sync-R (search (sendable, c.type_bounds.send-C)) _ _ _ _
+    _))

@@ -11,11 +11,13 @@ returns-clause-tells c =
     let blanks = c.args.blanks.now in
     let text = c.args.text.now in
     let counted : c.make.result ≡ at_most (length (raw_lines text)) blanks =
-    c.make.ensures ∙ c.in_ok-boxes.ensures.counted ∙ c.at_most-counts.ensures ∙ ap (λ n. at_most n blanks) c.lines_in.ensures in
+    c.make.ensures ∙ c.in_ok-boxes.ensures.counted ∙ c.at_most-counts.ensures
+    ∙ ap (λ n. at_most n blanks) c.lines_in.ensures in
     over_all document blanks c.make.result text c.check_over.result c.requires.rules counted c.check_over.ensures
 
 pub returns-clause-judges : goal.returns-clause-judges
 returns-clause-judges c =
     let document : Document = record { description = c.args.checked.now; script = c.args.script.now } in
-    told_judges document c.args.blanks.now c.args.text.now c.check_over.result c.description.ensures.valid c.requires.rules
+    told_judges document c.args.blanks.now c.args.text.now c.check_over.result c.description.ensures.valid
+    c.requires.rules
     (returns-clause-tells c)

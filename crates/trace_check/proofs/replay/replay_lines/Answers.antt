@@ -19,8 +19,10 @@ returns-in-Some g c =
     let at = c.in_ok-expected.ensures in
     let its : HasReplayedLine document blanks line old new c.wrong_line.new.lines (Some c.in-Some.expected) =
     subst (λ b. HasReplayedLine document b line old new c.wrong_line.new.lines (Some c.in-Some.expected)) same
-    (subst (λ o. HasReplayedLine document old.desk.opening.blanks line old new c.wrong_line.new.lines o) c.in-Some.is at) in
-    come_wrong document blanks c.args.text.now c.loop-rest.rest.now line more c.in-Some.expected c.loop-rest.told old new c.wrong_behind.result come c.first_line.ensures.cut its.0 its.1 its.2
+    (subst (λ o. HasReplayedLine document old.desk.opening.blanks line old new c.wrong_line.new.lines o) c.in-Some.is
+    at) in
+    come_wrong document blanks c.args.text.now c.loop-rest.rest.now line more c.in-Some.expected c.loop-rest.told old
+    new c.wrong_behind.result come c.first_line.ensures.cut its.0 its.1 its.2
     c.wrong_behind.ensures.0 c.wrong_behind.ensures.1
 
 pub loop-rest-preserved : goal.loop-rest-preserved
@@ -36,11 +38,13 @@ loop-rest-preserved g c =
     let at = c.in_ok-expected.ensures in
     let its : HasReplayedLine document blanks line old new c.wrong_line.new.lines None =
     subst (λ b. HasReplayedLine document b line old new c.wrong_line.new.lines None) same
-    (subst (λ o. HasReplayedLine document old.desk.opening.blanks line old new c.wrong_line.new.lines o) c.in_default.is at) in
+    (subst (λ o. HasReplayedLine document old.desk.opening.blanks line old new c.wrong_line.new.lines o) c.in_default.is
+    at) in
     let made : new.desk.made ≡ old.desk.made ++ its.0 ∷ [] = ap (λ p. p.made) its.2.progress in
     record {
       come =
-          come_more document blanks c.args.text.now c.loop-rest.rest.now line more c.loop-rest.told old new its.0 come c.first_line.ensures.cut c.first_line.ensures.whole c.first_line.ensures.shorter
+          come_more document blanks c.args.text.now c.loop-rest.rest.now line more c.loop-rest.told old new its.0 come
+          c.first_line.ensures.cut c.first_line.ensures.whole c.first_line.ensures.shorter
           its.1 its.2;
       knows = subst (λ (l : List Entry). KnowsNames document l c.wrong_line.new.lines) (sym made) its.3;
     }
@@ -53,7 +57,8 @@ returns-then-is_through g c =
     let come = c.loop-rest.invariant.come in
     let empty : c.loop-rest.rest.now ≡ [] = nothing_left c.loop-rest.rest.now (sym c.loop-rest-test.ensures) in
     let ended = subst (λ rest. HasCome document blanks c.args.text.now rest c.loop-rest.told old) empty come in
-    come_through document blanks c.args.text.now c.loop-rest.told old ended (sym c.is_through.ensures ∙ c.if-is_through.true)
+    come_through document blanks c.args.text.now c.loop-rest.told old ended
+    (sym c.is_through.ensures ∙ c.if-is_through.true)
 
 pub returns : goal.returns
 returns g c =
@@ -63,5 +68,6 @@ returns g c =
     let come = c.loop-rest.invariant.come in
     let empty : c.loop-rest.rest.now ≡ [] = nothing_left c.loop-rest.rest.now (sym c.loop-rest-test.ensures) in
     let ended = subst (λ rest. HasCome document blanks c.args.text.now rest c.loop-rest.told old) empty come in
-    come_short document blanks c.args.text.now c.loop-rest.told old ended c.wrong_behind-2.result (sym c.is_through.ensures ∙ c.if-is_through.false) c.wrong_behind-2.ensures.0
+    come_short document blanks c.args.text.now c.loop-rest.told old ended c.wrong_behind-2.result
+    (sym c.is_through.ensures ∙ c.if-is_through.false) c.wrong_behind-2.ensures.0
     (c.wrong_behind-2.ensures.1 ∙ c.new.ensures)

@@ -15,5 +15,7 @@ replay_lines-requires-clause-first g c =
     let job = c.in_ok-job.job in
     let stock_is : c.args.stock ≡ job.desk.opening.blanks = sym (ap (λ s. s.blanks) c.in_ok-job.ensures.opening) in
     stands_first document job.desk.opening.blanks job
-    (c.in_ok-job.ensures.opening ∙ ap₂ (λ d b. boot d b (length c.args.script.now.sessions)) c.in_ok-copy.ensures stock_is)
-    (c.in_ok-job.ensures.started ∙ ap₂ (λ d b. start (record { description = d; script = c.args.script.now }) b) c.in_ok-copy.ensures stock_is)
+    (c.in_ok-job.ensures.opening
+    ∙ ap₂ (λ d b. boot d b (length c.args.script.now.sessions)) c.in_ok-copy.ensures stock_is)
+    (c.in_ok-job.ensures.started
+    ∙ ap₂ (λ d b. start (record { description = d; script = c.args.script.now }) b) c.in_ok-copy.ensures stock_is)

@@ -17,7 +17,8 @@ returns-in_ok-flight g c =
 pub invariant_of-self-then-can_begin : goal.invariant_of-self-then-can_begin
 invariant_of-self-then-can_begin g c = (
   sessions_over c.self.inside.desk _ _ (search rules) c.self.invariant.0,
-  flight_out c.begin.new.self c.replace.new.self c.in_ok-flight.flight c.replace.ensures.after c.in_ok-flight.ensures.flight
+  flight_out c.begin.new.self c.replace.new.self c.in_ok-flight.flight c.replace.ensures.after
+      c.in_ok-flight.ensures.flight
       (begun_aloft c.self.inside.desk c.begin.new.self _ _ _ c.in_ok-flight.ensures.made),
 )
 

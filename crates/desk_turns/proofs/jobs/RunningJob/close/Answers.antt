@@ -14,8 +14,11 @@ returns-then-can_close g c = rw (← c.self.view_is) (loop_made Close _ _ _ c.cl
 pub invariant_of-self : goal.invariant_of-self
 invariant_of-self g c =
     let can = rw (← c.self.view_is) at (sym c.can_close.ensures ∙ c.if-can_close.true) in
-    let down = down_there (now_of c.self.inside.desk).aloft _ can in
-    (sessions_over c.self.inside.desk _ _ (search rules) c.self.invariant.0, none_flies c.self.inside.desk c.close.new.self _ c.self.invariant.1 down (closed_alike c.self.inside.desk c.close.new.self _ _ c.close.ensures.made ∙ down))
+    let down = down_there (now_of c.self.inside.desk).aloft _ can in (
+      sessions_over c.self.inside.desk _ _ (search rules) c.self.invariant.0,
+      none_flies c.self.inside.desk c.close.new.self _ c.self.invariant.1 down
+          (closed_alike c.self.inside.desk c.close.new.self _ _ c.close.ensures.made ∙ down),
+    )
 
 -- it cannot close
 pub returns-else-can_close : goal.returns-else-can_close

@@ -18,15 +18,24 @@ returns-in-Some g c =
 pub unreachable-requires : goal.unreachable-requires
 unreachable-requires g c =
     let can = rw (← c.self.view_is) at (sym c.can_end.ensures ∙ c.if-can_end.true) in
-    flight_there c.self.inside.desk c.self.inside.flight c.self.invariant.1 (sym c.take.ensures.value ∙ c.in_default.is) (and_parts (now_of c.self.inside.desk).aloft _ can).0
+    flight_there c.self.inside.desk c.self.inside.flight c.self.invariant.1 (sym c.take.ensures.value ∙ c.in_default.is)
+    (and_parts (now_of c.self.inside.desk).aloft _ can).0
 
 pub land-requires : goal.land-requires
-land-requires g c = record { flight = flight_lands c.self.inside.desk c.self.inside.flight c.in-Some.flight c.compute_once.new.flight c.self.invariant.1 (sym c.take.ensures.value ∙ c.in-Some.is) c.compute_once.ensures }
+land-requires g c =
+    record {
+      flight =
+          flight_lands c.self.inside.desk c.self.inside.flight c.in-Some.flight c.compute_once.new.flight
+          c.self.invariant.1 (sym c.take.ensures.value ∙ c.in-Some.is) c.compute_once.ensures;
+    }
 
 -- and then it is gone
 pub invariant_of-self : goal.invariant_of-self
-invariant_of-self g c =
-    (sessions_over c.self.inside.desk _ _ (search rules) c.self.invariant.0, flight_gone c.land.new.self c.take.new.self c.take.ensures.after (landed_down c.self.inside.desk c.land.new.self _ _ _ c.land.ensures.made))
+invariant_of-self g c = (
+  sessions_over c.self.inside.desk _ _ (search rules) c.self.invariant.0,
+  flight_gone c.land.new.self c.take.new.self c.take.ensures.after
+      (landed_down c.self.inside.desk c.land.new.self _ _ _ c.land.ensures.made),
+)
 
 -- it cannot end
 pub returns-else-can_end : goal.returns-else-can_end

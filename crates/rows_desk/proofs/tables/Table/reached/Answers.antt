@@ -5,4 +5,5 @@ use Rattle.rows_desk.proofs.tables.Table.reached.Goals as goal
 pub invariant_of-self-2 : goal.invariant_of-self-2
 invariant_of-self-2 g c =
     hand_alike c.self.inside.desk c.reached.new.self c.self.inside.flight
-    (reached_alike c.self.inside.desk c.reached.new.self c.args.who c.args.cycles c.in_ok-reached.reached c.in_ok-reached.ensures.made) c.self.invariant
+    (reached_alike c.self.inside.desk c.reached.new.self c.args.who c.args.cycles c.in_ok-reached.reached
+    c.in_ok-reached.ensures.made) c.self.invariant
