@@ -20,6 +20,7 @@ from . import bodies
 from .program import CYCLES, DOCUMENTS, HEAD, tell_table, time_of_a_run
 
 RUNS = 9
+WAITING_RUNS = 99  # one takes a tenth of a second, and what it takes of a processor differs by half
 LIVE_RUNS = 201  # of 499 measured cycles each
 SESSIONS = 8
 TWO = ["taskset", "-c", "0,1"]  # on two processors
@@ -65,7 +66,7 @@ def time_on_two(program, document):
 def tell_waiting(program, document, alone):
     """Prints how long a run takes in which all sessions wait, and which part of a processor they take."""
     took, busy, _, busy_alone = zip(
-        *((*time_on_two(program, document), *time_on_two(program, alone)) for _ in range(RUNS))
+        *((*time_on_two(program, document), *time_on_two(program, alone)) for _ in range(WAITING_RUNS))
     )
     part = (sum(busy) - sum(busy_alone)) / sum(took)
     print(
